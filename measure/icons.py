@@ -1,8 +1,10 @@
 #!/usr/bin/env python3
 """Makes a set of icons as plain PPM pictures: glyphs of two fonts in black and white, and emoji in three to six colours.
 
-Usage: measure/icons.py FOLDER [SEED]. The code points are drawn by the seed (7) from what the fonts have: Debian's packages
-fonts-symbola, fonts-dejavu-core and fonts-noto-color-emoji. It needs Pillow (python3-pil). A font that is missing is named.
+Usage: measure/icons.py FOLDER [SEED [SET]]. The code points are drawn by the seed (7) from what the fonts of the set have. SET is
+`first`, `second` or `third`; no glyph is in two of them. It needs Pillow (python3-pil). Fonts are Debian's: fonts-symbola,
+fonts-dejavu-core and fonts-noto-color-emoji; fonts-font-awesome and fonts-opensymbol; fonts-materialdesignicons-webfont and
+fonts-elusive-icons. A font that is missing is named.
 """
 
 import collections
@@ -14,10 +16,25 @@ from PIL import Image, ImageChops, ImageDraw, ImageFont
 
 SIZES = (15, 20, 25)
 WHITE = (255, 255, 255)
-FONTS = {
-    "s": ("/usr/share/fonts/truetype/ancient-scripts/Symbola_hint.ttf", 400, [*range(0x2600, 0x2700), *range(0x1F300, 0x1F580)], 40),
-    "d": ("/usr/share/fonts/truetype/dejavu/DejaVuSans.ttf", 400, [*range(0x2600, 0x26C0), *range(0x2701, 0x27BF)], 20),
-    "e": ("/usr/share/fonts/truetype/noto/NotoColorEmoji.ttf", 109, [*range(0x1F300, 0x1F5A0), *range(0x1F600, 0x1F640)], 30),
+EMOJI = "/usr/share/fonts/truetype/noto/NotoColorEmoji.ttf"
+TRUETYPE = "/usr/share/fonts/truetype"
+# For each letter of a name: the font, its points, the code points to draw from, and how many glyphs are wanted.
+SETS = {
+    "first": {
+        "s": (f"{TRUETYPE}/ancient-scripts/Symbola_hint.ttf", 400, [*range(0x2600, 0x2700), *range(0x1F300, 0x1F580)], 40),
+        "d": (f"{TRUETYPE}/dejavu/DejaVuSans.ttf", 400, [*range(0x2600, 0x26C0), *range(0x2701, 0x27BF)], 20),
+        "e": (EMOJI, 109, [*range(0x1F300, 0x1F5A0), *range(0x1F600, 0x1F640)], 30),
+    },
+    "second": {
+        "f": (f"{TRUETYPE}/font-awesome/fontawesome-webfont.ttf", 400, [*range(0xF000, 0xF2E1)], 40),
+        "o": (f"{TRUETYPE}/libreoffice/opens___.ttf", 400, [*range(0xE000, 0xE4D0)], 20),
+        "e": (EMOJI, 109, [*range(0x1F90C, 0x1FA00)], 30),
+    },
+    "third": {
+        "m": (f"{TRUETYPE}/materialdesignicons-webfont/materialdesignicons-webfont.ttf", 400, [*range(0xF101, 0xF900)], 40),
+        "l": (f"{TRUETYPE}/elusive-icons/elusiveicons-webfont.ttf", 400, [*range(0xF100, 0xF231)], 20),
+        "e": (EMOJI, 109, [*range(0x1F680, 0x1F700), *range(0x1FA70, 0x1FB00)], 30),
+    },
 }
 
 
@@ -50,7 +67,7 @@ def main():
     folder = pathlib.Path(sys.argv[1])
     folder.mkdir(parents=True, exist_ok=True)
     draw = random.Random(int(sys.argv[2]) if len(sys.argv) > 2 else 7)
-    for name, (path, points, codes, wanted) in FONTS.items():
+    for name, (path, points, codes, wanted) in SETS[sys.argv[3] if len(sys.argv) > 3 else "first"].items():
         if not pathlib.Path(path).exists():
             print(f"no font {path}: left out", file=sys.stderr)
             continue

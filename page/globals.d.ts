@@ -8,3 +8,8 @@ declare function showSaveFilePicker(options?: any): Promise<any>;
 interface DataTransferItem { getAsFileSystemHandle?(): Promise<any> }
 interface Array<T> { findLast(holds: (one: T, at: number) => boolean): T | undefined }
 declare const LIMITS: { side: number; colours: number; history: number };
+
+// The values that a text has places for (texts/phrase.js): `{name}`, or `{name|form|form}`.
+type NameOf<Inside extends string> = Inside extends `${infer Name}|${string}` ? Name : Inside;
+type HolesOf<Text extends string> = Text extends `${string}{${infer Inside}}${infer Rest}` ? NameOf<Inside> | HolesOf<Rest> : never;
+type ValuesOf<Text extends string> = [HolesOf<Text>] extends [never] ? [] : [{ [name in HolesOf<Text>]: string | number }];

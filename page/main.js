@@ -4,11 +4,15 @@ import { $, say } from './base/elements.js';
 import { on } from './base/events.js';
 import { sheet, startSheet } from './draw/sheet.js';
 import { showExportPanel, startExporting } from './export/exporting.js';
+import { startSharing } from './export/sharing.js';
+import { startPalettes } from './import/palettes.js';
 import { hearFiles } from './import/taking.js';
 import { keep } from './library/keep.js';
 import { startSaving } from './library/saving.js';
 import { startPlay } from './play/play.js';
+import { startLinked } from './start/linked.js';
 import { showStart, startStart } from './start/start.js';
+import { LANGUAGE, phrase } from './texts/phrase.js';
 import { actionButton, actions, hearKeys, makeMenus } from './view/actions.js';
 import { addEditActions, addKeys, addPictureActions, addViewActions } from './view/commands.js';
 import { startFixing } from './view/fixing.js';
@@ -21,9 +25,11 @@ import { makeCellPanel, makeLinesPanel, makeToolBar } from './view/panels.js';
 import { hearPointers } from './view/pointer.js';
 import { startSelection } from './view/select.js';
 import { showVerdictPanel, startVerdict } from './view/verdict.js';
+import { startVision } from './view/vision.js';
 import { showWhyPanel, startWhy } from './view/why.js';
 
 document.body.classList.add('starting');
+nameParts();
 startSheet();
 startSelection();
 startVerdict();
@@ -31,9 +37,11 @@ startFixing();
 startGrading();
 startPlay();
 startWhy();
+startVision();
 startSaving();
 startStart();
 startExporting();
+startSharing();
 makeMenus();
 makeToolBar();
 makePalette();
@@ -43,6 +51,7 @@ makeGrid();
 makeMinimap();
 addEditActions();
 addPictureActions();
+startPalettes();
 addViewActions();
 addKeys();
 addHelpActions();
@@ -57,15 +66,35 @@ keep.ready();
 hearFiles();
 showStart();
 showExportPanel();
+startLinked();
+keepOffline();
+
+// ---- what the whole page has
+
+// Parts of the page, by their names for who hears it.
+function nameParts() {
+  const names = {
+    menus: phrase('main.menus'), quick: phrase('main.historyView'), start: phrase('main.start'), work: phrase('main.picture'), tools: phrase('main.tools'), stage: phrase('main.pictureClues'), panels: phrase('main.whatBenchSays'),
+    audit: phrase('main.verdict'), colours: phrase('main.colours'), out: phrase('main.saveExport'), cell: phrase('main.cell'), lines: phrase('main.rowsColumns'),
+  };
+  for (const [id, name] of Object.entries(names)) $(id).setAttribute('aria-label', name);
+  document.documentElement.lang = LANGUAGE;
+  document.body.dataset.drop = phrase('main.dropOpen');
+}
 
 // ---- what the whole page does with the bench
 
 function makeQuickButtons() {
-  for (const [id, name, short] of [['undo', 'Undo', '↶'], ['redo', 'Redo', '↷'], ['zoom-out', '−'], ['fit', 'Fit'], ['zoom-in', '+']]) {
+  for (const [id, name, short] of [['undo', phrase('main.undo'), '↶'], ['redo', phrase('main.redo'), '↷'], ['zoom-out', '−'], ['fit', phrase('main.fit')], ['zoom-in', '+']]) {
     const button = actionButton(actions.get(id), { 'aria-label': actions.get(id).name, title: `${actions.get(id).name} (${actions.get(id).key.split(' ')[0]})`, 'data-short': short });
     button.textContent = name;
     $('quick').append(button);
   }
+}
+
+// A served page is kept by the browser, so that it opens without a network.
+function keepOffline() {
+  if (document.querySelector('link[rel="manifest"]')) navigator.serviceWorker?.register('offline.js').catch(() => {});
 }
 
 function hearBench() {
@@ -84,6 +113,6 @@ function hearBench() {
     for (const id of ['undo', 'redo']) $('quick').querySelector(`[data-action="${id}"]`).disabled = !actions.get(id).can();
   });
   on('busy', (is) => sheet.stage.setAttribute('aria-busy', is));
-  on('recovered', () => say('The engine was restarted. Nothing was lost.'));
-  on('lost', (fault) => say(`The engine could not be started (${fault.text ?? fault.message}). Save the picture and reload the page.`, 'alarm'));
+  on('recovered', () => say(phrase('main.engineRestartedNothingLost')));
+  on('lost', (fault) => say(phrase('main.engineCouldNotStarted', { text: fault.text ?? fault.message }), 'alarm'));
 }

@@ -15,7 +15,7 @@ const short = ({ kind, line, settled, premises }) => [kind, line, settled, premi
 test('the easiest next line settles most cells for the shortest clue', () => {
     // Row 3 has no block and settles three cells; column 3 then has none either, and two left. Row 2 alone gives its middle; and so on.
     const puzzle = Puzzle.of(['.a.', 'aa.', '...']);
-    const steps = easiestSteps(puzzle);
+    const steps = [...easiestSteps(puzzle)];
     assert.deepEqual(short(steps[0]), ['line', 2, [6, 7, 8], []]);
     assert.deepEqual(short(steps[1]), ['line', 5, [2, 5], []]);
     // Row 2, column 3 being white: both others. Then column 2, whose last cell is known: its first. Then row 1's first.
@@ -33,7 +33,7 @@ test('every step follows from its premises, none of which is idle, and the path 
         const cells = Uint8Array.from({ length: rows * columns }, () => (next(3) ? next(colours) : 0));
         const givens = next(3) ? [] : [next(rows * columns)];
         const puzzle = new Puzzle(rows, columns, cells, givens);
-        const steps = easiestSteps(puzzle);
+        const steps = [...easiestSteps(puzzle)];
         const walk = new Walk(puzzle, steps);
         steps.forEach((step, at) => {
             used += step.premises.length;
@@ -44,6 +44,51 @@ test('every step follows from its premises, none of which is idle, and the path 
         assert.deepEqual(mapOf({ masks: walk.after(steps.length), puzzle }), mapOf(new Narrowing(puzzle).settle()));
     }
     assert.ok(used > 100);
+});
+
+// The line that settles most cells for its clue, by a look at every line; -1 where none narrows a cell.
+function easiestLine(puzzle, masks) {
+    let best = [-1, -1];
+    for (let line = 0; line < puzzle.lines; line++) {
+        const [first, step] = puzzle.placeOf(line);
+        const before = Uint16Array.from({ length: puzzle.sizeOf(line) }, (_, at) => masks[first + at * step]);
+        const after = new Uint16Array(before.length);
+        narrow(before, before.length, puzzle.clues[line], after);
+        if (after.every((mask, at) => mask === before[at])) continue;
+        const settled = after.filter((mask, at) => mask !== before[at] && (mask & (mask - 1)) === 0).length;
+        const ease = settled / (1 + puzzle.clues[line].lengths.length);
+        if (ease > best[1]) best = [line, ease];
+    }
+    return best[0];
+}
+
+test('the path takes the easiest line each time, as a look at every line finds it', () => {
+    const next = random(17);
+    for (let turn = 0; turn < 60; turn++) {
+        const [rows, columns, colours] = [4 + next(9), 4 + next(9), 2 + next(3)];
+        const cells = Uint8Array.from({ length: rows * columns }, () => (next(3) ? next(colours) : 0));
+        const puzzle = new Puzzle(rows, columns, cells);
+        const steps = [...easiestSteps(puzzle)];
+        const walk = new Walk(puzzle, steps);
+        for (let at = 0; at <= steps.length; at++) assert.equal(easiestLine(puzzle, walk.after(at)), steps[at]?.line ?? -1);
+    }
+});
+
+test('a path grows as long as it may, and then by what comes behind it', () => {
+    const puzzle = Puzzle.of(['.a.', 'aa.', '...']);
+    const walk = new Walk(puzzle, easiestSteps(puzzle)).grow(() => false);
+    assert.deepEqual([walk.steps.length, walk.isWhole], [0, false]);
+    let left = 2;
+    walk.grow(() => left-- > 0);
+    assert.deepEqual([walk.steps.length, walk.isWhole], [2, false]);
+    walk.grow();
+    assert.deepEqual(walk.steps.map(short), [...easiestSteps(puzzle)].map(short));
+    assert.equal(walk.isWhole, true);
+    const { length } = walk.steps;
+    walk.and([{ kind: 'only', cells: [], settled: [], premises: [] }]);
+    assert.equal(walk.isWhole, false);
+    walk.grow();
+    assert.deepEqual([walk.steps.length, walk.isWhole, walk.steps.at(-1).kind], [length + 1, true, 'only']);
 });
 
 // Whether a line with these premises alone excludes what the step did.
@@ -92,7 +137,7 @@ test('a certificate is walked from its first supposition', () => {
 
 test('the hardest step settles fewest cells for its blocks', () => {
     const puzzle = Puzzle.of(['.a.', 'aa.', '...']);
-    const walk = new Walk(puzzle, easiestSteps(puzzle));
+    const walk = new Walk(puzzle, [...easiestSteps(puzzle)]);
     const { line } = walk.steps[walk.hardest - 1];
     assert.equal(puzzle.clues[line].lengths.length, 1);
     assert.equal(walk.steps[walk.hardest - 1].settled.length, 1);
@@ -100,7 +145,7 @@ test('the hardest step settles fewest cells for its blocks', () => {
 
 test('where the path supposes, no line is harder than that', () => {
     const puzzle = Puzzle.of(['.aa.', 'a..a', 'a..a']);
-    const lines = easiestSteps(puzzle);
+    const lines = [...easiestSteps(puzzle)];
     const certificate = 'nonocert 1\nline r 2\nline c 1\nsplit 1 1\nline r 1\ndone\ndead r 3\n';
     const walk = new Walk(puzzle, [...lines, ...treeSteps(puzzle, certificate)]);
     assert.equal(walk.hardest, lines.length + 1);

@@ -5,7 +5,10 @@ import '../page/test/limits.mjs';
 import { oklabOf } from '../page/document/colours.js';
 import { dotSize, scaledTo, sizeOfImage } from '../page/import/images.js';
 import { withoutMargin } from '../page/import/proposing.js';
-import { docOfCells, flatColours, paletteFor, thresholdFor } from '../page/import/quantise.js';
+import { withoutSpecks, dithered } from '../page/import/cells.js';
+import { flatPalette, isFlat } from '../page/import/flat.js';
+import { docOfCells, groundFor, paletteFor } from '../page/import/quantise.js';
+import { drawnCells, thresholdFor, toned } from '../page/import/tone.js';
 
 // An image of rows of signs; '-' is transparent.
 function imageOf(rows, colours) {
@@ -157,19 +160,103 @@ test('Oklab of known colours', () => {
     close(oklabOf(0, 0, 255), [0.452, -0.0325, -0.3115]);
 });
 
-test('a drawing in flat colours keeps them as they are, whatever its edges have', () => {
+test('a drawing in flat colours keeps them as they are, and no colour of its edges', () => {
     const rows = Array.from({ length: 20 }, (_, row) => (row < 10 ? `${'r'.repeat(19)}e` : `${'y'.repeat(12)}f${'g'.repeat(7)}`));
-    const colours = { ...COLOURS, e: [203, 34, 54], f: [135, 185, 50] }; // edges: 10 pixels of each, of 400
-    for (const row of [3, 13]) rows[row] = rows[row].replace(/[ef]/, '-');
-    const image = imageOf(rows, colours);
-    assert.deepEqual(flatColours(image, 16), [COLOURS.r, COLOURS.y, COLOURS.g, colours.e, colours.f]);
-    const wide = imageOf(rows.map((row, at) => (at % 4 ? row.replace(/[ef]/, row[0]) : row)), colours);
-    assert.deepEqual(flatColours(wide, 16), [COLOURS.r, COLOURS.y, COLOURS.g]);
-    assert.deepEqual(flatColours(wide, 2), []);
-    assert.deepEqual(paletteFor(wide, 3), [COLOURS.r, COLOURS.y, COLOURS.g]);
+    const image = imageOf(rows, { ...COLOURS, e: [203, 34, 54], f: [135, 185, 50] }); // e looks like r, f lies between y and g
+    assert.equal(isFlat(image), true);
+    for (const most of [3, 5, 16]) assert.deepEqual(flatPalette(image, most), [COLOURS.r, COLOURS.y, COLOURS.g]);
+    assert.deepEqual(paletteFor(image, 4), [COLOURS.r, COLOURS.y, COLOURS.g]);
 });
 
-test('a photo has no flat colours', () => {
+test('of too many colours those become one that look alike, and a small one that stands apart stays', () => {
+    // Two blues that are alike have 36 % each, a beak 4 %.
+    const colours = { ...COLOURS, b: [40, 90, 200], c: [60, 105, 205], o: [240, 120, 30] };
+    const rows = Array.from({ length: 10 }, (_, row) => (row < 4 ? 'b'.repeat(9) + 'w' : row < 8 ? 'w' + 'c'.repeat(9) : row === 8 ? 'oowwwwwwkk' : 'oowwwwwwkk'));
+    const palette = flatPalette(imageOf(rows, colours), 4).map(String).sort();
+    assert.deepEqual(palette, [colours.b, COLOURS.k, colours.o, COLOURS.w].map(String).sort());
+});
+
+test('a photo is no flat art', () => {
     const data = Uint8ClampedArray.from({ length: 40000 }, (_, at) => (at % 4 === 3 ? 255 : (at * 48271) % 251));
-    assert.deepEqual(flatColours({ width: 100, height: 100, data }, 16), []);
+    assert.equal(isFlat({ width: 100, height: 100, data }), false);
+});
+
+test('colours are locked, dropped and replaced', () => {
+    const image = imageOf(['wwww', 'rgyk', 'rgyk', 'wwww'], COLOURS);
+    const of = (options) => docOfCells(image, options);
+    const has = (doc, triple) => doc.colours.map(String).includes(String(triple));
+    for (const locked of [COLOURS.r, COLOURS.g, COLOURS.y, COLOURS.k]) assert.ok(has(of({ colours: 2, locked: [locked] }), locked), String(locked));
+    const dropped = of({ colours: 4, dropped: [COLOURS.y] });
+    assert.ok(!has(dropped, COLOURS.y));
+    for (const triple of [COLOURS.w, COLOURS.r, COLOURS.g, COLOURS.k]) assert.ok(has(dropped, triple), String(triple));
+    const replaced = of({ colours: 5, replaced: [[COLOURS.r, [1, 2, 3]]] });
+    assert.deepEqual([replaced.colours[1], replaced.sources[1], replaced.picture], [[1, 2, 3], COLOURS.r, ['....', 'abcd', 'abcd', '....']]);
+    const same = of({ colours: 5, replaced: [[COLOURS.r, COLOURS.g]] }); // red is green from now on
+    assert.deepEqual([same.colours.length, same.picture[1]], [4, 'aabc']);
+    const noise = { width: 20, height: 20, data: Uint8ClampedArray.from({ length: 1600 }, (_, at) => (at % 4 === 3 ? 255 : (at * at * 7919) % 256)) };
+    for (const colours of [2, 5, 9]) assert.ok(has(docOfCells(noise, { colours, locked: [[250, 1, 250]], background: [250, 1, 250] }), [250, 1, 250]), String(colours));
+});
+
+test('colours of a palette alone', () => {
+    const image = imageOf(['wwww', 'rgrk', 'rgrk', 'wwww'], COLOURS);
+    const palette = [[250, 250, 250], [190, 40, 60], [10, 140, 70], [5, 5, 5], [0, 0, 250]];
+    const doc = docOfCells(image, { colours: 16, palette });
+    assert.deepEqual([doc.colours, doc.picture], [[palette[0], palette[1], palette[2], palette[3]], ['....', 'abac', 'abac', '....']]);
+    assert.equal(docOfCells(image, { colours: 3, palette }).colours.length, 3);
+});
+
+test('a background for what is transparent is light, whatever colours are drawn', () => {
+    const greys = Array.from({ length: 15 }, (_, at) => [at * 18, at * 18, at * 18]);
+    const pale = Array.from({ length: 15 }, (_, at) => [255 - at * 3, 250 - (at % 5) * 4, 240 + at]);
+    for (const palette of [[], [[255, 255, 255]], greys, pale]) {
+        const ground = groundFor(palette);
+        assert.ok(ground.every((sample) => sample >= 160), String(ground));
+        assert.ok(!palette.map(String).includes(String(ground)), String(ground));
+    }
+    assert.deepEqual(groundFor([[0, 0, 0]]), [255, 255, 255]);
+});
+
+test('brightness and contrast', () => {
+    const grey = (sample) => ({ width: 1, height: 1, data: Uint8ClampedArray.from([sample, sample, sample, 200]) });
+    const after = (sample, options) => toned(grey(sample), options).data[0];
+    for (const sample of [0, 100, 255]) assert.equal(after(sample, { brightness: 0, contrast: 0 }), sample);
+    assert.deepEqual([after(100, { brightness: 50 }), after(100, { brightness: -50 }), after(250, { brightness: 50 }), after(5, { brightness: -100 })], [164, 36, 255, 0]);
+    assert.ok(after(100, { contrast: 50 }) < 100 && after(160, { contrast: 50 }) > 160 && after(100, { contrast: -50 }) > 100);
+    assert.deepEqual([after(120, { contrast: 100 }), after(140, { contrast: 100 })], [0, 255]);
+    assert.equal(toned(grey(7), { brightness: 9 }).data[3], 200, 'what is transparent stays so');
+});
+
+test('line art: a cell is drawn where enough of its area is dark', () => {
+    // Cells of 4 by 4 pixels: a line one pixel wide, a dot of one pixel, nothing, all.
+    const fine = imageOf(['wkwwwwwwwwwwkkkk', 'wkwwwkwwwwwwkkkk', 'wkwwwwwwwwwwkkkk', 'wkwwwwwwwwwwkkkk'], COLOURS);
+    const image = scaledTo(fine, whole(fine), 4, 1);
+    const cells = (options) => [...drawnCells(image, { threshold: 128, ...options }, fine)];
+    assert.deepEqual(cells({ area: 25 }), [1, 0, 0, 1]);
+    assert.deepEqual(cells({ area: 26 }), [0, 0, 0, 1]);
+    assert.deepEqual(cells({ area: 5 }), [1, 1, 0, 1]);
+    assert.deepEqual(cells({ area: 75, inverted: true }), [1, 1, 1, 0]);
+    assert.deepEqual(cells({}), [0, 0, 0, 1], 'by its mean a thin line is lost');
+});
+
+test('specks are removed, the smallest first', () => {
+    const numbers = (rows) => Int8Array.from(rows.join(''), (sign) => (sign === '-' ? -1 : Number(sign)));
+    const rows = ['00000', '01022', '00022', '33000'];
+    assert.deepEqual([...withoutSpecks(numbers(rows), 5, 0)], [...numbers(rows)]);
+    assert.deepEqual([...withoutSpecks(numbers(rows), 5, 1)], [...numbers(['00000', '00022', '00022', '33000'])]);
+    assert.deepEqual([...withoutSpecks(numbers(rows), 5, 3)], [...numbers(['00000', '00022', '00022', '00000'])]);
+    assert.deepEqual([...withoutSpecks(numbers(['11', '11']), 2, 9)], [1, 1, 1, 1], 'all of it is no speck');
+    assert.deepEqual([...withoutSpecks(numbers(['---', '-1-']), 3, 1)], Array(6).fill(-1));
+});
+
+test('dithering keeps the mean lightness', () => {
+    const side = 24;
+    const light = (triple) => oklabOf(...triple)[0];
+    for (const grey of [60, 128, 200]) {
+        const data = Uint8ClampedArray.from({ length: side * side * 4 }, (_, at) => (at % 4 === 3 ? 255 : grey));
+        const numbers = dithered({ width: side, height: side, data }, [COLOURS.k, COLOURS.w]);
+        const share = numbers.reduce((sum, one) => sum + one, 0) / numbers.length;
+        assert.ok(Math.abs(share - light([grey, grey, grey])) < 0.03, `${grey}: ${share}`);
+        assert.ok(new Set(numbers).size === 2);
+    }
+    assert.deepEqual([...dithered(imageOf(['-w', 'k-'], COLOURS), [COLOURS.k, COLOURS.w])], [-1, 1, 0, -1]);
 });

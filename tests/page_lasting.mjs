@@ -252,7 +252,7 @@ export async function givensAndColours({ browser, url, folder }) {
     await page.press('Control+p');
     await page.until(() => document.querySelector('dialog[open]'), 3000 * SLACK);
     assert.match(await trial.text('dialog'), /Too much alike.* So the sheet has letters/);
-    assert.deepEqual(await page.run(() => [document.querySelector('#print-letters').checked, document.querySelector('#print-letters').disabled]), [true, true]);
+    assert.deepEqual(await page.run(() => [document.querySelector('#print-show').value, document.querySelector('#print-show [value="colours"]').disabled]), ['letters', true]);
     await page.press('Enter');
     await page.until(() => document.querySelectorAll('.printed').length === 2, 5000 * SLACK);
     assert.deepEqual(await page.run(() => [...document.querySelectorAll('.printed')].map((sheet) => sheet.querySelectorAll('polygon').length)), [3, 0]);

@@ -1,8 +1,9 @@
 // Trials of the page's ways out, in Chromium: saving, exports and print. Each is a test of the runner tests/page_test.mjs.
 import assert from 'node:assert/strict';
+import { execFileSync } from 'node:child_process';
 import { readFileSync, writeFileSync } from 'node:fs';
 import { join } from 'node:path';
-import { act, downloaded, drop, examples, fresh, isOpen, menu } from './page_hands.mjs';
+import { act, clean, downloaded, drop, examples, fresh, isOpen, menu } from './page_hands.mjs';
 import { SLACK, ppmOf } from './page_trial.mjs';
 
 /** Ctrl+S downloads an XML text under the document's name that opens as it was, texts and names too; then nothing asks on leaving. */
@@ -83,10 +84,11 @@ export async function xml({ browser, url, folder }) {
     assert.deepEqual([after.picture, after.colours, after.givens.sort()], [before.picture, before.colours, before.givens.sort()]);
     await page.run(() => { window.print = () => {}; });
     await menu(page, 'print');
-    await page.press('Enter');
+    await page.until(() => document.querySelector('#print-title'), 3000 * SLACK);
+    await page.click('dialog button.main');
     await page.until(() => document.querySelectorAll('.printed').length === 2, 5000 * SLACK);
     assert.equal(await page.run(() => window.bad ?? document.querySelectorAll('#print img').length), 0);
-    assert.match(await trial.text('#print h1'), /^<img/);
+    assert.match(await trial.text('#print text'), /^<img/);
     await page.close();
 }
 
@@ -109,7 +111,8 @@ export async function exportsAndPrint({ browser, url, folder }) {
     assert.ok((await downloaded(page, own, '-puzzle.png')).content.length > 1000);
     await page.run(() => { window.print = () => {}; });
     await page.press('Control+p');
-    await page.run(() => document.querySelector('dialog input[type=checkbox]').click()); // letters
+    await page.until(() => document.querySelector('#print-show'), 3000 * SLACK);
+    await page.run(() => { document.getElementById('print-show').value = 'letters'; });
     await page.press('Enter');
     await page.until(() => document.querySelectorAll('.printed').length === 2, 5000 * SLACK);
     const { data } = await page.send('Page.printToPDF', {});
@@ -145,10 +148,109 @@ export async function printedOnWhite({ browser, url, folder }) {
     await page.press('Enter');
     await page.until(() => document.querySelectorAll('.printed').length === 2, 5000 * SLACK);
     assert.deepEqual(await printedPoints(page, [[0.002, 0.002], [0.002, 0.998], [0.5, 0.002]]), Array(3).fill('255,255,255'), 'the sheet');
-    const fills = await page.run(() => [...document.querySelectorAll('.printed')].map((sheet) => [...sheet.querySelectorAll('svg')[0].querySelectorAll('rect')].map((one) => one.getAttribute('fill'))));
-    assert.ok(!fills[0].includes('rgb(0 0 40)') && fills[1].includes('rgb(0 0 40)'), 'the background is on the solution alone');
-    assert.match(await trial.text('.printed .legend'), /red.*white.*background: dark blue/);
+    const fills = await page.run(() => [...document.querySelectorAll('.printed')].map((sheet) => [...sheet.querySelectorAll('rect')].filter((one) => !one.hasAttribute('stroke')).map((one) => one.getAttribute('fill'))));
+    assert.ok(!fills[0].includes('#000028') && fills[1].includes('#000028'), 'the background is on the solution alone');
+    assert.match(await trial.text('.printed'), /red\s+white\s+background: dark blue/);
     const { data } = await page.send('Page.printToPDF', { printBackground: true });
     writeFileSync(join(own, 'night.pdf'), Buffer.from(data, 'base64'));
+    await page.close();
+}
+
+// What a PDF has: its pages' sizes in millimetres and the texts of each page, as poppler reads them.
+function readPdf(path) {
+    const run = (tool, ...words) => execFileSync(tool, words, { encoding: 'utf8' });
+    const count = Number(/^Pages:\s+(\d+)$/m.exec(run('pdfinfo', path))[1]);
+    return Array.from({ length: count }, (_, at) => {
+        const page = String(at + 1);
+        const [, width, height] = /size:\s+([\d.]+) x ([\d.]+) pts/.exec(run('pdfinfo', '-f', page, '-l', page, path));
+        const words = [...run('pdftotext', '-f', page, '-l', page, '-bbox', path, '-').matchAll(/<word xMin="([\d.]+)" yMin="([\d.]+)" xMax="([\d.]+)" yMax="([\d.]+)">([^<]*)<\/word>/g)]
+            .map(([, left, top, right, bottom, text]) => ({ text, x: (Number(left) + Number(right)) / 2, y: (Number(top) + Number(bottom)) / 2 }));
+        return { size: [width, height].map((points) => Math.round((Number(points) * 25.4) / 72)), words, text: run('pdftotext', '-f', page, '-l', page, '-layout', path, '-') };
+    });
+}
+
+// Prints what the page has for print to a PDF, as the browser does it.
+async function pdfOf(page, own, name) {
+    const { data } = await page.send('Page.printToPDF', { preferCSSPageSize: true, printBackground: true });
+    const path = join(own, name);
+    writeFileSync(path, Buffer.from(data, 'base64'));
+    return readPdf(path);
+}
+
+async function printWith(page, fields) {
+    await page.run(() => { window.print = () => {}; document.getElementById('print').replaceChildren(); });
+    await page.press('Control+p');
+    await page.until(() => document.querySelector('#print-show'), 3000 * SLACK);
+    await page.run((all) => { for (const [id, value] of Object.entries(all)) { const field = document.getElementById(id); if (typeof value === 'boolean') field.checked = value; else field.value = value; } }, fields);
+    await page.click('dialog button.main');
+    await page.until(() => document.querySelector('.printed'), 5000 * SLACK);
+}
+
+/** A PDF is read back: digits and letters of the clues by lines, title, legend, the size of the paper, and the solution behind. */
+export async function pdfReadBack({ browser, url, folder }) {
+    const { page, trial, own } = await fresh(browser, url, folder, 'pdf');
+    await trial.open(ppmOf(['aabb.c', '.a..cc', 'bbbbbb']), 'three');
+    await page.run(() => bench.become((doc) => ({ ...doc, about: { title: 'Three rows', author: 'A Writer' } })));
+    await printWith(page, { 'print-show': 'letters', 'print-paper': 'a5', 'print-margin': '15' });
+    const [puzzle, solution, ...others] = await pdfOf(page, own, 'letters.pdf');
+    assert.deepEqual([puzzle.size, solution.size, others.length], [[148, 210], [148, 210], 0]);
+    assert.match(puzzle.text, /Three rows\n\s*6 by 3, by A Writer/);
+    // Clues of rows from left to right, and of columns from top to bottom, as the picture has them.
+    const isClue = ({ text }) => /^\d+[abc]$/.test(text);
+    const lines = (all, across) => Object.values(Object.groupBy?.(all, (one) => Math.round(one[across])) ?? all.reduce((groups, one) => ({ ...groups, [Math.round(one[across])]: [...(groups[Math.round(one[across])] ?? []), one] }), {}));
+    const clues = puzzle.words.filter(isClue);
+    const top = Math.max(...clues.map(({ x }) => x)) - 1; // the clues of columns lie right of those of rows
+    const left = Math.min(...clues.filter(({ y }) => y < Math.min(...clues.map((one) => one.y)) + 1).map(({ x }) => x));
+    assert.ok(top > left);
+    const rows = lines(clues.filter(({ x }) => x < left - 3), 'y').map((line) => line.sort((one, other) => one.x - other.x).map(({ text }) => text).join(' '));
+    assert.deepEqual(rows, ['2a 2b 1c', '1a 2c', '6b']);
+    const columns = lines(clues.filter(({ x }) => x >= left - 3), 'x').map((line) => line.sort((one, other) => one.y - other.y).map(({ text }) => text).join(' '));
+    assert.deepEqual(columns, ['1a 1b', '2a 1b', '1b 1b', '1b 1b', '1c 1b', '2c 1b']);
+    assert.match(puzzle.text, /a\s+black\s+b\s+red\s+c\s+blue/);
+    assert.match(solution.text, /^\s*Three rows: solution/);
+    assert.deepEqual(solution.words.filter(({ text }) => /^[abc]$/.test(text)).length, 14);
+    await page.close();
+}
+
+/** A large puzzle is printed over sheets in their order, each of the paper's size, and solutions stand behind; one SVG a sheet is saved. */
+export async function pdfOfSheets({ browser, url, folder }) {
+    const { page, trial, own } = await fresh(browser, url, folder, 'sheets');
+    await trial.open(ppmOf(Array.from({ length: 61 }, (_, row) => '.'.repeat(row) + 'a' + '.'.repeat(63 - row))), 'diagonal');
+    await trial.settled(60000);
+    await printWith(page, { 'print-paper': 'letter', 'print-wide': true });
+    const pages = await pdfOf(page, own, 'sheets.pdf');
+    assert.deepEqual(pages.map(({ size }) => size), Array(5).fill([279, 216]));
+    const heads = ['rows 1 to 35, columns 1 to 35', 'rows 1 to 35, columns 36 to 64', 'rows 36 to 61, columns 1 to 35', 'rows 36 to 61, columns 36 to 64'];
+    for (const [at, head] of heads.entries()) assert.ok(pages[at].text.includes(`Sheet ${at + 1} of 4: ${head}`), `${at + 1}: ${pages[at].text.slice(0, 200)}`);
+    assert.match(pages[4].text, /diagonal: solution/);
+    for (const [at, { text }] of pages.entries()) assert.match(text, new RegExp(`${at + 1} ?/ ?5`));
+    await page.press('Control+p');
+    await page.until(() => document.querySelector('#print-show'), 3000 * SLACK);
+    await page.run(() => [...document.querySelectorAll('dialog .buttons button')].find((one) => one.textContent === 'Save as SVG').click());
+    const { content } = await downloaded(page, own, '.zip');
+    const list = execFileSync('unzip', ['-Z1', join(own, 'diagonal-print.zip')], { encoding: 'utf8' }).trim().split('\n');
+    assert.deepEqual(list, [1, 2, 3, 4, 5].map((at) => `diagonal 0${at}.svg`));
+    assert.ok(content.length > 10000);
+    await page.close();
+}
+
+/** Pictures of the library are printed with the one at hand, several a sheet. */
+export async function printedTogether({ browser, url, folder }) {
+    const { page, trial, own } = await fresh(browser, url, folder, 'together');
+    await clean(page);
+    const doc = (name) => page.run((title) => openDoc({ rows: 2, columns: 3, maxval: 255, colours: [[255, 255, 255], [0, 0, 0]], picture: ['aa.', '.aa'], givens: new Set() }, { name: title }), name);
+    for (const name of ['first', 'second', 'third']) await doc(name);
+    await isOpen(page);
+    await page.until(() => keep.keeper.isDone, 5000 * SLACK);
+    await page.run(() => { window.print = () => {}; });
+    await page.press('Control+p');
+    await page.until(() => document.querySelector('#print-others'), 3000 * SLACK);
+    await page.run(() => { document.querySelector('#print-others').open = true; for (const box of document.querySelectorAll('#print-others input')) box.checked = true; document.getElementById('print-count').value = '4'; document.getElementById('print-show').value = 'colours'; document.getElementById('print-paper').value = 'a4'; document.getElementById('print-wide').checked = false; });
+    await page.click('dialog button.main');
+    await page.until(() => document.querySelectorAll('.printed').length === 2, 5000 * SLACK);
+    const [puzzles, solutions] = await pdfOf(page, own, 'together.pdf');
+    const order = (text) => text.match(/first|second|third/g);
+    assert.deepEqual([order(puzzles.text).sort(), order(solutions.text).sort()], [['first', 'second', 'third'], ['first', 'second', 'third']]);
+    assert.equal(puzzles.words.filter(({ text }) => /^\d$/.test(text)).length, 3 * (2 + 3) + 3 * 2 + 2, 'of each two clues of rows, three of columns and its size, and the number of the sheet');
     await page.close();
 }

@@ -7,6 +7,7 @@ import { clean, downloaded, examples, fresh, isKept, isOpen } from './page_hands
 import { Hands } from './page_inputs.mjs';
 import { hard } from './page_meaning.mjs';
 import { mendingPoint, walkingPoint } from './page_mending.mjs';
+import { limitsPoint } from './page_repairs.mjs';
 import { SIZES, SLACK, noise, ppmOf } from './page_trial.mjs';
 import { pause } from './page_browser.mjs';
 
@@ -61,7 +62,7 @@ async function intoPuzzle(hands) {
     await isOpen(page);
     const { rows, columns, colours } = await trial.state();
     assert.deepEqual([rows, columns, colours.length], [10, 10, 2]);
-    await page.until(() => document.getElementById('said').textContent.includes('is a puzzle now'), 3000 * SLACK);
+    await page.until(() => document.getElementById('said').textContent.includes('was made from the image'), 3000 * SLACK);
 }
 
 /** A reload loses nothing, strokes are taken back behind it, and the work goes to a file. */
@@ -249,23 +250,22 @@ async function wayOut(hands, { own }) {
     assert.deepEqual([after.picture, after.colours], [before.picture, before.colours]);
     await page.run(() => { window.print = () => { window.isPrinted = true; }; });
     await hands.menu('file', 'print');
-    await page.until(() => document.querySelector('dialog[open] input[type=checkbox]'), 3000 * SLACK);
-    if (hands.byKeys) {
-        await hands.tabTo('dialog input[type=checkbox]');
-        await page.press(' ');
-    } else await hands.press('dialog input[type=checkbox]');
+    await page.until(() => document.querySelector('#print-show'), 3000 * SLACK);
+    await hands.choose('#print-show', 'letters');
     await hands.press('dialog button.main');
     await page.until(() => window.isPrinted && document.querySelectorAll('.printed').length === 2, 5000 * SLACK);
-    assert.match(await trial.text('.printed text'), /^\d+[a-o]$/, 'letters for colours');
+    assert.ok(await page.run(() => [...document.querySelectorAll('.printed text')].some((one) => /^\d+[a-o]$/.test(one.textContent))), 'letters for colours');
 }
 
-const POINTS = { 'a way in': wayIn, 'a picture into a puzzle': intoPuzzle, 'never lost': neverLost, 'searches that stop': stoppable, drawing, 'large pictures': large, meaning, mending: mendingPoint, 'the solving path': walkingPoint, 'out of the page': wayOut };
-const INPUTS = { small: ['mouse', 'keys'], large: ['mouse', 'keys'], phone: ['touch', 'keys'] };
+const POINTS = { 'a way in': wayIn, 'a picture into a puzzle': intoPuzzle, 'never lost': neverLost, 'searches that stop': stoppable, drawing, 'large pictures': large, meaning, mending: mendingPoint, 'what a repair may change': limitsPoint, 'the solving path': walkingPoint, 'out of the page': wayOut };
+const INPUTS = { small: ['mouse', 'keys', 'touch'], large: ['mouse', 'keys', 'touch'], phone: ['touch', 'keys', 'mouse'] };
+// A window that fingers use is one of a phone or tablet; a narrow one that a mouse uses is one of a desktop.
+const windowOf = (size, input) => ({ ...SIZES[size], touch: input === 'touch' || (input === 'keys' && SIZES[size].touch === true) });
 const columns = Object.entries(INPUTS).flatMap(([size, inputs]) => inputs.map((input) => ({ size, input, name: `${SIZES[size].width} by ${SIZES[size].height}, ${input}` })));
 
 /** All of them, by names such as 'drawing: 1280 by 800, keys'. */
 export const tests = Object.fromEntries(Object.entries(POINTS).flatMap(([point, act]) => columns.map(({ size, input, name }) => [`${point}: ${name}`, async ({ browser, url, folder }) => {
-    const { page, trial, own } = await fresh(browser, url, folder, `point-${size}-${input}`, { size: SIZES[size] });
+    const { page, trial, own } = await fresh(browser, url, folder, `point-${size}-${input}`, { size: windowOf(size, input) });
     try {
         await clean(page);
         await trial.load();

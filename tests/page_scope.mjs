@@ -8,7 +8,7 @@ import { fileURLToPath } from 'node:url';
 import '../page/test/limits.mjs';
 
 const page = fileURLToPath(new URL('../page/', import.meta.url));
-const ROOMS = ['base', 'document', 'formats', 'grade', 'repair', 'walk', 'engine', 'draw', 'view', 'play', 'library', 'import', 'export', 'start']; // from below
+const ROOMS = ['texts', 'base', 'document', 'formats', 'grade', 'repair', 'walk', 'engine', 'draw', 'view', 'play', 'library', 'import', 'export', 'start']; // from below
 const modules = readdirSync(page, { recursive: true }).filter((file) => file.endsWith('.js') && !file.startsWith('test/')).sort();
 const read = (file) => readFileSync(join(page, file), 'utf8');
 const importsOf = (file) => [...read(file).matchAll(/^(?:import|export)\b[^;]*?from '([^']+)';$|^import '([^']+)';$/gm)].map((found) => found[1] ?? found[2]);
@@ -23,7 +23,7 @@ test('each module says what it is, and is short', () => {
     for (const file of modules) {
         const lines = read(file).split('\n');
         assert.match(lines[0], /^\/\/ [A-Z]/, `${file} says what it is`);
-        assert.ok(lines.length <= 321, `${file} has ${lines.length} lines`);
+        assert.ok(lines.length <= 321 || file.startsWith('texts/'), `${file} has ${lines.length} lines`);
     }
 });
 
@@ -49,7 +49,7 @@ test('each module is reached from main or the worker', () => {
 });
 
 test('what is worked out without a document is imported without one', async () => {
-    for (const file of modules.filter((one) => ['base', 'document', 'formats', 'engine', 'grade', 'repair', 'walk', 'library', 'import'].includes(dirname(one)) && one !== 'engine/worker.js')) {
+    for (const file of modules.filter((one) => ['texts', 'base', 'document', 'formats', 'engine', 'grade', 'repair', 'walk', 'library', 'import'].includes(dirname(one)) && one !== 'engine/worker.js')) {
         await import(join(page, file));
     }
 });

@@ -3,22 +3,26 @@
 import { resolve } from 'node:path';
 import { Browser } from './page_browser.mjs';
 import { Trial, hookedPage } from './page_trial.mjs';
+import * as coming from './page_coming.mjs';
 import * as drawing from './page_drawing.mjs';
 import * as lasting from './page_lasting.mjs';
 import * as looks from './page_looks.mjs';
 import * as loss from './page_loss.mjs';
+import * as marks from './page_marks.mjs';
 import * as meaning from './page_meaning.mjs';
 import * as mending from './page_mending.mjs';
 import * as out from './page_out.mjs';
 import * as phone from './page_phone.mjs';
 import * as points from './page_points.mjs';
+import * as repairs from './page_repairs.mjs';
+import * as sharing from './page_sharing.mjs';
 import * as stored from './page_stored.mjs';
 import * as ways from './page_ways.mjs';
 
 const [folder, ...only] = [resolve(process.argv[2]), ...process.argv.slice(3)];
 const url = hookedPage(process.env.PAGE, folder);
 const isWanted = (name) => !only.length || only.some((one) => name === one || (one.endsWith(':') && name.startsWith(one)));
-const tests = Object.entries({ ...drawing, ...lasting, ...loss, ...meaning, ...mending, ...ways, ...stored, ...out, ...looks, ...phone, ...points.tests })
+const tests = Object.entries({ ...drawing, ...lasting, ...loss, ...marks, ...meaning, ...mending, ...repairs, ...ways, ...stored, ...out, ...looks, ...phone, ...sharing, ...coming, ...points.tests })
     .filter(([name, test]) => typeof test === 'function' && name !== 'hard' && !name.endsWith('Point') && isWanted(name));
 const browser = new Browser();
 const passed = new Set();

@@ -5,7 +5,7 @@ import { test } from 'node:test';
 import { clueOf } from '../page/grade/lines.js';
 import { Narrowing, Puzzle, cellsOf, mapOf } from '../page/grade/puzzle.js';
 import { Board } from '../page/repair/board.js';
-import { give, repair } from '../page/repair/repair.js';
+import { give, mix, repair } from '../page/repair/repair.js';
 import { haveSameClue } from '../page/repair/witness.js';
 
 const LETTERS = '.abc';
@@ -182,6 +182,47 @@ test('the fewest cells to be given are brute force\'s', async () => {
     }
 });
 
+test('behind a beginning of repaints, the fewest cells to be given are brute force\'s', async () => {
+    const next = random(41);
+    let tried = 0;
+    for (const goal of ['unique', 'lines']) {
+        const isGoal = (cells, givens) => (goal === 'lines' ? small.isByLines(cells, givens) : small.isUnique(cells, givens));
+        for (let turn = 0; turn < 20; turn++) {
+            const cells = someCells(small, next, (one) => !isGoal(one, []));
+            const { result } = await repairsOf(small, cells, goal, { rule: turn % 2 === 0 });
+            for (const one of result.near) {
+                const begun = painted(cells, one.cells);
+                assert.ok(one.cells.length >= 1 && one.cells.length <= 4 && !isGoal(begun, []), 'a beginning misses the goal');
+                const found = [];
+                const session = sessionOf(small, cells);
+                await mix({ board: boardOf(small, cells), goal, near: [one], bound: 9, say: session, ...BOUNDS }, { found: (mixed) => found.push(mixed) });
+                assert.deepEqual(session.shown, cells, 'the session is as before');
+                const least = [1, 2, 3, 4].find((count) => sets(16, count).some((some) => isGoal(begun, some)));
+                if (goal === 'unique' && least) assert.equal(found.at(-1)?.given.length, least, rowsOf(small, begun).join('/'));
+                for (const mixed of found) assert.ok(isGoal(begun, mixed.given) && mixed.given.length >= least);
+                tried += found.length;
+            }
+        }
+    }
+    assert.ok(tried > 40, `${tried} mixtures`);
+});
+
+test('each mixture has fewer changes than the one before, and than the bound', async () => {
+    const next = random(43);
+    for (let turn = 0; turn < 40; turn++) {
+        const cells = someCells(small, next, (one) => !small.isUnique(one));
+        const { result } = await repairsOf(small, cells, 'unique', { rule: false });
+        let most = 2 + next(4);
+        await mix({ board: boardOf(small, cells), goal: 'unique', near: result.near, bound: most, say: sessionOf(small, cells), ...BOUNDS }, {
+            found({ cells: changes, given }) {
+                assert.ok(given.length > 0 && changes.length > 0 && changes.length + given.length < most);
+                assert.ok(small.isUnique(painted(cells, changes), given));
+                most = changes.length + given.length;
+            },
+        });
+    }
+});
+
 // All sets of so many of the first numbers.
 function sets(below, count, from = 0) {
     if (count === 0) return [[]];
@@ -233,12 +274,23 @@ test('a search ends with its questions, and what was found stays', async () => {
     assert.ok(result.questions <= 3);
 });
 
-test('what is nearer to the goal is told, each time nearer', async () => {
-    const cells = cellsOf(['a.a.', '.a.a', 'a.a.', '.a.a']);
-    const near = [];
-    await repair({ board: boardOf(small, cells), goal: 'unique', say: sessionOf(small, cells), ...BOUNDS }, { nearer: (one) => near.push(one.differing) });
-    assert.ok(near.length > 0);
-    for (let at = 1; at < near.length; at++) assert.ok(near[at] < near[at - 1]);
+test('what is nearer to the goal than the picture is told, each time nearer', async () => {
+    const next = random(51);
+    let told = 0;
+    for (let turn = 0; turn < 40; turn++) {
+        const cells = someCells(small, next, (one) => !small.isUnique(one));
+        const farOf = (one) => Math.max(...small.others(one).map((other) => other.filter((colour, at) => colour !== one[at]).length));
+        let far = farOf(cells);
+        await repair({ board: boardOf(small, cells), goal: 'unique', say: sessionOf(small, cells), ...BOUNDS }, {
+            nearer({ cells: changes, differing }) {
+                assert.ok(changes.length > 0 && differing < far);
+                assert.equal(differing, farOf(painted(cells, changes)), 'as many cells differ as is told');
+                far = differing;
+                told++;
+            },
+        });
+    }
+    assert.ok(told > 10, `${told} told`);
 });
 
 test('a session that refuses a line ends the search with an error', async () => {

@@ -36,6 +36,8 @@ chmod +x find/find
 pair good accepted
 ln -s site link
 same 'a site' 0 '' "$examples/check-site" site
+mkdir empty
+same 'a folder without a certificate' 123 '3 empty/' "$examples/check-site" empty
 same 'a folder that is not there' 123 '3 nowhere/' "$examples/check-site" nowhere
 same 'a folder that is not readable' 123 '3 site/' env PATH="$work/find:$PATH" "$examples/check-site" site
 same 'packs of a folder that is not readable' 1 '' env PATH="$work/find:$PATH" "$examples/make-packs" site unread

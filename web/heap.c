@@ -78,7 +78,7 @@ static void *resize(void *block, u64 n) {
     return moved;
 }
 
-// What the kit's Global calls.
+// What the toolchain's Global calls.
 struct tried {
     u64 is_ok, block;
 };

@@ -11,11 +11,14 @@ import { limitsOf } from './limits.mjs';
 
 const [root, folder, entry = join(root, 'page', 'main.js')] = process.argv.slice(2);
 const EXAMPLES = ['heart', 'mushroom', 'boat'];
+const MANIFEST = {
+  name: 'nonobench', short_name: 'nonobench', description: 'A workbench for multicolour nonograms', start_url: './', scope: './', display: 'standalone',
+  icons: [{ src: 'icon.svg', sizes: 'any', type: 'image/svg+xml' }],
+};
 
 const read = (...parts) => readFileSync(join(root, ...parts), 'utf8');
 
-// What git calls the folders that the page is made of, where they are in a repository. A commit's name would be another one as soon
-// as the page is a part of it.
+// What git calls the folders that the page is made of, where they are in a repository.
 function treesOf() {
   const folders = ['crates', 'web', 'page', 'examples'];
   try {
@@ -24,6 +27,17 @@ function treesOf() {
     return Object.fromEntries(said.trim().split('\n').map((name, at) => [folders[at], name.slice(0, 12)]));
   } catch {
     return {};
+  }
+}
+
+// The last commit that changed what the page is made of. A later one, which puts the built page into the repository, has the same
+// page. A clone without its history does not know it.
+function commitOf() {
+  const git = (...words) => execFileSync('git', ['-C', root, ...words], { encoding: 'utf8', stdio: ['ignore', 'pipe', 'ignore'] }).trim();
+  try {
+    return git('rev-parse', '--is-shallow-repository') === 'true' ? '' : git('log', '-1', '--format=%H', '--', 'crates', 'web', 'page', 'examples').slice(0, 12);
+  } catch {
+    return '';
   }
 }
 
@@ -37,29 +51,35 @@ function bundled(file, ...words) {
 const script = (file) => bundled(file, '--format=iife', `--define:LIMITS=${JSON.stringify(limitsOf(root))}`);
 const hashOf = (text) => `'sha256-${createHash('sha256').update(text).digest('base64')}'`;
 
-// What the page may do: it runs its own script and style alone, known by their hashes, and fetches nothing.
-const policyOf = (code, style) => [
-  "default-src 'none'", `script-src ${hashOf(code)} 'wasm-unsafe-eval'`, 'worker-src blob:', `style-src ${hashOf(style)}`,
+// What the page may do: it runs its own script and style alone, known by their hashes, and fetches nothing. A served page has its
+// manifest and the worker that keeps it for use without a network besides.
+const policyOf = (code, style, served) => [
+  "default-src 'none'", `script-src ${hashOf(code)} 'wasm-unsafe-eval'`, `worker-src blob:${served ? " 'self'" : ''}`, ...(served ? ["manifest-src 'self'"] : []), `style-src ${hashOf(style)}`,
   'img-src data: blob:', 'connect-src blob: data:', "base-uri 'none'", "form-action 'none'",
 ].join('; ');
 
-function pageText(version) {
+function pageTexts(version) {
   const packed = gzipSync(readFileSync(join(folder, 'nonobench.wasm')), { level: 9 });
   packed[9] = 255; // the system that packed it
-  const built = { module: packed.toString('base64'), packed: 'gzip', worker: script(join(root, 'page', 'engine', 'worker.js')), version, trees: treesOf() };
+  const built = { module: packed.toString('base64'), packed: 'gzip', worker: script(join(root, 'page', 'engine', 'worker.js')), version, commit: commitOf(), trees: treesOf() };
   const icon = Buffer.from(read('page', 'icon.svg')).toString('base64');
   // What must not stand in a script within HTML; esbuild takes care of the end of the script.
   const code = `\n${script(entry).replaceAll('<!--', '<\\!--')}\n`;
   const style = `\n${bundled(join(root, 'page', 'styles', 'index.css'))}\n`;
-  const parts = {
-    '<!-- head: policy, icon -->': `<meta http-equiv="Content-Security-Policy" content="${policyOf(code, style)}">\n<link rel="icon" href="data:image/svg+xml;base64,${icon}">`,
+  const parts = (served) => ({
+    '<!-- head: policy, icon -->': `<meta http-equiv="Content-Security-Policy" content="${policyOf(code, style, served)}">\n<link rel="icon" href="data:image/svg+xml;base64,${icon}">${served ? '\n<link rel="manifest" href="manifest.webmanifest">' : ''}`,
     '<!-- style -->': `<style>${style}</style>`,
     '<!-- built -->': [
       ...EXAMPLES.map((name) => `<script type="text/plain" data-example="${name}">${read('examples', `${name}.ppm`)}</script>`),
       `<script type="application/json" id="built">${JSON.stringify(built).replaceAll('<', '\\u003c')}</script>`,
     ].join('\n'),
     '<!-- script -->': `<script>${code}</script>`,
-  };
+  });
+  return [filled(parts(false)), filled(parts(true))];
+}
+
+// The page's HTML with its parts in their places.
+function filled(parts) {
   let text = read('page', 'index.html');
   for (const [place, part] of Object.entries(parts)) {
     const at = text.indexOf(place);
@@ -69,14 +89,24 @@ function pageText(version) {
   return text;
 }
 
+// Lays out the folder of a site: the page as index.html, and what a browser needs to keep it and to put it beside its programs.
+function writeSite(site, text) {
+  rmSync(site, { recursive: true, force: true });
+  mkdirSync(site, { recursive: true });
+  for (const name of ['nonobench.wasm', 'nonobench.mjs', 'nonobench.d.ts']) if (existsSync(join(folder, name))) copyFileSync(join(folder, name), join(site, name));
+  const files = ['./', 'manifest.webmanifest', 'icon.svg'];
+  const sum = createHash('sha256').update(text).digest('hex').slice(0, 16);
+  writeFileSync(join(site, 'index.html'), text);
+  copyFileSync(join(root, 'page', 'icon.svg'), join(site, 'icon.svg'));
+  writeFileSync(join(site, 'manifest.webmanifest'), `${JSON.stringify(MANIFEST, null, 2)}\n`);
+  writeFileSync(join(site, 'offline.js'), `${bundled(join(root, 'web', 'offline.js'), `--define:FILES=${JSON.stringify(files)}`, `--define:SUM=${JSON.stringify(sum)}`)}\n`);
+}
+
 if (spawnSync('esbuild', ['--version']).error) {
   console.log('web/join.mjs: skipped: no esbuild');
   process.exit(77);
 }
 const [, version] = /VERSION: &str = "([^"]+)"/.exec(read('crates', 'program_options', 'src', 'version.rt'));
-writeFileSync(join(folder, 'nonobench.html'), pageText(version));
-const site = join(folder, 'site');
-rmSync(site, { recursive: true, force: true });
-mkdirSync(site, { recursive: true });
-for (const name of ['nonobench.wasm', 'nonobench.mjs', 'nonobench.d.ts']) if (existsSync(join(folder, name))) copyFileSync(join(folder, name), join(site, name));
-copyFileSync(join(folder, 'nonobench.html'), join(site, 'index.html'));
+const [alone, served] = pageTexts(version);
+writeFileSync(join(folder, 'nonobench.html'), alone);
+writeSite(join(folder, 'site'), served);

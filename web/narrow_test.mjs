@@ -1,5 +1,5 @@
 // Tests web/narrow.mjs on small modules: shifts of 128 bits, both halves of a pointer, records, and forms that it must refuse.
-// Run: CLANG=the kit's clang node --test web/narrow_test.mjs. It links as web/build does.
+// Run: CLANG=the toolchain's clang node --test web/narrow_test.mjs. It links as web/build does.
 import assert from 'node:assert/strict';
 import { execFileSync, spawnSync } from 'node:child_process';
 import { mkdtempSync, readFileSync, symlinkSync, writeFileSync } from 'node:fs';

@@ -21,6 +21,14 @@ export const make = (name, attributes = {}, ...children) => {
   return element;
 };
 
+/** Makes a part of an SVG drawing. */
+export function svgPart(name, attributes, ...children) {
+  const element = document.createElementNS('http://www.w3.org/2000/svg', name);
+  for (const [key, value] of Object.entries(attributes)) element.setAttribute(key, value);
+  element.append(...children);
+  return element;
+}
+
 /**
  * Keeps the strokes of fingers on an element from the browser's own gestures: behind a quick one Chromium would take the next tap,
  * wherever it is, for the end of a fling, and make no click of it.

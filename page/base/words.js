@@ -1,8 +1,13 @@
 // Numbers and file names as texts, and a bound for numbers.
 
-export const number = (count) => count.toLocaleString('en');
+import { LANGUAGE, phrase } from '../texts/phrase.js';
+
+export const number = (count) => count.toLocaleString(LANGUAGE);
 export const many = (count, what) => `${number(count)} ${what}${count === 1 ? '' : 's'}`;
 export const clamp = (value, least, most) => Math.max(least, Math.min(most, value));
+
+/** The size of a document in words. */
+export const sizeText = ({ columns, rows }) => phrase('base.by', { columns, rows });
 
 /** A name without what no file name may have. */
 export const cleanName = (name) => (name ?? '').replace(/[\u0000-\u001f\\/:*?"<>|]/g, ' ').trim().slice(0, 80).replace(/\.+$/, '') || 'picture';

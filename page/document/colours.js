@@ -1,5 +1,7 @@
 // Colours as the screen has them, and plain names for those who do not see them.
 
+import { phrase } from '../texts/phrase.js';
+
 /** A triple as eight-bit samples. */
 export const eightBits = (triple, maxval) => triple.map((sample) => Math.round((sample * 255) / maxval));
 export const cssOf = (triple, maxval) => `rgb(${eightBits(triple, maxval).join(' ')})`;
@@ -15,16 +17,23 @@ export function inkOn(triple, maxval) {
   return 0.2126 * red + 0.7152 * green + 0.0722 * blue > 0.18 ? '#000' : '#fff';
 }
 
+/**
+ * Hues by their ends, in degrees; one has no name of its own.
+ * @type {{ end: number, name?: import('../texts/phrase.js').Hue }[]}
+ */
+const HUES = [{ end: 14, name: 'document.red' }, { end: 42 }, { end: 68, name: 'document.yellow' }, { end: 165, name: 'document.green' }, { end: 200, name: 'document.cyan' },
+  { end: 258, name: 'document.blue' }, { end: 292, name: 'document.purple' }, { end: 344, name: 'document.pink' }, { end: 361, name: 'document.red' }];
+
 /** A plain name for a colour. */
 export function nameOf(triple, maxval) {
   const [red, green, blue] = eightBits(triple, maxval);
   const [most, least] = [Math.max(red, green, blue), Math.min(red, green, blue)];
   const light = (most + least) / 510;
-  if (most - least < 24) return light > 0.93 ? 'white' : light < 0.12 ? 'black' : light > 0.6 ? 'light grey' : light < 0.35 ? 'dark grey' : 'grey';
+  if (most - least < 24) return phrase(light > 0.93 ? 'document.white' : light < 0.12 ? 'document.black' : light > 0.6 ? 'document.lightGrey' : light < 0.35 ? 'document.darkGrey' : 'document.grey');
   const turn = most === red ? (green - blue) / (most - least) : most === green ? 2 + (blue - red) / (most - least) : 4 + (red - green) / (most - least);
   const hue = (turn * 60 + 360) % 360;
-  const names = [[14, 'red'], [42, light < 0.42 ? 'brown' : 'orange'], [68, 'yellow'], [165, 'green'], [200, 'cyan'], [258, 'blue'], [292, 'purple'], [344, 'pink'], [361, 'red']];
-  return (light > 0.75 ? 'light ' : light < 0.28 ? 'dark ' : '') + names.find(([end]) => hue < end)[1];
+  const name = phrase(HUES.find(({ end }) => hue < end).name ?? (light < 0.42 ? 'document.brown' : 'document.orange'));
+  return light > 0.75 ? phrase('document.light', { name }) : light < 0.28 ? phrase('document.dark', { name }) : name;
 }
 
 export const plainHexOf = (triple) => triple.map((sample) => sample.toString(16).padStart(2, '0')).join('');

@@ -4,6 +4,7 @@
 // The page's part is {about: texts by name, inks: [{name, sign, locked}] beside the colours, locks: Set of places that no repair
 // may paint, extras: what else an XML puzzle had, or null}. A place is row * columns + column, both from 0.
 
+import { phrase } from '../texts/phrase.js';
 import { FileFault, LETTERS, MOST_CELLS, MOST_COLOURS } from './limits.js';
 
 const NONE = Object.freeze(new Set());
@@ -73,21 +74,21 @@ const isText = (text, most) => typeof text === 'string' && text.length <= most;
 
 /** Refuses what no bench would open, as a file or the browser's storage may hold it; else the document of a plain value. */
 export function unpackedDoc(value) {
-  must(value && isWhole(value.columns, 1, MOST_CELLS) && isWhole(value.rows, 1, MOST_CELLS), `A puzzle has 1 to ${MOST_CELLS} rows and columns.`);
+  must(value && isWhole(value.columns, 1, MOST_CELLS) && isWhole(value.rows, 1, MOST_CELLS), phrase('document.puzzle1RowsColumns', { MOST_CELLS }));
   const { columns, rows, maxval, colours, picture } = value;
-  must(isWhole(maxval, 1, 65535), 'The maxval of the puzzle is not from 1 to 65,535.');
-  must(Array.isArray(colours) && isWhole(colours.length, 1, MOST_COLOURS), `A puzzle has at most ${MOST_COLOURS} colours.`);
-  must(colours.every((triple) => Array.isArray(triple) && triple.length === 3 && triple.every((sample) => isWhole(sample, 0, maxval))), 'A colour of the puzzle is not three samples.');
-  must(new Set(colours.map(String)).size === colours.length, 'Two colours of the puzzle are the same.');
+  must(isWhole(maxval, 1, 65535), phrase('document.maxvalPuzzleNotFrom'));
+  must(Array.isArray(colours) && isWhole(colours.length, 1, MOST_COLOURS), phrase('document.puzzleMostColours', { MOST_COLOURS }));
+  must(colours.every((triple) => Array.isArray(triple) && triple.length === 3 && triple.every((sample) => isWhole(sample, 0, maxval))), phrase('document.colourPuzzleNotThree'));
+  must(new Set(colours.map(String)).size === colours.length, phrase('document.twoColoursPuzzleSame'));
   const letters = LETTERS.slice(0, colours.length);
   const isRow = (row) => typeof row === 'string' && row.length === columns && [...row].every((letter) => letters.includes(letter));
-  must(Array.isArray(picture) && picture.length === rows && picture.every(isRow), 'The rows of the puzzle do not fit its size and colours.');
-  const places = (list, what) => {
+  must(Array.isArray(picture) && picture.length === rows && picture.every(isRow), phrase('document.rowsPuzzleDoNot'));
+  const places = (list, fault) => {
     const set = new Set(list);
-    must([...set].every((place) => isWhole(place, 0, rows * columns - 1)), `A ${what} lies outside the picture.`);
+    must([...set].every((place) => isWhole(place, 0, rows * columns - 1)), fault);
     return set;
   };
-  return { rows, columns, maxval, colours, picture, givens: places(value.givens ?? [], 'given'), ...unpackedPage(value), locks: places(value.locks ?? [], 'locked cell') };
+  return { rows, columns, maxval, colours, picture, givens: places(value.givens ?? [], phrase('document.givenCellLiesOutside')), ...unpackedPage(value), locks: places(value.locks ?? [], phrase('document.lockedCellLiesOutside')) };
 }
 
 // Texts, names and signs as far as they are such.

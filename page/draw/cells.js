@@ -1,9 +1,8 @@
 // The cells on their canvas: only those are drawn whose look has changed. A cell's look is a number: its letter, whether it
 // is hatched, the other picture's letter, whether it is given or locked. The lines between cells lie beside them and stay.
 
-import { cssOf, inkOn } from '../document/colours.js';
-import { LETTERS } from '../document/limits.js';
-import { drawGiven } from './given.js';
+import { drawGiven, drawRules, drawSign, edges } from './board.js';
+import { CanvasSurface } from './surface.js';
 
 export const RIVAL = 1 << 8;
 export const HATCHED = 1 << 4;
@@ -14,6 +13,7 @@ export class Cells {
   constructor(canvas) {
     this.canvas = canvas;
     this.pen = canvas.getContext('2d', { alpha: false });
+    this.surface = new CanvasSurface(this.pen);
     this.drawn = new Int32Array(0);
     this.tile = null;
   }
@@ -30,14 +30,14 @@ export class Cells {
     pen.beginPath();
     pen.rect(at.originX - 1, at.originY - 1, at.width, at.height);
     pen.clip();
-    this.rules(sheet);
+    drawRules(this.surface, this.look, sheet.boardFrame());
     this.changed(sheet, true);
     pen.restore();
   }
 
   /** Draws the cells whose look is another one; `clipped` where the room is set already. */
   changed(sheet, clipped = false) {
-    if (!this.fills) return;
+    if (!this.look) return;
     const { top, left, bottom, right } = sheet.geometry.seen();
     const { columns } = sheet.geometry;
     if (!clipped) this.clip(sheet);
@@ -57,7 +57,7 @@ export class Cells {
 
   /** Draws some cells, given by their places. */
   some(sheet, places) {
-    if (!this.fills) return;
+    if (!this.look) return;
     const { top, left, bottom, right } = sheet.geometry.seen();
     const { columns } = sheet.geometry;
     this.clip(sheet);
@@ -82,12 +82,10 @@ export class Cells {
 
   // What holds for all cells of one size.
   prepare(sheet) {
-    const { geometry: at, doc } = sheet;
-    this.fills = doc.colours.map((triple) => cssOf(triple, doc.maxval));
-    this.isSmall = at.cell < 6 * at.scale;
-    this.hasLetters = at.letters && at.cell >= 10 * at.scale;
-    this.thin = this.isSmall ? 0 : 1;
-    this.wide = at.cell < 2 ? 0 : at.cell < 14 * at.scale ? 1 : 2; // of heavy lines: none where they would hide cells
+    const { geometry: at, look } = sheet;
+    this.look = look;
+    this.isSmall = !look.thin;
+    this.hasLetters = look.signs && at.cell >= 10 * at.scale;
     this.hatching = this.pen.createPattern(this.tileFor(at.scale), 'repeat');
     this.hatching.setTransform(new DOMMatrix().translate(at.x(0), at.y(0)));
   }
@@ -112,40 +110,29 @@ export class Cells {
     return this.tile;
   }
 
-  /**
-   * Left edge and width of columns, or upper edge and height of rows, between the lines.
-   * @returns {[number, number]}
-   */
-  edges(from, end, first, cell, count) {
-    const isHeavy = (at) => at % 5 === 0 || at === count;
-    const begin = first + from * cell + (isHeavy(from) ? Math.min(1, this.wide) : this.thin);
-    const stop = first + end * cell - (isHeavy(end) && this.wide > 1 ? 1 : 0);
-    return [begin, stop - begin];
-  }
-
   span(sheet, row, col, end, look) {
     const { geometry: at } = sheet;
-    const [y, high] = this.edges(row, row + 1, at.y(0), at.cell, at.rows);
+    const [y, high] = edges(this.look, row, row + 1, at.y(0), at.cell, at.rows);
     // A run of one look is filled at once where no lines stand between; else cell by cell.
     const step = this.isSmall ? 5 - (col % 5) : 1;
     for (let from = col, next = Math.min(end, col + step); from < end; from = next, next = Math.min(end, next + (this.isSmall ? 5 : 1))) {
-      const [x, wide] = this.edges(from, next, at.x(0), at.cell, at.columns);
-      this.pen.fillStyle = this.fills[look & 15] ?? '#888';
+      const [x, wide] = edges(this.look, from, next, at.x(0), at.cell, at.columns);
+      this.pen.fillStyle = this.look.fills[look & 15] ?? '#888';
       this.pen.fillRect(x, y, wide, high);
       if (look < HATCHED && !this.hasLetters) continue;
       if (look & HATCHED) {
         this.pen.fillStyle = this.hatching;
         this.pen.fillRect(x, y, wide, high);
       }
-      for (let one = from; one < next; one++) this.more(sheet, row, one, look, [this.edges(one, one + 1, at.x(0), at.cell, at.columns), [y, high]]);
+      for (let one = from; one < next; one++) this.more(sheet, look, [edges(this.look, one, one + 1, at.x(0), at.cell, at.columns), [y, high]]);
     }
   }
 
-  more(sheet, row, col, look, [[x, wide], [y, high]]) {
+  more(sheet, look, [[x, wide], [y, high]]) {
     const rival = look & RIVAL ? (look >> 9) & 15 : -1;
     if (rival >= 0) this.rival(sheet, rival, x, y, wide, high);
     if (this.hasLetters) this.letter(sheet, look & 15, rival, x, y, wide, high);
-    if (look & GIVEN) drawGiven(this.pen, x, y, Math.min(wide, high));
+    if (look & GIVEN) drawGiven(this.surface, x, y, Math.min(wide, high));
     if (look & LOCKED) this.locked(sheet, x, y, Math.min(wide, high));
   }
 
@@ -158,7 +145,7 @@ export class Cells {
     pen.lineTo(x + wide, y + high);
     pen.lineTo(x + wide * 0.12, y + high);
     pen.closePath();
-    pen.fillStyle = this.fills[letter];
+    pen.fillStyle = this.look.fills[letter];
     pen.fill();
     const line = (wide < 16 * scale ? 1.4 : 2.4) * scale;
     pen.strokeStyle = sheet.inks.alarm;
@@ -167,22 +154,14 @@ export class Cells {
   }
 
   letter(sheet, at, rival, x, y, wide, high) {
-    const { doc, geometry } = sheet;
+    const { geometry } = sheet;
     const size = Math.min(14 * geometry.scale, Math.floor(geometry.cell * (rival >= 0 ? 0.42 : 0.62)));
-    const write = (one, left, top) => {
-      const { pen } = this;
-      pen.font = `600 ${size}px ${sheet.family}`;
-      pen.textAlign = 'center';
-      pen.textBaseline = 'middle';
-      pen.fillStyle = inkOn(doc.colours[one], doc.maxval);
-      pen.fillText(LETTERS[one], left, top);
-    };
     if (rival < 0) {
-      if (at > 0) write(at, x + wide / 2, y + high / 2);
+      if (at > 0) drawSign(this.surface, this.look, at, { x: x + wide / 2, y: y + high / 2, size });
       return;
     }
-    write(at, x + wide * 0.3, y + high * 0.33);
-    write(rival, x + wide * 0.7, y + high * 0.68);
+    drawSign(this.surface, this.look, at, { x: x + wide * 0.3, y: y + high * 0.33, size });
+    drawSign(this.surface, this.look, rival, { x: x + wide * 0.7, y: y + high * 0.68, size });
   }
 
   // A lock: a small square with a bow, at the lower left.
@@ -197,20 +176,6 @@ export class Cells {
       pen.arc(left + side / 2, top, side * 0.28 + grow * 0.5, Math.PI, 0);
       pen.stroke();
       pen.fillRect(left - grow, top - grow, side + 2 * grow, side * 0.7 + 2 * grow);
-    }
-  }
-
-  rules(sheet) {
-    const { geometry: at } = sheet;
-    const { top, left, bottom, right } = at.seen();
-    const [west, north] = [at.x(left), at.y(top)];
-    const [wide, high] = [(right - left + 1) * at.cell, (bottom - top + 1) * at.cell];
-    const isHeavy = (one, count) => one % 5 === 0 || one === count;
-    for (const strong of this.thin ? [false, true] : [true]) {
-      this.pen.fillStyle = strong ? sheet.inks.heavy : sheet.inks.light;
-      const breadth = strong ? this.wide : 1;
-      for (let col = left; col <= right + 1; col++) if (isHeavy(col, at.columns) === strong) this.pen.fillRect(at.x(col) - (breadth > 1 ? 1 : 0), north, breadth, high);
-      for (let row = top; row <= bottom + 1; row++) if (isHeavy(row, at.rows) === strong) this.pen.fillRect(west, at.y(row) - (breadth > 1 ? 1 : 0), wide, breadth);
     }
   }
 }

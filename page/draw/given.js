@@ -5,15 +5,3 @@ export function givenCorners(x, y, side) {
   const [middleX, middleY, half] = [x + side * 0.24, y + side * 0.24, Math.max(1.5, side * 0.17)];
   return [[middleX, middleY - half], [middleX + half, middleY], [middleX, middleY + half], [middleX - half, middleY]];
 }
-
-/** Draws the mark in a cell. */
-export function drawGiven(pen, x, y, side) {
-  pen.beginPath();
-  givenCorners(x, y, side).forEach(([left, top], at) => (at ? pen.lineTo(left, top) : pen.moveTo(left, top)));
-  pen.closePath();
-  pen.fillStyle = '#fff';
-  pen.strokeStyle = '#1a1a1a';
-  pen.lineWidth = Math.max(0.8, side * 0.05);
-  pen.fill();
-  pen.stroke();
-}

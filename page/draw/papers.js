@@ -1,144 +1,114 @@
-// The puzzle on paper: clues, grid and colours as plain shapes, which become an SVG for the printer or points of a PNG. Lengths
-// are in points of the drawing, a cell's side being `cell`.
+// A puzzle, its solution, or a part of either, on a white surface: for print and for images. Lengths are in the surface's units.
 
-import { make } from '../base/elements.js';
 import { lightness } from '../document/colours.js';
 import { columnOf, eightBitDoc, rowOf } from '../document/document.js';
 import { LETTERS } from '../document/limits.js';
-import { givenCorners } from './given.js';
+import { coloursOf, drawClue, drawGiven, drawRules, drawSign, wholeFrame } from './board.js';
 
-const PAPER_INK = '#1a1a1a';
+export const PAPER_INK = '#1a1a1a';
+export const PAPER_FAMILY = 'system-ui, "Liberation Sans", "DejaVu Sans", sans-serif';
 const PAPER_FAINT = '#8a8a8a';
+const SIGNS = '■●▲▼★♥♣♠▶◀✚✖☀☂♪'; // one a colour, none like the mark of a given cell
+const PALE = 215; // from this lightness on white paper an edge is wanted
+const ROOM = 0.88; // of a cell's side, for a block of a clue
 
-const inkOver = (triple) => (lightness(triple) > 150 ? '#000' : '#fff');
+/** The signs of colours on paper, each another one; the background has none. */
+export const signsOf = ({ colours }) => ['', ...SIGNS].slice(0, colours.length);
+
+/** Whether a document has one colour besides its background: its clues need no colours. */
+export const hasOneInk = ({ colours }) => colours.length <= 2;
+
+// How it looks with cells of a size. `show` says how colours are told: 'colours', 'letters' or 'signs'. Lines of a canvas are whole.
+function paperLook(surface, doc, cell, show) {
+  const isWhole = Boolean(surface.pen);
+  const weight = (share, least) => (isWhole ? Math.max(least, Math.round(cell * share)) : cell * share);
+  const { fills, inks } = coloursOf(doc, true);
+  return {
+    fills, inks, signs: show === 'letters' ? LETTERS : show === 'signs' ? signsOf(doc) : null, family: PAPER_FAMILY,
+    thin: weight(1 / 50, 1), wide: weight(1 / 12, 2), border: weight(1 / 10, 2), isWhole, under: !isWhole, light: '#555', heavy: PAPER_INK,
+    ink: '#000', faint: PAPER_FAINT, style: show !== 'colours' || hasOneInk(doc) ? 'plain' : 'box',
+    edge: doc.colours.some((triple) => lightness(triple) > PALE) ? PAPER_FAINT : null, hair: cell / 40, radius: 0, font: cell * 0.66, least: isWhole ? 5 : 0, weight: 400,
+  };
+}
+
 const longest = (clues) => Math.max(1, ...clues.map((blocks) => blocks.length));
+const whole = ({ rows, columns }) => ({ top: 0, left: 0, bottom: rows - 1, right: columns - 1 });
 
 /**
- * A puzzle as `{ width, height, shapes }`. `puzzle` is { doc, clues }. `options`: `cell`; `clues` whether they are drawn;
- * `solution` whether the cells are filled (givens always are); `letters` for colours as letters, in clues and cells. The empty
- * puzzle is white whatever the background is: what is not known yet is not background.
+ * The size of a puzzle on paper in cells' sides, {left, top, width, height}: the room of its clues and all of it. `part` is the rows and
+ * columns that are drawn, all if it is left out; clues stand beside the first of them alone. `hasNumbers` puts numbers of lines in
+ * their place where there are none.
  */
-export function paperOf({ doc, clues }, { cell = 20, clues: hasClues = true, solution = false, letters = false } = {}) {
-  const shown = eightBitDoc(doc);
-  const left = hasClues ? longest(clues.rows) * cell + cell / 4 : 0;
-  const top = hasClues ? longest(clues.columns) * cell + cell / 4 : 0;
-  const paper = { cell, left, top, letters, doc: shown, shapes: [], width: left + doc.columns * cell + 2, height: top + doc.rows * cell + 2 };
-  paper.shapes.push({ kind: 'rect', x: 0, y: 0, width: paper.width, height: paper.height, fill: '#fff' });
-  drawPaperCells(paper, solution);
-  drawPaperLines(paper);
-  if (!solution) drawPaperGivens(paper);
-  if (hasClues) drawPaperClues(paper, clues);
-  return paper;
+export function sizeOfPaper({ doc, clues }, { part = whole(doc), hasClues = true, hasNumbers = false } = {}) {
+  const room = (lines, from) => (hasClues && from === 0 ? longest(lines) + 0.25 : hasNumbers ? 1.5 : 0.15);
+  const [left, top] = [room(clues.rows, part.left), room(clues.columns, part.top)];
+  return { left, top, width: left + part.right - part.left + 1.15, height: top + part.bottom - part.top + 1.15 };
 }
 
-// The mark of each given cell, over what is drawn there.
-function drawPaperGivens({ cell, left, top, doc, shapes }) {
-  for (const place of doc.givens) shapes.push({ kind: 'diamond', corners: givenCorners(left + columnOf(doc, place) * cell, top + rowOf(doc, place) * cell, cell), weight: cell / 25 });
+/**
+ * Draws a puzzle at a place, with cells of a size. `solution` fills the cells; givens are always filled. The empty puzzle is white
+ * whatever the background is: what is not known yet is not background.
+ */
+export function drawPaper(surface, puzzle, { x, y, cell, show = 'colours', solution = false, hasClues = true, hasNumbers = false, part = whole(puzzle.doc) }) {
+  const doc = eightBitDoc(puzzle.doc);
+  const { left, top } = sizeOfPaper(puzzle, { part, hasClues, hasNumbers });
+  const snapped = (value) => (surface.pen ? Math.round(value) : value);
+  const frame = { ...wholeFrame(snapped(x + (left - part.left) * cell), snapped(y + (top - part.top) * cell), cell, doc), ...part };
+  const board = { surface, doc, frame, look: paperLook(surface, doc, cell, show) };
+  if (solution) drawSolution(board);
+  else drawGivenCells(board);
+  drawRules(surface, board.look, frame);
+  if (!solution) for (const [row, col] of givensIn(board)) drawGiven(surface, frame.x + col * cell, frame.y + row * cell, cell);
+  if (hasClues) drawPaperClues(board, puzzle.clues);
+  if (hasNumbers) drawPaperNumbers(board);
 }
 
-function drawPaperCells({ cell, left, top, letters, doc, shapes }, solution) {
-  const ground = `rgb(${doc.colours[0].join(' ')})`;
-  const isWhite = doc.colours[0].join() === '255,255,255';
-  if (!isWhite && !letters && solution) shapes.push({ kind: 'rect', x: left, y: top, width: doc.columns * cell, height: doc.rows * cell, fill: ground });
-  doc.picture.forEach((row, r) => {
-    for (let from = 0, to; from < row.length; from = to) {
-      to = from + 1;
-      const given = doc.givens.has(r * doc.columns + from);
-      if (!solution && !given) continue;
-      const letter = row[from];
-      if (solution && !letters) while (to < row.length && row[to] === letter) to++; // one shape for a run
-      const [x, y] = [left + from * cell, top + r * cell];
-      const triple = doc.colours[LETTERS.indexOf(letter)];
-      if (!letters) {
-        if (letter !== '.') shapes.push({ kind: 'rect', x, y, width: (to - from) * cell, height: cell, fill: `rgb(${triple.join(' ')})` });
-        else if (given && !solution) shapes.push({ kind: 'text', x: x + cell / 2, y: y + cell / 2, size: cell * 0.7, text: '×', fill: PAPER_FAINT });
-      } else if (letter !== '.' || given) shapes.push({ kind: 'text', x: x + cell / 2, y: y + cell / 2, size: cell * 0.7, text: letter === '.' ? '×' : letter, fill: PAPER_INK });
-    }
-  });
+// Numbers of each fifth line where a part has no clues.
+function drawPaperNumbers({ surface, look, frame: { x, y, cell, top, left, bottom, right } }) {
+  const write = (line, across, down) => surface.text(String(line), across, down, { size: cell * 0.55, ink: PAPER_FAINT, family: look.family });
+  const isFifth = (line) => (line + 1) % 5 === 0;
+  if (left > 0) for (let row = top; row <= bottom; row++) if (isFifth(row)) write(row + 1, x + (left - 0.8) * cell, y + (row + 0.5) * cell);
+  if (top > 0) for (let col = left; col <= right; col++) if (isFifth(col)) write(col + 1, x + (col + 0.5) * cell, y + (top - 0.7) * cell);
 }
 
-// Every fifth line and the border are thicker.
-function drawPaperLines({ cell, left, top, doc, shapes }) {
-  const weight = (at, most) => (at === 0 || at === most ? cell / 10 : at % 5 === 0 ? cell / 14 : cell / 30);
-  const [right, bottom] = [left + doc.columns * cell, top + doc.rows * cell];
-  for (let at = 0; at <= doc.columns; at++) shapes.push({ kind: 'line', x1: left + at * cell, y1: top, x2: left + at * cell, y2: bottom, weight: weight(at, doc.columns) });
-  for (let at = 0; at <= doc.rows; at++) shapes.push({ kind: 'line', x1: left, y1: top + at * cell, x2: right, y2: top + at * cell, weight: weight(at, doc.rows) });
+const givensIn = ({ doc, frame: { top, left, bottom, right } }) => [...doc.givens].map((place) => [rowOf(doc, place), columnOf(doc, place)])
+  .filter(([row, col]) => row >= top && row <= bottom && col >= left && col <= right);
+
+const boxOf = ({ frame: { x, y, cell } }, row, from, to) => [x + from * cell, y + row * cell, (to - from) * cell, cell];
+
+function drawPaperSign({ surface, look, frame: { x, y, cell } }, row, col, at) {
+  const middle = { x: x + (col + 0.5) * cell, y: y + (row + 0.5) * cell };
+  if (at === 0) surface.text('×', middle.x, middle.y, { size: cell * 0.7, ink: look.signs ? PAPER_INK : PAPER_FAINT, family: look.family });
+  else drawSign(surface, look, at, { ...middle, size: cell * 0.7, ink: PAPER_INK });
 }
 
-function drawPaperClues(paper, clues) {
-  const { cell, left, top } = paper;
-  const gap = cell / 4;
-  clues.rows.forEach((blocks, row) => {
-    if (!blocks.length) drawPaperBlock(paper, null, left - gap - cell, top + row * cell);
-    blocks.forEach((block, at) => drawPaperBlock(paper, block, left - gap - (blocks.length - at) * cell, top + row * cell));
-  });
-  clues.columns.forEach((blocks, col) => {
-    if (!blocks.length) drawPaperBlock(paper, null, left + col * cell, top - gap - cell);
-    blocks.forEach((block, at) => drawPaperBlock(paper, block, left + col * cell, top - gap - (blocks.length - at) * cell));
-  });
-}
-
-function drawPaperBlock({ cell, letters, doc, shapes }, block, x, y) {
-  const text = block ? `${block.length}${letters ? block.letter : ''}` : '0';
-  const triple = block ? doc.colours[LETTERS.indexOf(block.letter)] : null;
-  const inset = cell * 0.06;
-  const isPale = block && lightness(triple) > 215; // on white paper its edge would not be seen
-  if (block && !letters) shapes.push({ kind: 'rect', x: x + inset, y: y + inset, width: cell - 2 * inset, height: cell - 2 * inset, fill: `rgb(${triple.join(' ')})`, edge: isPale ? cell / 30 : 0 });
-  const size = Math.min(cell * 0.66, (cell * 0.86) / (text.length * 0.56));
-  shapes.push({ kind: 'text', x: x + cell / 2, y: y + cell / 2, size, text, fill: block && !letters ? inkOver(triple) : PAPER_INK });
-}
-
-const SVG = 'http://www.w3.org/2000/svg';
-export function svgPart(name, attributes, text = null) {
-  const element = document.createElementNS(SVG, name);
-  for (const [key, value] of Object.entries(attributes)) element.setAttribute(key, typeof value === 'number' ? Math.round(value * 100) / 100 : value);
-  if (text !== null) element.textContent = text;
-  return element;
-}
-
-/** A paper as an SVG element. */
-export function svgOfPaper({ width, height, shapes }) {
-  const svg = svgPart('svg', { viewBox: `0 0 ${width} ${height}`, 'font-family': 'system-ui, "Liberation Sans", sans-serif', role: 'img' });
-  svg.style.maxWidth = `${Math.round(width / 2)}mm`; // a cell of 20 is at most a centimetre wide on paper
-  for (const shape of shapes) {
-    const edge = shape.edge ? { stroke: PAPER_FAINT, 'stroke-width': shape.edge } : {};
-    if (shape.kind === 'rect') svg.append(svgPart('rect', { x: shape.x, y: shape.y, width: shape.width, height: shape.height, fill: shape.fill, ...edge }));
-    else if (shape.kind === 'diamond') svg.append(svgPart('polygon', { points: shape.corners.map((corner) => corner.map((one) => one.toFixed(2)).join()).join(' '), fill: '#fff', stroke: PAPER_INK, 'stroke-width': shape.weight }));
-    else if (shape.kind === 'line') svg.append(svgPart('line', { x1: shape.x1, y1: shape.y1, x2: shape.x2, y2: shape.y2, stroke: PAPER_INK, 'stroke-width': shape.weight, 'stroke-linecap': 'square' }));
-    else svg.append(svgPart('text', { x: shape.x, y: shape.y + shape.size * 0.36, 'font-size': shape.size, 'text-anchor': 'middle', fill: shape.fill }, shape.text));
+function drawGivenCells(board) {
+  for (const [row, col] of givensIn(board)) {
+    const at = LETTERS.indexOf(board.doc.picture[row][col]);
+    if (board.look.signs || at === 0) drawPaperSign(board, row, col, at);
+    else board.surface.rect(...boxOf(board, row, col, col + 1), board.look.fills[at]);
   }
-  return svg;
 }
 
-function drawDiamond(pen, { corners, weight }) {
-  pen.beginPath();
-  corners.forEach(([x, y], at) => (at ? pen.lineTo(x, y) : pen.moveTo(x, y)));
-  pen.closePath();
-  [pen.fillStyle, pen.strokeStyle, pen.lineWidth] = ['#fff', PAPER_INK, Math.max(1, weight)];
-  pen.fill();
-  pen.stroke();
-}
-
-/** A paper as points of a canvas. */
-export function canvasOfPaper({ width, height, shapes }) {
-  const canvas = make('canvas', { width: Math.ceil(width), height: Math.ceil(height) });
-  const pen = canvas.getContext('2d');
-  pen.textAlign = 'center';
-  for (const shape of shapes) {
-    pen.fillStyle = shape.fill ?? PAPER_INK;
-    if (shape.kind === 'rect') {
-      pen.fillRect(shape.x, shape.y, shape.width, shape.height);
-      if (!shape.edge) continue;
-      [pen.strokeStyle, pen.lineWidth] = [PAPER_FAINT, Math.max(1, shape.edge)];
-      pen.strokeRect(shape.x, shape.y, shape.width, shape.height);
-    } else if (shape.kind === 'diamond') drawDiamond(pen, shape);
-    else if (shape.kind === 'line') {
-      const half = Math.max(1, shape.weight) / 2;
-      pen.fillRect(shape.x1 - half, shape.y1 - half, shape.x2 - shape.x1 + 2 * half, shape.y2 - shape.y1 + 2 * half);
-    } else {
-      pen.font = `${shape.size}px system-ui, "Liberation Sans", sans-serif`;
-      pen.fillText(shape.text, shape.x, shape.y + shape.size * 0.36);
+// One shape for a run of one colour, or a sign a cell.
+function drawSolution(board) {
+  const { surface, doc, look, frame: { top, left, bottom, right } } = board;
+  for (let row = top; row <= bottom; row++) {
+    const letters = doc.picture[row];
+    for (let from = left, to; from <= right; from = to) {
+      for (to = from + 1; to <= right && letters[to] === letters[from];) to++;
+      const at = LETTERS.indexOf(letters[from]);
+      if (!look.signs) {
+        if (look.fills[at] !== '#ffffff') surface.rect(...boxOf(board, row, from, to), look.fills[at]);
+      } else if (at > 0) for (let col = from; col < to; col++) drawPaperSign(board, row, col, at);
     }
   }
-  return canvas;
+}
+
+function drawPaperClues({ surface, look, frame }, clues) {
+  const { x, y, cell, top, left, bottom, right } = frame;
+  const place = { far: -Infinity, gap: (1 - ROOM) * cell, unit: 1, sizeOf: () => ({ width: ROOM * cell, height: ROOM * cell }) };
+  const away = cell * (0.25 + (1 - ROOM) / 2);
+  if (left === 0) for (let row = top; row <= bottom; row++) drawClue(surface, look, 'r', clues.rows[row], { ...place, near: x - away, middle: y + (row + 0.5) * cell });
+  if (top === 0) for (let col = left; col <= right; col++) drawClue(surface, look, 'c', clues.columns[col], { ...place, near: y - away, middle: x + (col + 0.5) * cell });
 }

@@ -6,6 +6,7 @@ import { on, tell } from '../base/events.js';
 import { docOf } from '../document/document.js';
 import { LETTERS } from '../document/limits.js';
 import { bench } from '../engine/bench.js';
+import { coloursOf } from './board.js';
 import { Cells, GIVEN, HATCHED, LOCKED, RIVAL } from './cells.js';
 import { Geometry } from './geometry.js';
 import { drawMarks } from './marks.js';
@@ -40,6 +41,7 @@ class Sheet {
     this.frame = 0;
     this.wanted = { all: false, cells: false, marks: false };
     this.inks = {};
+    this.look = null; // how the board is drawn, once it is
     new ResizeObserver(() => this.resized()).observe(stage);
     matchMedia('(prefers-color-scheme: dark)').addEventListener('change', () => this.redrawAll());
   }
@@ -165,6 +167,24 @@ class Sheet {
     this.family = style.fontFamily;
   }
 
+  /** The part of the picture that is seen, as the renderer takes it. */
+  boardFrame() {
+    const { geometry: at } = this;
+    return { x: at.x(0), y: at.y(0), cell: at.cell, rows: at.rows, columns: at.columns, ...at.seen() };
+  }
+
+  // How all is drawn at this size: where cells are small, no line hides them, and clues have no digits.
+  lookNow() {
+    const { geometry: at, inks, doc } = this;
+    const wide = at.cell < 2 ? 0 : at.cell < 14 * at.scale ? 1 : 2;
+    const { light, heavy, ink, faint } = inks;
+    return {
+      ...coloursOf(doc), signs: at.letters ? LETTERS : null, family: this.family, thin: at.cell < 6 * at.scale ? 0 : 1, wide, border: wide, isWhole: true,
+      light, heavy, ink, faint, style: 'chip', edge: 'rgb(128 130 134 / 55%)', hair: 1, radius: 4 * at.scale,
+      font: at.font, least: at.cell < 7 * at.scale ? Infinity : 6 * at.scale,
+    };
+  }
+
   redraw() {
     this.ask('cells');
   }
@@ -199,6 +219,7 @@ class Sheet {
     size(this.marks, at.width, at.height);
     size(this.rowCanvas, at.originX, at.height);
     size(this.columnCanvas, at.width, at.originY);
+    this.look = this.lookNow();
     this.cells.all(this);
     this.strips.all(this);
     this.drawMarks();

@@ -2,8 +2,8 @@
 // drawn again only when its clue, its mark or its place changes. Where Fit folds the clues, edges with the numbers of some lines
 // stand there.
 
-import { cssOf, inkOn } from '../document/colours.js';
-import { LETTERS } from '../document/limits.js';
+import { drawBlock, drawClue } from './board.js';
+import { CanvasSurface } from './surface.js';
 
 const MOST_SPRITES = 600;
 const EDGE = 5; // the page's pixels of the marks of lines where the clues are folded
@@ -12,6 +12,7 @@ export class Strips {
   constructor(rowCanvas, columnCanvas) {
     this.canvases = { r: rowCanvas, c: columnCanvas };
     this.pens = { r: rowCanvas.getContext('2d', { alpha: false }), c: columnCanvas.getContext('2d', { alpha: false }) };
+    this.surfaces = { r: new CanvasSurface(this.pens.r), c: new CanvasSurface(this.pens.c) };
     this.sprites = new Map();
   }
 
@@ -98,22 +99,14 @@ export class Strips {
     pen.rect(0, Math.max(at.originY, y), at.originX, at.cell);
     pen.clip();
     this.band(sheet, 'r', row, at.slackX(), y, at.left - gap / 2, at.cell, anew);
-    const blocks = sheet.clues.rows[row];
     const height = Math.min(at.cell - 1, at.font + Math.round(6 * at.scale));
-    const top = y + Math.floor((at.cell - height) / 2);
-    let x = at.originX - gap - Math.round(4 * at.scale);
-    if (!blocks.length) this.none(sheet, 'r', x - at.font / 2, y + at.cell / 2);
-    for (let one = blocks.length - 1; one >= 0; one--) {
-      const width = this.rowWidth(at, blocks[one]);
-      if (x - width < at.slackX() + 6 * at.scale) {
-        pen.fillStyle = sheet.inks.ink;
-        pen.fillRect(at.slackX() + 1, y + at.cell / 2 - at.scale, 4 * at.scale, 2 * at.scale);
-        break;
-      }
-      this.copy(pen, sheet, blocks[one], width, height, x - width, top);
-      x -= width + 2;
-    }
+    this.clue(sheet, 'r', row, { near: at.originX - gap - Math.round(4 * at.scale), far: at.slackX() + 6 * at.scale, middle: y + at.cell / 2, gap: 2, sizeOf: (block) => ({ width: this.rowWidth(at, block), height }) });
     pen.restore();
+  }
+
+  clue(sheet, axis, line, place) {
+    const blocks = sheet.clues[axis === 'r' ? 'rows' : 'columns'][line];
+    drawClue(this.surfaces[axis], sheet.look, axis, blocks, { ...place, unit: sheet.geometry.scale }, this.copy);
   }
 
   rowWidth(at, block) {
@@ -130,67 +123,23 @@ export class Strips {
     pen.rect(Math.max(at.originX, x), 0, at.cell, at.originY);
     pen.clip();
     this.band(sheet, 'c', col, x, at.slackY(), at.cell, at.top - gap / 2, anew);
-    const blocks = sheet.clues.columns[col];
     const width = Math.min(at.cell - 1, Math.round(at.font * 2.6));
     const height = at.cell < 7 * at.scale ? Math.round(4 * at.scale) : at.pitch;
-    const left = x + Math.floor((at.cell - width) / 2);
-    let y = at.originY - gap - Math.round(4 * at.scale);
-    if (!blocks.length) this.none(sheet, 'c', x + at.cell / 2, y - at.font / 2);
-    for (let one = blocks.length - 1; one >= 0; one--) {
-      if (y - height < at.slackY() + 6 * at.scale) {
-        pen.fillStyle = sheet.inks.ink;
-        pen.fillRect(x + at.cell / 2 - at.scale, at.slackY() + 1, 2 * at.scale, 4 * at.scale);
-        break;
-      }
-      this.copy(pen, sheet, blocks[one], width, height, left, y - height);
-      y -= height + 1;
-    }
+    this.clue(sheet, 'c', col, { near: at.originY - gap - Math.round(4 * at.scale), far: at.slackY() + 6 * at.scale, middle: x + at.cell / 2, gap: 1, sizeOf: () => ({ width, height }) });
     pen.restore();
   }
 
-  none(sheet, axis, x, y) {
-    if (sheet.geometry.cell < 7 * sheet.geometry.scale) return;
-    const pen = this.pens[axis];
-    pen.font = `${sheet.geometry.font}px ${sheet.family}`;
-    pen.textAlign = 'center';
-    pen.textBaseline = 'middle';
-    pen.fillStyle = sheet.inks.faint;
-    pen.fillText('0', x, y);
-  }
-
-  copy(pen, sheet, block, width, height, x, y) {
+  // One block, copied from where it was drawn first.
+  copy = (surface, look, block, { x, y, width, height }) => {
     const key = `${block.length}${block.letter} ${width} ${height}`;
     let sprite = this.sprites.get(key);
     if (!sprite) {
-      sprite = this.sprite(sheet, block, width, height);
+      sprite = new OffscreenCanvas(Math.max(1, width), Math.max(1, height));
+      drawBlock(new CanvasSurface(sprite.getContext('2d')), look, block, { x: 0, y: 0, width, height });
       this.sprites.set(key, sprite);
     }
-    pen.drawImage(sprite, x, y);
-  }
-
-  // One block as a chip in its colour.
-  sprite(sheet, block, width, height) {
-    const { geometry: at, doc } = sheet;
-    const image = new OffscreenCanvas(Math.max(1, width), Math.max(1, height));
-    const pen = image.getContext('2d');
-    const triple = doc.colours[LETTERS.indexOf(block.letter)] ?? [0, 0, 0];
-    pen.beginPath();
-    pen.roundRect(0.5, 0.5, width - 1, height - 1, height < 14 * at.scale ? 1 : 4 * at.scale);
-    pen.fillStyle = cssOf(triple, doc.maxval);
-    pen.fill();
-    pen.lineWidth = 1;
-    pen.strokeStyle = 'rgb(128 130 134 / 55%)';
-    if (height > 4) pen.stroke();
-    const text = block.length + (at.letters ? block.letter : '');
-    const font = Math.min(at.font, height, Math.floor((width / text.length) * 1.72));
-    if (font < 6 * at.scale || at.cell < 7 * at.scale) return image;
-    pen.font = `${font}px ${sheet.family}`;
-    pen.textAlign = 'center';
-    pen.textBaseline = 'middle';
-    pen.fillStyle = inkOn(triple, doc.maxval);
-    pen.fillText(text, width / 2, height / 2 + 0.5);
-    return image;
-  }
+    surface.pen.drawImage(sprite, x, y);
+  };
 
   /** Whether a clue is drawn in part only, or without its numbers. */
   isCut(sheet, axis, at) {

@@ -2,7 +2,7 @@
 
 let read = null;
 
-/** What the build put into the page: `module` (packed), `worker`, `version`, `trees`. Empty where there is no page. */
+/** What the build put into the page: `module` (packed), `worker`, `version`, `commit`, `trees`. Empty where there is no page. */
 export const built = () => (read ??= JSON.parse(globalThis.document?.getElementById('built')?.textContent.trim() || '{}'));
 let moduleBytes = null; // a promise of the module's bytes
 let workerUrl = null;

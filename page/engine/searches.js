@@ -3,6 +3,7 @@
 
 import { baseOf } from '../document/cover.js';
 import { docOf } from '../document/document.js';
+import { phrase } from '../texts/phrase.js';
 import { answersTo } from './answers.js';
 
 const TICK = 250; // milliseconds between two looks at the clock
@@ -109,7 +110,7 @@ export class Searches {
   /** Searches for the verdict of the present picture. */
   async judge(seconds = this.hooks.seconds()) {
     const { version } = this;
-    const verdict = await this.job('Searching for another picture', seconds, (copy) => copy.verdict(), true);
+    const verdict = await this.job(phrase('engine.searchingAnotherPicture'), seconds, (copy) => copy.verdict(), true);
     this.tellVerdict(version, verdict);
     return verdict;
   }
@@ -117,7 +118,7 @@ export class Searches {
   /** A certificate: its text, or null. What its search finds is told as the verdict too. */
   async certify(seconds = this.hooks.seconds()) {
     const { version } = this;
-    return this.job('Searching for a certificate', seconds, async (copy) => {
+    return this.job(phrase('engine.searchingCertificate'), seconds, async (copy) => {
       const [answer] = await copy.say('certify');
       if (answer.kind === 'refused') throw new Error(answer.name);
       this.tellVerdict(version, answer.kind === 'text' ? { kind: 'verdict', word: 'unique' } : await copy.verdict());

@@ -3,7 +3,7 @@
 
 import { gradeOf } from '../grade/grade.js';
 import { Board } from '../repair/board.js';
-import { give, repair } from '../repair/repair.js';
+import { give, mix, repair } from '../repair/repair.js';
 
 /** Lets a worker's scope answer calls; `load` makes an engine of the module's bytes, as web/nonobench.mjs has it. */
 export function serve(scope, load) {
@@ -31,6 +31,9 @@ export function serve(scope, load) {
     },
     give({ board, goal, seconds }, told) {
       return give({ board: new Board(board), goal, seconds, say }, { found: (found) => told({ found }) });
+    },
+    mix({ board, goal, near, bound, seconds }, told) {
+      return mix({ board: new Board(board), goal, near, bound, seconds, say }, { found: (found) => told({ found }) });
     },
     grade({ puzzle }) {
       return gradeOf(puzzle);

@@ -2,6 +2,7 @@
 
 import { number } from '../base/words.js';
 import { FileFault } from '../document/limits.js';
+import { phrase } from '../texts/phrase.js';
 
 export const MOST_BYTES_READ = 16 * 1024 * 1024; // of a file
 const MOST_PIXELS = 4096; // of an image, a side
@@ -32,19 +33,19 @@ class PpmTokens {
     let value = 0;
     for (; this.at < bytes.length && !isBlankByte(bytes[this.at]) && bytes[this.at] !== PPM_COMMENT; this.at++) {
       const digit = bytes[this.at] - 48;
-      if (digit < 0 || digit > 9) throw new FileFault(`The picture's ${what} at byte ${from} is no number.`);
+      if (digit < 0 || digit > 9) throw new FileFault(phrase('formats.picturesByteNoNumber', { what, from }));
       value = Math.min(value * 10 + digit, 1e9);
     }
-    if (this.at === from) throw new FileFault(`The picture ends before its ${what}.`);
+    if (this.at === from) throw new FileFault(phrase('formats.pictureEndsBefore', { what }));
     return value;
   }
 }
 
 /** Refuses sides that no image here may have. */
 function boundSides(width, height) {
-  if (width < 1 || height < 1) throw new FileFault('The picture has no pixels.');
+  if (width < 1 || height < 1) throw new FileFault(phrase('formats.pictureNoPixels'));
   if (width > MOST_PIXELS || height > MOST_PIXELS) {
-    throw new FileFault(`The picture is ${width} by ${height} pixels; at most ${number(MOST_PIXELS)} a side are read.`);
+    throw new FileFault(phrase('formats.picturePixelsMostSide', { width, height, MOST_PIXELS }));
   }
 }
 
@@ -52,10 +53,10 @@ function boundSides(width, height) {
 export function readPpm(bytes) {
   const raw = bytes[1] === 54; // P6
   const tokens = new PpmTokens(bytes);
-  const [width, height] = [tokens.number('width'), tokens.number('height')];
+  const [width, height] = [tokens.number(phrase('formats.width')), tokens.number(phrase('formats.height'))];
   boundSides(width, height);
-  const maxval = tokens.number('maxval');
-  if (maxval < 1 || maxval > 65535) throw new FileFault('The picture\'s maxval is not from 1 to 65,535.');
+  const maxval = tokens.number(phrase('formats.maxval'));
+  if (maxval < 1 || maxval > 65535) throw new FileFault(phrase('formats.picturesMaxvalNotFrom'));
   const data = new Uint8ClampedArray(width * height * 4);
   const next = raw ? rawSamples(tokens, maxval, width * height * 3) : () => tokens.number('samples');
   for (let at = 0; at < data.length; at++) {
@@ -64,11 +65,11 @@ export function readPpm(bytes) {
       continue;
     }
     const sample = next();
-    if (sample > maxval) throw new FileFault(`A sample is ${sample}, above the maxval ${maxval}.`);
+    if (sample > maxval) throw new FileFault(phrase('formats.sampleAboveMaxval', { sample, maxval }));
     data[at] = Math.round((sample * 255) / maxval);
   }
   tokens.skip();
-  if (!raw && tokens.at < bytes.length) throw new FileFault('There is more behind the last sample of the picture.');
+  if (!raw && tokens.at < bytes.length) throw new FileFault(phrase('formats.thereMoreBehindLast'));
   return { width, height, data };
 }
 
@@ -77,7 +78,7 @@ function rawSamples(tokens, maxval, count) {
   const { bytes } = tokens;
   const size = maxval > 255 ? 2 : 1;
   let at = tokens.at + 1;
-  if (bytes.length < at + count * size) throw new FileFault('The picture ends before its last sample.');
+  if (bytes.length < at + count * size) throw new FileFault(phrase('formats.pictureEndsBeforeLast'));
   return () => {
     const sample = size === 1 ? bytes[at] : bytes[at] * 256 + bytes[at + 1];
     at += size;

@@ -2,6 +2,7 @@
 
 import { ABOUT, unpackedDoc } from '../document/document.js';
 import { LETTERS, MOST_COLOURS } from '../document/limits.js';
+import { phrase } from '../texts/phrase.js';
 
 const PPM_NOTE = '# nonobench';
 const MOST_HEAD = 1000000; // bytes that notes are looked for in
@@ -31,7 +32,7 @@ export function ppmTextOf(doc) {
 }
 
 /** What a P3 text with notes leaves out of a document, in words; '' where it is nothing. */
-export const leftOutOfPpm = (doc) => (doc.extras && ['set', 'goal', 'notes', 'solutions'].some((name) => doc.extras[name]) ? 'further solutions and notes of the XML file' : '');
+export const leftOutOfPpm = (doc) => (doc.extras && ['set', 'goal', 'notes', 'solutions'].some((name) => doc.extras[name]) ? phrase('formats.furtherSolutionsNotesXml') : '');
 
 /** The document of a P3 text with such notes, or null where it has none or they do not fit. */
 export function docOfNotes(text, image) {

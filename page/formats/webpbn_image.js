@@ -1,6 +1,7 @@
 // The image of a solution in Web Paint-by-Number's XML: rows of signs between bars.
 
 import { FileFault, MOST_CELLS } from '../document/limits.js';
+import { phrase } from '../texts/phrase.js';
 
 /** Rows of signs; a backslash takes the next sign as it stands, and `[..]` is a cell that may have several. */
 export function readWebpbnImage(text) {
@@ -15,19 +16,19 @@ export function readWebpbnImage(text) {
       continue;
     }
     if (!row) {
-      if (!' \t\r\n'.includes(sign)) throw new FileFault('A row of the solution does not stand between bars.');
+      if (!' \t\r\n'.includes(sign)) throw new FileFault(phrase('formats.rowSolutionDoesNot'));
       continue;
     }
     if (sign === '\\') sign = signs[++at] ?? '';
     else if (sign === '[') {
       const end = signs.indexOf(']', at);
-      if (end < 0) throw new FileFault('A cell of the solution has no end.');
+      if (end < 0) throw new FileFault(phrase('formats.cellSolutionNoEnd'));
       sign = end === at + 2 ? signs[at + 1] : '?';
       at = end;
     }
     row.push(sign);
-    if (row.length > MOST_CELLS || rows.length > MOST_CELLS) throw new FileFault(`The solution is larger than ${MOST_CELLS} by ${MOST_CELLS}.`);
+    if (row.length > MOST_CELLS || rows.length > MOST_CELLS) throw new FileFault(phrase('formats.solutionLarger', { MOST_CELLS }));
   }
-  if (row || !rows.length || !rows[0].length) throw new FileFault('The solution is no picture.');
+  if (row || !rows.length || !rows[0].length) throw new FileFault(phrase('formats.solutionNoPicture'));
   return rows;
 }

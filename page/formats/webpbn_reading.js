@@ -2,6 +2,7 @@
 
 import { unpackedDoc } from '../document/document.js';
 import { FileFault, LETTERS, MOST_COLOURS } from '../document/limits.js';
+import { phrase } from '../texts/phrase.js';
 import { LOCKED_COLOURS, WEBPBN_GIVENS, WEBPBN_LOCKS, cluesOfRows } from './webpbn.js';
 import { readWebpbnImage } from './webpbn_image.js';
 import { readXml } from './xml.js';
@@ -21,7 +22,7 @@ function tripleOfHex(text) {
   const hex = text.trim().replace(/^#/, '');
   if (/^[0-9a-fA-F]{3}$/.test(hex)) return [...hex].map((digit) => parseInt(digit + digit, 16));
   if (/^[0-9a-fA-F]{6}$/.test(hex)) return [0, 2, 4].map((at) => parseInt(hex.slice(at, at + 2), 16));
-  throw new FileFault('A colour of the puzzle is not three or six hexadecimal digits.');
+  throw new FileFault(phrase('formats.colourPuzzleNotThree'));
 }
 
 // The declared colours by name, and white and black where they are not declared.
@@ -31,7 +32,7 @@ function readColours(puzzle) {
   for (const element of childrenOf(puzzle, 'color')) {
     const name = element.attributes.get('name') ?? '';
     const sign = element.attributes.get('char') ?? known.find(([other]) => other === name)?.[1] ?? null;
-    if (colours.has(name)) throw new FileFault('A colour of the puzzle is declared twice.');
+    if (colours.has(name)) throw new FileFault(phrase('formats.colourPuzzleDeclaredTwice'));
     colours.set(name, { name, sign, triple: tripleOfHex(element.text), declared: true });
   }
   for (const [name, sign, triple] of known) if (!colours.has(name)) colours.set(name, { name, sign, triple, declared: false });
@@ -43,7 +44,7 @@ function readClues(puzzle, type, usual) {
   const clues = childrenOf(puzzle, 'clues').find((element) => element.attributes.get('type') === type);
   if (!clues) return null;
   return childrenOf(clues, 'line').map((line) => childrenOf(line, 'count').map((count) => {
-    if (!/^\s*[0-9]{1,6}\s*$/.test(count.text)) throw new FileFault('A clue of the puzzle is no number.');
+    if (!/^\s*[0-9]{1,6}\s*$/.test(count.text)) throw new FileFault(phrase('formats.cluePuzzleNoNumber'));
     return { length: Number(count.text), name: count.attributes.get('color') ?? usual };
   }).filter((block) => block.length > 0));
 }
@@ -77,7 +78,7 @@ export function readWebpbn(text, at = 0) {
   const all = set.name === 'puzzleset' ? childrenOf(set, 'puzzle') : set.name === 'puzzle' ? [set] : [];
   const puzzles = all.filter((element) => typeOf(element, 'grid') === 'grid');
   const puzzle = puzzles[at];
-  if (!puzzle) throw new FileFault('The XML has no puzzle of rows and columns.');
+  if (!puzzle) throw new FileFault(phrase('formats.xmlNoPuzzleRows'));
   const count = puzzles.length;
   const solutions = childrenOf(puzzle, 'solution');
   const goal = solutions.find((one) => typeOf(one, 'goal') === 'goal') ?? solutions.find((one) => typeOf(one, 'goal') === 'solution');
@@ -90,8 +91,8 @@ export function readWebpbn(text, at = 0) {
   const signs = readWebpbnImage(imageIn(goal));
   const { doc, names } = docOfSigns(signs, readColours(puzzle), puzzle.attributes.get('backgroundcolor') ?? 'white');
   checkClues(doc, clues, (name) => LETTERS[names.indexOf(name)] ?? '?');
-  if (givens) doc.givens = placesOfSigns(readWebpbnImage(imageIn(givens)), signs, 'given');
-  if (locks) doc.locks = placesOfSigns(readWebpbnImage(imageIn(locks)), signs, 'locked cell');
+  if (givens) doc.givens = placesOfSigns(readWebpbnImage(imageIn(givens)), signs, phrase('formats.givenCellAnotherColour'));
+  if (locks) doc.locks = placesOfSigns(readWebpbnImage(imageIn(locks)), signs, phrase('formats.lockedCellAnotherColour'));
   for (const name of lockedNames(locks)) if (names.includes(name)) doc.inks[names.indexOf(name)].locked = true;
   return { doc: unpackedDoc({ ...doc, ...page }), count };
 }
@@ -106,11 +107,11 @@ function lockedNames(locks) {
 // The colours that the picture takes: the background first, then those that are declared, and white and black where they are used.
 function orderOf(signs, colours, ground) {
   const background = colours.get(ground);
-  if (!background) throw new FileFault('The background of the puzzle is a colour that it does not have.');
+  if (!background) throw new FileFault(phrase('formats.backgroundPuzzleColourDoes'));
   const used = new Set(signs.flat());
   const bySign = new Map();
   for (const colour of colours.values()) if (colour.sign && (!bySign.has(colour.sign) || colour.declared)) bySign.set(colour.sign, colour);
-  for (const sign of used) if (!bySign.has(sign)) throw new FileFault(`The solution has a cell '${sign.slice(0, 2)}', which is no colour of the puzzle.`);
+  for (const sign of used) if (!bySign.has(sign)) throw new FileFault(phrase('formats.solutionCellNoColour', { value: sign.slice(0, 2) }));
   const order = [background, ...[...colours.values()].filter((one) => one !== background && (one.declared || (used.has(one.sign) && bySign.get(one.sign) === one)))];
   return { bySign, order: order.length > MOST_COLOURS ? order.filter((one) => one === background || used.has(one.sign)) : order };
 }
@@ -137,24 +138,24 @@ function checkClues(doc, clues, letterOf) {
     if (!clues[axis]) continue;
     const told = clues[axis].map((blocks) => blocks.map(({ length, name }) => `${length}${letterOf(name)}`).join(' '));
     const wanted = own[axis].map((blocks) => blocks.map(({ length, letter }) => `${length}${letter}`).join(' '));
-    if (told.length !== wanted.length || told.some((line, at) => line !== wanted[at])) throw new FileFault(`The clues of the ${axis} are not those of the solution.`);
+    if (told.length !== wanted.length || told.some((line, at) => line !== wanted[at])) throw new FileFault(axis === 'rows' ? phrase('formats.cluesRowsNotThose') : phrase('formats.cluesColumnsNotThose'));
   }
 }
 
 // The cells of a saved solution that are not `?`.
-function placesOfSigns(saved, signs, what) {
-  if (saved.length !== signs.length) throw new FileFault('The saved cells have another size than the solution.');
+function placesOfSigns(saved, signs, fault) {
+  if (saved.length !== signs.length) throw new FileFault(phrase('formats.savedCellsAnotherSize'));
   return saved.flatMap((row, r) => row.flatMap((sign, c) => {
     if (sign === '?') return [];
-    if (sign !== signs[r][c]) throw new FileFault(`A ${what} has another colour than the solution.`);
+    if (sign !== signs[r][c]) throw new FileFault(fault);
     return [r * row.length + c];
   }));
 }
 
 function nonOfClues({ rows, columns }) {
-  if (!rows || !columns) throw new FileFault('The puzzle has neither a solution nor all clues.');
+  if (!rows || !columns) throw new FileFault(phrase('formats.puzzleNeitherSolutionNor'));
   if (new Set([...rows, ...columns].flat().map((block) => block.name)).size > 1) {
-    throw new FileFault('The puzzle has clues in several colours and no solution; the bench opens pictures.');
+    throw new FileFault(phrase('formats.puzzleCluesSeveralColours'));
   }
   const line = (blocks) => blocks.map((block) => block.length).join(',') || '0';
   return `width ${columns.length}\nheight ${rows.length}\nrows\n${rows.map(line).join('\n')}\ncolumns\n${columns.map(line).join('\n')}\n`;

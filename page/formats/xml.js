@@ -2,6 +2,7 @@
 // declared, and no text is ever taken as HTML.
 
 import { FileFault } from '../document/limits.js';
+import { phrase } from '../texts/phrase.js';
 
 const MOST_XML_DEPTH = 32;
 const MOST_XML_ELEMENTS = 200000;
@@ -32,12 +33,12 @@ class XmlReader {
 
   fault(what) {
     const line = this.text.slice(0, this.at).split('\n').length;
-    return new FileFault(`The XML is not read: ${what}, in line ${line}.`);
+    return new FileFault(phrase('formats.xmlNotReadLine', { what, line }));
   }
 
   past(sign, what) {
     const end = this.text.indexOf(sign, this.at);
-    if (end < 0) throw this.fault(`${what} has no end`);
+    if (end < 0) throw this.fault(phrase('formats.noEnd', { what }));
     const inside = this.text.slice(this.at, end);
     this.at = end + sign.length;
     return inside;
@@ -46,7 +47,7 @@ class XmlReader {
   name() {
     XML_NAME.lastIndex = this.at;
     const found = XML_NAME.exec(this.text);
-    if (!found) throw this.fault('a name is missing');
+    if (!found) throw this.fault(phrase('formats.nameMissing'));
     this.at = XML_NAME.lastIndex;
     return found[0];
   }
@@ -69,13 +70,13 @@ class XmlReader {
       }
       const name = this.name();
       this.space();
-      if (this.text[this.at] !== '=') throw this.fault(`the attribute ${name} has no value`);
+      if (this.text[this.at] !== '=') throw this.fault(phrase('formats.attributeNoValue', { name }));
       this.at++;
       this.space();
       const quote = this.text[this.at];
-      if (quote !== '"' && quote !== "'") throw this.fault(`the attribute ${name} has no quotes`);
+      if (quote !== '"' && quote !== "'") throw this.fault(phrase('formats.attributeNoQuotes', { name }));
       this.at++;
-      element.attributes.set(name, plainText(this.past(quote, 'a value')));
+      element.attributes.set(name, plainText(this.past(quote, phrase('formats.value'))));
     }
   }
 }
@@ -92,11 +93,11 @@ export function readXml(text) {
       const run = text.slice(reader.at, end < 0 ? text.length : end);
       reader.at += run.length;
       if (open.length > 1) inside.text += plainText(run);
-      else if (run.trim()) throw reader.fault('a text stands outside all elements');
+      else if (run.trim()) throw reader.fault(phrase('formats.textStandsOutsideAll'));
     } else readXmlTag(reader, open);
   }
   if (open.length > 1) throw reader.fault(`<${open.at(-1).name}> is not closed`);
-  if (top.children.length !== 1) throw reader.fault('there is not one outermost element');
+  if (top.children.length !== 1) throw reader.fault(phrase('formats.thereNotOneOutermost'));
   return top.children[0];
 }
 
@@ -108,11 +109,11 @@ function readXmlTag(reader, open) {
     reader.at += sign.length;
     return true;
   };
-  if (begins('<!--')) reader.past('-->', 'a comment');
-  else if (begins('<![CDATA[')) inside.text += reader.past(']]>', 'a CDATA part');
-  else if (begins('<?')) reader.past('?>', 'an instruction');
+  if (begins('<!--')) reader.past('-->', phrase('formats.comment'));
+  else if (begins('<![CDATA[')) inside.text += reader.past(']]>', phrase('formats.cdataPart'));
+  else if (begins('<?')) reader.past('?>', phrase('formats.instruction'));
   else if (begins('<!')) {
-    if (reader.past('>', 'a declaration').includes('[')) throw reader.fault('declarations of its own are not read');
+    if (reader.past('>', phrase('formats.declaration')).includes('[')) throw reader.fault(phrase('formats.declarationsOwnNotRead'));
   } else if (begins('</')) {
     const name = reader.name();
     reader.space();
@@ -121,7 +122,7 @@ function readXmlTag(reader, open) {
   } else {
     reader.at++;
     const element = { name: reader.name(), attributes: new Map(), children: [], text: '' };
-    if (++reader.elements > MOST_XML_ELEMENTS || open.length > MOST_XML_DEPTH) throw reader.fault('there are too many elements');
+    if (++reader.elements > MOST_XML_ELEMENTS || open.length > MOST_XML_DEPTH) throw reader.fault(phrase('formats.thereTooManyElements'));
     inside.children.push(element);
     if (!reader.attributes(element)) open.push(element);
   }

@@ -1,6 +1,8 @@
 // Archives: zip files that are written without compression, and read with it.
 
 import { FileFault } from '../document/limits.js';
+import { phrase } from '../texts/phrase.js';
+import { inflated, joined } from './deflate.js';
 
 const MOST_ENTRIES = 20000;
 const MOST_ENTRY = 16 * 1024 * 1024; // bytes of one file in an archive
@@ -28,16 +30,6 @@ function packed(...fields) {
 const two = (value) => [value, 2];
 const four = (value) => [value, 4];
 
-function joined(pieces) {
-  const all = new Uint8Array(pieces.reduce((sum, piece) => sum + piece.length, 0));
-  let at = 0;
-  for (const piece of pieces) {
-    all.set(piece, at);
-    at += piece.length;
-  }
-  return all;
-}
-
 /** A zip of files, each `{name, bytes}`. */
 export function writeZip(files) {
   const [pieces, central] = [[], []];
@@ -54,7 +46,7 @@ export function writeZip(files) {
   return joined([...pieces, directory, packed(four(END), two(0), two(0), two(files.length), two(files.length), four(directory.length), four(at), two(0))]);
 }
 
-const damaged = () => new FileFault('The archive is damaged.');
+const damaged = () => new FileFault(phrase('formats.archiveDamaged'));
 
 /** The files of a zip as `{name, bytes}`, where `bytes` is null for what is not read: folders, what is encrypted or too large. */
 export async function readZip(bytes) {
@@ -63,7 +55,7 @@ export async function readZip(bytes) {
   while (end >= 0 && view.getUint32(end, true) !== END) end--;
   if (end < 0) throw damaged();
   const count = view.getUint16(end + 10, true);
-  if (count > MOST_ENTRIES) throw new FileFault('The archive has too many files.');
+  if (count > MOST_ENTRIES) throw new FileFault(phrase('formats.archiveTooManyFiles'));
   const files = [];
   for (let at = view.getUint32(end + 16, true), left = count; left > 0; left--) {
     if (at + 46 > bytes.length || view.getUint32(at, true) !== CENTRAL) throw damaged();
@@ -83,27 +75,7 @@ async function unpackedEntry(bytes, view, at) {
   const from = local + 30 + view.getUint16(local + 26, true) + view.getUint16(local + 28, true);
   if (from + size > bytes.length) throw damaged();
   const raw = bytes.subarray(from, from + size);
-  const whole = method === 0 ? raw : await inflated(raw, length);
+  const whole = method === 0 ? raw : await inflated(raw, length).catch(() => { throw damaged(); });
   if (whole.length !== length || crcOf(whole) !== crc) throw damaged();
   return whole;
-}
-
-// What was deflated, up to the size that the archive tells.
-async function inflated(raw, most) {
-  const reader = new Blob([raw]).stream().pipeThrough(new DecompressionStream('deflate-raw')).getReader();
-  const pieces = [];
-  let size = 0;
-  try {
-    for (;;) {
-      const { done, value } = await reader.read();
-      if (done) return joined(pieces);
-      size += value.length;
-      if (size > most) throw damaged();
-      pieces.push(value);
-    }
-  } catch {
-    throw damaged();
-  } finally {
-    reader.cancel().catch(() => {});
-  }
 }

@@ -20,10 +20,10 @@ function freeName(name, taken) {
   }
 }
 
-/** A zip of records, each as an XML file. */
-export function archiveOf(records) {
+/** A zip of records, each as an XML file, and of what else goes with them. */
+export function archiveOf(records, others = []) {
   const taken = new Set();
-  return writeZip(records.map(({ name, doc }) => ({ name: `${freeName(cleanName(name), taken)}.xml`, bytes: new TextEncoder().encode(webpbnText(doc)) })));
+  return writeZip([...others, ...records.map(({ name, doc }) => ({ name: `${freeName(cleanName(name), taken)}.xml`, bytes: new TextEncoder().encode(webpbnText(doc)) }))]);
 }
 
 /** Hands all pictures of the library to the user as one archive. */
@@ -38,8 +38,8 @@ export async function exportAll() {
   return say(`${many(sound.length, 'picture')} saved as “nonobench library.zip”${sound.length < cards.length ? `; ${many(cards.length - sound.length, 'damaged one')} left out` : ''}.`, sound.length < cards.length ? 'alarm' : '');
 }
 
-// The documents that a file of an archive holds.
-async function docsOfEntry(bytes) {
+/** The documents that a file of puzzles holds; none where it has no picture that opens by itself. */
+export async function docsOfBytes(bytes) {
   const kind = kindOfFile(bytes);
   if (kind === 'ppm') return [readPpmFile(bytes).doc].filter(Boolean);
   const text = new TextDecoder().decode(bytes);
@@ -52,7 +52,7 @@ export async function readArchive(bytes) {
   const [docs, unread] = [[], []];
   for (const { name, bytes: content } of await readZip(bytes)) {
     if (name.endsWith('/')) continue;
-    const found = content ? await docsOfEntry(content).catch(() => []) : [];
+    const found = content ? await docsOfBytes(content).catch(() => []) : [];
     if (!found.length) unread.push(name);
     const own = bareName(name.split('/').at(-1));
     found.forEach((doc, at) => docs.push({ name: at ? `${own} ${at + 1}` : own, doc }));
@@ -60,16 +60,20 @@ export async function readArchive(bytes) {
   return { docs, unread };
 }
 
-/** Adds the pictures of an archive to the library. Answers how many were added. */
+const sameText = (one, other) => webpbnText(one) === webpbnText(other);
+
+/** Adds the pictures of an archive to the library, but for those that are there. Answers how many of it are there then. */
 export async function takeArchive(bytes, name) {
   const { docs, unread } = await readArchive(bytes);
   const keeper = await keep.ready();
-  let added = 0;
+  let [added, known] = [0, 0];
   for (const { name: title, doc } of docs) {
-    if (!(await keeper.put(recordOfDoc(doc, title, true)))) break;
-    added++;
+    if (await keeper.has(title, doc, sameText)) known++;
+    else if (await keeper.put(recordOfDoc(doc, title, true))) added++;
+    else break;
   }
-  const left = [unread.length ? `${many(unread.length, 'file')} not read` : '', added < docs.length ? `${many(docs.length - added, 'picture')} not taken` : ''].filter(Boolean).join(', ');
-  if (added === docs.length) say(`“${name}”: ${many(added, 'picture')} added to the library${left ? `; ${left}` : ''}.`, left ? 'alarm' : '');
-  return added;
+  const there = added + known;
+  const left = [known ? `${many(known, 'picture')} there already` : '', unread.length ? `${many(unread.length, 'file')} not read` : '', there < docs.length ? `${many(docs.length - there, 'picture')} not taken` : ''].filter(Boolean).join(', ');
+  if (there === docs.length) say(`“${name}”: ${many(added, 'picture')} added to the library${left ? `; ${left}` : ''}.`, unread.length ? 'alarm' : '');
+  return there;
 }

@@ -1,24 +1,35 @@
 // A picture into a puzzle: a dialog with the image, the part that is taken, the size in cells, the colours, and what comes of it,
-// drawn anew at each change.
+// drawn anew at each change, with its verdict.
 
-import { make, say, withoutGestures } from '../base/elements.js';
+import { make, say } from '../base/elements.js';
 import { clamp, many } from '../base/words.js';
-import { plainHexOf } from '../document/colours.js';
 import { MOST_CELLS, MOST_COLOURS } from '../document/limits.js';
+import { COLOUR_NAMES } from '../document/named.js';
 import { drawSmall, penOf } from '../draw/small.js';
 import { openDoc } from '../library/open.js';
 import { openDialog } from '../view/dialogs.js';
-import { scaledTo } from './images.js';
+import { Source } from './cropping.js';
+import { Inks } from './inks.js';
+import { Judging, judgedText } from './judging.js';
+import { Maker } from './making.js';
 import { proposalFor, withoutMargin } from './proposing.js';
-import { docOfCells, flatColours, thresholdFor } from './quantise.js';
+import { hasClear } from './spots.js';
+import { thresholdFor } from './tone.js';
 
+const TEXT = {
+  title: (name) => `${name}: turn the image into a puzzle`, create: 'Create the puzzle', done: (name) => `“${name}” is a puzzle now. Export or print it from the menu File.`,
+  preview: 'The puzzle', drag: 'Drag over the image to select a part of it.', part: 'Part of the image, in pixels', left: 'Left', top: 'Top', wide: 'Width', high: 'Height', whole: 'Whole image', trim: 'Trim the margin',
+  cells: 'Cells', columns: 'Columns', rows: 'Rows', keeps: 'Keep proportions', sharp: 'Pixel art: one pixel for each cell', colours: 'Colours', count: 'How many, with the background',
+  two: 'Two colours, by lightness', inverted: 'Draw the light parts', threshold: 'Dark below', lines: 'Line art: by the area that is dark', area: 'Percent of a cell',
+  light: 'Light and dots', brightness: 'Brightness', contrast: 'Contrast', dither: 'Dithering', specks: 'Remove specks up to so many cells',
+  facts: ({ columns, rows, colours }) => `${columns} by ${rows} cells, ${many(colours.length, 'colour')} with the background`,
+};
 const MOST_WORKED = 480; // pixels a side that the dialog works on; a larger part is made smaller first
 const MOST_MIDDLE = 960; // pixels a side of a copy of the image
-export const MOST_POINTS = 100; // pixels a side that its colours are found in
-const SKETCH_POINTS = 40; // pixels a side that the colours of a sketch are found in
 const SLOW_MS = 40; // where the last preview took longer, a sketch comes first
 const SKETCH_REST = 150; // milliseconds without a change before the preview follows a sketch
 const SHOWN_SIDE = 320; // pixels of the two pictures in the dialog
+const MOST_SPECK = 12;
 
 /** An image as points of a canvas. */
 function canvasOfImage({ width, height, data }) {
@@ -29,17 +40,21 @@ function canvasOfImage({ width, height, data }) {
 
 class Importing {
   left; top; wide; high; columns; rows; // fields of numbers
-  keeps; sharp; two; inverted; // boxes to tick
+  keeps; sharp; two; inverted; lines; dither; // boxes to tick
+  colours; threshold; area; brightness; contrast; specks; // sliders
 
   constructor(image) {
     this.proposal = proposalFor(image);
     this.full = image;
+    this.isClear = hasClear(image);
     this.canvas = canvasOfImage(image);
     this.middle = this.smaller(MOST_MIDDLE); // what large parts are taken of: to make all of a photo smaller takes long
     this.worked = null; // the part that is taken, no larger than the dialog works on
     this.crop = { x: 0, y: 0, width: image.width, height: image.height }; // in pixels of the full image
-    this.background = null;
-    this.scaled = new Map(); // what was made last of the part, as cells and as points
+    this.maker = new Maker();
+    this.inks = new Inks(() => this.change('inks'), () => { this.colours.value = Math.max(2, Number(this.colours.value) - 1); });
+    this.judging = new Judging((found) => { this.verdict.textContent = judgedText(found); });
+    this.source = new Source(image, this.middle.canvas, SHOWN_SIDE, (part) => this.take(part));
     this.doc = null;
     this.isWaiting = false; // for the document of the last change
     Object.assign(this, { frame: 0, timer: 0, spent: 0 });
@@ -51,75 +66,60 @@ class Importing {
     const input = make('input', { type: 'number', required: true, ...attributes });
     input.addEventListener('input', () => this.change(name));
     this[name] = input;
-    return make('label', {}, attributes.label, input);
+    return make('label', {}, TEXT[name], input);
   }
 
-  tick(name, label, checked = false) {
+  tick(name, checked = false) {
     this[name] = make('input', { type: 'checkbox', checked });
     this[name].addEventListener('input', () => this.change(name));
-    return make('label', {}, this[name], label);
+    return make('label', {}, this[name], TEXT[name]);
+  }
+
+  slider(name, text, min, max, value) {
+    this[name] = make('input', { type: 'range', min, max, value, id: `import-${name}` });
+    const shown = make('output', {}, String(value));
+    this[name].addEventListener('input', () => this.change(name));
+    return Object.assign(make('label', {}, text, this[name], shown), { show: () => { shown.value = this[name].value; } });
   }
 
   make() {
-    const { columns, rows, sharp, colours } = this.proposal;
-    const { width, height } = this.full;
-    this.source = make('canvas', { id: 'import-source', 'aria-label': 'The image. Drag to select a part of it.', role: 'img' });
-    this.preview = make('canvas', { id: 'import-preview', 'aria-label': 'The puzzle', role: 'img' });
+    this.preview = make('canvas', { id: 'import-preview', 'aria-label': TEXT.preview, role: 'img' });
     this.facts = make('p', { role: 'status', class: 'faint', id: 'import-facts' });
-    this.swatches = make('div', { class: 'swatches', role: 'group', 'aria-label': 'Background' });
-    const crop = make('fieldset', {}, make('legend', {}, 'Part of the image, in pixels'),
-      this.field('left', { label: 'Left', min: '0', max: width - 1, value: 0 }), this.field('top', { label: 'Top', min: '0', max: height - 1, value: 0 }),
-      this.field('wide', { label: 'Width', min: '1', max: width, value: width }), this.field('high', { label: 'Height', min: '1', max: height, value: height }),
-      make('div', { class: 'ground' }, make('button', { type: 'button', onclick: () => this.take({ x: 0, y: 0, width, height }) }, 'Whole image'),
-        make('button', { type: 'button', id: 'import-trim', onclick: () => this.take(withoutMargin(this.full)) }, 'Trim the margin')));
-    const size = make('fieldset', {}, make('legend', {}, 'Cells'),
-      this.field('columns', { label: 'Columns', min: '1', max: MOST_CELLS, value: columns, id: 'import-columns' }), this.field('rows', { label: 'Rows', min: '1', max: MOST_CELLS, value: rows, id: 'import-rows' }),
-      this.tick('keeps', 'Keep proportions', true), this.tick('sharp', 'Pixel art: one pixel for each cell', sharp));
-    this.colours = make('input', { type: 'range', min: '2', max: MOST_COLOURS, value: colours, id: 'import-colours' });
-    this.threshold = make('input', { type: 'range', min: '1', max: '255', value: '128', id: 'import-threshold' });
-    for (const name of ['colours', 'threshold']) this[name].addEventListener('input', () => this.change(name));
-    this.count = make('output', {}, String(colours));
-    this.onlyTwo = make('div', { class: 'ground' }, make('label', {}, 'Dark below', this.threshold), this.tick('inverted', 'Draw the light parts'));
-    this.shows = make('input', { type: 'checkbox', 'aria-label': 'Show the background as another colour' });
-    this.shown = make('input', { type: 'color', value: '#ffffff', 'aria-label': 'Colour of the background' });
-    this.shows.addEventListener('input', () => this.change('shows'));
-    this.shown.addEventListener('input', () => {
-      this.shows.checked = true;
-      this.change('shown');
-    });
-    const inks = make('fieldset', {}, make('legend', {}, 'Colours'),
-      make('label', {}, 'How many, with the background', this.colours, this.count),
-      this.tick('two', 'Two colours, by lightness'), this.onlyTwo,
-      make('div', { class: 'ground' }, 'Background', this.swatches), make('label', {}, this.shows, 'Show the background as', this.shown));
+    this.verdict = make('p', { role: 'status', id: 'import-verdict' });
     this.content = make('div', { class: 'importing' },
-      make('div', { class: 'pictures' }, make('figure', {}, this.source, make('figcaption', {}, 'Drag over the image to select a part of it.')), make('figure', {}, this.preview, this.facts)),
-      make('div', { class: 'choices' }, size, inks, crop));
-    this.hearCrop();
+      make('div', { class: 'pictures' }, make('figure', {}, this.source.canvas, make('figcaption', {}, TEXT.drag)), make('figure', {}, this.preview, this.facts, this.verdict)),
+      make('div', { class: 'choices' }, this.sizes(), this.inkChoices(), this.lights(), this.parts()),
+      make('datalist', { id: 'colour-names' }, ...COLOUR_NAMES.map((name) => make('option', { value: name }))));
   }
 
-  // ---- the part that is taken
+  parts() {
+    const { width, height } = this.full;
+    return make('fieldset', {}, make('legend', {}, TEXT.part), this.field('left', { min: '0', max: width - 1, value: 0 }), this.field('top', { min: '0', max: height - 1, value: 0 }),
+      this.field('wide', { min: '1', max: width, value: width }), this.field('high', { min: '1', max: height, value: height }),
+      make('div', { class: 'ground' }, make('button', { type: 'button', onclick: () => this.take({ x: 0, y: 0, width, height }) }, TEXT.whole),
+        make('button', { type: 'button', id: 'import-trim', onclick: () => this.take(withoutMargin(this.full)) }, TEXT.trim)));
+  }
 
-  hearCrop() {
-    const { source } = this;
-    withoutGestures(source);
-    let from = null;
-    const at = (event) => {
-      const box = source.getBoundingClientRect();
-      return [clamp((event.clientX - box.left) / box.width, 0, 1) * this.full.width, clamp((event.clientY - box.top) / box.height, 0, 1) * this.full.height];
-    };
-    source.addEventListener('pointerdown', (event) => {
-      event.preventDefault();
-      source.setPointerCapture(event.pointerId);
-      from = at(event);
-    });
-    source.addEventListener('pointermove', (event) => {
-      if (!from) return;
-      const to = at(event);
-      const [x, y] = [0, 1].map((axis) => Math.floor(Math.min(from[axis], to[axis])));
-      const [right, bottom] = [0, 1].map((axis) => Math.ceil(Math.max(from[axis], to[axis])));
-      if (right - x > 2 && bottom - y > 2) this.take({ x, y, width: right - x, height: bottom - y });
-    });
-    for (const end of ['pointerup', 'pointercancel']) source.addEventListener(end, () => { from = null; });
+  sizes() {
+    const { columns, rows, sharp } = this.proposal;
+    return make('fieldset', {}, make('legend', {}, TEXT.cells), this.field('columns', { min: '1', max: MOST_CELLS, value: columns, id: 'import-columns' }),
+      this.field('rows', { min: '1', max: MOST_CELLS, value: rows, id: 'import-rows' }), this.tick('keeps', true), this.tick('sharp', sharp));
+  }
+
+  inkChoices() {
+    const count = this.slider('colours', TEXT.count, 2, MOST_COLOURS, this.proposal.colours);
+    const threshold = this.slider('threshold', TEXT.threshold, 1, 255, 128);
+    const area = this.slider('area', TEXT.area, 5, 95, 30);
+    this.sliders = [count, threshold, area];
+    this.ofArea = area;
+    this.onlyTwo = make('div', { class: 'ground' }, threshold, this.tick('inverted'), this.tick('lines'), area);
+    return make('fieldset', {}, make('legend', {}, TEXT.colours), count, this.tick('two'), this.onlyTwo, this.inks.element);
+  }
+
+  lights() {
+    const all = [this.slider('brightness', TEXT.brightness, -100, 100, 0), this.slider('contrast', TEXT.contrast, -100, 100, 0), this.tick('dither'), this.slider('specks', TEXT.specks, 0, MOST_SPECK, 0)];
+    this.sliders.push(...all.filter((one) => one.show));
+    return make('fieldset', {}, make('legend', {}, TEXT.light), ...all);
   }
 
   take({ x, y, width, height }) {
@@ -149,11 +149,9 @@ class Importing {
     if (dot && this.sharp.checked && this.keeps.checked && ['left', 'top', 'wide', 'high'].includes(name)) { // a part of pixel art keeps its dots
       [this.columns.value, this.rows.value] = [this.crop.width, this.crop.height].map((length) => clamp(Math.round(length / dot), 1, MOST_CELLS));
     }
-    if (name === 'two' && this.two.checked) this.threshold.value = thresholdFor(this.cells());
-    this.count.value = this.colours.value;
-    this.onlyTwo.hidden = !this.two.checked;
-    this.colours.disabled = this.two.checked;
     this.size = [side(this.columns), side(this.rows)];
+    if (name === 'two' && this.two.checked) this.threshold.value = thresholdFor(this.maker.cells(this.part(), this.size, { ...this.options(), sharp: this.sharp.checked }));
+    this.showFields();
     this.isWaiting = true;
     this.frame ||= requestAnimationFrame(() => {
       this.frame = 0;
@@ -161,6 +159,15 @@ class Importing {
       if (this.spent > SLOW_MS) this.sketch();
       else this.show();
     });
+  }
+
+  showFields() {
+    const isTwo = this.two.checked;
+    for (const one of this.sliders) one.show();
+    this.onlyTwo.hidden = !isTwo;
+    this.ofArea.hidden = !this.lines.checked;
+    this.colours.disabled = this.dither.disabled = isTwo;
+    this.inks.element.hidden = isTwo;
   }
 
   /** The document as the fields have it now, also where the next frame has not come yet. */
@@ -195,30 +202,11 @@ class Importing {
     return this.worked;
   }
 
-  cells(times = 1, sharp = this.sharp.checked) {
-    const [columns, rows] = this.size ?? [1, 1];
-    return this.made('cells', columns * times, rows * times, sharp);
-  }
-
-  // Single pixels of the part, for its colours: as many whatever the size in cells is.
-  points() {
-    const { box } = this.part();
-    return this.made('points', Math.min(MOST_POINTS, box.width), Math.min(MOST_POINTS, box.height), true);
-  }
-
-  made(what, columns, rows, sharp) {
-    const key = JSON.stringify([this.crop, columns, rows, sharp]);
-    const kept = this.scaled.get(what);
-    if (kept?.key === key) return kept.image;
-    const { image, box } = this.part();
-    const scaled = scaledTo(image, box, columns, rows, sharp);
-    this.scaled.set(what, { key, image: scaled });
-    return scaled;
-  }
-
   options() {
-    const options = { colours: Number(this.colours.value), background: this.background };
-    return this.two.checked ? { ...options, threshold: Number(this.threshold.value), inverted: this.inverted.checked } : options;
+    const value = (name) => Number(this[name].value);
+    const common = { sharp: this.sharp.checked, brightness: value('brightness'), contrast: value('contrast'), specks: value('specks') };
+    if (this.two.checked) return { ...common, threshold: value('threshold'), inverted: this.inverted.checked, area: this.lines.checked ? value('area') : 0 };
+    return { ...common, ...this.inks.options, colours: value('colours'), dither: this.dither.checked };
   }
 
   // A preview of single pixels at once, where the machine is slow; the one that counts follows when the user rests.
@@ -226,9 +214,7 @@ class Importing {
     const begun = performance.now();
     clearTimeout(this.timer);
     this.timer = setTimeout(() => this.isWaiting && this.show(), SKETCH_REST);
-    const pick = (columns, rows) => scaledTo(this.full, this.crop, columns, rows, true);
-    const points = pick(Math.min(SKETCH_POINTS, this.crop.width), Math.min(SKETCH_POINTS, this.crop.height));
-    this.doc = this.grounded(docOfCells(pick(...this.size), this.options(), { points }));
+    this.doc = this.maker.sketch({ image: this.full, box: this.crop }, this.size, this.options());
     this.draw();
     this.preview.dataset.ms = (performance.now() - begun).toFixed(1);
   }
@@ -238,74 +224,27 @@ class Importing {
     const isFirst = !this.timer; // no sketch of it was drawn
     clearTimeout(this.timer);
     Object.assign(this, { isWaiting: false, timer: 0 });
-    const options = this.options();
-    const times = this.size[0] * this.size[1] > 5000 ? 2 : 3;
-    // Of a drawing in flat colours single pixels are taken: means across its edges would be colours of their own.
-    const fine = this.sharp.checked || this.two.checked ? null : this.cells(times, flatColours(this.points(), MOST_COLOURS).length > 0);
-    const cells = fine ? scaledTo(fine, { x: 0, y: 0, width: fine.width, height: fine.height }, ...this.size) : this.cells();
-    this.doc = this.grounded(docOfCells(cells, options, fine ? { fine, points: this.points() } : {}));
+    this.doc = this.maker.doc(this.part(), this.size, this.options());
     this.draw();
     this.spent = performance.now() - begun;
     if (isFirst) this.preview.dataset.ms = this.spent.toFixed(1);
+    this.judging.ask(this.doc);
   }
 
   draw() {
     drawSmall(this.preview, this.doc, SHOWN_SIDE);
-    this.drawSource();
-    this.showSwatches();
-    this.facts.textContent = `${this.doc.columns} by ${this.doc.rows} cells, ${many(this.doc.colours.length, 'colour')} with the background`;
-  }
-
-  // The document with its background shown as the colour that was chosen, where no other colour is that one.
-  grounded(doc) {
-    this.own = doc.colours;
-    const triple = [1, 3, 5].map((at) => parseInt(this.shown.value.slice(at, at + 2), 16));
-    if (!this.shows.checked || doc.colours.some((one) => one.join() === triple.join())) return doc;
-    return { ...doc, colours: [triple, ...doc.colours.slice(1)] };
-  }
-
-  drawSource() {
-    if (!this.small) {
-      const scale = SHOWN_SIDE / Math.max(this.full.width, this.full.height);
-      const side = scale < 1 ? scale : Math.floor(scale);
-      this.small = penOf(Math.max(1, Math.round(this.full.width * side)), Math.max(1, Math.round(this.full.height * side)));
-      this.small.imageSmoothingEnabled = scale < 1;
-      this.small.imageSmoothingQuality = 'high';
-      this.small.drawImage(this.middle.canvas, 0, 0, this.small.canvas.width, this.small.canvas.height);
-    }
-    const { width, height } = this.small.canvas;
-    Object.assign(this.source, { width, height });
-    const pen = this.source.getContext('2d');
-    const by = width / this.full.width;
-    const { crop } = this;
-    pen.drawImage(this.small.canvas, 0, 0);
-    pen.fillStyle = 'rgb(0 0 0 / 45%)';
-    pen.beginPath();
-    pen.rect(0, 0, width, height);
-    pen.rect(crop.x * by, crop.y * by, crop.width * by, crop.height * by);
-    pen.fill('evenodd');
-    pen.strokeStyle = '#fff';
-    pen.strokeRect(crop.x * by + 0.5, crop.y * by + 0.5, crop.width * by - 1, crop.height * by - 1);
-  }
-
-  showSwatches() {
-    this.swatches.replaceChildren(...this.doc.colours.map((triple, at) => {
-      const name = `#${plainHexOf(triple)}`;
-      const button = make('button', { type: 'button', 'aria-pressed': String(at === 0), 'aria-label': `Background ${name}`, title: name, disabled: this.two.checked, onclick: () => {
-        this.background = this.own[at];
-        this.change('background');
-      } });
-      button.style.background = name;
-      return button;
-    }));
+    this.source.draw(this.crop);
+    this.inks.show(this.doc, this.isClear);
+    this.facts.textContent = TEXT.facts(this.doc);
   }
 }
 
 /** Lets the user make a puzzle of an image; answers whether one was opened. */
 export async function importImage(image, name) {
   const importing = new Importing(image);
-  const doc = await openDialog({ title: `${name}: turn the image into a puzzle`, content: importing.content, wide: true, buttons: [{ name: 'Create the puzzle', value: () => importing.finished(), main: true }] });
+  const doc = await openDialog({ title: TEXT.title(name), content: importing.content, wide: true, buttons: [{ name: TEXT.create, value: () => importing.finished(), main: true }] });
+  importing.judging.end();
   if (!doc || !(await openDoc(doc, { name, isSaved: false }))) return false;
-  say(`“${name}” is a puzzle now. Export or print it from the menu File.`);
+  say(TEXT.done(name));
   return true;
 }

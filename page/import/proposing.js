@@ -1,16 +1,17 @@
 // What the dialog for pictures proposes of an image: its size in cells, how many colours, and the part without a margin.
 
 import { MOST_CELLS, MOST_COLOURS } from '../document/limits.js';
+import { countFlat } from './flat.js';
 import { dotSize, isTransparent, scaledTo } from './images.js';
-import { MOST_POINTS } from './importing.js';
-import { flatColours, hasClear, hasFewColours, spotsOf } from './quantise.js';
+import { MOST_POINTS } from './making.js';
+import { hasClear, hasFewColours, spotsOf } from './spots.js';
 
 /** How many colours an image has with a background: all where each pixel counts and they are few, its flat ones, or some. */
 function coloursFor(image, { isExact, some }) {
   const clear = Number(hasClear(image));
   const most = MOST_COLOURS - clear;
-  const own = isExact && hasFewColours(image, most) ? spotsOf(image) : flatColours(image, most);
-  return own.length ? Math.max(2, own.length + clear) : some;
+  const own = isExact && hasFewColours(image, most) ? spotsOf(image).length : countFlat(image);
+  return own && own <= most ? Math.max(2, own + clear) : some;
 }
 
 /** What the dialog proposes for an image: one cell a dot of a pixel picture, else 40 cells on the longer side. */

@@ -7,6 +7,7 @@ import { bareName, many, number } from '../base/words.js';
 import { FileFault } from '../document/limits.js';
 import { penOf } from '../draw/small.js';
 import { startEngine } from '../engine/client.js';
+import { kindOfPalette } from '../formats/palettes.js';
 import { MOST_BYTES_READ } from '../formats/ppm.js';
 import { keep } from '../library/keep.js';
 import { faultText, openDoc } from '../library/open.js';
@@ -15,21 +16,29 @@ import { isTyping } from '../view/actions.js';
 import { openDialog, openDialogs } from '../view/dialogs.js';
 import { takeArchive } from './archives.js';
 import { takeCertificate } from './certificates.js';
-import { kindOfFile, sizeOfImage } from './images.js';
+import { filesIn } from './folders.js';
+import { docOfImage, kindOfFile, sizeOfImage } from './images.js';
 import { importImage } from './importing.js';
+import { takePalette } from './palettes.js';
 import { NOT_READ, aboutNon, docOfNon, isNonText, readPpmFile, readXmlFile } from './reading.js';
+import { takeSeveral } from './several.js';
 
-const TAKEN_KINDS = '.ppm,.pnm,.non,.xml,.cert,.zip,.png,.jpg,.jpeg,.gif,.webp,image/png,image/jpeg,image/gif,image/webp';
+const TAKEN_KINDS = '.ppm,.pnm,.non,.xml,.cert,.zip,.gpl,.pal,.hex,.png,.jpg,.jpeg,.gif,.webp,image/png,image/jpeg,image/gif,image/webp';
 const MOST_ARCHIVE = 1 << 30; // bytes
+const MOST_IMAGE = 1 << 28;
+const HEAD = 1 << 20; // bytes of an image that are read here: its size is in them
+const IMAGES = new Set(['png', 'jpeg', 'gif', 'webp']);
 
 /** Takes a file (or a blob that was pasted); `handle` is the browser's own for writing it again. */
 export async function takeFile(file, handle = null) {
   say(''); // what was said of another file
   try {
-    const isArchive = kindOfFile(new Uint8Array(await file.slice(0, 16).arrayBuffer())) === 'zip';
-    if (file.size > (isArchive ? MOST_ARCHIVE : MOST_BYTES_READ)) throw new FileFault(`it has more than ${isArchive ? '1 GiB' : '16 MiB'}`);
-    const bytes = new Uint8Array(await file.arrayBuffer());
-    return await takeBytes(bytes, file, handle);
+    const head = new Uint8Array(await file.slice(0, HEAD).arrayBuffer());
+    const kind = kindOfFile(head);
+    const [most, text] = kind === 'zip' ? [MOST_ARCHIVE, '1 GiB'] : IMAGES.has(kind) ? [MOST_IMAGE, '256 MiB'] : [MOST_BYTES_READ, '16 MiB'];
+    if (file.size > most) throw new FileFault(`it has more than ${text}`);
+    if (IMAGES.has(kind)) return await importImage(await imageOfFile(file, head, kind), bareName(file.name));
+    return await takeBytes(new Uint8Array(await file.arrayBuffer()), file, handle);
   } catch (fault) {
     say(`${file.name ? `“${file.name}”` : 'What was pasted'} could not be opened: ${faultText(fault)}`, 'alarm');
     return false;
@@ -42,6 +51,7 @@ async function takeBytes(bytes, file, handle) {
   const text = () => new TextDecoder().decode(bytes);
   if (kind === 'ppm') return takePpm(bytes, name, handle);
   if (kind === 'xml') return takeXml(text(), name, handle);
+  if (kind === 'non' && kindOfPalette(text())) return takePalette(text(), file.name ?? 'palette');
   if (kind === 'non') return takeNon(text(), name, handle);
   if (kind === 'cert') return takeCertificate(text(), file.name ?? 'certificate');
   if (kind === 'zip') {
@@ -49,8 +59,7 @@ async function takeBytes(bytes, file, handle) {
     tell('library', null);
     return true;
   }
-  if (kind === null) throw new FileFault(NOT_READ);
-  return importImage(await imageOfFile(file, bytes, kind), name);
+  throw new FileFault(NOT_READ);
 }
 
 async function takePpm(bytes, name, handle) {
@@ -115,14 +124,14 @@ function decoding(size) {
   return scale < 1 ? { resizeWidth: Math.max(1, Math.round(width * scale)), resizeQuality: 'high' } : {};
 }
 
-/** The pixels of an image file, after the size in its head was looked at. */
-async function imageOfFile(file, bytes, kind) {
-  const size = sizeOfImage(bytes, kind);
+/** The pixels of an image file, after the size in its head was looked at: the browser reads the rest of it. */
+async function imageOfFile(file, head, kind) {
+  const size = sizeOfImage(head, kind);
   if (!size) throw new FileFault('its size is not told at its beginning');
   const options = decoding(size);
   let bitmap;
   try {
-    bitmap = await createImageBitmap(file instanceof Blob && file.type ? file : new Blob([bytes], { type: `image/${kind}` }), options);
+    bitmap = await createImageBitmap(file.type ? file : new Blob([file], { type: `image/${kind}` }), options);
   } catch {
     throw new FileFault('the browser does not read this picture');
   }
@@ -162,8 +171,15 @@ async function closeDialogs() {
 
 async function takeDropped(files, handle) {
   await closeDialogs();
-  if (!(await takeFile(files[0], handle)) || files.length === 1) return;
-  say(`The first of ${files.length} files is open: ${files[0].name}.`, 'alarm');
+  return files.length === 1 ? takeFile(files[0], handle) : takeSeveral(files, imageDocs);
+}
+
+// The document of an image file that is a pixel a cell; null for a file that is no image.
+async function imageDocs(file, bytes) {
+  const kind = kindOfFile(bytes);
+  if (!['png', 'jpeg', 'gif', 'webp'].includes(kind)) return null;
+  const doc = docOfImage(await imageOfFile(file, bytes, kind));
+  return doc ? [doc] : [];
 }
 
 /** Hears files that are dropped or pasted anywhere. A text that is pasted is a puzzle where it begins like one. */
@@ -181,7 +197,9 @@ export function hearFiles() {
     const items = [...event.dataTransfer.items].filter((one) => one.kind === 'file');
     if (!items.length) return;
     event.preventDefault(); // else the browser would leave the page for the file
+    const folders = items.map((item) => item.webkitGetAsEntry?.() ?? null);
     const files = items.map((item) => item.getAsFile());
+    if (folders.some((entry) => entry?.isDirectory)) return takeSeveral(await filesIn(folders, files), imageDocs);
     const late = new Promise((go) => setTimeout(go, 1000, null)); // the file itself is at hand already
     const handle = await Promise.race([late, items[0].getAsFileSystemHandle?.().catch(() => null)]);
     takeDropped(files, handle?.kind === 'file' ? handle : null);

@@ -5,11 +5,12 @@ import { say } from '../base/elements.js';
 import { tell } from '../base/events.js';
 import { docOf, sameDoc } from '../document/document.js';
 import { bench } from '../engine/bench.js';
+import { phrase } from '../texts/phrase.js';
 import { Keeper } from './keeper.js';
 import { newId, recordOf } from './records.js';
 import { claim, openShelf } from './shelf.js';
 
-export const keep = { keeper: null, opening: null, id: null, free: null, untouched: null, grade: null, isKept: true, isPaused: false, wasTold: false, isAsked: false, makeRoom: null };
+export const keep = { keeper: null, opening: null, id: null, free: null, untouched: null, when: 0, grade: null, isKept: true, isPaused: false, wasTold: false, isAsked: false, makeRoom: null };
 
 /** Opens the library, once. */
 keep.ready = (home = globalThis) => {
@@ -20,7 +21,7 @@ keep.ready = (home = globalThis) => {
   return keep.opening;
 };
 
-const REASONS = { full: 'The browser’s storage is full', none: 'This browser keeps nothing for this page', refused: 'The browser’s storage does not take it' };
+const REASONS = { full: phrase('library.browsersStorageFull'), none: phrase('library.browserKeepsNothingPage'), refused: phrase('library.browsersStorageDoesNot') };
 
 keep.said = ({ kind, why }) => {
   keep.isKept = kind === 'kept';
@@ -28,7 +29,7 @@ keep.said = ({ kind, why }) => {
   if (keep.isKept) keep.wasTold = false;
   if (keep.isKept || keep.wasTold) return;
   keep.wasTold = true;
-  say(`${REASONS[why]}: your work is in this tab alone. Save it to a file (Ctrl+S).`, 'alarm', why === 'full' ? { name: 'Make room …', run: () => keep.makeRoom?.() } : null);
+  say(phrase('library.yourWorkTabAlone', { why: REASONS[why] }), 'alarm', why === 'full' ? { name: phrase('library.makeRoom'), run: () => keep.makeRoom?.() } : null);
 };
 
 /**
@@ -44,8 +45,9 @@ keep.begin = async (id = null, isBlank = false) => {
   free ??= await claim(keep.id, globalThis);
   keep.free = free;
   keep.grade = null;
+  keep.when = Date.now();
   keep.untouched = isBlank || isElsewhere ? docOf(bench.state) : null;
-  if (isElsewhere) say('This picture is open in another tab. What you change here goes to a copy.', 'alarm');
+  if (isElsewhere) say(phrase('library.pictureOpenAnotherTab'), 'alarm');
   keep.now();
   return isElsewhere;
 };
@@ -55,7 +57,13 @@ keep.end = () => {
   Object.assign(keep, { id: null, free: null, untouched: null });
 };
 
-/** Keeps the document as it is now. */
+/** Keeps the document as a stroke has left it: it is the newest of the library now. */
+keep.changed = () => {
+  keep.when = Date.now();
+  return keep.now();
+};
+
+/** Keeps the document as it is now. What is found out about it later makes it no newer. */
 keep.now = () => {
   const { id } = keep;
   if (!id || !keep.keeper || !bench.state) return Promise.resolve();
@@ -65,7 +73,7 @@ keep.now = () => {
     keep.isAsked = true; // that the browser does not clear it away by itself
     navigator.storage?.persist?.().catch(() => {});
   }
-  const made = () => ({ record: recordOf(bench, id), facts: { verdict: bench.state.verdict.word, grade: keep.grade } });
+  const made = () => ({ record: recordOf(bench, id, keep.when), facts: { verdict: bench.state.verdict.word, grade: keep.grade } });
   return keep.keeper.note(() => (keep.id === id && bench.state ? made() : null));
 };
 

@@ -64,6 +64,16 @@ export class Keeper {
     return readRecord(value) ? readCard(cardOf(value)) : null;
   }
 
+  /** Whether a picture is on the shelf under this name: `isSame` compares its document. */
+  async has(name, doc, isSame) {
+    for (const card of await this.cards()) {
+      if (card.name !== name || card.doc.picture.join() !== doc.picture.join()) continue;
+      const record = await this.record(card.id);
+      if (record && isSame(record.doc, doc)) return true;
+    }
+    return false;
+  }
+
   /** A record, read, or null where it is none. */
   async record(id) {
     return readRecord(await this.shelf.get(RECORD + id).catch(() => null));

@@ -5,6 +5,7 @@ import { baseOf } from '../document/cover.js';
 import { pageOf } from '../document/document.js';
 import { FileFault, MOST_CELLS } from '../document/limits.js';
 import { bench } from '../engine/bench.js';
+import { phrase } from '../texts/phrase.js';
 import { confirmDialog } from '../view/dialogs.js';
 import { keep } from './keep.js';
 import { saving, showFileName } from './saving.js';
@@ -15,12 +16,12 @@ import { saving, showFileName } from './saving.js';
  */
 export async function openDoc(doc, { name, isSaved = true, id = null, strokes = undefined, handle = null, form = 'xml', isBlank = false }) {
   const isLost = bench.state && !keep.isKept && !bench.isSaved;
-  if (isLost && !(await confirmDialog('Open another picture', `“${bench.name}” has not been saved, and the browser does not keep it. It would be lost.`, 'Open'))) return false;
+  if (isLost && !(await confirmDialog(phrase('library.openAnotherPicture'), phrase('library.notBeenSavedBrowser', { name: bench.name }), phrase('library.open')))) return false;
   keep.isPaused = true;
   try {
     await bench.open(baseOf(doc), { name, page: pageOf(doc), strokes, isSaved });
   } catch (fault) {
-    say(`“${name}” could not be opened: ${faultText(fault)}`, 'alarm');
+    say(phrase('library.couldNotOpened', { name, fault: faultText(fault) }), 'alarm');
     return false;
   } finally {
     keep.isPaused = false;
@@ -35,7 +36,7 @@ export async function openDoc(doc, { name, isSaved = true, id = null, strokes = 
 export async function openRecord(id) {
   const record = await keep.keeper.record(id);
   if (!record) {
-    say('This picture of the library is damaged and could not be opened.', 'alarm');
+    say(phrase('library.pictureLibraryDamagedCould'), 'alarm');
     return false;
   }
   const { doc, name, isSaved, strokes } = record;
@@ -43,18 +44,18 @@ export async function openRecord(id) {
 }
 
 const OPEN_FAULTS = {
-  BadSize: `its width or height is not from 1 to ${MOST_CELLS}`, BadCount: 'it has too few or too many clues', BadClue: 'a clue is no list of numbers',
-  ClueTooLong: 'a clue is longer than its line', BadGoal: 'its goal does not fit its size', GoalDisagrees: 'its goal has other clues',
-  MissingSize: 'it has no width or height', Repeated: 'a part of it stands there twice',
+  BadSize: phrase('library.widthHeightNotFrom', { MOST_CELLS }), BadCount: phrase('library.tooFewTooMany'), BadClue: phrase('library.clueNoListNumbers'),
+  ClueTooLong: phrase('library.clueLongerLine'), BadGoal: phrase('library.goalDoesNotFit'), GoalDisagrees: phrase('library.goalOtherClues'),
+  MissingSize: phrase('library.noWidthHeight'), Repeated: phrase('library.partStandsThereTwice'),
 };
 
 /** What a fault says to the user, without names of the bench's own. */
 export function faultText(fault) {
   if (fault instanceof FileFault) return fault.message;
   const text = String(fault?.text ?? fault?.message ?? fault);
-  if (text === 'stopped') return 'the search was stopped';
-  if (/memory/i.test(text) || fault?.kind === 'memory') return 'there is not enough memory for it';
-  if (/no picture has these clues/.test(text)) return 'no picture has these clues';
+  if (text === 'stopped') return phrase('library.searchStopped');
+  if (/memory/i.test(text) || fault?.kind === 'memory') return phrase('library.thereNotEnoughMemory');
+  if (/no picture has these clues/.test(text)) return phrase('library.noPictureTheseClues');
   const name = Object.keys(OPEN_FAULTS).find((one) => text.includes(one));
   return name ? OPEN_FAULTS[name] : text.replace(/^nonobench: /, '').slice(0, 200);
 }

@@ -8,18 +8,20 @@ import { docOf, eightBitDoc } from '../document/document.js';
 import { bench } from '../engine/bench.js';
 import { leftOutOfPpm, ppmTextOf } from '../formats/ppm_notes.js';
 import { leavesOut, webpbnText } from '../formats/webpbn.js';
+import { phrase } from '../texts/phrase.js';
 import { openDialog } from '../view/dialogs.js';
 import { asSeen } from '../view/tools.js';
 import { keep } from './keep.js';
 
 export const saving = { handle: null, form: 'xml' };
 export const SAVE_TYPES = {
-  xml: { type: 'application/xml', ending: '.xml', what: 'Web Paint-by-Number XML: everything' },
-  ppm: { type: 'image/x-portable-pixmap', ending: '.ppm', what: 'Plain PPM: the picture, the rest in comments' },
-  non: { type: 'text/plain', ending: '.non', what: '.non: a two-colour puzzle' },
-  cert: { type: 'text/plain', ending: '.cert', what: 'Certificate' },
-  png: { type: 'image/png', ending: '.png', what: 'Picture as PNG' },
-  zip: { type: 'application/zip', ending: '.zip', what: 'Archive' },
+  xml: { type: 'application/xml', ending: '.xml', what: phrase('library.webPaintNumberXml') },
+  ppm: { type: 'image/x-portable-pixmap', ending: '.ppm', what: phrase('library.plainPpmPictureRest') },
+  non: { type: 'text/plain', ending: '.non', what: phrase('library.nonTwoColourPuzzle') },
+  cert: { type: 'text/plain', ending: '.cert', what: phrase('library.certificate') },
+  svg: { type: 'image/svg+xml', ending: '.svg', what: phrase('library.sheetSvg') },
+  png: { type: 'image/png', ending: '.png', what: phrase('library.picturePng') },
+  zip: { type: 'application/zip', ending: '.zip', what: phrase('library.archive') },
 };
 const DOCUMENT_FORMS = ['xml', 'ppm', 'non'];
 
@@ -47,7 +49,7 @@ export async function textAs(form) {
   if (form === 'xml') return webpbnText(state, state.clues);
   const [answer] = await bench.ask('write non').catch(() => []);
   if (answer?.kind === 'text') return nonHead(state.about) + answer.text;
-  say(answer?.name === 'TwoColoursOnly' ? 'A .non puzzle has one colour beside the background.' : 'The .non text was not made.', 'alarm');
+  say(answer?.name === 'TwoColoursOnly' ? phrase('library.nonPuzzleOneColour') : phrase('library.nonTextNotMade'), 'alarm');
   return null;
 }
 
@@ -55,15 +57,15 @@ export async function textAs(form) {
 function leftOutOfNon(doc) {
   const { colours, inks, about } = eightBitDoc(doc);
   return [
-    String(colours) === '255,255,255,0,0,0' ? '' : 'its colours', doc.givens.size ? 'its given cells' : '', doc.locks.size ? 'its locked cells' : '',
-    inks.some((ink) => ink?.name && !['white', 'black'].includes(ink.name)) ? 'names of colours' : '',
-    ['authorid', 'description', 'id', 'note'].some((name) => about[name]) ? 'its description' : '',
+    String(colours) === '255,255,255,0,0,0' ? '' : phrase('library.colours'), doc.givens.size ? phrase('library.givenCells') : '', doc.locks.size ? phrase('library.lockedCells') : '',
+    inks.some((ink) => ink?.name && !['white', 'black'].includes(ink.name)) ? phrase('library.namesColours') : '',
+    ['authorid', 'description', 'id', 'note'].some((name) => about[name]) ? phrase('library.description') : '',
   ].filter(Boolean).join(', ');
 }
 
 /** What a form has no place for of a document, in words; '' where it holds all of it. */
 function leftOut(form, doc) {
-  if (form === 'xml') return leavesOut(doc) ? 'solutions that do not fit the picture any more' : '';
+  if (form === 'xml') return leavesOut(doc) ? phrase('library.solutionsDoNotFit') : '';
   return form === 'ppm' ? leftOutOfPpm(doc) : leftOutOfNon(doc);
 }
 
@@ -83,7 +85,7 @@ export async function save() {
   try {
     await writeHandle(saving.handle, content);
   } catch (fault) {
-    say(`${saving.handle.name} was not written (${fault.message}).`, 'alarm');
+    say(phrase('library.notWritten', { name: saving.handle.name, message: fault.message }), 'alarm');
     return false;
   }
   saved(doc, saving.handle.name, saving.form);
@@ -96,7 +98,7 @@ export function saved(doc, file, form, more = '') {
   if (!without) bench.saved(doc);
   keep.now();
   showFileName();
-  say(without ? `${file} saved, without ${without}. XML keeps all of it.` : `${file} saved.${more}`, without || more ? 'alarm' : '');
+  say(without ? phrase('library.savedWithoutXmlKeeps', { file, without }) : phrase('library.saved', { file, more }), without || more ? 'alarm' : '');
 }
 
 const formOfFile = (name) => (/\.(ppm|pnm)$/i.test(name) ? 'ppm' : /\.non$/i.test(name) ? 'non' : 'xml');
@@ -137,8 +139,8 @@ export async function saveAs() {
   if (globalThis.showSaveFilePicker) return saveByPicker();
   const name = make('input', { type: 'text', value: bench.name, maxlength: '80' });
   const form = make('select', {}, ...DOCUMENT_FORMS.map((one) => make('option', { value: one, selected: one === saving.form }, SAVE_TYPES[one].what)));
-  const content = make('div', { class: 'rows' }, make('label', {}, 'Name', name), make('label', {}, 'Form', form));
-  if (!(await openDialog({ title: 'Save as', content, buttons: [{ name: 'Save', value: true, main: true }] }))) return false;
+  const content = make('div', { class: 'rows' }, make('label', {}, phrase('library.name'), name), make('label', {}, phrase('library.form'), form));
+  if (!(await openDialog({ title: phrase('library.save'), content, buttons: [{ name: phrase('library.save2'), value: true, main: true }] }))) return false;
   bench.name = bareName(name.value);
   saving.form = form.value;
   return saveDownload(form.value);
@@ -148,14 +150,14 @@ export async function saveAs() {
 export function exportAs(form, content, suffix = '', more = '') {
   const file = bench.name + suffix + SAVE_TYPES[form].ending;
   download(content, file, SAVE_TYPES[form].type);
-  say(`${file} saved.${more}`, more ? 'alarm' : '');
+  say(phrase('library.saved', { file, more }), more ? 'alarm' : '');
 }
 
 /** Shows the document's name, and whether it is in a file. */
 export function showFileName() {
   const isOpen = bench.state !== null;
   const { isSaved } = bench;
-  const where = isSaved ? '' : keep.isKept ? ' · in the library, not in a file' : ' · not kept';
+  const where = isSaved ? '' : keep.isKept ? phrase('library.libraryNotFile') : phrase('library.notKept');
   $('title').textContent = isOpen ? bench.name + where : '';
   document.title = isOpen ? `${isSaved ? '' : '• '}${bench.name} – nonobench` : 'nonobench';
 }
@@ -165,7 +167,7 @@ export function startSaving() {
   on('shown', () => {
     if (!keep.isPaused) {
       keep.grade = null;
-      keep.now();
+      keep.changed();
     }
     showFileName();
   });

@@ -2,13 +2,14 @@
 
 import { cellsOf, Puzzle } from '../grade/puzzle.js';
 import { LETTERS } from '../document/limits.js';
+import { phrase } from '../texts/phrase.js';
 import { nextStep } from '../walk/steps.js';
 import { play } from './play.js';
 
 /** A puzzle of the picture that is played. */
 export const puzzleOf = (state) => new Puzzle(state.rows, state.columns, cellsOf(state.picture), state.givens);
 
-const lineName = (line) => (line < play.state.rows ? `Row ${line + 1}` : `Column ${line - play.state.rows + 1}`);
+const lineName = (line) => (line < play.state.rows ? phrase('play.row', { line: line + 1 }) : phrase('play.column', { rows: line - play.state.rows + 1 }));
 const across = (line) => (line < play.state.rows ? 'column' : 'row');
 const placeIn = (line, index) => (line < play.state.rows ? (index % play.state.columns) + 1 : Math.floor(index / play.state.columns) + 1);
 
@@ -26,10 +27,10 @@ export function placesText(line, cells) {
 /** What a step says, as far as it is told: 'line', 'cells' or 'why'. */
 export function stepText({ line, cells, settled, premises }, how = 'why') {
   const told = settled.length ? settled : cells.map(({ index }) => index);
-  if (how === 'line') return `${lineName(line)} tells more.`;
+  if (how === 'line') return phrase('play.tellsMore', { lineName: lineName(line) });
   const first = `${lineName(line)} ${settled.length ? 'settles' : 'narrows'} ${placesText(line, told)}`;
   if (how === 'cells') return `${first}.`;
-  return `${first}${premises.length ? `, since ${placesText(line, premises)} ${premises.length === 1 ? 'is' : 'are'} known` : ' by its clue alone'}.`;
+  return `${first}${premises.length ? phrase('play.sinceCountKnown', { places: placesText(line, premises), count: premises.length }) : phrase('play.clueAlone')}.`;
 }
 
 // What is known of each cell by the marks.
@@ -45,15 +46,15 @@ const HOWS = ['line', 'cells', 'why'];
 /** The next part of a hint: its text, and what of it is shown. The same marks get more each time. */
 export function nextHint() {
   const { state, hint } = play;
-  if (state.verdict.word === 'unique' && isWrong()) return { text: 'A mark is wrong. Check shows which.', shown: null };
+  if (state.verdict.word === 'unique' && isWrong()) return { text: phrase('play.markWrongCheckShows'), shown: null };
   const key = play.marks.map((row) => row.join('')).join('/');
   if (hint?.key !== key) {
     const puzzle = puzzleOf(state);
     play.hint = { key, told: 0, step: nextStep(puzzle, masksOf(puzzle)) };
   } else hint.told = Math.min(hint.told + 1, HOWS.length - 1);
   const { step, told } = play.hint;
-  if (!step) return { text: play.marks.some((row) => row.includes('?')) ? 'No line settles a cell now: a guess is needed.' : 'Nothing is left.', shown: null };
-  if (step.kind === 'dead') return { text: `${lineName(step.line)} cannot be filled any more: a mark is wrong.`, shown: { line: step.line, cells: [], premises: [] } };
+  if (!step) return { text: play.marks.some((row) => row.includes('?')) ? phrase('play.noLineSettlesCell') : phrase('play.nothingLeft'), shown: null };
+  if (step.kind === 'dead') return { text: phrase('play.cannotFilledAnyMore', { lineName: lineName(step.line) }), shown: { line: step.line, cells: [], premises: [] } };
   const how = HOWS[told];
   return { text: stepText(step, how), shown: { line: step.line, cells: how === 'line' ? [] : step.settled, premises: how === 'why' ? step.premises : [] } };
 }

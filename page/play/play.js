@@ -1,11 +1,12 @@
 // Play: the empty puzzle as a solver gets it. Marks are the player's own and change nothing of the picture.
 
 import { $, make, withoutGestures } from '../base/elements.js';
+import { tell } from '../base/events.js';
 import { clamp, many } from '../base/words.js';
 import { cssOf, inkOn, nameOf } from '../document/colours.js';
 import { LETTERS, MOST_CELLS } from '../document/limits.js';
 import { bench } from '../engine/bench.js';
-import { addAction } from '../view/actions.js';
+import { addAction, runAction } from '../view/actions.js';
 import { selection } from '../view/select.js';
 import { asSeen } from '../view/tools.js';
 import { searches } from '../view/verdict.js';
@@ -19,7 +20,8 @@ export const play = { state: null, marks: [], letter: 'a', past: [], future: [],
 // Whether the marks of the last time are those of this puzzle: what was marked before the room was left stands there again.
 const goesOn = ({ picture, givens, colours }) => play.past.length > 0 && play.state.picture === picture && play.state.givens === givens && play.state.colours === colours;
 
-async function openPlay() {
+/** Shows the puzzle to be solved. Where it stands alone, there is no way to the picture but the one that the player paints. */
+export async function openPlay({ isAlone = false } = {}) {
   if (selection.rows || bench.queue.length) await asSeen();
   const { state } = bench;
   const isKept = goesOn(state);
@@ -33,6 +35,7 @@ async function openPlay() {
     dialog.remove();
   });
   dialog.addEventListener('keydown', playKey);
+  if (isAlone) keepOpen(dialog);
   $('dialogs').append(dialog);
   dialog.showModal();
   playPalette();
@@ -42,6 +45,12 @@ async function openPlay() {
   const { word } = state.verdict;
   const told = word === 'unique' ? 'One solution. Good luck.' : word === 'ambiguous' ? 'This puzzle has more than one solution.' : 'It is not known whether this puzzle has one solution.';
   playSays(`${isKept ? 'Your marks are as you left them. ' : ''}${told}${state.givens.size ? ' Cells with a diamond ◆ are given.' : ''}`);
+}
+
+// Where the player stands alone nothing closes it: neither Escape nor a phone's way back.
+function keepOpen(dialog) {
+  dialog.addEventListener('keydown', (event) => { if (event.key === 'Escape') event.preventDefault(); });
+  dialog.addEventListener('close', () => { if (document.body.classList.contains('player')) openPlay({ isAlone: true }); });
 }
 
 export const playSays = (text) => { $('play-said').textContent = text; };
@@ -55,6 +64,7 @@ function playBar() {
     playButton('play-hint', 'Hint', hintPlay, { title: 'Which line tells more; again: which cells; again: why' }),
     playButton('play-clear', 'Start over', clearPlay), playButton('play-walk', 'Walk through', startWalk),
     playButton('play-smaller', '−', () => zoomPlay(-1), { 'aria-label': 'Smaller cells' }), playButton('play-larger', '+', () => zoomPlay(1), { 'aria-label': 'Larger cells' }),
+    playButton('play-help', '?', () => runAction('guide'), { 'aria-label': 'Guide', title: 'Guide' }),
     playButton('play-close', 'Back to the picture', () => $('play-room').close()));
 }
 
@@ -141,6 +151,7 @@ export function afterPlay() {
   if (solved && !play.isSolved) {
     const other = play.marks.some((row, at) => row.some((mark, col) => (mark === '?' ? '.' : mark) !== play.state.picture[at][col]));
     playSays(other ? 'Solved, but with a picture other than yours.' : 'Solved.');
+    tell('solved', null);
   } else if (!solved) playSays('');
   play.isSolved = solved;
   $('play-undo').disabled = !play.past.length;

@@ -3,9 +3,11 @@
 
 import { $ } from '../base/elements.js';
 import { clamp } from '../base/words.js';
-import { contrastOf, cssOf, eightBits, inkOn, lightness, nameOf } from '../document/colours.js';
+import { contrastOf, eightBits, lightness, nameOf } from '../document/colours.js';
 import { LETTERS } from '../document/limits.js';
-import { drawGiven } from '../draw/given.js';
+import { coloursOf, drawClue, drawDot, drawGiven, drawRules, edges, wholeFrame } from '../draw/board.js';
+import { CanvasSurface } from '../draw/surface.js';
+import { phrase } from '../texts/phrase.js';
 import { wordOf } from '../view/dress.js';
 import { crossedOff } from './crossing.js';
 import { afterPlay, play, playColumn } from './play.js';
@@ -46,8 +48,8 @@ export function zoomPlay(way) {
   drawPlay();
 }
 
-// A canvas of a size in the page's pixels, sharp on the screen, with its pen.
-function playPen(id, wide, high) {
+// A canvas of a size in the page's pixels, sharp on the screen, as a surface.
+function playSurface(id, wide, high) {
   const canvas = $(id);
   const scale = devicePixelRatio || 1;
   canvas.width = Math.round(wide * scale);
@@ -56,149 +58,92 @@ function playPen(id, wide, high) {
   canvas.style.height = `${high}px`;
   const pen = canvas.getContext('2d');
   pen.scale(scale, scale);
-  return pen;
+  return new CanvasSurface(pen);
+}
+
+const playFrame = () => wholeFrame(1, 1, play.side, play.state);
+const fieldSize = () => [play.side * play.state.columns + 2, play.side * play.state.rows + 2];
+
+/** @returns {any} */
+function playLook() {
+  const style = getComputedStyle($('play-room'));
+  const isDark = lightness((style.backgroundColor.match(/[0-9.]+/g) ?? [255, 255, 255]).slice(0, 3).map(Number)) < 128;
+  const ink = (name) => style.getPropertyValue(`--${name}`).trim() || '#888';
+  const wide = play.side > 10 ? 2 : 1;
+  return {
+    ...coloursOf(play.state), signs: null, family: style.fontFamily, thin: 1, wide, border: wide, isWhole: true, under: false, light: ink('light'), heavy: ink('heavy'),
+    ink: style.color, faint: ink('faint'), style: 'chip', edge: 'rgb(128 128 128 / 60%)', hair: 1, radius: 3, font: playFont(), least: 6, weight: 600,
+    blank: isDark ? DARK_BLANK : BLANK, alarm: '#c8321e', here: '#14609c',
+  };
 }
 
 export function drawPlay() {
-  const { state, side } = play;
+  const { state } = play;
   const { wide, high } = playStrips();
+  const [across, down] = fieldSize();
   const board = $('play-board');
-  board.style.gridTemplate = `${high}px ${side * state.rows + 2}px / ${wide}px ${side * state.columns + 2}px`;
+  board.style.gridTemplate = `${high}px ${down}px / ${wide}px ${across}px`;
   board.dataset.stays = wide < board.clientWidth * 0.5 && high < board.clientHeight * 0.5;
-  playPen('play-corner', wide, high);
+  playSurface('play-corner', wide, high);
   drawPlayField();
-  const inks = playInks();
-  const left = playPen('play-left', wide, side * state.rows + 2);
-  state.clues.rows.forEach((blocks, row) => drawPlayRow(left, inks, blocks, row, wide));
-  const top = playPen('play-top', side * state.columns + 2, high);
-  state.clues.columns.forEach((blocks, col) => drawPlayColumn(top, inks, blocks, col, high));
+  const look = playLook();
+  const height = playFont() + 4;
+  const { x, y, cell } = playFrame();
+  const left = playSurface('play-left', wide, down);
+  const top = playSurface('play-top', across, high);
+  const rowSize = (block) => ({ width: playChip(block), height });
+  const columnSize = (block) => ({ width: Math.min(playChip(block), Math.max(cell - 1, playFont() * 1.2)), height });
+  state.clues.rows.forEach((blocks, row) => drawPlayClue(left, look, 'r', blocks, { near: wide - 6, gap: 2, middle: y + (row + 0.5) * cell, sizeOf: rowSize, cells: play.marks[row] }));
+  state.clues.columns.forEach((blocks, col) => drawPlayClue(top, look, 'c', blocks, { near: high - 5, gap: 1, middle: x + (col + 0.5) * cell, sizeOf: columnSize, cells: playColumn(col) }));
 }
 
-function playInks() {
-  const style = getComputedStyle($('play-room'));
-  const isDark = lightness((style.backgroundColor.match(/[0-9.]+/g) ?? [255, 255, 255]).slice(0, 3).map(Number)) < 128;
-  return { paper: style.backgroundColor, blank: isDark ? DARK_BLANK : BLANK, ink: style.color, alarm: '#c8321e', here: '#14609c' };
-}
-
-function playBlock(pen, inks, block, isCrossed, x, y, wide) {
-  const { colours, maxval } = play.state;
-  const triple = colours[LETTERS.indexOf(block.letter)];
-  const size = playFont();
-  pen.globalAlpha = isCrossed ? 0.5 : 1;
-  pen.fillStyle = cssOf(triple, maxval);
-  pen.fillRect(x, y, wide, size + 4);
-  pen.strokeStyle = 'rgb(128 128 128 / 60%)';
-  pen.strokeRect(x + 0.5, y + 0.5, wide - 1, size + 3);
-  pen.fillStyle = inkOn(triple, maxval);
-  pen.font = `600 ${size}px system-ui, sans-serif`;
-  pen.textAlign = 'center';
-  pen.textBaseline = 'middle';
-  pen.fillText(block.length, x + wide / 2, y + size / 2 + 2.5);
-  pen.globalAlpha = 1;
-  if (!isCrossed) return;
-  pen.strokeStyle = inks.ink;
-  pen.beginPath();
-  pen.moveTo(x + 2, y + size + 2);
-  pen.lineTo(x + wide - 2, y + 2);
-  pen.stroke();
-}
-
-function drawPlayRow(pen, inks, blocks, row, wide) {
-  const crossed = crossedOff(blocks, play.marks[row]);
-  const y = row * play.side + (play.side - playFont() - 4) / 2;
-  let x = wide - 4;
-  for (let at = blocks.length - 1; at >= 0; at--) {
-    const room = playChip(blocks[at]);
-    x -= room + 2;
-    playBlock(pen, inks, blocks[at], crossed[at], x, y, room);
-  }
-  if (!blocks.length) playNone(pen, inks, wide - 12, y + playFont() / 2 + 2);
-}
-
-function drawPlayColumn(pen, inks, blocks, col, high) {
-  const crossed = crossedOff(blocks, playColumn(col));
-  let y = high - 4;
-  for (let at = blocks.length - 1; at >= 0; at--) {
-    const room = Math.min(playChip(blocks[at]), Math.max(play.side - 1, playFont() * 1.2));
-    y -= playFont() + 5;
-    playBlock(pen, inks, blocks[at], crossed[at], col * play.side + (play.side - room) / 2, y, room);
-  }
-  if (!blocks.length) playNone(pen, inks, col * play.side + play.side / 2, high - 4 - playFont() / 2);
-}
-
-function playNone(pen, inks, x, y) {
-  pen.fillStyle = inks.ink;
-  pen.globalAlpha = 0.55;
-  pen.font = `${playFont()}px system-ui, sans-serif`;
-  pen.textAlign = 'center';
-  pen.textBaseline = 'middle';
-  pen.fillText('0', x, y);
-  pen.globalAlpha = 1;
-}
+const drawPlayClue = (surface, look, axis, blocks, { cells, ...place }) => drawClue(surface, look, axis, blocks, { ...place, far: -Infinity, unit: 1, crossed: crossedOff(blocks, cells) });
 
 function drawPlayField() {
   const { state, side } = play;
-  const inks = playInks();
-  const pen = playPen('play-field', side * state.columns + 2, side * state.rows + 2);
-  pen.fillStyle = `rgb(${inks.blank.join(' ')})`;
-  pen.fillRect(0, 0, side * state.columns + 2, side * state.rows + 2);
-  play.marks.forEach((row, at) => row.forEach((mark, col) => drawPlayCell(pen, inks, mark, at, col)));
-  pen.fillStyle = inks.ink;
-  for (const [count, across] of [[state.columns, true], [state.rows, false]]) {
-    const length = side * (across ? state.rows : state.columns);
-    for (let at = 0; at <= count; at++) {
-      const isHeavy = at % 5 === 0 || at === count;
-      pen.globalAlpha = isHeavy ? 0.85 : 0.28;
-      const breadth = isHeavy && side > 10 ? 1.6 : 1;
-      if (across) pen.fillRect(at * side, 0, breadth, length);
-      else pen.fillRect(0, at * side, length, breadth);
-    }
-  }
-  pen.globalAlpha = 1;
+  const look = playLook();
+  const surface = playSurface('play-field', ...fieldSize());
+  const frame = playFrame();
+  surface.rect(0, 0, ...fieldSize(), `rgb(${look.blank.join(' ')})`);
+  drawRules(surface, look, frame);
+  play.marks.forEach((row, at) => {
+    const [y, high] = edges(look, at, at + 1, frame.y, side, state.rows);
+    row.forEach((mark, col) => {
+      const [x, wide] = edges(look, col, col + 1, frame.x, side, state.columns);
+      drawPlayCell(surface, look, { mark, index: at * state.columns + col, x, y, wide, high });
+    });
+  });
+  const { pen } = surface;
   drawShown(pen);
-  pen.strokeStyle = inks.here;
+  pen.strokeStyle = look.here;
   pen.lineWidth = 2.5;
-  pen.strokeRect(play.at.col * side + 1, play.at.row * side + 1, side - 1, side - 1);
+  pen.strokeRect(frame.x + play.at.col * side, frame.y + play.at.row * side, side, side);
 }
 
 // A mark in its colour; one that hardly stands out from cells without a mark has an edge that does.
-function drawPlayMark(pen, inks, mark, x, y) {
-  const { state, side } = play;
-  const triple = state.colours[LETTERS.indexOf(mark)];
-  const ink = inkOn(triple, state.maxval);
-  pen.fillStyle = cssOf(triple, state.maxval);
-  pen.fillRect(x, y, side, side);
-  if (contrastOf(eightBits(triple, state.maxval), inks.blank) < LEAST_CONTRAST) {
-    pen.strokeStyle = ink;
-    pen.lineWidth = Math.max(1, side * 0.07);
-    pen.strokeRect(x + side * 0.13, y + side * 0.13, side * 0.74, side * 0.74);
+function drawPlayMark(surface, look, { mark, x, y, wide, high }) {
+  const { colours, maxval } = play.state;
+  const at = LETTERS.indexOf(mark);
+  surface.rect(x, y, wide, high, look.fills[at]);
+  if (contrastOf(eightBits(colours[at], maxval), look.blank) < LEAST_CONTRAST) {
+    const inset = high * 0.13;
+    surface.chip(x + inset, y + inset, wide - 2 * inset, high - 2 * inset, { fill: look.fills[at], edge: look.inks[at], weight: Math.max(1, high * 0.07) });
   }
-  if (mark !== '.') return;
-  pen.fillStyle = ink;
-  pen.beginPath();
-  pen.arc(x + side / 2, y + side / 2, Math.max(1.2, side * 0.09), 0, 7);
-  pen.fill();
+  if (mark === '.') drawDot(surface, look, x, y, high);
 }
 
-function drawPlayCell(pen, inks, mark, row, col) {
-  const { state, side, wrong } = play;
-  const [x, y, index] = [col * side, row * side, row * state.columns + col];
-  if (mark !== '?') drawPlayMark(pen, inks, mark, x, y);
-  if (state.givens.has(index)) drawGiven(pen, x, y, side);
-  if (!wrong.has(index)) return;
-  for (const [ink, breadth] of [['#fff', 4], [inks.alarm, 2]]) {
-    pen.strokeStyle = ink;
-    pen.lineWidth = breadth;
-    pen.beginPath();
-    pen.moveTo(x + 3, y + 3);
-    pen.lineTo(x + side - 3, y + side - 3);
-    pen.moveTo(x + side - 3, y + 3);
-    pen.lineTo(x + 3, y + side - 3);
-    pen.stroke();
+function drawPlayCell(surface, look, cell) {
+  const { mark, index, x, y, wide, high } = cell;
+  if (mark !== '?') drawPlayMark(surface, look, cell);
+  if (play.state.givens.has(index)) drawGiven(surface, x, y, high);
+  if (!play.wrong.has(index)) return;
+  for (const [ink, breadth] of [['#fff', 4], [look.alarm, 2]]) {
+    surface.line(x + 3, y + 3, x + wide - 3, y + high - 3, ink, breadth);
+    surface.line(x + wide - 3, y + 3, x + 3, y + high - 3, ink, breadth);
   }
 }
 
-const playClueText = (blocks) => blocks.map((block) => `${block.length} ${nameOf(play.state.colours[LETTERS.indexOf(block.letter)], play.state.maxval)}`).join(', ') || 'nothing';
+const playClueText = (blocks) => blocks.map((block) => `${block.length} ${nameOf(play.state.colours[LETTERS.indexOf(block.letter)], play.state.maxval)}`).join(', ') || phrase('play.nothing');
 
 /** Takes the cursor to a cell; `told` says it to those who hear the page. */
 export function movePlay(at, told = false) {
@@ -207,8 +152,8 @@ export function movePlay(at, told = false) {
   if (!told) return;
   const mark = play.marks[at.row][at.col];
   const { clues } = play.state;
-  const place = `Row ${at.row + 1}, column ${at.col + 1}: ${mark === '?' ? 'no mark' : wordOf(mark)}.`;
-  $('play-cell').textContent = `${place} Row: ${playClueText(clues.rows[at.row])}. Column: ${playClueText(clues.columns[at.col])}.`;
+  const place = phrase('play.rowColumn', { row: at.row + 1, col: at.col + 1, mark: mark === '?' ? phrase('play.noMark') : wordOf(mark) });
+  $('play-cell').textContent = phrase('play.rowColumn2', { place, playClue: playClueText(clues.rows[at.row]), playClue2: playClueText(clues.columns[at.col]) });
   const board = $('play-board').getBoundingClientRect();
   const field = $('play-field').getBoundingClientRect();
   const { wide, high } = playStrips();

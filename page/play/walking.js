@@ -14,8 +14,10 @@ const ORDERS = [['easiest', 'the easiest line next'], ['book', 'in the order of 
 const PACE = 900; // milliseconds a step
 const MOST_REASONS = 30000; // that are asked for
 const AT_ONCE = 400; // questions in one text
+const FIRST_SLICE = 60; // milliseconds of work on the path before it is shown, and at a time after that
+const SLICE = 12;
 
-const walking = { walk: null, at: 0, timer: 0, order: 'easiest', marks: null };
+const walking = { walk: null, at: 0, told: '', timer: 0, order: 'easiest', marks: null };
 
 /** Whether the path is shown in place of the player's marks. */
 export const isWalking = () => walking.walk !== null;
@@ -48,13 +50,32 @@ async function begin(order) {
   $('walk-order').value = order;
   const { state } = play;
   const puzzle = puzzleOf(state);
-  playSays('Looking for the path …');
-  const lines = order === 'book' ? await stepsOfBook(puzzle, state) : easiestSteps(puzzle);
-  const tree = state.open > 0 && state.verdict.word === 'unique' ? await searches.certify() : null;
+  if (order === 'book') playSays('Asking for reasons …');
+  const walk = new Walk(puzzle, order === 'book' ? await stepsOfBook(puzzle, state) : easiestSteps(puzzle));
   if (!$('walk-bar') || play.state !== state) return;
-  walking.walk = new Walk(puzzle, [...lines, ...(tree ? [...treeSteps(puzzle, tree), onlyStep(puzzle)] : [])]);
-  $('walk-at').max = walking.walk.steps.length;
+  walking.walk = walk;
+  workOn(walk, FIRST_SLICE);
   goTo(0);
+  await lengthen(walk);
+  if (state.open === 0 || state.verdict.word !== 'unique' || !isShown(walk)) return;
+  const tree = await searches.certify();
+  if (tree && isShown(walk)) await lengthen(walk.and([...treeSteps(puzzle, tree), onlyStep(puzzle)]));
+}
+
+const isShown = (walk) => walking.walk === walk && $('walk-bar') !== null;
+
+function workOn(walk, milliseconds) {
+  const until = performance.now() + milliseconds;
+  walk.grow(() => performance.now() < until);
+}
+
+// Works out the rest of the path while its steps are looked at already.
+async function lengthen(walk) {
+  while (isShown(walk) && !walk.isWhole) {
+    await new Promise((go) => { setTimeout(go); });
+    workOn(walk, SLICE);
+    if (isShown(walk)) showLength();
+  }
 }
 
 // The session's reasons of all cells, asked of the second worker; the easiest order where that would be too many.
@@ -108,12 +129,21 @@ function goTo(at) {
   play.marks = Array.from({ length: rows }, (_, row) => Array.from(masks.subarray(row * columns, (row + 1) * columns), letter));
   const step = walking.at > 0 ? walk.steps[walking.at - 1] : null;
   play.shown = step && { line: step.line ?? null, cells: step.settled, premises: step.premises };
-  $('walk-at').value = walking.at;
-  $('walk-back').disabled = walking.at === 0;
-  $('walk-on').disabled = walking.at === walk.steps.length;
-  playSays(`Step ${number(walking.at)} of ${number(walk.steps.length)}${step ? `: ${textOf(step)}` : ': the empty puzzle.'}`);
-  if (walking.at === walk.steps.length) stopPlaying();
+  walking.told = step ? `: ${textOf(step)}` : ': the empty puzzle.';
+  showLength();
+  if (walk.isWhole && walking.at === walk.steps.length) stopPlaying();
   drawPlay();
+}
+
+// Where the path stands, and how long it is as far as it is known.
+function showLength() {
+  const { walk, at, told } = walking;
+  $('walk-at').max = walk.steps.length;
+  $('walk-at').value = at;
+  $('walk-back').disabled = at === 0;
+  $('walk-on').disabled = at === walk.steps.length;
+  $('walk-hardest').disabled = !walk.isWhole;
+  playSays(`Step ${number(at)} of ${number(walk.steps.length)}${walk.isWhole ? '' : ' so far'}${told}`);
 }
 
 function turnPlaying() {
@@ -159,7 +189,7 @@ export function walkKey(event) {
   if (event.key === 'Home') goTo(0);
   else if (event.key === 'End') goTo(walking.walk.steps.length);
   else if (event.key === ' ' && event.target === $('play-field')) turnPlaying();
-  else if (event.key === 'h') goTo(walking.walk.hardest);
+  else if (event.key === 'h' && walking.walk.isWhole) goTo(walking.walk.hardest);
   else return false;
   return true;
 }

@@ -43,6 +43,13 @@ export class Board {
     this.clues = new Puzzle(rows, columns, cells).clues;
   }
 
+  /** The same with some cells painted: what givens are looked for on. */
+  painted(changes) {
+    const cells = this.cells.slice();
+    for (const { index, colour } of changes) cells[index] = colour;
+    return Object.assign(Object.create(Board.prototype), this, { cells, clues: new Puzzle(this.rows, this.columns, cells).clues });
+  }
+
   #around(index) {
     const [row, column] = [Math.floor(index / this.columns), index % this.columns];
     const found = [];

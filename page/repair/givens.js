@@ -98,16 +98,22 @@ export class Giving {
     const enough = await this.#greedy();
     this.hooks.found({ given: [...enough], isLeast: enough.size < 2 });
     await this.#leaveOut(enough);
-    for (let most = 1; most < enough.size;) {
+    const { given, isKnown } = await this.fewest(enough.size);
+    if (isKnown) this.hooks.found({ given: given ?? [...enough], isLeast: true });
+  }
+
+  /** The fewest cells that suffice, where fewer than `bound` do: `given` or null, and whether that is known. */
+  async fewest(bound) {
+    for (let most = 0; most < bound;) {
       const given = meeting(this.sets, new Set(), most, this.check);
-      if (given === null) most++;
-      else {
-        const word = await this.#word(given);
-        if (word === 'undecided') return;
-        if (word === 'unique') return void this.hooks.found({ given: [...given], isLeast: true });
+      if (given === null) {
+        most++;
+        continue;
       }
+      const word = await this.#word(given);
+      if (word !== 'ambiguous') return { given: word === 'unique' ? [...given] : null, isKnown: word === 'unique' };
     }
-    this.hooks.found({ given: [...enough], isLeast: true });
+    return { given: null, isKnown: true };
   }
 
   // Cells, one after the other, until they suffice: that which meets most sets, or where nothing is known an open one.
@@ -142,12 +148,11 @@ function settling(board, given, check) {
   return best.index;
 }
 
-/** Few cells to be given until line logic solves the puzzle: the cell that settles most, again and again; then by trying all few. */
-export async function givensForLines(board, asker, limit, hooks) {
-  const check = () => limit.check(asker.questions);
-  const first = openWith(board, []);
+// Cells to be given until line logic solves the puzzle, fewer than `bound`: that which settles most, again and again. Or null.
+function settlers(board, bound, check) {
   const chosen = [];
-  for (let open = first; open.length > 0;) {
+  for (let open = openWith(board, []); open.length > 0;) {
+    if (chosen.length + 1 >= bound) return null;
     let best = null;
     for (const index of open) {
       check();
@@ -157,10 +162,24 @@ export async function givensForLines(board, asker, limit, hooks) {
     chosen.push(best.index);
     open = best.rest;
   }
+  return chosen;
+}
+
+/** Cells, fewer than `bound`, that have line logic solve the puzzle, as the session says too; or null. */
+export async function fewForLines(board, asker, limit, bound) {
+  const chosen = settlers(board, bound, () => limit.check(asker.questions));
+  return chosen && (await isProved(board, asker, chosen)) ? chosen : null;
+}
+
+/** Few cells to be given until line logic solves the puzzle: the cell that settles most, again and again; then by trying all few. */
+export async function givensForLines(board, asker, limit, hooks) {
+  const check = () => limit.check(asker.questions);
+  const chosen = settlers(board, Infinity, check);
   if (!(await isProved(board, asker, chosen))) return;
   hooks.found({ given: chosen, isLeast: chosen.length < 2 });
+  const open = openWith(board, []);
   for (let count = 1; count < chosen.length && count <= FEW; count++) {
-    const given = anyOf(board, first, count, check);
+    const given = anyOf(board, open, count, check);
     if (given && (await isProved(board, asker, given))) return void hooks.found({ given, isLeast: true });
   }
   if (chosen.length <= FEW + 1) hooks.found({ given: chosen, isLeast: true });

@@ -3,12 +3,13 @@
 //     await repair({ board, goal: 'unique', say, seconds: 10 }, { found: (proposal) => ..., nearer: (near) => ..., told: (text) => ... })
 //
 // `say` puts lines to a proved session that shows the board's picture, and gives its text or a promise of it. Every proposal was
-// judged by the session.
+// judged by the session. `give` looks for cells to give, and `mix` for some of both.
 
 import { Asker } from './asker.js';
 import { climb, dive } from './descents.js';
 import { Giving, givensForLines } from './givens.js';
 import { Judge, SpentError } from './judge.js';
+import { Nearest, mixAll } from './mixing.js';
 import { Search } from './search.js';
 
 const MOST_ONES = 24; // repairs of one cell that are listed
@@ -17,6 +18,8 @@ const STEPS = 40; // of a dive
 const ROUNDS = 12; // of random dives
 const DUSTY = 120; // open cells from which on a picture is loose
 const MOST_QUESTIONS = 2000;
+const MOST_NEAR = 8; // cells of what is told as nearer
+const MOST_MIXED = 9; // changes that a mixture stays below
 
 /** The end of a search: by the clock, or by the number of questions. */
 class Limit {
@@ -92,40 +95,60 @@ async function forLines(search, limit) {
   for (let count = search.proved + 1; count <= 4 && !search.isDone; count++) await search.all(count, Infinity, 4);
 }
 
-/** A repair as it is shown. `cells` are { index, colour }, `pain` how much it is seen, `open` what a guess is needed for then. */
-function proposalOf(candidate, goal) {
+/** A candidate as it is shown. `cells` are { index, colour }, `pain` how much it is seen, `open` the cells that line logic leaves. */
+function proposalOf(candidate, goal, { open }) {
   const { moves, codes } = candidate;
   return {
     goal,
     cells: codes.map((code) => ({ index: code >> 4, colour: code & 15 })),
     pain: moves.reduce((sum, move) => sum + move.pain, 0),
+    open,
   };
+}
+
+// Runs a search until it is through or its bounds are spent; answers whether it came through. The session is then as before.
+async function bounded(asker, work) {
+  const isThrough = await work().then(() => true, (error) => {
+    if (error instanceof SpentError) return false;
+    throw error;
+  });
+  await asker.restore();
+  return isThrough;
 }
 
 /**
  * Looks for repairs until the time is up, the questions are spent or nothing smaller is left. Answers `{ best, proved, questions,
- * isThrough }`: how many changes the smallest has (or null), and up to how many were tried in vain.
+ * isThrough, near }`: how many changes the smallest has (or null), up to how many were tried in vain, and what `mix` may begin with.
  */
 export async function repair({ board, goal, say, seconds, ...bounds }, { found = null, nearer = null } = {}) {
   const limit = new Limit({ seconds, ...bounds });
   const asker = new Asker(board, say);
+  const near = new Nearest();
   let nearest = Infinity;
   const tried = (finding, candidate) => {
     const far = goal === 'lines' ? finding.open : finding.differing;
-    if (far >= nearest || candidate.codes.length > 8) return;
+    if (candidate.codes.length === 0) nearest = Math.min(nearest, far);
+    if (candidate.codes.length === 0 || candidate.codes.length > MOST_NEAR || !candidate.isNeat()) return;
+    const one = { ...proposalOf(candidate, goal, finding), differing: finding.differing };
+    near.note(one, far);
+    if (far >= nearest) return;
     nearest = far;
-    nearer?.({ ...proposalOf(candidate, goal), open: finding.open, differing: finding.differing });
+    nearer?.(one);
   };
-  const search = new Search(board, new Judge(asker, goal), limit, { found: (candidate) => found?.(proposalOf(candidate, goal)), tried });
-  let isThrough = true;
-  try {
-    await (goal === 'lines' ? forLines : forOneSolution)(search, limit);
-  } catch (error) {
-    if (!(error instanceof SpentError)) throw error;
-    isThrough = false;
-  }
-  await asker.restore();
-  return { best: search.best ? search.size : null, proved: search.proved, questions: asker.questions, isThrough };
+  const search = new Search(board, new Judge(asker, goal), limit, { found: (candidate, finding) => found?.(proposalOf(candidate, goal, finding)), tried });
+  const isThrough = await bounded(asker, () => (goal === 'lines' ? forLines : forOneSolution)(search, limit));
+  return { best: search.best ? search.size : null, proved: search.proved, questions: asker.questions, isThrough, near: near.all };
+}
+
+/**
+ * Looks for few changes that repaint some cells and give others, beginning with `near` as `repair` answers it: fewer than `bound`
+ * together, and fewer each time. Answers how many questions it took.
+ */
+export async function mix({ board, goal, near, bound, say, seconds, ...bounds }, { found = null } = {}) {
+  const limit = new Limit({ seconds, ...bounds });
+  const asker = new Asker(board, say);
+  await bounded(asker, () => mixAll({ board, goal, beginnings: near, bound: Math.min(bound, MOST_MIXED), asker, limit }, (one) => found?.(one)));
+  return { questions: asker.questions };
 }
 
 /** Looks for few cells to be given. Answers `{ given, isLeast, questions }`: the fewest found or null, and whether fewer cannot do. */
@@ -139,11 +162,6 @@ export async function give({ board, goal, say, seconds, ...bounds }, { found = n
       found?.(one);
     },
   };
-  try {
-    await (goal === 'lines' ? givensForLines(board, asker, limit, hooks) : new Giving(board, asker, limit, hooks).run());
-  } catch (error) {
-    if (!(error instanceof SpentError)) throw error;
-  }
-  await asker.restore();
+  await bounded(asker, () => (goal === 'lines' ? givensForLines(board, asker, limit, hooks) : new Giving(board, asker, limit, hooks).run()));
   return { ...last, questions: asker.questions };
 }

@@ -9,7 +9,7 @@ import { Pool } from './witness.js';
 const KNOWN = 24; // living witnesses looked at in an exact search
 const LOOKS = 16; // candidates for each look at the clock
 
-/** One search. `hooks.found(candidate)` hears each repair, `hooks.tried(finding, candidate)` what misses the goal. */
+/** One search. `hooks.found(candidate, finding)` hears each repair, `hooks.tried(finding, candidate)` what misses the goal. */
 export class Search {
   constructor(board, judge, limit, hooks) {
     this.board = board;
@@ -27,6 +27,7 @@ export class Search {
     this.isSure = true; // no candidate was left undecided
     this.visited = new Set();
     this.openAtFirst = null; // cells of the board's picture
+    this.last = null; // the last finding
     this.looks = 0;
   }
 
@@ -48,17 +49,18 @@ export class Search {
     this.check();
     const finding = await this.judge.judge(this.candidate);
     this.openAtFirst ??= finding.open;
+    this.last = finding;
     if (!finding.isGoal && !finding.isUndecided) this.hooks.tried(finding, this.candidate);
     return finding;
   }
 
-  /** Tells the candidate as a repair, once. */
+  /** Tells the candidate, which was just judged, as a repair, once. */
   record() {
     const { candidate } = this;
     if (this.told.has(candidate.key)) return;
     this.told.add(candidate.key);
     if (candidate.moves.length < this.size) this.best = [...candidate.moves];
-    this.hooks.found(candidate);
+    this.hooks.found(candidate, this.last);
   }
 
   /** Searches all sets of at most so many further moves. Answers whether it ends: enough were found, or its time is up. */

@@ -2,35 +2,38 @@
 
 import { $, make, say } from '../base/elements.js';
 import { on } from '../base/events.js';
-import { cleanName, many } from '../base/words.js';
+import { cleanName, sizeText } from '../base/words.js';
 import { smallPicture } from '../draw/small.js';
 import { bench } from '../engine/bench.js';
 import { exportAll } from '../import/archives.js';
 import { keep } from '../library/keep.js';
 import { openRecord } from '../library/open.js';
 import { showFileName } from '../library/saving.js';
+import { LANGUAGE, phrase } from '../texts/phrase.js';
 import { openDialog } from '../view/dialogs.js';
 
-/** @type {[number, string, number][]} */
-const AGES = [[60000, 'just now', 0], [3600000, 'minute', 60000], [86400000, 'hour', 3600000], [Infinity, 'day', 86400000]];
+const [MINUTE, HOUR, DAY] = [60000, 3600000, 86400000];
 function ageText(when, now = Date.now()) {
   const age = Math.max(0, now - when);
-  const [, name, unit] = AGES.find(([below]) => age < below);
-  return unit ? `${many(Math.floor(age / unit), name)} ago` : name;
+  if (age < MINUTE) return phrase('start.justNow');
+  if (age < HOUR) return phrase('start.minutesAgo', { minutes: Math.floor(age / MINUTE) });
+  return age < DAY ? phrase('start.hoursAgo', { hours: Math.floor(age / HOUR) }) : phrase('start.daysAgo', { days: Math.floor(age / DAY) });
 }
 
 const VERDICTS = { unique: '✓\u00a0unique', ambiguous: '≠\u00a0ambiguous', undecided: '?\u00a0undecided' };
 const ORDERS = {
-  when: ['Newest first', (a, b) => b.when - a.when],
-  name: ['By name', (a, b) => a.name.localeCompare(b.name)],
-  size: ['Largest first', (a, b) => b.doc.rows * b.doc.columns - a.doc.rows * a.doc.columns],
-  verdict: ['By verdict', (a, b) => String(a.verdict).localeCompare(String(b.verdict)) || b.when - a.when],
+  when: [phrase('start.newestFirst'), (a, b) => b.when - a.when],
+  name: [phrase('start.name'), (a, b) => a.name.localeCompare(b.name)],
+  size: [phrase('start.largestFirst'), (a, b) => b.doc.rows * b.doc.columns - a.doc.rows * a.doc.columns],
+  verdict: [phrase('start.verdict'), (a, b) => String(a.verdict).localeCompare(String(b.verdict)) || b.when - a.when],
 };
 
 /** A number of bytes in words. */
 function bytesText(bytes) {
   const step = bytes < 1000 ? 0 : bytes < 1e6 ? 1 : bytes < 1e9 ? 2 : 3;
-  return `${(bytes / 1000 ** step).toFixed(step && bytes / 1000 ** step < 10 ? 1 : 0)} ${['bytes', 'kB', 'MB', 'GB'][step]}`;
+  const value = bytes / 1000 ** step;
+  const digits = step && value < 10 ? 1 : 0;
+  return value.toLocaleString(LANGUAGE, { style: 'unit', unit: ['byte', 'kilobyte', 'megabyte', 'gigabyte'][step], unitDisplay: step ? 'short' : 'long', minimumFractionDigits: digits, maximumFractionDigits: digits });
 }
 
 const view = { list: null, section: null, room: null, cards: [], shown: 0, goBack: () => {} };
@@ -43,11 +46,11 @@ export function makeLibrary(goBack) {
   view.goBack = goBack;
   view.list = make('ul', { class: 'tiles', id: 'library' });
   view.room = make('p', { class: 'faint', id: 'room' });
-  const search = make('input', { type: 'search', id: 'library-search', 'aria-label': 'Search by name', placeholder: 'Search', oninput: showCards });
-  const order = make('select', { id: 'library-order', 'aria-label': 'Order', onchange: showCards }, ...Object.entries(ORDERS).map(([value, [name]]) => make('option', { value }, name)));
+  const search = make('input', { type: 'search', id: 'library-search', 'aria-label': phrase('start.searchName'), placeholder: phrase('start.search'), oninput: showCards });
+  const order = make('select', { id: 'library-order', 'aria-label': phrase('start.order'), onchange: showCards }, ...Object.entries(ORDERS).map(([value, [name]]) => make('option', { value }, name)));
   view.section = make('section', { id: 'kept', class: 'card wide', 'aria-labelledby': 'kept-title', hidden: true },
-    make('div', { class: 'library-head' }, make('h2', { id: 'kept-title' }, 'Library'), search, order,
-      make('button', { type: 'button', id: 'library-export', onclick: exportAll }, 'Save all as a zip')),
+    make('div', { class: 'library-head' }, make('h2', { id: 'kept-title' }, phrase('start.library')), search, order,
+      make('button', { type: 'button', id: 'library-export', onclick: exportAll }, phrase('start.saveAllZip'))),
     view.list, view.room);
   fillLibrary();
   return view.section;
@@ -70,30 +73,30 @@ function showCards() {
   const found = view.cards.filter((card) => card.name.toLowerCase().includes(wanted)).sort(order);
   const items = found.slice(0, view.shown).map(tileOf);
   const left = found.length - items.length;
-  const more = make('li', {}, make('button', { type: 'button', onclick: () => { view.shown += 4 * FIRST; showCards(); } }, `Show ${many(left, 'more picture')}`));
-  view.list.replaceChildren(...items, ...(left > 0 ? [more] : []), ...(found.length ? [] : [make('li', { class: 'faint' }, `No picture matches “${wanted}”.`)]));
+  const more = make('li', {}, make('button', { type: 'button', onclick: () => { view.shown += 4 * FIRST; showCards(); } }, phrase('start.showPictures', { pictures: left })));
+  view.list.replaceChildren(...items, ...(left > 0 ? [more] : []), ...(found.length ? [] : [make('li', { class: 'faint' }, phrase('start.noPictureMatches', { wanted }))]));
 }
 
 async function showRoom(keeper) {
   if (!keeper.shelf.lasts) {
     view.section.hidden = false;
-    view.room.textContent = 'This browser keeps nothing for this page: save your work to files.';
+    view.room.textContent = phrase('start.browserKeepsNothingPage');
     return;
   }
   const own = view.cards.reduce((sum, card) => sum + card.size, 0);
   /** @type {any} */
   const estimate = await Promise.resolve(navigator.storage?.estimate?.()).catch(() => null);
   const { usage, quota } = estimate ?? {};
-  const room = quota ? `; the browser has room for ${bytesText(Math.max(0, quota - usage))} more` : '';
-  view.room.textContent = `${many(view.cards.length, 'picture')} in this browser, ${bytesText(own)}${room}. They stay until you delete them.`;
+  const room = quota ? phrase('start.browserRoomMore', { max: bytesText(Math.max(0, quota - usage)) }) : '';
+  view.room.textContent = phrase('start.picturesBrowserTheyStay', { pictures: view.cards.length, bytes: bytesText(own), room });
 }
 
 // ---- a picture
 
 function tileOf(card) {
   const isOpen = card.id === keep.id && bench.state !== null;
-  const facts = [`${card.doc.columns} by ${card.doc.rows}`, VERDICTS[card.verdict], card.grade].filter(Boolean).join(', ');
-  const when = [isOpen ? 'open here' : ageText(card.when), card.isSaved ? '' : 'not in a file'].filter(Boolean).join(', ');
+  const facts = [sizeText(card.doc), VERDICTS[card.verdict], card.grade].filter(Boolean).join(', ');
+  const when = [isOpen ? phrase('start.openHere') : ageText(card.when), card.isSaved ? '' : phrase('start.notFile')].filter(Boolean).join(', ');
   const open = () => (isOpen ? view.goBack() : openRecord(card.id));
   return make('li', { class: 'tile' },
     make('button', { type: 'button', class: 'kept', 'data-id': card.id, onclick: open }, smallPicture(card.doc), make('span', {}, make('b', {}, card.name), make('span', { class: 'faint' }, facts), make('span', { class: 'faint' }, when))),
@@ -103,9 +106,9 @@ function tileOf(card) {
 // What can be done to a picture, in a menu of its own.
 function menuOf(card, isOpen) {
   const list = make('div', { class: 'menu', role: 'menu', popover: 'auto', 'aria-label': card.name });
-  const button = make('button', { type: 'button', class: 'quiet', 'aria-haspopup': 'menu', 'aria-label': `More for ${card.name}`, title: 'More' }, '⋯');
+  const button = make('button', { type: 'button', class: 'quiet', 'aria-haspopup': 'menu', 'aria-label': phrase('start.more', { name: card.name }), title: phrase('start.more2') }, '⋯');
   const item = (name, run) => make('button', { type: 'button', role: 'menuitem', onclick: () => { list.hidePopover(); run(); } }, name);
-  list.append(item('Rename …', () => rename(card)), item('Duplicate', () => duplicate(card)), ...(isOpen ? [] : [item('Delete', () => remove([card]))]));
+  list.append(item(phrase('start.rename'), () => rename(card)), item(phrase('start.duplicate'), () => duplicate(card)), ...(isOpen ? [] : [item(phrase('start.delete'), () => remove([card]))]));
   list.addEventListener('toggle', (event) => { if (event.newState === 'open') list.querySelector('button').focus(); });
   list.addEventListener('keydown', (event) => {
     const items = [...list.children];
@@ -123,8 +126,8 @@ function menuOf(card, isOpen) {
 }
 
 async function rename(card) {
-  const field = make('input', { type: 'text', value: card.name, maxlength: '80', 'aria-label': 'Name' });
-  if (!(await openDialog({ title: 'Rename', content: field, buttons: [{ name: 'Rename', value: true, main: true }] }))) return;
+  const field = make('input', { type: 'text', value: card.name, maxlength: '80', 'aria-label': phrase('start.name2') });
+  if (!(await openDialog({ title: phrase('start.rename2'), content: field, buttons: [{ name: phrase('start.rename2'), value: true, main: true }] }))) return;
   const name = cleanName(field.value);
   await keep.keeper.rename(card.id, name);
   if (card.id === keep.id) {
@@ -135,8 +138,8 @@ async function rename(card) {
 }
 
 async function duplicate(card) {
-  await keep.keeper.duplicate(card.id, `${card.name} copy`);
-  say(`“${card.name}” was duplicated.`);
+  await keep.keeper.duplicate(card.id, phrase('start.copy', { name: card.name }));
+  say(phrase('start.duplicated', { name: card.name }));
   fillLibrary();
 }
 
@@ -144,10 +147,10 @@ async function duplicate(card) {
 async function remove(cards) {
   const gone = [];
   for (const { id } of cards) gone.push(await keep.keeper.drop(id));
-  const what = cards.length === 1 ? `“${cards[0].name}”` : many(cards.length, 'picture');
-  say(`${what} deleted.`, '', { name: 'Undo', run: async () => {
+  const what = cards.length === 1 ? `“${cards[0].name}”` : phrase('start.pictures', { pictures: cards.length });
+  say(phrase('start.deleted', { what }), '', { name: phrase('start.undo'), run: async () => {
     for (const one of gone) await keep.keeper.restore(one);
-    say(`${what} brought back.`);
+    say(phrase('start.broughtBack', { what }));
     fillLibrary();
   } });
   await fillLibrary();
@@ -159,16 +162,16 @@ async function remove(cards) {
 async function makeRoom() {
   const cards = (await keep.keeper.cards()).filter((card) => card.id !== keep.id).sort((a, b) => Number(b.isSaved) - Number(a.isSaved) || b.size - a.size);
   const boxes = cards.map((card) => make('input', { type: 'checkbox' }));
-  const rows = cards.map((card, at) => make('label', {}, boxes[at], `${card.name}, ${bytesText(card.size)}${card.isSaved ? '' : ', not in a file'}`));
+  const rows = cards.map((card, at) => make('label', {}, boxes[at], `${card.name}, ${bytesText(card.size)}${card.isSaved ? '' : phrase('start.notFile2')}`));
   const warn = make('p', { class: 'wrong', role: 'status' });
   const chosen = () => cards.filter((_, at) => boxes[at].checked);
-  const content = make('div', { class: 'rows' }, make('p', {}, 'The browser has no room left for this page. Choose the pictures that may be deleted, or close this and save your work to a file.'), ...rows, warn);
+  const content = make('div', { class: 'rows' }, make('p', {}, phrase('start.browserNoRoomLeft')), ...rows, warn);
   content.addEventListener('change', () => {
     const lost = chosen().filter((card) => !card.isSaved).length;
-    warn.textContent = lost ? `${many(lost, 'chosen picture')} ${lost === 1 ? 'has' : 'have'} not been saved. Deleting cannot be undone.` : '';
+    warn.textContent = lost ? phrase('start.picturesPicturesNotBeen', { pictures: lost }) : '';
   });
-  const test = () => (chosen().length ? '' : 'Choose at least one picture.');
-  if (!(await openDialog({ title: 'Make room', content, buttons: [{ name: 'Delete', value: true, main: true, test }] }))) return;
+  const test = () => (chosen().length ? '' : phrase('start.chooseLeastOnePicture'));
+  if (!(await openDialog({ title: phrase('start.makeRoom'), content, buttons: [{ name: phrase('start.delete'), value: true, main: true, test }] }))) return;
   for (const { id } of chosen()) await keep.keeper.drop(id);
   keep.wasTold = false;
   say('');

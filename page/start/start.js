@@ -2,6 +2,7 @@
 
 import { $, make } from '../base/elements.js';
 import { on } from '../base/events.js';
+import { sizeText } from '../base/words.js';
 import { emptyDoc } from '../document/document.js';
 import { MOST_CELLS } from '../document/limits.js';
 import { smallPicture } from '../draw/small.js';
@@ -11,6 +12,7 @@ import { docOfImage } from '../import/images.js';
 import { chooseFile } from '../import/taking.js';
 import { openDoc } from '../library/open.js';
 import { save, saveAs } from '../library/saving.js';
+import { phrase } from '../texts/phrase.js';
 import { addAction } from '../view/actions.js';
 import { makeLibrary, startLibrary } from './library.js';
 
@@ -21,9 +23,9 @@ function newCard() {
   const rows = make('input', { type: 'number', id: 'new-rows', min: '1', max: MOST_CELLS, value: START_SIZE[1], required: true });
   const ground = make('input', { type: 'color', id: 'new-background', value: '#ffffff' });
   const form = make('form', { class: 'card', 'aria-labelledby': 'new-title' },
-    make('h2', { id: 'new-title' }, 'New'),
-    make('p', { class: 'fields' }, make('label', {}, 'Columns', columns), make('label', {}, 'Rows', rows), make('label', {}, 'Background', ground)),
-    make('button', { type: 'submit', class: 'main', id: 'new-go' }, 'Start painting'));
+    make('h2', { id: 'new-title' }, phrase('start.new')),
+    make('p', { class: 'fields' }, make('label', {}, phrase('start.columns'), columns), make('label', {}, phrase('start.rows'), rows), make('label', {}, phrase('start.background'), ground)),
+    make('button', { type: 'submit', class: 'main', id: 'new-go' }, phrase('start.startPainting')));
   form.addEventListener('submit', (event) => {
     event.preventDefault();
     const background = [1, 3, 5].map((at) => parseInt(ground.value.slice(at, at + 2), 16));
@@ -34,10 +36,10 @@ function newCard() {
 
 function openCard() {
   return make('section', { class: 'card', 'aria-labelledby': 'open-title' },
-    make('h2', { id: 'open-title' }, 'Open a picture'),
-    make('p', {}, 'Drop a file here, paste a picture (Ctrl+V), or choose one.'),
-    make('p', { class: 'faint' }, 'A PNG, JPEG, GIF or WebP image becomes a puzzle. PPM, .non and Web Paint-by-Number’s XML open as they are; a zip of the library goes back into it, and a certificate is checked against the open picture.'),
-    make('button', { type: 'button', class: 'main', id: 'open-go', onclick: () => chooseFile() }, 'Choose a file …'));
+    make('h2', { id: 'open-title' }, phrase('start.openPicture')),
+    make('p', {}, phrase('start.dropFileHerePaste')),
+    make('p', { class: 'faint' }, phrase('start.pngJpegGifWebp')),
+    make('button', { type: 'button', class: 'main', id: 'open-go', onclick: () => chooseFile() }, phrase('start.chooseFile')));
 }
 
 function exampleItem(source) {
@@ -45,15 +47,15 @@ function exampleItem(source) {
   if (!doc) return '';
   const { example } = source.dataset;
   return make('li', {}, make('button', { type: 'button', class: 'kept', onclick: () => openDoc(doc, { name: example }) },
-    smallPicture(doc), make('span', {}, make('b', {}, example), make('span', { class: 'faint' }, `${doc.columns} by ${doc.rows}`))));
+    smallPicture(doc), make('span', {}, make('b', {}, example), make('span', { class: 'faint' }, sizeText(doc)))));
 }
 
 /** Shows the start screen, over what is open. */
 export function showStart() {
   const examples = [...document.querySelectorAll('script[data-example]')].map(exampleItem).filter(Boolean);
-  const shown = make('section', { id: 'examples', class: 'card wide', 'aria-labelledby': 'examples-title', hidden: examples.length === 0 }, make('h2', { id: 'examples-title' }, 'Examples'), make('ul', { class: 'tiles' }, ...examples));
-  const back = bench.state ? [make('p', {}, make('button', { type: 'button', id: 'start-back', onclick: hideStart }, `Back to ${bench.name}`))] : [];
-  $('start').replaceChildren(make('p', { class: 'lead' }, 'Draw a picture or open one. You see its clues, and whether they have only one solution. Then export the puzzle, or print it.'), ...back, make('div', { class: 'cards' }, newCard(), openCard(), makeLibrary(hideStart), shown));
+  const shown = make('section', { id: 'examples', class: 'card wide', 'aria-labelledby': 'examples-title', hidden: examples.length === 0 }, make('h2', { id: 'examples-title' }, phrase('start.examples')), make('ul', { class: 'tiles' }, ...examples));
+  const back = bench.state ? [make('p', {}, make('button', { type: 'button', id: 'start-back', onclick: hideStart }, phrase('start.back', { name: bench.name })))] : [];
+  $('start').replaceChildren(make('p', { class: 'lead' }, phrase('start.drawPictureOpenOne')), ...back, make('div', { class: 'cards' }, newCard(), openCard(), makeLibrary(hideStart), shown));
   $('start').hidden = false;
   $('work').hidden = true;
   document.body.classList.add('starting');
@@ -69,10 +71,10 @@ function hideStart() {
 /** What the menu File opens and saves, and the end of the start screen. */
 export function startStart() {
   startLibrary();
-  addAction({ id: 'new', name: 'New or open …', place: 'file', group: 'open', needs: false, run: showStart });
-  addAction({ id: 'open', name: 'Open a file …', key: 'Ctrl+O', place: 'file', group: 'open', needs: false, run: () => chooseFile() });
-  addAction({ id: 'save', name: 'Save', key: 'Ctrl+S', place: 'file', group: 'save', run: save });
-  addAction({ id: 'save-as', name: 'Save as …', key: 'Ctrl+Shift+S', place: 'file', group: 'save', run: saveAs });
+  addAction({ id: 'new', name: phrase('start.newOpen'), place: 'file', group: 'open', needs: false, run: showStart });
+  addAction({ id: 'open', name: phrase('start.openFile'), key: 'Ctrl+O', place: 'file', group: 'open', needs: false, run: () => chooseFile() });
+  addAction({ id: 'save', name: phrase('start.save'), key: 'Ctrl+S', place: 'file', group: 'save', run: save });
+  addAction({ id: 'save-as', name: phrase('start.save2'), key: 'Ctrl+Shift+S', place: 'file', group: 'save', run: saveAs });
 
   on('opened', hideStart);
 }

@@ -2,9 +2,10 @@
 
 import { $, make } from '../base/elements.js';
 import { bench } from '../engine/bench.js';
+import { phrase } from '../texts/phrase.js';
 
 export const actions = new Map();
-const MENUS = { file: 'File', edit: 'Edit', picture: 'Picture', view: 'View', check: 'Check', help: 'Help' };
+const MENUS = { file: phrase('view.file'), edit: phrase('view.edit'), picture: phrase('view.picture'), view: phrase('view.view'), check: phrase('view.check'), help: phrase('view.help') };
 
 /**
  * Adds an action. `id` names it; `name` is what the user reads; `key` as in 'Ctrl+Z', 'n' or 'Shift+ArrowUp'; `place` is a
@@ -75,11 +76,18 @@ export function makeMenus() {
   }
 }
 
+// The menus whose actions a menu has: where a small window has no room for Help, File has it too.
+function placesOf(place) {
+  const hasRoom = $('menu-help').previousElementSibling.offsetParent !== null;
+  return place === 'file' && !hasRoom ? ['file', 'help'] : [place];
+}
+
 function fillMenu(list, place, button) {
   const items = [];
   let group = null;
+  const places = placesOf(place);
   for (const action of actions.values()) {
-    if (action.place !== place) continue;
+    if (!places.includes(action.place)) continue;
     if (group !== null && group !== action.group) items.push(make('hr', { role: 'separator' }));
     ({ group } = action);
     const item = actionButton(action, { role: 'menuitem', tabindex: '-1' });

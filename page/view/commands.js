@@ -5,11 +5,12 @@ import { LETTERS, MOST_CELLS, MOST_COLOURS } from '../document/limits.js';
 import { resized, rowsOfText, shifted, turned } from '../document/shapes.js';
 import { sheet } from '../draw/sheet.js';
 import { bench } from '../engine/bench.js';
+import { phrase } from '../texts/phrase.js';
 import { addAction } from './actions.js';
 import { openDialog } from './dialogs.js';
 import { cursor } from './grid.js';
 import { goToNext } from './minimap.js';
-import { showCell } from './panels.js';
+import { LINE_TEXTS, showCell } from './panels.js';
 import { zoomBy } from './pointer.js';
 import { clearSelected, copyToClipboard, dropSelection, lift, moveFloat, pasteRows, selection, setDown, showSelection, transform } from './select.js';
 import { dropDrag, forgetReason, heard, sendStroke, tools, useColour, useTool } from './tools.js';
@@ -29,16 +30,16 @@ function dropSelectionMove() {
 export function addEditActions() {
   const hasBox = () => selection.box !== null;
   const edit = (fields) => addAction({ place: 'edit', ...fields });
-  edit({ id: 'undo', name: 'Undo', key: 'Ctrl+Z', run: undoStroke, can: () => bench.past.length > 0 || selection.rows !== null });
-  edit({ id: 'redo', name: 'Redo', key: 'Ctrl+Y Ctrl+Shift+Z', run: () => { setDown(); heard(bench.redo()); }, can: () => bench.future.length > 0 });
-  edit({ id: 'select-all', name: 'Select all', key: 'Ctrl+A', group: 'select', run: selectAll });
-  edit({ id: 'select-none', name: 'Select nothing', group: 'select', run: () => { setDown(); dropSelection(); }, can: hasBox });
-  edit({ id: 'copy', name: 'Copy (Ctrl+C)', group: 'select', run: () => copyToClipboard(false) });
-  edit({ id: 'cut', name: 'Cut (Ctrl+X)', group: 'select', run: () => copyToClipboard(true), can: hasBox });
-  edit({ id: 'paste', name: 'Paste text…', group: 'select', run: pasteByDialog });
-  edit({ id: 'clear', name: 'Clear the selection', key: 'Delete Backspace', group: 'select', run: clearSelected, can: hasBox });
-  addAction({ id: 'drop', name: 'Cancel', key: 'Escape', run: () => { dropDrag(); if (!dropSelection()) forgetReason(); } });
-  addAction({ id: 'set-down', name: 'Place', key: 'Enter', run: setDown, can: () => selection.rows !== null });
+  edit({ id: 'undo', name: phrase('view.undo'), key: 'Ctrl+Z', run: undoStroke, can: () => bench.past.length > 0 || selection.rows !== null });
+  edit({ id: 'redo', name: phrase('view.redo'), key: 'Ctrl+Y Ctrl+Shift+Z', run: () => { setDown(); heard(bench.redo()); }, can: () => bench.future.length > 0 });
+  edit({ id: 'select-all', name: phrase('view.selectAll'), key: 'Ctrl+A', group: 'select', run: selectAll });
+  edit({ id: 'select-none', name: phrase('view.selectNothing'), group: 'select', run: () => { setDown(); dropSelection(); }, can: hasBox });
+  edit({ id: 'copy', name: phrase('view.copyCtrlC'), group: 'select', run: () => copyToClipboard(false) });
+  edit({ id: 'cut', name: phrase('view.cutCtrlX'), group: 'select', run: () => copyToClipboard(true), can: hasBox });
+  edit({ id: 'paste', name: phrase('view.pasteText'), group: 'select', run: pasteByDialog });
+  edit({ id: 'clear', name: phrase('view.clearSelection'), key: 'Delete Backspace', group: 'select', run: clearSelected, can: hasBox });
+  addAction({ id: 'drop', name: phrase('view.cancel'), key: 'Escape', run: () => { dropDrag(); if (!dropSelection()) forgetReason(); } });
+  addAction({ id: 'set-down', name: phrase('view.place'), key: 'Enter', run: setDown, can: () => selection.rows !== null });
 }
 
 function selectAll() {
@@ -49,32 +50,33 @@ function selectAll() {
 }
 
 async function pasteByDialog() {
-  const field = make('textarea', { rows: 8, cols: 40, 'aria-label': 'Rows of letters', placeholder: '..aa..\n.abba.' });
+  const field = make('textarea', { rows: 8, cols: 40, 'aria-label': phrase('view.rowsLetters'), placeholder: '..aa..\n.abba.' });
   const rows = () => rowsOfText(field.value, bench.state.colours.length);
   const done = await openDialog({
-    title: 'Paste text',
-    content: make('div', {}, make('p', {}, 'One line for each row, one letter for each cell: a dot is the background, a to o are the colours.'), field),
-    buttons: [{ name: 'Paste', value: rows, main: true, test: () => (rows() ? '' : 'These are not rows of letters of this palette.') }],
+    title: phrase('view.pasteText2'),
+    content: make('div', {}, make('p', {}, phrase('view.oneLineEachRow')), field),
+    buttons: [{ name: phrase('view.paste'), value: rows, main: true, test: () => (rows() ? '' : phrase('view.theseNotRowsLetters')) }],
   });
   if (done) pasteRows(done);
 }
 
 export function addPictureActions() {
   const add = (id, name, key, run, group) => addAction({ id, name, key, run, group, place: 'picture' });
-  add('mirror-across', 'Mirror left and right', 'Ctrl+Alt+M', () => transform((doc) => turned(doc, 'across')), 'turn');
-  add('mirror-down', 'Mirror top and bottom', 'Ctrl+Alt+Shift+M', () => transform((doc) => turned(doc, 'down')), 'turn');
-  add('turn-right', 'Turn right', 'Ctrl+Alt+R', () => transform((doc) => turned(doc, 'right')), 'turn');
-  add('turn-left', 'Turn left', 'Ctrl+Alt+Shift+R', () => transform((doc) => turned(doc, 'left')), 'turn');
-  for (const [name, key, down, across] of [['up', 'ArrowUp', -1, 0], ['down', 'ArrowDown', 1, 0], ['left', 'ArrowLeft', 0, -1], ['right', 'ArrowRight', 0, 1]]) {
-    add(`shift-${name}`, `Shift ${name}`, `Alt+${key}`, () => shiftBy(down, across), 'shift');
-  }
-  add('resize', 'Resize…', 'Ctrl+Alt+S', resizeByDialog, 'size');
+  add('mirror-across', phrase('view.mirrorLeftRight'), 'Ctrl+Alt+M', () => transform((doc) => turned(doc, 'across')), 'turn');
+  add('mirror-down', phrase('view.mirrorTopBottom'), 'Ctrl+Alt+Shift+M', () => transform((doc) => turned(doc, 'down')), 'turn');
+  add('turn-right', phrase('view.turnRight'), 'Ctrl+Alt+R', () => transform((doc) => turned(doc, 'right')), 'turn');
+  add('turn-left', phrase('view.turnLeft'), 'Ctrl+Alt+Shift+R', () => transform((doc) => turned(doc, 'left')), 'turn');
+  add('shift-up', phrase('view.shiftUp'), 'Alt+ArrowUp', () => shiftBy(-1, 0), 'shift');
+  add('shift-down', phrase('view.shiftDown'), 'Alt+ArrowDown', () => shiftBy(1, 0), 'shift');
+  add('shift-left', phrase('view.shiftLeft'), 'Alt+ArrowLeft', () => shiftBy(0, -1), 'shift');
+  add('shift-right', phrase('view.shiftRight'), 'Alt+ArrowRight', () => shiftBy(0, 1), 'shift');
+  add('resize', phrase('view.resize'), 'Ctrl+Alt+S', resizeByDialog, 'size');
   for (const word of ['row', 'column']) {
     const at = () => (word === 'row' ? cursor.row : cursor.col) + 1;
     const edit = (id, name, line) => add(`${id}-${word}`, name, null, () => { setDown(); sendStroke([line()]); }, 'lines');
-    edit('insert', `Insert a ${word} ${word === 'row' ? 'above' : 'on the left'}`, () => `insert ${word} ${at()}`);
-    edit('append', `Insert a ${word} ${word === 'row' ? 'below' : 'on the right'}`, () => `insert ${word} ${at() + 1}`);
-    edit('delete', `Delete the ${word}`, () => `delete ${word} ${at()}`);
+    edit('insert', LINE_TEXTS[word].before, () => `insert ${word} ${at()}`);
+    edit('append', LINE_TEXTS[word].after, () => `insert ${word} ${at() + 1}`);
+    edit('delete', LINE_TEXTS[word].gone, () => `delete ${word} ${at()}`);
   }
 }
 
@@ -90,16 +92,17 @@ async function resizeByDialog() {
   setDown();
   const doc = bench.seen();
   const field = (label, value) => make('input', { type: 'number', min: 1, max: MOST_CELLS, value, 'aria-label': label });
-  const [columns, rows] = [field('Columns', doc.columns), field('Rows', doc.rows)];
-  const places = [['top', 0], ['middle', 0.5], ['bottom', 1]].flatMap(([down, d]) => [['left', 0], ['middle', 0.5], ['right', 1]].map(([across, a]) => ({ name: `${down} ${across}`, d, a })));
-  const anchor = make('div', { class: 'anchor', role: 'radiogroup', 'aria-label': 'Where the picture stays' },
+  const [columns, rows] = [field(phrase('view.columns'), doc.columns), field(phrase('view.rows'), doc.rows)];
+  const names = [phrase('view.topLeft'), phrase('view.topMiddle'), phrase('view.topRight'), phrase('view.middleLeft'), phrase('view.middle'), phrase('view.middleRight'), phrase('view.bottomLeft'), phrase('view.bottomMiddle'), phrase('view.bottomRight')];
+  const places = names.map((name, at) => ({ name, d: Math.floor(at / 3) / 2, a: (at % 3) / 2 }));
+  const anchor = make('div', { class: 'anchor', role: 'radiogroup', 'aria-label': phrase('view.wherePictureStays') },
     ...places.map((place, at) => make('input', { type: 'radio', name: 'anchor', value: at, 'aria-label': place.name, checked: at === 0 })));
   const isSize = (input) => /^[0-9]+$/.test(input.value) && Number(input.value) >= 1 && Number(input.value) <= MOST_CELLS;
   const chosen = () => places[Number(anchor.querySelector(':checked').value)];
   const done = await openDialog({
-    title: 'Resize',
-    content: make('div', {}, make('p', {}, make('label', {}, 'Columns ', columns), ' ', make('label', {}, 'Rows ', rows)), make('p', {}, 'Keep the picture at the:'), anchor),
-    buttons: [{ name: 'Resize', main: true, value: () => ({ columns: Number(columns.value), rows: Number(rows.value), ...chosen() }), test: () => (isSize(columns) && isSize(rows) ? '' : `Both are 1 to ${MOST_CELLS}.`) }],
+    title: phrase('view.resize2'),
+    content: make('div', {}, make('p', {}, make('label', {}, phrase('view.columns2'), columns), ' ', make('label', {}, phrase('view.rows2'), rows)), make('p', {}, phrase('view.keepPicture')), anchor),
+    buttons: [{ name: phrase('view.resize2'), main: true, value: () => ({ columns: Number(columns.value), rows: Number(rows.value), ...chosen() }), test: () => (isSize(columns) && isSize(rows) ? '' : phrase('view.both1', { MOST_CELLS })) }],
   });
   if (!done || (done.rows === doc.rows && done.columns === doc.columns)) return;
   heard(bench.become((now) => resized(now, done.rows, done.columns, { down: done.d, across: done.a })));
@@ -107,38 +110,38 @@ async function resizeByDialog() {
 
 export function addViewActions() {
   const view = (fields) => addAction({ place: 'view', ...fields });
-  view({ id: 'zoom-in', name: 'Larger', key: '+ =', run: () => zoomBy(1) });
-  view({ id: 'zoom-out', name: 'Smaller', key: '-', run: () => zoomBy(-1) });
-  view({ id: 'fit', name: 'Fit', key: 'z', run: () => sheet.fit() });
-  view({ id: 'letters', name: 'Letters in cells and clues', key: 'Ctrl+L', group: 'show', run: () => {
+  view({ id: 'zoom-in', name: phrase('view.larger'), key: '+ =', run: () => zoomBy(1) });
+  view({ id: 'zoom-out', name: phrase('view.smaller'), key: '-', run: () => zoomBy(-1) });
+  view({ id: 'fit', name: phrase('view.fit'), key: 'z', run: () => sheet.fit() });
+  view({ id: 'letters', name: phrase('view.lettersCellsClues'), key: 'Ctrl+L', group: 'show', run: () => {
     sheet.geometry.letters = !sheet.geometry.letters;
     sheet.resized();
     showCell();
   } });
   for (const scheme of ['light', 'dark', '']) {
-    view({ id: `scheme-${scheme || 'system'}`, name: { light: 'Light', dark: 'Dark', '': 'Light or dark like the system' }[scheme], needs: false, group: 'scheme', run: () => {
+    view({ id: `scheme-${scheme || 'system'}`, name: { light: phrase('view.light'), dark: phrase('view.dark'), '': phrase('view.lightDarkLikeSystem') }[scheme], needs: false, group: 'scheme', run: () => {
       document.documentElement.dataset.scheme = scheme;
       if (sheet.state) sheet.redrawAll();
     } });
   }
-  view({ id: 'next', name: 'Next differing or open cell', key: 'n', group: 'go', run: goToNextCell });
-  view({ id: 'next-open', name: 'Next open cell', key: 'Shift+N N', group: 'go', run: () => goToNext((row, col) => bench.state.map[row][col] === '?', 'No cell is open.') });
+  view({ id: 'next', name: phrase('view.nextDifferingOpenCell'), key: 'n', group: 'go', run: goToNextCell });
+  view({ id: 'next-open', name: phrase('view.nextOpenCell'), key: 'Shift+N N', group: 'go', run: () => goToNext((row, col) => bench.state.map[row][col] === '?', phrase('view.noCellOpen')) });
 }
 
 // A differing cell where there is another picture; else an open one.
 function goToNextCell() {
   const { verdict, picture, map } = bench.state;
-  if (verdict.other) return goToNext((row, col) => verdict.other[row][col] !== picture[row][col], 'No cell differs.');
-  return goToNext((row, col) => map[row][col] === '?', 'No cell is open.');
+  if (verdict.other) return goToNext((row, col) => verdict.other[row][col] !== picture[row][col], phrase('view.noCellDiffers'));
+  return goToNext((row, col) => map[row][col] === '?', phrase('view.noCellOpen'));
 }
 
 export function addKeys() {
   for (let at = 0; at < MOST_COLOURS; at++) {
-    addAction({ id: `colour-${at}`, name: `Colour ${at}`, key: at < 10 ? String(at) : null, run: () => useColour(LETTERS[at]) });
+    addAction({ id: `colour-${at}`, name: phrase('view.colour', { at }), key: at < 10 ? String(at) : null, run: () => useColour(LETTERS[at]) });
   }
-  addAction({ id: 'colour-next', name: 'Next colour', key: ']', run: () => stepColour(1) });
-  addAction({ id: 'colour-before', name: 'Previous colour', key: '[', run: () => stepColour(-1) });
-  addAction({ id: 'take-colour', name: 'Pick the colour of the cell', key: 'i', run: () => useColour(sheet.letterAt(cursor.row, cursor.col)) });
+  addAction({ id: 'colour-next', name: phrase('view.nextColour'), key: ']', run: () => stepColour(1) });
+  addAction({ id: 'colour-before', name: phrase('view.previousColour'), key: '[', run: () => stepColour(-1) });
+  addAction({ id: 'take-colour', name: phrase('view.pickColourCell2'), key: 'i', run: () => useColour(sheet.letterAt(cursor.row, cursor.col)) });
 }
 
 function stepColour(by) {

@@ -1,6 +1,7 @@
 // Dialogs: a title, content and buttons in the browser's own dialog, which keeps the focus and closes by Escape.
 
 import { $, make } from '../base/elements.js';
+import { phrase } from '../texts/phrase.js';
 
 /**
  * Opens a dialog and resolves to the value of the button that closed it, or to null for Escape or Cancel.
@@ -27,7 +28,7 @@ export function openDialog({ title, content = '', buttons = [{ name: 'OK', value
       chosen = typeof button.value === 'function' ? button.value() : button.value;
       dialog.close();
     };
-    if (!buttons.some((button) => button.value === null)) row.append(make('button', { type: 'button', onclick: () => dialog.close() }, 'Cancel'));
+    if (!buttons.some((button) => button.value === null)) row.append(make('button', { type: 'button', onclick: () => dialog.close() }, phrase('view.cancel')));
     for (const button of buttons) {
       row.append(make('button', { type: button.main ? 'submit' : 'button', class: button.main ? 'main' : null, onclick: button.main ? null : () => press(button) }, button.name));
     }

@@ -4,8 +4,9 @@ import { make } from '../base/elements.js';
 import { cssOf, inkOn, nameOf } from '../document/colours.js';
 import { LETTERS } from '../document/limits.js';
 import { bench } from '../engine/bench.js';
+import { phrase } from '../texts/phrase.js';
 
-export const wordOf = (letter) => (letter === '.' ? 'background' : letter);
+export const wordOf = (letter) => (letter === '.' ? phrase('view.background') : letter);
 
 /** A colour's name in a document: its own, else a plain one. */
 export function inkName(doc, letter) {

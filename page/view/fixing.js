@@ -1,10 +1,10 @@
-// The panel 'Fix it': proposals of cells to repaint, or to give, until the picture is the only solution or needs no guessing. They
-// are compared side by side; one click takes one, and one undo takes it back.
+// The panel 'Fix it': proposals of cells to repaint, to give, or some of both, until the picture is the only solution or needs no
+// guessing. They are compared side by side; one click takes one, and one undo takes it back.
 
 import { $, make, say } from '../base/elements.js';
 import { on } from '../base/events.js';
 import { many, number } from '../base/words.js';
-import { placeOf } from '../document/document.js';
+import { placeOf, sameBenchPart } from '../document/document.js';
 import { LETTERS } from '../document/limits.js';
 import { cellsThatDiffer } from '../document/shapes.js';
 import { sheet } from '../draw/sheet.js';
@@ -20,10 +20,11 @@ const MOST_SHOWN = 24;
 const FEW = 8; // cells: what needs more is too loose
 const SPARE = 2; // seconds that a search in the worker has left to end by itself
 const LONGER = 'A longer “Search time” may find some.';
-const LOOSE = `More than ${FEW} cells: the picture is too loose. A bolder threshold at import, or thicker lines, may help more.`;
+const LOOSE = 'The picture is too loose: a bolder threshold at import, or thicker lines, may help more.';
 
-// What was found for the picture at hand, and what was asked for.
-const fixing = { goal: 'unique', rule: true, mirror: '', found: [], kept: new Set(), near: null, frame: 0, previews: false };
+// What was found, for which picture (`of`), and what was asked for. It stays while a proposal is tried: an undo shows the list again.
+const fixing = { goal: 'unique', rule: true, mirror: '', of: null, found: [], kept: new Set(), near: null, said: '', frame: 0, previews: false, isWanted: false };
+const isOfThis = () => fixing.of !== null && bench.state !== null && sameBenchPart(fixing.of, bench.state);
 
 /** Whether there is something to mend. */
 export const canFix = () => bench.state !== null && (bench.state.verdict.word !== 'unique' || bench.state.open > 0);
@@ -35,7 +36,8 @@ const button = (id, name, run) => make('button', { type: 'button', id, onclick: 
 export function openFix() {
   const { state } = bench;
   if (!canFix()) return;
-  fixing.goal = state.verdict.word === 'unique' ? 'lines' : 'unique';
+  if (!isOfThis()) fixing.goal = state.verdict.word === 'unique' ? 'lines' : 'unique';
+  fixing.isWanted = true;
   $('fix').hidden = false;
   $('fix').replaceChildren(
     make('h3', {}, 'Fix it'),
@@ -48,6 +50,7 @@ export function openFix() {
     make('ul', { id: 'fix-list', 'aria-label': 'Proposals' }),
   );
   showLocks();
+  showFound();
   $('fix-paint').focus();
 }
 
@@ -95,9 +98,15 @@ function boardOf(state) {
 
 // ---- searching
 
-export function closeFix() {
+/** Hides the panel; it comes again with the picture that its list is for. */
+export function hideFix() {
   if ($('fix')) $('fix').hidden = true;
   preview(null);
+}
+
+function closeFix() {
+  fixing.isWanted = false;
+  hideFix();
 }
 
 const fixSays = (text) => { if ($('fix-said')) $('fix-said').textContent = text; };
@@ -134,21 +143,26 @@ async function takeGivens(state, { given, isLeast }) {
 
 // Lists proposals, while they are found: the smallest and least seen first.
 async function findRepairs() {
-  Object.assign(fixing, { found: fixing.found.filter((one) => fixing.kept.has(one)), near: null });
+  Object.assign(fixing, { found: fixing.found.filter((one) => fixing.kept.has(one) && isOfThis()), near: null, of: bench.state });
   showFound();
   const { goal } = fixing;
+  const part = Math.min(2, secondsChosen() / 4); // of the time, for the givens, and for mixtures
   const run = await searched('Looking for repairs', async (copy, state) => {
     const board = boardOf(state);
+    fixing.of = state;
     const told = ({ found, nearer }) => {
       if (found) add(state, found);
-      else fixing.near = nearer;
-      copy.note(noteOf(state, goal));
+      else fixing.near = { ...nearer, far: farOf(state, goal, nearer), state };
+      copy.note(noteOf());
     };
-    const given = await copy.work('give', { board, goal, seconds: Math.min(2, secondsChosen() / 4) }, () => {});
+    const given = await copy.work('give', { board, goal, seconds: part }, () => {});
     if (given.given) add(state, given);
-    return copy.work('repair', { board, goal, seconds: Math.max(1, secondsChosen() - 2) }, told);
+    copy.found = await copy.work('repair', { board, goal, seconds: Math.max(1, secondsChosen() - 2) }, told);
+    const bound = Math.min(...fixing.found.filter((one) => one.state === state).map(sizeOf), Infinity);
+    await copy.work('mix', { board, goal, near: copy.found.near, bound, seconds: part }, told);
+    return copy.found;
   });
-  if (run) tellFound(run.state, run.done, goal);
+  if (run) tellFound(run.done);
 }
 
 function add(state, one) {
@@ -156,30 +170,44 @@ function add(state, one) {
   if (!fixing.frame) fixing.frame = requestAnimationFrame(showFound);
 }
 
-const repaints = () => fixing.found.filter(({ cells }) => cells).sort((one, other) => one.cells.length - other.cells.length || one.pain - other.pain);
+/** How many cells a proposal changes. */
+const sizeOf = ({ cells = [], given = [] }) => cells.length + given.length;
+const bySize = (one, other) => sizeOf(one) - sizeOf(other) || one.pain - other.pain;
+const repaints = () => fixing.found.filter(({ cells, given }) => cells && !given).sort(bySize);
+const mixtures = () => fixing.found.filter(({ cells, given }) => cells && given).sort(bySize);
+const givens = () => fixing.found.filter(({ cells }) => !cells);
 
-// How far a search is, for the line that tells what runs.
-function noteOf(state, goal) {
-  const [best] = repaints();
-  if (best) return `${many(best.cells.length, 'cell')} to repaint`;
-  const { near } = fixing;
-  if (!near) return '';
-  const now = goal === 'lines' ? state.open : state.verdict.other ? cellsThatDiffer(state.picture, state.verdict.other).length : null;
-  const left = goal === 'lines' ? near.open : near.differing;
-  return `${goal === 'lines' ? 'cells to guess' : 'other solutions differ in'} ${now === null ? '' : `${number(now)} → `}${number(left)}`;
+// How far the picture is from the goal, and how far what came nearer, in words.
+function farOf(state, goal, near) {
+  if (goal === 'lines') return `cells to guess ${number(state.open)} → ${number(near.open)}`;
+  const { other } = state.verdict;
+  return `other solutions differ in ${other ? `${number(cellsThatDiffer(state.picture, other).length)} → ` : ''}${many(near.differing, 'cell')}`;
 }
 
-function tellFound(state, done, goal) {
+// How far a search is, for the line that tells what runs.
+function noteOf() {
+  const [best] = [...mixtures(), ...repaints()].sort(bySize);
+  return best ? many(sizeOf(best), 'cell') : fixing.near?.far ?? '';
+}
+
+function tellFound(done) {
+  fixing.said = foundText(done);
   showFound();
+  fixSays(fixing.said);
+}
+
+function foundText(done) {
   const [best] = repaints();
+  const ended = verdictView.ended || !done?.isThrough;
+  const mixed = mixtures().length;
   if (!best) {
-    const near = noteOf(state, goal);
-    const ended = verdictView.ended || !done?.isThrough;
-    return fixSays(`No repaint was found${ended ? ' in this time' : ''}. ${near ? `Nearest: ${near}. ` : ''}${ended ? LONGER : LOOSE}`);
+    const none = `No repaint was found${ended ? ' in this time' : `, and none of up to ${many(done.proved, 'cell')} exists`}.`;
+    const near = mixed ? ' What is listed gives cells, too.' : fixing.near ? ' What is listed comes nearer.' : '';
+    return `${none}${near} ${ended ? `${LONGER} ` : ''}${LOOSE}`;
   }
   const least = done && done.proved >= best.cells.length - 1 ? ' None is smaller.' : '';
-  const loose = best.cells.length > FEW ? ` ${LOOSE}` : '';
-  return fixSays(`${many(repaints().length, 'proposal')} found.${least}${loose} Choose one to paint it; point at one to see it first.`);
+  const loose = best.cells.length > FEW ? ` More than ${FEW} cells: ${LOOSE[0].toLowerCase()}${LOOSE.slice(1)}` : '';
+  return `${many(repaints().length + mixed, 'proposal')} found.${least}${loose} Choose one to paint it; point at one to see it first.`;
 }
 
 // ---- the list
@@ -187,11 +215,16 @@ function tellFound(state, done, goal) {
 function showFound() {
   fixing.frame = 0;
   if (!$('fix-list')) return;
+  if (!isOfThis()) {
+    $('fix-list').replaceChildren();
+    fixSays('');
+    return;
+  }
   const [best] = repaints();
   const shown = repaints().filter((one) => one.cells.length <= best.cells.length + 1 || fixing.kept.has(one)).slice(0, MOST_SHOWN);
-  const given = fixing.found.filter((one) => one.given);
+  const near = !best && fixing.near ? [fixing.near] : [];
   const hears = { take, keep, preview, isKept: (one) => fixing.kept.has(one) };
-  $('fix-list').replaceChildren(...[...shown, ...given.slice(-1)].map((one) => proposalItem(one, hears)));
+  $('fix-list').replaceChildren(...[...shown, ...near, ...mixtures().slice(0, 2), ...givens().slice(-1)].map((one) => proposalItem(one, hears)));
 }
 
 function keep(one, is) {
@@ -211,23 +244,25 @@ function preview(one) {
 
 async function take(one) {
   preview(null);
-  if (one.given) return takeGivens(one.state, one);
+  if (!one.cells) return takeGivens(one.state, one);
   setDown();
-  await bench.stroke(one.cells.map(({ index, colour }) => `paint ${placeOf(one.state, index)} ${LETTERS[colour]}`));
-  say(`${many(one.cells.length, 'cell')} repainted. One undo takes ${one.cells.length === 1 ? 'it' : 'them'} back.`);
+  const { state, cells, given = [] } = one;
+  const paints = cells.map(({ index, colour }) => `paint ${placeOf(state, index)} ${LETTERS[colour]}`);
+  await bench.stroke([...paints, ...given.map((index) => `pin ${placeOf(state, index)}`)]);
+  const more = given.length ? ` and ${number(given.length)} given` : '';
+  say(`${many(cells.length, 'cell')} repainted${more}. One undo takes ${sizeOf(one) === 1 ? 'it' : 'them'} back.`);
 }
 
-/** Forgets proposals for a picture that is another one now. */
+/** Shows the proposals with the picture that they are for, and hides them with any other. */
 export function startFixing() {
-  let before = null;
-  on('shown', (state) => {
+  on('shown', () => {
+    if (!fixing.isWanted) return;
     showLocks();
-    const isSame = before !== null && before.givens === state.givens && before.picture.length === state.picture.length && before.picture.every((row, at) => row === state.picture[at]);
-    before = state;
-    if (isSame) return;
-    Object.assign(fixing, { found: [], kept: new Set(), near: null });
-    if ($('fix-list')) showFound();
-    fixSays('');
+    if (isOfThis() && $('fix').hidden) {
+      $('fix').hidden = false;
+      fixSays(fixing.said);
+    }
+    showFound();
   });
   on('closed', closeFix);
 }

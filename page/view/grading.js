@@ -29,7 +29,6 @@ function figuresText({ rounds, evaluations, wait, open, splits, depth }) {
 function showGrade() {
   const grade = gradeAtHand();
   $('grade').textContent = grade ? `${grade.word} (${figuresText(grade)})` : '–';
-  $('grade').title = grade ? `${$('grade').textContent}. Worked out by a plain solver; not proved.` : 'Only a puzzle with one solution has a grade.';
 }
 
 // Waits for rest. Any other search comes first.

@@ -7,6 +7,7 @@ import { clamp } from '../base/words.js';
 import { MOST_CELLS } from '../document/limits.js';
 import { sheet } from '../draw/sheet.js';
 import { bench } from '../engine/bench.js';
+import { phrase } from '../texts/phrase.js';
 import { colourText, dress, wordOf } from './dress.js';
 import { fillClue } from './panels.js';
 import { space } from './pointer.js';
@@ -15,7 +16,7 @@ import { alongDrag, beginDrag, endDrag, tools } from './tools.js';
 
 export const cursor = { row: 0, col: 0 };
 const gridCells = [0, 1].map((at) => make('div', { role: 'gridcell', class: 'cell', tabindex: at ? '-1' : '0', 'aria-describedby': 'row-clue column-clue' }));
-const grid = make('div', { id: 'grid', role: 'grid', 'aria-label': 'Picture' }, ...gridCells.map((cell) => make('div', { role: 'row' }, cell)));
+const grid = make('div', { id: 'grid', role: 'grid', 'aria-label': phrase('view.picture') }, ...gridCells.map((cell) => make('div', { role: 'row' }, cell)));
 const wholes = { r: make('div', { class: 'whole clue', hidden: true }), c: make('div', { class: 'whole clue', hidden: true }), at: null };
 const wholesBox = make('div', { id: 'wholes', 'aria-hidden': 'true' }, wholes.r, wholes.c);
 export const gridCell = () => gridCells[0];
@@ -37,11 +38,11 @@ export function cellText(row, col) {
   const index = row * state.columns + col;
   const rival = sheet.rivalAt(row, col);
   return [
-    `Row ${row + 1}, column ${col + 1}: ${colourText(sheet.letterAt(row, col))}`,
-    sheet.isOpen(row, col) ? (state.verdict.word === 'unique' ? 'needs guessing' : 'open') : 'settled',
-    ...(state.givens.has(index) ? ['given'] : []),
-    ...(state.locks.has(index) ? ['locked'] : []),
-    ...(rival ? [`${sheet.other ? 'your' : 'the other'} picture has ${colourText(rival)}`] : []),
+    phrase('view.rowColumn', { row: row + 1, col: col + 1, letterAt: colourText(sheet.letterAt(row, col)) }),
+    sheet.isOpen(row, col) ? (state.verdict.word === 'unique' ? phrase('view.needsGuessing') : phrase('view.open')) : phrase('view.settled'),
+    ...(state.givens.has(index) ? [phrase('view.given')] : []),
+    ...(state.locks.has(index) ? [phrase('view.locked')] : []),
+    ...(rival ? [sheet.other ? phrase('view.yourPicture', { colour: colourText(rival) }) : phrase('view.otherPicture', { colour: colourText(rival) })] : []),
   ].join('; ');
 }
 
@@ -86,7 +87,7 @@ function showWholes(at) {
     const box = wholes[axis];
     box.hidden = at === null || !sheet.state || at.part === (axis === 'r' ? 'column' : 'row') || !sheet.strips.isCut(sheet, axis, line);
     if (box.hidden) continue;
-    fillClue(box, axis === 'r' ? `Row ${line + 1}` : `Column ${line + 1}`, sheet.clues[axis === 'r' ? 'rows' : 'columns'][line]);
+    fillClue(box, axis === 'r' ? phrase('view.row', { line: line + 1 }) : phrase('view.column', { line: line + 1 }), sheet.clues[axis === 'r' ? 'rows' : 'columns'][line]);
     Object.assign(box.style, geometry.isFolded ? { transform: '', maxWidth: '' } : besideLine(axis, line, at.col));
   }
 }

@@ -6,11 +6,12 @@ import { eightBits } from '../document/colours.js';
 import { LETTERS } from '../document/limits.js';
 import { sheet } from '../draw/sheet.js';
 import { bench } from '../engine/bench.js';
+import { phrase } from '../texts/phrase.js';
 import { cursor, moveCursor } from './grid.js';
 
 const MAP_FROM = 60; // lines
 
-const minimap = { canvas: make('canvas', { id: 'minimap', role: 'img', 'aria-label': 'Small map of the picture', hidden: true }), image: null };
+const minimap = { canvas: make('canvas', { id: 'minimap', role: 'img', 'aria-label': phrase('view.smallMapPicture'), hidden: true }), image: null };
 
 function drawMinimap() {
   const { canvas } = minimap;

@@ -3,9 +3,11 @@
 
 import { $, make, say } from '../base/elements.js';
 import { on } from '../base/events.js';
+import { radioGroup } from '../base/radios.js';
 import { many } from '../base/words.js';
 import { eightBits, hexOf, nameOf, tripleOf } from '../document/colours.js';
 import { LETTERS, MOST_COLOURS } from '../document/limits.js';
+import { COLOUR_NAMES, colourNamed } from '../document/named.js';
 import { nearPairs } from '../document/near.js';
 import { reordered } from '../document/shapes.js';
 import { bench } from '../engine/bench.js';
@@ -16,10 +18,15 @@ import { colourText, dress, inkName } from './dress.js';
 import { setDown } from './select.js';
 import { heard, tools, useColour } from './tools.js';
 
+const TEXT = {
+  named: 'The chosen colour by its name', namedHint: 'name or #123abc', unknown: (text) => `“${text}” is no colour that has a name.`,
+};
+
 const palette = {
   row: make('div', { id: 'palette', role: 'radiogroup', 'aria-label': 'Colour' }),
   text: make('p', { id: 'colour-text', class: 'faint' }),
   picker: make('input', { id: 'picker', type: 'color', 'aria-label': 'The chosen colour' }),
+  named: make('input', { id: 'colour-named', type: 'text', maxlength: '30', list: 'colour-words', 'aria-label': TEXT.named, placeholder: TEXT.namedHint, size: 13 }),
   name: make('input', { id: 'ink-name', type: 'text', maxlength: '40', 'aria-label': 'Name of the colour' }),
   sign: make('input', { id: 'ink-sign', type: 'text', maxlength: '2', 'aria-label': 'Sign of the colour in XML' }),
   locked: make('input', { id: 'ink-locked', type: 'checkbox' }),
@@ -85,17 +92,26 @@ function changeInk(change) {
   return heard(bench.become((doc) => ({ ...doc, inks: doc.colours.map((_, one) => (one === at ? change(doc.inks[one] ?? {}) : doc.inks[one] ?? {})) })));
 }
 
+// What is refused does not stay in its field.
+function refuse(text) {
+  const { name = '', sign = '' } = bench.state.inks[LETTERS.indexOf(tools.colour)] ?? {};
+  Object.assign(palette.name, { value: name });
+  Object.assign(palette.sign, { value: sign });
+  palette.picker.value = hexOf(bench.state.colours[LETTERS.indexOf(tools.colour)], bench.state.maxval);
+  say(text, 'alarm');
+}
+
 function changeName() {
   const name = palette.name.value.trim();
   const other = inksOf(bench.state).find((ink, at) => at !== LETTERS.indexOf(tools.colour) && ink.name === name);
-  if (other) return say(`Another colour is named “${name}”.`, 'alarm');
+  if (other) return refuse(`Another colour is named “${name}”.`);
   return changeInk(({ name: before, ...ink }) => (name ? { ...ink, name } : ink));
 }
 
 function changeSign() {
   const [sign = ''] = palette.sign.value.trim();
-  if (sign && '?|\\[]'.includes(sign)) return say(`“${sign}” means something else in XML.`, 'alarm');
-  if (sign && inksOf(bench.state).some((ink, at) => at !== LETTERS.indexOf(tools.colour) && ink.sign === sign)) return say(`Another colour has the sign “${sign}”.`, 'alarm');
+  if (sign && '?|\\[]'.includes(sign)) return refuse(`“${sign}” means something else in XML.`);
+  if (sign && inksOf(bench.state).some((ink, at) => at !== LETTERS.indexOf(tools.colour) && ink.sign === sign)) return refuse(`Another colour has the sign “${sign}”.`);
   return changeInk(({ sign: before, ...ink }) => (sign ? { ...ink, sign } : ink));
 }
 
@@ -131,13 +147,20 @@ function inkOfOther(ink, triple) {
   return name === nameOf(triple, 255) ? others : ink;
 }
 
-async function changeColour() {
+function changeByName() {
+  const text = palette.named.value.trim();
+  palette.named.value = '';
+  const triple = text ? colourNamed(text) : null;
+  if (triple) return changeColour(triple);
+  return text ? say(TEXT.unknown(text), 'alarm') : null;
+}
+
+async function changeColour(triple) {
   setDown();
   const at = LETTERS.indexOf(tools.colour);
-  const triple = tripleOf(palette.picker.value);
   const now = withEightBits(bench.state).colours;
   if (now[at].join() === triple.join()) return null;
-  if (hasColour({ colours: now }, triple)) return say('The palette has this colour already. To make two colours one, use Merge.', 'alarm');
+  if (hasColour({ colours: now }, triple)) return refuse('The palette has this colour already. To make two colours one, use Merge.');
   const changed = (old) => {
     const doc = withEightBits(old);
     if (at >= doc.colours.length || hasColour(doc, triple)) return null;
@@ -177,7 +200,9 @@ function deleteColour() {
 function moveColour(by) {
   const at = LETTERS.indexOf(tools.colour);
   const to = at + by;
-  if (at < 1 || to < 1 || to >= bench.state.colours.length) return;
+  if (at < 1) return say('The background always comes first.', 'alarm');
+  if (to < 1) return say('This colour is the first one already.', 'alarm');
+  if (to >= bench.state.colours.length) return say('This colour is the last one already.', 'alarm');
   setDown();
   const exchanged = (doc) => {
     const order = [...doc.colours.keys()];
@@ -197,7 +222,7 @@ export function makePalette() {
   const more = make('div', { class: 'group' });
   const opens = make('button', { type: 'button', id: 'colours-open', 'aria-expanded': 'false', onclick: () => opens.setAttribute('aria-expanded', $('colours').classList.toggle('open')) }, 'Edit');
   opens.setAttribute('aria-label', 'Edit the colours');
-  $('colours').append(make('h2', {}, 'Colours'), palette.row, opens, palette.text, more, make('div', { class: 'group' }, make('label', {}, 'Change ', palette.picker), make('label', { title: 'No repair changes cells of this colour' }, palette.locked, 'Locked')),
+  $('colours').append(make('h2', {}, 'Colours'), palette.row, opens, palette.text, more, make('div', { class: 'group' }, make('label', {}, 'Change ', palette.picker), palette.named, make('datalist', { id: 'colour-words' }, ...COLOUR_NAMES.map((name) => make('option', { value: name }))), make('label', { title: 'No repair changes cells of this colour' }, palette.locked, 'Locked')),
     make('div', { class: 'group' }, make('label', {}, 'Name ', palette.name), make('label', { title: 'One sign for each cell in XML' }, 'Sign ', palette.sign)), palette.near);
   more.id = 'colour-more';
   const add = (id, name, run, can) => addAction({ id, name, place: 'colour-more', run, can });
@@ -206,7 +231,8 @@ export function makePalette() {
   add('colour-delete', 'Delete', deleteColour);
   add('colour-earlier', '◂ Earlier', () => moveColour(-1));
   add('colour-later', 'Later ▸', () => moveColour(1));
-  palette.picker.addEventListener('change', changeColour);
+  palette.picker.addEventListener('change', () => changeColour(tripleOf(palette.picker.value)));
+  palette.named.addEventListener('change', changeByName);
   palette.name.addEventListener('change', changeName);
   palette.sign.addEventListener('change', changeSign);
   palette.locked.addEventListener('change', () => changeInk(({ locked, ...ink }) => (palette.locked.checked ? { ...ink, locked: true } : ink)));
@@ -220,22 +246,4 @@ export function makePalette() {
   });
   on('opened', () => { shown = ''; });
   on('colour', markColour);
-}
-
-/** A group of radio buttons: a click or an arrow chooses. */
-export function radioGroup(group, pick) {
-  group.addEventListener('click', (event) => {
-    const button = event.target.closest('button');
-    if (button) pick(button);
-  });
-  group.addEventListener('keydown', (event) => {
-    const way = { ArrowDown: 1, ArrowRight: 1, ArrowUp: -1, ArrowLeft: -1 }[event.key];
-    if (!way) return;
-    const buttons = [...group.querySelectorAll('button')];
-    event.preventDefault();
-    event.stopPropagation();
-    const next = buttons.at((buttons.indexOf(event.target.closest('button')) + way) % buttons.length);
-    pick(next);
-    next.focus();
-  });
 }

@@ -1,19 +1,19 @@
 // The tool bar, and the panels for the cell that is pointed at and for its row and column.
 
-import { $, make, say } from '../base/elements.js';
+import { $, make, say, svgPart } from '../base/elements.js';
 import { on } from '../base/events.js';
+import { radioGroup } from '../base/radios.js';
 import { MOST_CELLS } from '../document/limits.js';
-import { svgPart } from '../draw/papers.js';
 import { sheet } from '../draw/sheet.js';
 import { bench } from '../engine/bench.js';
 import { clueText } from '../engine/opening.js';
+import { phrase } from '../texts/phrase.js';
 import { addAction } from './actions.js';
 import { cellText, clueInto, cursor } from './grid.js';
-import { radioGroup } from './palette.js';
 import { setDown } from './select.js';
 import { TOOLS, sendStroke, tools, useTool } from './tools.js';
 
-const bar = { row: make('div', { id: 'tool-row', role: 'radiogroup', 'aria-label': 'Tool' }), hint: make('p', { id: 'hint', class: 'faint' }) };
+const bar = { row: make('div', { id: 'tool-row', role: 'radiogroup', 'aria-label': phrase('view.tool') }), hint: make('p', { id: 'hint', class: 'faint' }) };
 
 // The picture of a tool beside its name: lines on a field of 16 by 16.
 function iconOf(name, { icon }) {
@@ -49,7 +49,7 @@ const panel = {
 };
 
 export function makeCellPanel() {
-  $('cell').append(make('h2', {}, 'Cell'), panel.text, panel.row, panel.column);
+  $('cell').append(make('h2', {}, phrase('view.cell')), panel.text, panel.row, panel.column);
   on('cursor', showCell);
   on('shown', () => showCell());
   on('pointed', (at) => showCell(at ?? cursor));
@@ -65,8 +65,8 @@ export function showCell(at = cursor) {
     if (!state) return;
     const [row, col] = [Math.min(panel.at.row, state.rows - 1), Math.min(panel.at.col, state.columns - 1)];
     panel.text.textContent = cellText(row, col);
-    fillClue(panel.row, `Row ${row + 1}`, state.clues.rows[row]);
-    fillClue(panel.column, `Column ${col + 1}`, state.clues.columns[col]);
+    fillClue(panel.row, phrase('view.row2', { row: row + 1 }), state.clues.rows[row]);
+    fillClue(panel.column, phrase('view.column2', { col: col + 1 }), state.clues.columns[col]);
     showLineNames();
   });
 }
@@ -78,31 +78,36 @@ export function fillClue(element, name, blocks) {
   clueInto(element, name, blocks);
 }
 
+/** What is done to rows and columns, in words. */
+export const LINE_TEXTS = {
+  row: { before: phrase('view.insertRowAbove'), after: phrase('view.insertRowBelow'), gone: phrase('view.deleteRow') },
+  column: { before: phrase('view.insertColumnLeft'), after: phrase('view.insertColumnRight'), gone: phrase('view.deleteColumn') },
+};
+
 export function makeLinesPanel() {
-  const names = { row: ['above', 'below'], column: ['on the left', 'on the right'] };
-  $('lines').append(make('h2', {}, 'Rows and columns'));
+  $('lines').append(make('h2', {}, phrase('view.rowsColumns')));
   for (const word of ['row', 'column']) {
-    const other = make('input', { type: 'number', min: 1, max: MOST_CELLS, 'aria-label': `The other ${word}` });
+    const other = make('input', { type: 'number', min: 1, max: MOST_CELLS, 'aria-label': word === 'row' ? phrase('view.otherRow') : phrase('view.otherColumn') });
     const at = () => (word === 'row' ? cursor.row : cursor.col) + 1;
     const button = (text, label, lines) => make('button', { type: 'button', 'aria-label': label, onclick: () => { setDown(); sendStroke([lines()]); } }, text);
-    $('lines').append(make('div', { class: 'lines', role: 'group', 'aria-label': word === 'row' ? 'Row' : 'Column' },
+    $('lines').append(make('div', { class: 'lines', role: 'group', 'aria-label': word === 'row' ? phrase('view.row3') : phrase('view.column3') },
       make('b', { id: `${word}-name` }, word),
-      button(word === 'row' ? '+ above' : '+ left', `Insert a ${word} ${names[word][0]}`, () => `insert ${word} ${at()}`),
-      button(word === 'row' ? '+ below' : '+ right', `Insert a ${word} ${names[word][1]}`, () => `insert ${word} ${at() + 1}`),
-      button('Delete', `Delete this ${word}`, () => `delete ${word} ${at()}`),
-      make('span', {}, make('button', { type: 'button', onclick: () => swapLines(word, at(), Number(other.value)) }, 'Swap with'), ' ', other)));
+      button(word === 'row' ? phrase('view.above') : phrase('view.left'), LINE_TEXTS[word].before, () => `insert ${word} ${at()}`),
+      button(word === 'row' ? phrase('view.below') : phrase('view.right'), LINE_TEXTS[word].after, () => `insert ${word} ${at() + 1}`),
+      button(phrase('view.delete'), LINE_TEXTS[word].gone, () => `delete ${word} ${at()}`),
+      make('span', {}, make('button', { type: 'button', onclick: () => swapLines(word, at(), Number(other.value)) }, phrase('view.swap')), ' ', other)));
   }
 }
 
 function swapLines(word, at, other) {
   const count = word === 'row' ? bench.state.rows : bench.state.columns;
-  if (!other || other > count) return say(`There are ${count} ${word}s: give the number of another one.`, 'alarm');
+  if (!other || other > count) return say(word === 'row' ? phrase('view.thereRowsGiveNumber', { count }) : phrase('view.thereColumnsGiveNumber', { count }), 'alarm');
   if (other === at) return null;
   setDown();
   return sendStroke([`swap ${word} ${at} ${other}`]);
 }
 
 function showLineNames() {
-  $('row-name').textContent = `Row ${cursor.row + 1}`;
-  $('column-name').textContent = `Column ${cursor.col + 1}`;
+  $('row-name').textContent = phrase('view.row2', { row: cursor.row + 1 });
+  $('column-name').textContent = phrase('view.column2', { col: cursor.col + 1 });
 }

@@ -31,29 +31,37 @@ function painted(picture, cells) {
 
 const placeText = ({ columns }, index) => `row ${Math.floor(index / columns) + 1}, column ${(index % columns) + 1}`;
 
-// What changes, in words: a single cell with its colours, else the places.
-function changesOf({ state, cells }) {
-  if (cells.length === 1) {
-    const [{ index, colour }] = cells;
-    const before = state.picture[Math.floor(index / state.columns)][index % state.columns];
-    return [`1 cell: ${placeText(state, index)}: `, swatchChip(state, before), ' to ', swatchChip(state, LETTERS[colour])];
-  }
-  const named = cells.slice(0, MOST_NAMED).map(({ index }) => placeText(state, index)).join('; ');
-  return [`${many(cells.length, 'cell')}: ${named}${cells.length > MOST_NAMED ? '; …' : ''}`];
+const namedOf = (state, places) => `${places.slice(0, MOST_NAMED).map((index) => placeText(state, index)).join('; ')}${places.length > MOST_NAMED ? '; …' : ''}`;
+
+// What a repaint leaves, where that is not all: how far it is from the goal, or what is to be guessed then.
+function leftOf({ goal, far, open }) {
+  if (far) return `. Nearer only: ${far}`;
+  if (goal === 'lines' || open === undefined) return '';
+  return open ? `; then ${many(open, 'cell')} to guess` : '; then no guessing';
 }
 
-function givenText({ state, given, isLeast }) {
-  const named = given.slice(0, MOST_NAMED).map((index) => placeText(state, index)).join('; ');
-  return `Give ${many(given.length, 'cell')}${isLeast ? ', the fewest' : ''}: ${named}${given.length > MOST_NAMED ? '; …' : ''}`;
+// What is repainted, in words: a single cell with its colours, else the places.
+function paintedText({ state, cells }) {
+  if (cells.length > 1) return [`${many(cells.length, 'cell')}: ${namedOf(state, cells.map(({ index }) => index))}`];
+  const [{ index, colour }] = cells;
+  const before = state.picture[Math.floor(index / state.columns)][index % state.columns];
+  return [`1 cell: ${placeText(state, index)}: `, swatchChip(state, before), ' to ', swatchChip(state, LETTERS[colour])];
+}
+
+const givenText = ({ state, given, isLeast }) => `${many(given.length, 'cell')}${isLeast ? ', the fewest' : ''}: ${namedOf(state, given)}`;
+
+function textOf(one) {
+  if (!one.cells) return [`Give ${givenText(one)}`];
+  return one.given ? ['Repaint ', ...paintedText(one), `, and give ${givenText(one)}`] : [...paintedText(one), leftOf(one)];
 }
 
 /** A proposal as an item of a list: `hears` has `take`, `keep`, `preview`, `isKept`. */
 export function proposalItem(one, { take, keep, preview, isKept }) {
   const { state } = one;
-  const places = one.cells ? one.cells.map(({ index }) => index) : one.given;
+  const places = [...(one.cells ?? []).map(({ index }) => index), ...(one.given ?? [])];
   const after = one.cells ? { ...state, picture: painted(state.picture, one.cells) } : state;
   const pictures = make('span', { class: 'pair' }, framed(state, one.cells ? places : []), make('span', { 'aria-hidden': 'true' }, '→'), framed(after, places));
-  const text = make('span', {}, ...(one.cells ? changesOf(one) : [givenText(one)]));
+  const text = make('span', {}, ...textOf(one));
   const show = () => preview(one);
   const hide = () => preview(null);
   const button = make('button', { type: 'button', onclick: () => take(one), onpointerenter: show, onfocus: show, onpointerleave: hide, onblur: hide }, pictures, text);

@@ -7,6 +7,7 @@ import { cellsBetween } from '../document/cover.js';
 import { boxCells, boxOf, rowsOfText, stamped } from '../document/shapes.js';
 import { sheet } from '../draw/sheet.js';
 import { bench } from '../engine/bench.js';
+import { phrase } from '../texts/phrase.js';
 import { isCovered, isTyping } from './actions.js';
 import { heard, paintCells, tools, useTool } from './tools.js';
 
@@ -138,7 +139,7 @@ export function pasteRows(rows) {
   selection.under = bench.seen().picture;
   selection.box = { top: at.top, left: at.left, bottom: at.top + rows.length - 1, right: at.left + rows[0].length - 1 };
   showSelection();
-  say('Drag it into place. Enter places it, Escape cancels.');
+  say(phrase('view.dragIntoPlaceEnter'));
 }
 
 // Does something to what is selected, which floats from then on.
@@ -169,7 +170,7 @@ function copySelected(event, cuts) {
   sayCopied(rows, cuts && selection.box);
 }
 
-const sayCopied = (rows, isCut) => say(`${isCut ? 'Cut' : 'Copied'}: ${rows.length} rows of ${rows[0].length} cells.`);
+const sayCopied = (rows, isCut) => say(isCut ? phrase('view.cutRowsCells', { rows: rows.length, cells: rows[0].length }) : phrase('view.copiedRowsCells', { rows: rows.length, cells: rows[0].length }));
 
 /** Copies what is selected, or the whole picture, to the clipboard; `cuts` clears it too. */
 export async function copyToClipboard(cuts) {
@@ -177,7 +178,7 @@ export async function copyToClipboard(cuts) {
   try {
     await navigator.clipboard.writeText(`${rows.join('\n')}\n`);
   } catch {
-    say('The browser does not let the page copy. Use Ctrl+C.', 'alarm');
+    say(phrase('view.browserDoesNotLet'), 'alarm');
     return;
   }
   sayCopied(rows, cuts && selection.box !== null);

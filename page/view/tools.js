@@ -8,19 +8,20 @@ import { LETTERS, MOST_CELLS, MOST_COLOURS } from '../document/limits.js';
 import { boxCells, boxOf, bucketCells, lineCells } from '../document/shapes.js';
 import { sheet } from '../draw/sheet.js';
 import { bench } from '../engine/bench.js';
+import { phrase } from '../texts/phrase.js';
 import { alongSelect, beginSelect, endSelect, selectionBoxes, setDown } from './select.js';
 
 export const TOOLS = {
-  pencil: { icon: 'M2.5 13.5l.8-3.6 7.6-7.6 2.8 2.8-7.6 7.6z', name: 'Pencil', key: 'p', hint: 'Drag to paint. The right button or Alt picks the colour of a cell.' },
-  line: { icon: 'M2.5 13.5l11-11', name: 'Line', key: 'l', hint: 'Drag from end to end.' },
-  rectangle: { icon: 'M2.5 3.5h11v9h-11z', name: 'Rectangle', key: 'r', hint: 'Drag from corner to corner: an outline.' },
-  box: { icon: 'M2.5 3.5h11v9h-11z', name: 'Filled rectangle', key: 'f', hint: 'Drag from corner to corner: filled.' },
-  bucket: { icon: 'M7.5 2.5l6 6-5 5-6-6zM2.5 7.5h9M13.5 11v2.5', name: 'Bucket', key: 'b', hint: 'Fills connected cells of one colour.' },
-  recolour: { icon: 'M2.5 2.5h6v6h-6zM7.5 10.5v3h6v-6h-3', name: 'Recolour', key: 'e', hint: 'Turns all cells of the colour you point at into the chosen one.' },
-  select: { icon: 'M2.5 5v-2.5h2.5M8 2.5h0M11 2.5h2.5v2.5M13.5 8v0M13.5 11v2.5h-2.5M8 13.5h0M5 13.5h-2.5v-2.5M2.5 8v0', name: 'Select', key: 's', hint: 'Drag to select a rectangle; drag it to move it. Enter places it, Escape cancels the move.' },
-  pin: { icon: 'M8 2l5 6-5 6-5-6z', name: 'Give cells', key: 'g', hint: 'Given cells are printed with the puzzle. Drag to give cells, or to take them back.' },
-  lock: { icon: 'M3.5 7.5h9v6h-9zM5.5 7.5v-2a2.5 2.5 0 015 0v2', name: 'Lock cells', key: 'k', hint: 'No repair changes a locked cell. Drag to lock cells, or to unlock them.' },
-  why: { icon: 'M5.3 6a2.7 2.7 0 115.4 0c0 2.2-2.7 2.2-2.7 4.2M8 13.2v.3', name: 'Why', key: 'w', hint: 'Point at a cell to see why it cannot have another colour.' },
+  pencil: { icon: 'M2.5 13.5l.8-3.6 7.6-7.6 2.8 2.8-7.6 7.6z', name: phrase('view.pencil'), key: 'p', hint: phrase('view.dragPaintRightButton') },
+  line: { icon: 'M2.5 13.5l11-11', name: phrase('view.line'), key: 'l', hint: phrase('view.dragFromEndEnd') },
+  rectangle: { icon: 'M2.5 3.5h11v9h-11z', name: phrase('view.rectangle'), key: 'r', hint: phrase('view.dragFromCornerCorner') },
+  box: { icon: 'M2.5 3.5h11v9h-11z', name: phrase('view.filledRectangle'), key: 'f', hint: phrase('view.dragFromCornerCorner2') },
+  bucket: { icon: 'M7.5 2.5l6 6-5 5-6-6zM2.5 7.5h9M13.5 11v2.5', name: phrase('view.bucket'), key: 'b', hint: phrase('view.fillsConnectedCellsOne') },
+  recolour: { icon: 'M2.5 2.5h6v6h-6zM7.5 10.5v3h6v-6h-3', name: phrase('view.recolour'), key: 'e', hint: phrase('view.turnsAllCellsColour') },
+  select: { icon: 'M2.5 5v-2.5h2.5M8 2.5h0M11 2.5h2.5v2.5M13.5 8v0M13.5 11v2.5h-2.5M8 13.5h0M5 13.5h-2.5v-2.5M2.5 8v0', name: phrase('view.select'), key: 's', hint: phrase('view.dragSelectRectangleDrag') },
+  pin: { icon: 'M8 2l5 6-5 6-5-6z', name: phrase('view.giveCells'), key: 'g', hint: phrase('view.givenCellsPrintedPuzzle') },
+  lock: { icon: 'M3.5 7.5h9v6h-9zM5.5 7.5v-2a2.5 2.5 0 015 0v2', name: phrase('view.lockCells'), key: 'k', hint: phrase('view.noRepairChangesLocked') },
+  why: { icon: 'M5.3 6a2.7 2.7 0 115.4 0c0 2.2-2.7 2.2-2.7 4.2M8 13.2v.3', name: phrase('view.why'), key: 'w', hint: phrase('view.pointCellSeeWhy') },
 };
 
 export const tools = { name: 'pencil', colour: 'a', drag: null };
@@ -56,7 +57,7 @@ const MARKS = { pin: 'givens', lock: 'locks' };
 /** Begins a drag at a cell. */
 export function beginDrag(at) {
   if (!bench.state) return;
-  if (sheet.other) return say('This is the other picture. Go back to your picture (x) to change it.', 'alarm');
+  if (sheet.other) return say(phrase('view.otherPictureGoBack'), 'alarm');
   tell('begun', tools.name);
   if (tools.name === 'why') return tell('asked', { ...at, letter: tools.colour });
   if (tools.name === 'select') return beginSelect(at);
@@ -134,15 +135,15 @@ function recolourAt(at) {
 }
 
 const MEANINGS = {
-  Place: 'that lies outside the picture', Colour: 'the palette has no such colour', TooLarge: `there are ${MOST_CELLS} lines already, the most that there can be`,
-  LastLine: 'it is the only line', PaletteFull: `the palette has ${MOST_COLOURS} colours already`, DuplicateColour: 'the palette has this colour already',
-  Background: 'the background keeps its colour', SampleOver: 'the colour is too bright for this picture', UndoEmpty: 'there is nothing to undo',
-  RedoEmpty: 'there is nothing to redo', Memory: 'memory ran out', TwoColoursOnly: 'a .non puzzle has one colour beside the background',
-  LongLine: 'it is too long', BadNumber: 'a number is wrong', BadColour: 'a colour is wrong',
+  Place: phrase('view.liesOutsidePicture'), Colour: phrase('view.paletteNoSuchColour'), TooLarge: phrase('view.thereLinesAlreadyMost', { MOST_CELLS }),
+  LastLine: phrase('view.onlyLine'), PaletteFull: phrase('view.paletteColoursAlready', { MOST_COLOURS }), DuplicateColour: phrase('view.paletteColourAlready'),
+  Background: phrase('view.backgroundKeepsColour'), SampleOver: phrase('view.colourTooBrightPicture'), UndoEmpty: phrase('view.thereNothingUndo'),
+  RedoEmpty: phrase('view.thereNothingRedo'), Memory: phrase('view.memoryRanOut'), TwoColoursOnly: phrase('view.nonPuzzleOneColour'),
+  LongLine: phrase('view.tooLong'), BadNumber: phrase('view.numberWrong'), BadColour: phrase('view.colourWrong'),
 };
 
 /** What a refusal says to the user. */
-const meaningOf = (name) => MEANINGS[name] ?? 'it was refused';
+const meaningOf = (name) => MEANINGS[name] ?? phrase('view.refused');
 
 /**
  * Sends a stroke, on what floated too; tells what was refused. `lines` and `cells` are as the bench has them. A stroke that changes
@@ -159,10 +160,10 @@ export async function heard(promise) {
   try {
     const answers = await promise;
     const refused = answers.filter((answer) => answer.kind === 'refused' && answer.name !== 'NoChange');
-    if (refused.length) say(`Not done: ${meaningOf(refused[0].name)}.`, 'alarm');
+    if (refused.length) say(phrase('view.notDone', { meaning: meaningOf(refused[0].name) }), 'alarm');
     return refused.length === 0;
   } catch (fault) {
-    say(`Not done: the engine failed (${fault.text ?? fault.message}).`, 'alarm');
+    say(phrase('view.notDoneEngineFailed', { text: fault.text ?? fault.message }), 'alarm');
     return false;
   }
 }

@@ -10,7 +10,7 @@ import { bench } from '../engine/bench.js';
 import { startEngine } from '../engine/client.js';
 import { Searches } from '../engine/searches.js';
 import { actionButton, actions, addAction } from './actions.js';
-import { canFix, closeFix, openFix } from './fixing.js';
+import { canFix, hideFix, openFix } from './fixing.js';
 
 const TIMES = [['5', '5 s'], ['30', '30 s'], ['', 'until stopped']];
 const HATCHINGS = [['off', 'the picture alone'], ['differing', 'cells that differ'], ['open', 'open cells']];
@@ -61,7 +61,7 @@ function makeVerdictPanel() {
       make('p', { id: 'verdict-why' }),
       make('div', { id: 'verdict-do', class: 'group' }),
       make('div', { id: 'fix', hidden: true }),
-      make('dl', {}, make('dt', {}, 'Grade'), make('dd', { id: 'grade' }), make('dt', { id: 'open-name' }, 'Need guessing'), make('dd', { id: 'open' }), make('dt', {}, 'Clues that changed'), make('dd', { id: 'changed' })),
+      make('dl', {}, make('dt', { id: 'grade-name' }, 'Grade (not proved)'), make('dd', { id: 'grade' }), make('dt', { id: 'open-name' }, 'Need guessing'), make('dd', { id: 'open' }), make('dt', {}, 'Clues that changed'), make('dd', { id: 'changed' })),
       make('p', {}, make('label', {}, 'Show ', choiceOf('hatching', HATCHINGS, (value) => setHatching(value)))),
       make('p', { id: 'legend', class: 'faint' }),
       make('p', {}, make('label', {}, 'Search time ', choiceOf('seconds', TIMES, setSeconds)))),
@@ -164,7 +164,7 @@ function showVerdictButtons() {
     }
     if (action.id === 'search') button.textContent = verdictView.seconds === '' ? 'Search until stopped' : `Search for ${verdictView.seconds} s`;
   }
-  if (!canFix()) closeFix();
+  if (!canFix()) hideFix();
 }
 
 // ---- what runs

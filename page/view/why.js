@@ -5,6 +5,7 @@ import { on } from '../base/events.js';
 import { LETTERS } from '../document/limits.js';
 import { sheet } from '../draw/sheet.js';
 import { bench } from '../engine/bench.js';
+import { phrase } from '../texts/phrase.js';
 import { swatchChip } from './dress.js';
 import { forgetReason, tools } from './tools.js';
 
@@ -20,7 +21,7 @@ async function whyAt(row, col) {
   const answers = await bench.ask(letters.map((letter) => `why ${row + 1} ${col + 1} ${letter}`)).catch(() => []);
   if (why.asked !== mine || answers.length !== letters.length || answers[0]?.kind !== 'why') return;
   const reasons = letters.map((letter, at) => ({ ...answers[at], letter, row, col }));
-  $('why').replaceChildren(make('h3', {}, `Row ${row + 1}, column ${col + 1}: why not …`), ...reasons.map(whyItem));
+  $('why').replaceChildren(make('h3', {}, phrase('view.rowColumnWhyNot', { row: row + 1, col: col + 1 })), ...reasons.map(whyItem));
   markReason(reasons.find((one) => one.word === 'by') ?? reasons[0]);
 }
 
@@ -39,15 +40,16 @@ const premiseLetters = (premise, doc) => [...premise.letters].filter((letter) =>
 
 // What is said of a reason, with each colour by its swatch.
 function whyParts(reason, doc) {
-  if (reason.word === 'possible') return ['is possible here: no line excludes it.'];
-  if (reason.word === 'given') return ['is excluded: the cell is given.'];
-  const [axis, other] = reason.axis === 'r' ? ['row', 'column'] : ['column', 'row'];
-  const parts = [`is excluded by ${axis} ${reason.at}`];
+  if (reason.word === 'possible') return [phrase('view.possibleHereNoLine')];
+  if (reason.word === 'given') return [phrase('view.excludedCellGiven')];
+  const across = reason.axis === 'r';
+  if (!reason.premises.length) return [across ? phrase('view.excludedRowAlone', { at: reason.at }) : phrase('view.excludedColumnAlone', { at: reason.at })];
+  const parts = [across ? phrase('view.excludedRowWhere', { at: reason.at }) : phrase('view.excludedColumnWhere', { at: reason.at })];
   reason.premises.forEach((premise, at) => {
-    parts.push(at === 0 ? ', where ' : ', ', `${other} ${premise.at} is `);
-    premiseLetters(premise, doc).forEach((letter, one) => parts.push(...(one ? [' or '] : []), swatchChip(doc, letter)));
+    parts.push(at === 0 ? '' : ', ', across ? phrase('view.column4', { at: premise.at }) : phrase('view.row4', { at: premise.at }));
+    premiseLetters(premise, doc).forEach((letter, one) => parts.push(...(one ? [phrase('view.or')] : []), swatchChip(doc, letter)));
   });
-  return [...parts, reason.premises.length ? '.' : ' alone.'];
+  return [...parts, '.'];
 }
 
 function forgetWhy() {

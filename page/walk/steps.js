@@ -11,11 +11,11 @@ import { follow } from '../grade/tree.js';
 
 const isSettled = (mask) => countOf(mask) === 1;
 
-/** What a look at a line would leave of candidates: `{ fits, cells }`. */
-function lookedAt(puzzle, masks, line) {
+// What a look at a line would leave of candidates, of those in `within`: `{ fits, cells, before }`.
+function lookedAt(puzzle, masks, line, within = 0xffff) {
   const [first, step] = puzzle.placeOf(line);
   const size = puzzle.sizeOf(line);
-  const before = Uint16Array.from({ length: size }, (_, at) => masks[first + at * step]);
+  const before = Uint16Array.from({ length: size }, (_, at) => masks[first + at * step] & within);
   const after = new Uint16Array(size);
   const fits = narrow(before, size, puzzle.clues[line], after);
   const cells = [];
@@ -24,21 +24,18 @@ function lookedAt(puzzle, masks, line) {
 }
 
 /**
- * The cells of a line without which a look would leave more than it does, each needed: the others are opened to `all`, from the
- * line's end on, as long as the look excludes what it did. `cells` are what the look left, `isDead` that nothing filled the line.
+ * The cells of a line without which a look would leave more than it does, each needed: the others are opened to all candidates, from
+ * the line's end on, as long as the look excludes what it did. Where nothing filled the line, as long as nothing does.
  */
-export function premisesOf(puzzle, masks, line, { cells, fits }) {
+function premisesOf(puzzle, line, { cells, fits, before }) {
   const [first, step] = puzzle.placeOf(line);
   const size = puzzle.sizeOf(line);
   const all = puzzle.candidatesMask;
-  const known = Uint16Array.from({ length: size }, (_, at) => masks[first + at * step]);
+  const known = before.slice();
   const out = new Uint16Array(size);
   const suffices = () => {
     if (!narrow(known, size, puzzle.clues[line], out)) return !fits;
-    return fits && cells.every(({ index, mask }) => {
-      const at = (index - first) / step;
-      return (out[at] & masks[index] & ~mask) === 0;
-    });
+    return fits && cells.every(({ at, mask }) => (out[at] & before[at] & ~mask) === 0);
   };
   for (let at = size - 1; at >= 0; at--) {
     const was = known[at];
@@ -49,10 +46,25 @@ export function premisesOf(puzzle, masks, line, { cells, fits }) {
   return Array.from(known, (mask, at) => (mask === all ? -1 : first + at * step)).filter((index) => index >= 0);
 }
 
-function lineStep(puzzle, masks, line, looked, depth = 0) {
-  const cells = looked.cells.map(({ index, mask }) => ({ index, mask }));
-  const settled = cells.filter(({ mask }) => isSettled(mask)).map(({ index }) => index);
-  return { kind: 'line', line, cells, settled, premises: premisesOf(puzzle, masks, line, looked), depth };
+/** A look at a line as a step. Its premises take as many looks as it has cells, so they are worked out where they are asked for. */
+class LineStep {
+  #puzzle;
+  #looked;
+  #premises = null;
+
+  constructor(puzzle, line, looked, { kind = 'line', depth = 0 } = {}) {
+    this.#puzzle = puzzle;
+    this.#looked = looked;
+    this.kind = kind;
+    this.line = line;
+    this.depth = depth;
+    this.cells = kind === 'line' ? looked.cells.map(({ index, mask }) => ({ index, mask })) : [];
+    this.settled = this.cells.filter(({ mask }) => isSettled(mask)).map(({ index }) => index);
+  }
+
+  get premises() {
+    return (this.#premises ??= premisesOf(this.#puzzle, this.line, this.#looked));
+  }
 }
 
 function take(masks, cells) {
@@ -62,23 +74,58 @@ function take(masks, cells) {
 /** How easy a step is: cells that it settles for each block of its clue; the line itself counts as one. */
 export const easeOf = (puzzle, { line, settled }) => settled.length / (1 + puzzle.clues[line].lengths.length);
 
-/** Steps by the easiest next line: that which settles most cells for the shortest clue; among equal ones the first. */
-export function easiestSteps(puzzle) {
-  const masks = puzzle.candidates();
-  const steps = [];
-  const looks = Array.from({ length: puzzle.lines }, (_, line) => lookedAt(puzzle, masks, line));
-  const ease = (line) => looks[line].cells.filter(({ mask }) => isSettled(mask)).length / (1 + puzzle.clues[line].lengths.length);
-  for (;;) {
-    let best = -1;
-    for (let line = 0; line < puzzle.lines; line++) {
-      if (looks[line].cells.length > 0 && (best < 0 || ease(line) > ease(best))) best = line;
-    }
-    if (best < 0) return steps;
-    const step = lineStep(puzzle, masks, best, looks[best]);
-    steps.push(step);
-    take(masks, step.cells);
-    for (const line of new Set([best, ...step.cells.flatMap(({ index }) => puzzle.linesOf(index))])) looks[line] = lookedAt(puzzle, masks, line);
+/** Looks at lines, kept until one of their cells changes. A line is looked at only where it may be easier than the easiest so far. */
+class Looks {
+  constructor(puzzle) {
+    this.puzzle = puzzle;
+    this.masks = puzzle.candidates();
+    this.known = Array.from({ length: puzzle.lines }, () => null);
+    this.open = new Int32Array(puzzle.lines);
+    this.masks.forEach((mask, index) => { if (!isSettled(mask)) this.#count(index, 1); });
   }
+
+  #count(index, step) {
+    for (const line of this.puzzle.linesOf(index)) this.open[line] += step;
+  }
+
+  #easeFor(line, settled) {
+    return settled / (1 + this.puzzle.clues[line].lengths.length);
+  }
+
+  #look(line) {
+    const looked = lookedAt(this.puzzle, this.masks, line);
+    const settled = looked.cells.filter(({ mask }) => isSettled(mask)).length;
+    this.known[line] = { ...looked, ease: looked.cells.length > 0 ? this.#easeFor(line, settled) : -1 };
+  }
+
+  /** The easiest line that narrows a cell, the first of these; -1 where none does. */
+  easiest() {
+    let best = { line: -1, ease: -1 };
+    const isBetter = (line, ease) => ease > best.ease || (ease === best.ease && line < best.line);
+    const isOpen = [...this.open.keys()].filter((line) => this.open[line] > 0);
+    for (const line of isOpen) if (this.known[line] && isBetter(line, this.known[line].ease)) best = { line, ease: this.known[line].ease };
+    for (const line of isOpen) {
+      if (this.known[line] || !isBetter(line, this.#easeFor(line, this.open[line]))) continue;
+      this.#look(line);
+      if (isBetter(line, this.known[line].ease)) best = { line, ease: this.known[line].ease };
+    }
+    return best.line;
+  }
+
+  /** Takes what a look at a line leaves, as a step. */
+  take(line) {
+    const step = new LineStep(this.puzzle, line, this.known[line]);
+    for (const index of step.settled) this.#count(index, -1);
+    take(this.masks, step.cells);
+    for (const { index } of step.cells) for (const one of this.puzzle.linesOf(index)) this.known[one] = null;
+    return step;
+  }
+}
+
+/** Steps by the easiest next line, one by one: that which settles most cells for the shortest clue; among equal ones the first. */
+export function* easiestSteps(puzzle) {
+  const looks = new Looks(puzzle);
+  for (let line = looks.easiest(); line >= 0; line = looks.easiest()) yield looks.take(line);
 }
 
 /**
@@ -125,18 +172,17 @@ function bookStep(masks, { line, premises, excluded }) {
 /** The steps of a certificate from its first split on: what it supposes, and what follows. */
 export function treeSteps(puzzle, certificate) {
   const steps = [];
+  const all = puzzle.candidatesMask;
   let last = null;
   follow(puzzle, certificate, (item, branch, { masks }) => {
-    if (branch.depth === 0) return;
-    const shown = Uint16Array.from(masks, (mask) => mask & puzzle.candidatesMask);
-    if (branch !== last) steps.push({ kind: 'suppose', ...branch.held, depth: branch.depth, cells: [], settled: [branch.held.index], premises: [], masks: shown });
+    const { depth } = branch;
+    if (depth === 0) return;
+    if (branch !== last) steps.push({ kind: 'suppose', ...branch.held, depth, cells: [], settled: [branch.held.index], premises: [], masks: masks.map((mask) => mask & all) });
     last = branch;
-    if (item.word === 'done') steps.push({ kind: 'done', depth: branch.depth, cells: [], settled: [], premises: [] });
+    if (item.word === 'done') steps.push({ kind: 'done', depth, cells: [], settled: [], premises: [] });
     if (item.word !== 'line' && item.word !== 'dead') return;
     const line = item.axis === 'r' ? item.at - 1 : puzzle.rows + item.at - 1;
-    const looked = lookedAt(puzzle, shown, line);
-    if (item.word === 'line') steps.push(lineStep(puzzle, shown, line, looked, branch.depth));
-    else steps.push({ kind: 'dead', line, depth: branch.depth, cells: [], settled: [], premises: premisesOf(puzzle, shown, line, looked) });
+    steps.push(new LineStep(puzzle, line, lookedAt(puzzle, masks, line, all), { kind: item.word, depth }));
   });
   return steps;
 }
@@ -146,10 +192,39 @@ export const onlyStep = ({ cells }) => ({ kind: 'only', depth: 0, cells: [], set
 
 /** The path: steps with what each cell can be after so many of them. */
 export class Walk {
-  constructor(puzzle, steps) {
+  #source;
+
+  /**
+   * `source` gives the steps: all at once where it is an array, else as the path grows.
+   * @param {Iterable<any>} source
+   */
+  constructor(puzzle, source = []) {
     this.puzzle = puzzle;
-    this.steps = steps;
+    this.steps = [];
     this.known = { at: 0, masks: puzzle.candidates() };
+    this.#source = source[Symbol.iterator]();
+    if (Array.isArray(source)) this.grow();
+  }
+
+  /** Whether no step is to come. */
+  get isWhole() {
+    return this.#source === null;
+  }
+
+  /** Further steps, as an iterable, behind those so far. */
+  and(source) {
+    this.#source = source[Symbol.iterator]();
+    return this;
+  }
+
+  /** Works out further steps as long as `goesOn()` answers true. */
+  grow(goesOn = () => true) {
+    while (this.#source && goesOn()) {
+      const { value, done } = this.#source.next();
+      if (done) this.#source = null;
+      else this.steps.push(value);
+    }
+    return this;
   }
 
   /** The candidates after so many steps. */
@@ -193,10 +268,10 @@ export function nextStep(puzzle, masks) {
   let best = null;
   for (let line = 0; line < puzzle.lines; line++) {
     const looked = lookedAt(puzzle, masks, line);
-    if (!looked.fits) return { kind: 'dead', line, cells: [], settled: [], premises: premisesOf(puzzle, masks, line, looked), depth: 0 };
+    if (!looked.fits) return new LineStep(puzzle, line, looked, { kind: 'dead' });
     const settled = looked.cells.filter(({ mask }) => isSettled(mask)).length;
     const ease = settled / (1 + puzzle.clues[line].lengths.length);
     if (settled > 0 && (!best || ease > best.ease)) best = { ease, line, looked };
   }
-  return best && lineStep(puzzle, masks, best.line, best.looked);
+  return best && new LineStep(puzzle, best.line, best.looked);
 }

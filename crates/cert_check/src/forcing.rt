@@ -41,12 +41,7 @@ fn narrow_line<E: LineEngine>(
 }
 
 /// Whether no list of colours fits a line, in one call of the engine.
-pub fn is_dead<E: LineEngine>(
-    engine: &mut E,
-    facts: &Facts,
-    clue: &Clue,
-    line: LineId,
-) -> bool
+pub fn is_dead<E: LineEngine>(engine: &mut E, facts: &Facts, clue: &Clue, line: LineId) -> bool
     requires line { HasLine facts.now line }
     requires short { length (line_of facts.now line) ≤ E.longest engine.old }
     ensures dead { IsTrue result ↔ (CanFit clue.now (line_of facts.now line) → ⊥) }

@@ -195,6 +195,9 @@ module _ (other : List (List ℕ)) where
     abbrev grown : Kept
     grown = lemma_of ((numbered lemmas (newest lemmas)).literals ++ literal ∷ []) (numbered lemmas (newest lemmas)).kept
 
+    pub length_grown : length (with_literal lemmas literal) ≡ length lemmas
+    length_grown = length-set lemmas (newest lemmas) grown
+
     newest_grown : 0 < length lemmas → numbered (with_literal lemmas literal) (newest (with_literal lemmas literal)) ≡ grown
     newest_grown some =
         let same : newest (with_literal lemmas literal) ≡ newest lemmas = ap (λ n. n - 1) (length-set lemmas (newest lemmas) grown) in

@@ -1,6 +1,6 @@
 -- Literals that are open, one by one.
-use Rattle.std.proofs.Common.{◌≡◌, ℕ, ◌+◌, ◌<◌, ◌≤◌, Bool, true, false, cond, List, [], ◌∷◌, ◌++◌, length, take, drop, drop-cons, add-one, get_or, filter, nat_lt, refl, sym, ap, subst, ◌∙◌, arith, inl, inr}
-use Rattle.std.proofs.lemmas.Bool.Decides.{ltb_tells}
+use Rattle.std.proofs.Common.{◌≡◌, ◌⊎◌, ℕ, ◌+◌, ◌<◌, ◌≤◌, Bool, true, false, cond, List, [], ◌∷◌, ◌++◌, length, take, drop, drop-cons, add-one, get_or, filter, nat_lt, refl, sym, ap, subst, ◌∙◌, arith, inl, inr}
+use Rattle.std.proofs.lemmas.Bool.{le-ltb, lt-ltb}
 use Rattle.std.proofs.lemmas.List.{take_more, take-append-drop, take_all, append-nil}
 use Rattle.std.proofs.lemmas.List.Elements.{filter-append}
 use Rattle.lemma_text.specs.declared.lemma_line.Literal.{Literal}
@@ -13,10 +13,10 @@ abbrev test : List (List ℕ) → Literal → Bool
 test facts literal = nat_lt 0 (left_of facts literal)
 
 is_open : (facts : List (List ℕ)) (literal : Literal) → 0 < left_of facts literal → test facts literal ≡ true
-is_open facts literal l = elim (ltb_tells 0 (left_of facts literal)) [ inl p ↦ p.0 | inr p ↦ absurd (let q = p.1 in omega arith) ]
+is_open facts literal l = lt-ltb 0 (left_of facts literal) l
 
 is_closed : (facts : List (List ℕ)) (literal : Literal) → left_of facts literal ≡ 0 → test facts literal ≡ false
-is_closed facts literal e = elim (ltb_tells 0 (left_of facts literal)) [ inl p ↦ absurd (let q = p.1 in omega arith) | inr p ↦ p.0 ]
+is_closed facts literal e = le-ltb 0 (left_of facts literal) (omega arith)
 
 -- what is open of a list that begins with a literal
 pub open_first : (facts : List (List ℕ)) (literal : Literal) (literals : List Literal) → 0 < left_of facts literal → still_open facts (literal ∷ literals) ≡ literal ∷ still_open facts literals
@@ -72,3 +72,7 @@ module _ (facts : List (List ℕ)) (literals : List Literal) (i : ℕ) (d : Lite
 
 pub all_told : (facts : List (List ℕ)) (literals : List Literal) (i : ℕ) (seen : Open) → length literals ≤ i → ToldSoFar facts literals i seen → seen ≡ told_open (still_open facts literals)
 all_told facts literals i seen all so_far = so_far ∙ ap (λ (ls : List Literal). told_open (still_open facts ls)) (take_all i literals all)
+
+pub not_first : (seen : Open) → ((literal : Literal) × (seen ≡ One literal)) ⊎ (seen ≡ More) → seen ≡ Nothing → ⊥
+not_first seen (inl p) e = let z = sym e ∙ p.1 in cc
+not_first seen (inr m) e = let z = sym e ∙ m in cc

@@ -18,7 +18,7 @@ use Rattle.lemma_check.specs.declared.machine.Stage.{Stage}
 use Rattle.lemma_check.specs.declared.machine.Stage.TheVariants.{Free, Denying, Refuting}
 use Rattle.lemma_check.specs.FirstFault.{FirstFault, IsLemmaProof, Leads, found_by}
 use Rattle.lemma_check.specs.Walk.{HasLiteral, Kept, Walk, ended, held_off, held_to, last_at, newest, newest_kept, next_at, no_lemma, numbered, root, settled, taken, used, with_literal}
-use Rattle.lemma_check.proofs.Meeting.{MeetsAll, MeetsSome, held_to_keeps, meets_appended, meets_grown, meets_less, meets_set, met_before, met_by_literal, none_open, none_stands, off_within, parts, used_keeps}
+use Rattle.lemma_check.proofs.Meeting.{MeetsAll, MeetsSome, held_to_keeps, length_grown, meets_appended, meets_grown, meets_less, meets_set, met_before, met_by_literal, none_open, none_stands, off_within, parts, used_keeps}
 
 -- ---- what is to be shown of a walk
 
@@ -119,16 +119,16 @@ module _ (picture other : List (List ℕ)) where
     settled_led walk (Line number) next l n is =
         let g = rw l.1.1.1 at is in
         goes_on walk l.1.0 walk.behind (λ all keeps.
-            let has = line_there picture walk.at_hand number (shape_trans rival.same_shape keeps.same_shape) l.0 in
-            forced_keeps picture walk.at_hand l.1.0 other (line_id number) l.1.1.0.0 rival has l.1.1.0.1 keeps) g
+        let has = line_there picture walk.at_hand number (shape_trans rival.same_shape keeps.same_shape) l.0 in
+        forced_keeps picture walk.at_hand l.1.0 other (line_id number) l.1.1.0.0 rival has l.1.1.0.1 keeps) g
     settled_led walk (Use n) next l x is =
         let g = rw l.1 at is in
         goes_on walk (used walk.at_hand (numbered walk.lemmas n).literals) walk.behind (λ all keeps. used_keeps walk.at_hand other keeps (numbered walk.lemmas n).literals (all n l.0)) g
     settled_led walk (Dead number) next l n is =
         let g = rw l.2 at is in
         ends walk walk.behind (λ all keeps.
-            let has = line_there picture walk.at_hand number (shape_trans rival.same_shape keeps.same_shape) l.0 in
-            absurd (l.1 (line_of other (line_id number), fits_line picture walk.at_hand other (line_id number) rival has keeps))) g
+        let has = line_there picture walk.at_hand number (shape_trans rival.same_shape keeps.same_shape) l.0 in
+        absurd (l.1 (line_of other (line_id number), fits_line picture walk.at_hand other (line_id number) rival has keeps))) g
     settled_led walk (Broken n) next l x is =
         let g = rw l.2 at is in
         ends walk walk.behind (λ all keeps. absurd (none_open walk.at_hand other keeps (numbered walk.lemmas n).literals (all n l.0) l.1)) g
@@ -211,7 +211,7 @@ module _ (picture other : List (List ℕ)) where
         first = d.first;
         behind = d.behind;
         within = within_trans d.first walk.at_hand (held_off walk.at_hand literal) d.within (off_within walk.at_hand literal);
-        some = (let s = d.some in omega (arith, length-set walk.lemmas (newest walk.lemmas) _));
+        some = (let s = d.some in omega (arith, length_grown other walk.lemmas literal));
       })
   fits walk (Forget n) next fit l = subst Fit (sym l.2) (λ e. cc)
 

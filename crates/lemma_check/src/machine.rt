@@ -144,12 +144,7 @@ impl Machine {
     }
 
     // The branch goes on with what the lemma says of the facts at hand.
-    fn use_lemma(
-        &mut self,
-        claim: &Claim,
-        lemma: u16,
-        number: usize,
-    ) -> Result<bool, CertFault>
+    fn use_lemma(&mut self, claim: &Claim, lemma: u16, number: usize) -> Result<bool, CertFault>
         requires counted { IsCounted self.old }
         requires same_shape { SameShape claim.now.picture.now self.old.walk.at_hand }
         ensures takes { Takes claim.now.picture.now self.old.walk self.new (LemmaLine.Use lemma) number result }
@@ -188,12 +183,7 @@ impl Machine {
     }
 
     // The branch ends, since no literal of the lemma is open.
-    fn end_lemma(
-        &mut self,
-        claim: &Claim,
-        lemma: u16,
-        number: usize,
-    ) -> Result<bool, CertFault>
+    fn end_lemma(&mut self, claim: &Claim, lemma: u16, number: usize) -> Result<bool, CertFault>
         requires counted { IsCounted self.old }
         requires same_shape { SameShape claim.now.picture.now self.old.walk.at_hand }
         ensures takes { Takes claim.now.picture.now self.old.walk self.new (LemmaLine.Broken lemma) number result }
@@ -220,12 +210,7 @@ impl Machine {
     }
 
     // Two branches begin: the cell without the literal's colours, and then with these alone.
-    fn part(
-        &mut self,
-        claim: &Claim,
-        literal: Literal,
-        number: usize,
-    ) -> Result<bool, CertFault>
+    fn part(&mut self, claim: &Claim, literal: Literal, number: usize) -> Result<bool, CertFault>
         requires counted { IsCounted self.old }
         requires same_shape { SameShape claim.now.picture.now self.old.walk.at_hand }
         ensures takes { Takes claim.now.picture.now self.old.walk self.new (LemmaLine.Part literal) number result }
@@ -235,8 +220,7 @@ impl Machine {
         };
         let left = self.trail.at_hand().left(cell.row, cell.col);
         self.waiting = self.waiting.checked_add(1).ok_or(CertFault::Memory)?;
-        self.trail
-            .part(cell.row, cell.col, left & literal.colours)?;
+        self.trail.part(cell.row, cell.col, left & literal.colours)?;
         self.trail
             .hold(cell.row, cell.col, left & !literal.colours)?;
         Ok(true)
@@ -263,12 +247,7 @@ impl Machine {
     }
 
     // The lemma that begins gets a literal, which is denied.
-    fn deny(
-        &mut self,
-        claim: &Claim,
-        literal: Literal,
-        number: usize,
-    ) -> Result<bool, CertFault>
+    fn deny(&mut self, claim: &Claim, literal: Literal, number: usize) -> Result<bool, CertFault>
         requires counted { IsCounted self.old }
         requires same_shape { SameShape claim.now.picture.now self.old.walk.at_hand }
         ensures takes { Takes claim.now.picture.now self.old.walk self.new (LemmaLine.Deny literal) number result }
@@ -292,12 +271,7 @@ impl Machine {
     }
 
     // A lemma is kept no longer.
-    fn forget(
-        &mut self,
-        claim: &Claim,
-        lemma: u16,
-        number: usize,
-    ) -> Result<bool, CertFault>
+    fn forget(&mut self, claim: &Claim, lemma: u16, number: usize) -> Result<bool, CertFault>
         requires counted { IsCounted self.old }
         requires same_shape { SameShape claim.now.picture.now self.old.walk.at_hand }
         ensures takes { Takes claim.now.picture.now self.old.walk self.new (LemmaLine.Forget lemma) number result }
@@ -323,8 +297,7 @@ impl Machine {
     {
         if let Some(cell) = cell_of(self.trail.at_hand(), literal) {
             let left = self.trail.at_hand().left(cell.row, cell.col);
-            self.trail
-                .hold(cell.row, cell.col, left & literal.colours)?;
+            self.trail.hold(cell.row, cell.col, left & literal.colours)?;
         }
         Ok(())
     }

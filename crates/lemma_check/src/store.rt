@@ -59,7 +59,11 @@ impl Lemma {
             (self.now.kept ≡ false)
             (λ literals. (self.now.kept ≡ true) × (literals.now ≡ self.now.literals)) }
     {
-        if self.kept { Some(&self.literals) } else { None }
+        if self.kept {
+            Some(&self.literals)
+        } else {
+            None
+        }
     }
 }
 

@@ -1,0 +1,65 @@
+#!/usr/bin/env python3
+"""Writes docs/COSTS.md: what a change in each crate costs, out of what `bash .ci/run` printed when it proved everything.
+
+Usage: .ci/costs.py LOG, where LOG is that output. Each crate has the processor minutes of its own proofs, tests and builds, of its
+must-fail edits, and of both together with all crates that depend on it.
+"""
+import datetime
+import pathlib
+import re
+import sys
+
+ROOT = pathlib.Path(__file__).resolve().parent.parent
+LINE = re.compile(r'^ {4}([a-z_]+): ((?:proofs|edits|tests|builds) .*)$')
+HEAD = """# What a change costs
+
+For somebody who changes the code. A changed crate is proved again, its must-fail edits are tried again, and so are all crates that depend on it. These are processor minutes of one run of `bash .ci/run` from nothing, on {date}, in the order of the last column. `.ci/costs.py` makes this page of the output of such a run.
+
+| crate | its proofs, tests and builds | its edits | with all crates above it |
+|---|---|---|---|
+"""
+
+
+def needs():
+    """Each crate with the crates that it names, in the order of crates.txt."""
+    lines = (ROOT / 'crates.txt').read_text().splitlines()
+    named = {line.split(':')[0].split()[0]: set(line.split(':')[1].split()) for line in lines if ':' in line and not line.startswith('#')}
+    return {crate: {one for one in lower if one in named} for crate, lower in named.items()}
+
+
+def above(crate, lower):
+    """The crates that depend on one, itself among them."""
+    found = {crate}
+    for other, named in lower.items():
+        if named & found:
+            found.add(other)
+    return found
+
+
+def minutes_of(log):
+    """The minutes of each crate by kind."""
+    minutes = {}
+    for line in log.splitlines():
+        found = LINE.match(line)
+        if found:
+            kinds = (part.split() for part in found[2].split(', '))
+            minutes[found[1]] = {kind: float(count) for kind, count in kinds}
+    return minutes
+
+
+def main():
+    log = pathlib.Path(sys.argv[1])
+    text = log.read_text()
+    if 'all proved in this run' not in text:
+        sys.exit('costs: this run kept proofs of earlier ones, so its minutes say little')
+    minutes, lower = minutes_of(text), needs()
+    edits = {crate: minutes.get(crate, {}).get('edits', 0) for crate in lower}
+    own = {crate: sum(minutes.get(crate, {}).values()) - edits[crate] for crate in lower}
+    whole = {crate: sum(own[one] + edits[one] for one in above(crate, lower)) for crate in lower}
+    rows = [f'| `{crate}` | {own[crate]:.1f} | {edits[crate]:.1f} | {whole[crate]:.0f} |\n' for crate in sorted(lower, key=lambda one: -whole[one])]
+    date = datetime.date.fromtimestamp(log.stat().st_mtime)
+    (ROOT / 'docs' / 'COSTS.md').write_text(HEAD.format(date=f'{date.day} {date:%B %Y}') + ''.join(rows))
+
+
+if __name__ == '__main__':
+    main()

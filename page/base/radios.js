@@ -1,0 +1,19 @@
+// Groups of radio buttons.
+
+/** A group of radio buttons: a click or an arrow chooses. */
+export function radioGroup(group, pick) {
+  group.addEventListener('click', (event) => {
+    const button = event.target.closest('button');
+    if (button) pick(button);
+  });
+  group.addEventListener('keydown', (event) => {
+    const way = { ArrowDown: 1, ArrowRight: 1, ArrowUp: -1, ArrowLeft: -1 }[event.key];
+    if (!way) return;
+    const buttons = [...group.querySelectorAll('button')];
+    event.preventDefault();
+    event.stopPropagation();
+    const next = buttons.at((buttons.indexOf(event.target.closest('button')) + way) % buttons.length);
+    pick(next);
+    next.focus();
+  });
+}

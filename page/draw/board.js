@@ -1,0 +1,126 @@
+// The one renderer of a puzzle: its grid, what stands in cells, and its clues, on a surface. The editor, Play and paper call it.
+// Each has a frame, in which its cells lie, and a look.
+//
+// A frame: {x, y} of the first cell, its side `cell`, `rows`, `columns`, and the part that is drawn, {top, left, bottom, right}.
+// A look: `fills` and `inks` of the colours, `signs` (a sign a colour, or null: colours alone), `family` of the text; `thin`, `wide` and
+// `border`, the weights of lines; `isWhole`, whether they lie on whole pixels; `under`, whether cells lie below them, or between;
+// `light`, `heavy`, `ink` and `faint`, the inks of lines and texts; `style` of clues ('chip', 'box', 'frame' or 'plain'); `edge`
+// around a chip, `hair` wide, its `radius`; `font`, its text's size at most, and `least`, at least; the `weight` of texts.
+
+import { cssOf, hexOf, inkOn } from '../document/colours.js';
+import { LETTERS } from '../document/limits.js';
+import { givenCorners } from './given.js';
+
+const DIGIT = 0.58; // the width of a digit by its size
+
+/** What a look has of a document: its colours, and what is read on them. */
+export const coloursOf = (doc, isPaper = false) => ({
+  fills: doc.colours.map((triple) => (isPaper ? hexOf : cssOf)(triple, doc.maxval)),
+  inks: doc.colours.map((triple) => inkOn(triple, doc.maxval)),
+});
+
+export const wholeFrame = (x, y, cell, { rows, columns }) => ({ x, y, cell, rows, columns, top: 0, left: 0, bottom: rows - 1, right: columns - 1 });
+
+// ---- the grid
+
+const isHeavy = (at, count) => at % 5 === 0 || at === count;
+const weightOf = (look, at, count) => (at === 0 || at === count ? look.border : at % 5 === 0 ? look.wide : look.thin);
+const before = (look, weight) => (look.isWhole ? Math.floor(weight / 2) : weight / 2); // how much of a line lies before its place
+
+/**
+ * Left edge and width of columns, or upper edge and height of rows, between the lines.
+ * @returns {[number, number]}
+ */
+export function edges(look, from, end, first, cell, count) {
+  const [one, other] = look.under ? [0, 0] : [weightOf(look, from, count), weightOf(look, end, count)];
+  const begin = first + from * cell + one - before(look, one);
+  return [begin, first + end * cell - before(look, other) - begin];
+}
+
+/** The lines of the part that is drawn; each fifth and the border lie over the others. */
+export function drawRules(surface, look, frame) {
+  const { x, y, cell, top, left, bottom, right } = frame;
+  const [west, north, wide, high] = [x + left * cell, y + top * cell, (right - left + 1) * cell, (bottom - top + 1) * cell];
+  for (const strong of look.thin ? [false, true] : [true]) {
+    const ink = strong ? look.heavy : look.light;
+    for (let col = left; col <= right + 1; col++) {
+      const weight = weightOf(look, col, frame.columns);
+      if (isHeavy(col, frame.columns) === strong) surface.rect(x + col * cell - before(look, weight), north, weight, high, ink);
+    }
+    for (let row = top; row <= bottom + 1; row++) {
+      const weight = weightOf(look, row, frame.rows);
+      if (isHeavy(row, frame.rows) === strong) surface.rect(west, y + row * cell - before(look, weight), wide, weight, ink);
+    }
+  }
+}
+
+// ---- cells
+
+/** The sign of a colour in the middle of a cell. */
+export const drawSign = (surface, look, at, { x, y, size, ink = look.inks[at] }) => surface.text(look.signs[at], x, y, { size, ink, family: look.family, weight: 600 });
+
+/** The mark of a given cell. */
+export const drawGiven = (surface, x, y, side) => surface.polygon(givenCorners(x, y, side), { fill: '#fff', edge: '#1a1a1a', weight: Math.max(side * 0.05, surface.pen ? 0.8 : 0) });
+
+/** A dot for a cell that is known to be background. */
+export const drawDot = (surface, look, x, y, side) => surface.disc(x + side / 2, y + side / 2, Math.max(1.2, side * 0.09), look.inks[0]);
+
+// ---- clues
+
+const signOf = (look, letter) => (look.signs ? look.signs[LETTERS.indexOf(letter)] : '');
+export const blockText = (look, block) => `${block.length}${signOf(look, block.letter)}`;
+
+// How a block shows its colour: a dark one is a frame on paper, so that digits there are always black on white.
+function boxOf(look, at) {
+  if (look.style === 'plain') return null;
+  if (look.style === 'box' && look.inks[at] !== '#000') return { fill: '#fff', edge: look.fills[at], share: 0.13, ink: look.ink };
+  return { fill: look.fills[at] ?? '#888', edge: look.edge, share: 0, ink: look.inks[at] };
+}
+
+/** One block of a clue in its box. */
+export function drawBlock(surface, look, block, { x, y, width, height }) {
+  const box = boxOf(look, LETTERS.indexOf(block.letter));
+  if (box) surface.chip(x, y, width, height, { fill: box.fill, edge: height > 4 ? box.edge : null, weight: box.share * Math.min(width, height) || look.hair, radius: Math.min(look.radius, height / 4) });
+  const text = blockText(look, block);
+  const size = Math.min(look.font, height, (width * (1 - 2 * (box?.share ?? 0))) / (text.length * DIGIT));
+  const [middle, high] = look.isWhole ? [height / 2 + 0.5, Math.floor(size)] : [height / 2, size];
+  if (size >= look.least) surface.text(text, x + width / 2, y + middle, { size: high, ink: box ? box.ink : look.ink, family: look.family, weight: look.weight });
+}
+
+/** The clue of a line without a block. */
+export function drawNone(surface, look, x, y) {
+  if (look.font >= look.least) surface.text('0', x, y, { size: look.font, ink: look.faint, family: look.family });
+}
+
+/**
+ * The blocks of a clue, from its cells outward. `place`: `near` and `far`, between which they lie; `middle` of the line's band; the `gap`
+ * between blocks; `sizeOf` a block; which are `crossed` off. Where not all have room, a mark says so, some `unit`s before the far end.
+ */
+export function drawClue(surface, look, axis, blocks, place, drawOne = drawBlock) {
+  const { near, far, middle, gap, sizeOf, crossed = null } = place;
+  const across = axis === 'r';
+  const whole = (value) => (look.isWhole ? Math.floor(value) : value);
+  if (!blocks.length) return drawNone(surface, look, ...(across ? [near - look.font / 2, middle] : [middle, near - look.font / 2]));
+  let edge = near;
+  for (let at = blocks.length - 1; at >= 0; at--) {
+    const { width, height } = sizeOf(blocks[at]);
+    const length = across ? width : height;
+    if (edge - length < far) return drawCut(surface, look, across, place);
+    const box = across ? { x: edge - width, y: whole(middle - height / 2), width, height } : { x: whole(middle - width / 2), y: edge - height, width, height };
+    if (crossed?.[at]) drawCrossed(surface, look, blocks[at], box, drawOne);
+    else drawOne(surface, look, blocks[at], box);
+    edge -= length + gap;
+  }
+  return undefined;
+}
+
+function drawCut(surface, look, across, { far, middle, unit }) {
+  if (across) surface.rect(far - 6 * unit + 1, middle - unit, 4 * unit, 2 * unit, look.ink);
+  else surface.rect(middle - unit, far - 6 * unit + 1, 2 * unit, 4 * unit, look.ink);
+}
+
+// A block that the marks of a solver cross off: fainter, with a line through it.
+function drawCrossed(surface, look, block, box, drawOne) {
+  surface.faded(0.5, () => drawOne(surface, look, block, box));
+  surface.line(box.x + 2, box.y + box.height - 2, box.x + box.width - 2, box.y + 2, look.ink, 1);
+}

@@ -1,0 +1,141 @@
+// Print for books: the picture at hand, and on wish others of the library, as sheets, for the browser's print or as SVG.
+
+import { $, make, say } from '../base/elements.js';
+import { clamp, sizeText } from '../base/words.js';
+import { docOf } from '../document/document.js';
+import { bench } from '../engine/bench.js';
+import { writeZip } from '../formats/zip.js';
+import { keep } from '../library/keep.js';
+import { SAVE_TYPES, download, exportAs } from '../library/saving.js';
+import { phrase } from '../texts/phrase.js';
+import { addAction } from '../view/actions.js';
+import { openDialog } from '../view/dialogs.js';
+import { gradeAtHand } from '../view/grading.js';
+import { nearText } from '../view/palette.js';
+import { asSeen } from '../view/tools.js';
+import { SHEET_TEXTS, entryOf } from './entries.js';
+import { GRIDS, PAPERS, isLarge, partsOf, sheetsOf } from './sheets.js';
+
+const PAPER_NAMES = { a4: 'A4', a5: 'A5', letter: phrase('export.usLetter'), book: phrase('export.69Inches') };
+const SHOWN = { colours: phrase('export.colours'), letters: phrase('export.letters'), signs: phrase('export.signs') };
+const MARGINS = [5, 40]; // millimetres
+const LEAST_CELL = 3; // millimetres that are read and filled easily
+const USUAL = { paper: 'a4', isWide: false, margin: 12, perSheet: 1, show: 'colours', answers: true, hasGrade: false };
+const chosen = { ...USUAL }; // as it was chosen last
+const page = { rule: -1 }; // the place of the rule for the size of paper, in the page's style
+
+/** What somebody who solves the puzzle should not be left to find out. */
+export const WARNINGS = {
+  ambiguous: phrase('export.anotherPictureSameClues'),
+  undecided: phrase('export.notKnownYetWhether'),
+};
+
+const atHand = () => ({ doc: docOf(bench.state), name: bench.name, grade: gradeAtHand()?.word ?? null, verdict: bench.state.verdict.word });
+
+const sheetsFor = (puzzles, options) => sheetsOf(puzzles.map((one) => entryOf(one, options)), { ...options, texts: SHEET_TEXTS });
+
+// ---- the browser's print
+
+// The size of the paper is a rule of the style: by the style's own interface, since the page's policy allows no other style.
+function setPaper({ width, height }) {
+  const [style] = document.styleSheets;
+  if (page.rule >= 0) style.deleteRule(page.rule);
+  page.rule = style.insertRule(`@page { size: ${width}mm ${height}mm; margin: 0; }`, style.cssRules.length);
+}
+
+/** Fills the part of the page that is printed. */
+function fillPrint(sheets) {
+  setPaper(sheets[0]);
+  $('print').replaceChildren(...sheets.map(({ svg }) => {
+    const drawing = new DOMParser().parseFromString(svg, 'image/svg+xml').documentElement;
+    return make('section', { class: 'printed' }, document.importNode(drawing, true));
+  }));
+}
+
+function saveSvg(sheets) {
+  if (sheets.length === 1) return exportAs('svg', sheets[0].svg, '-print');
+  const files = sheets.map(({ svg }, at) => ({ name: `${bench.name} ${String(at + 1).padStart(2, '0')}.svg`, bytes: new TextEncoder().encode(svg) }));
+  download(new Blob([writeZip(files)], { type: SAVE_TYPES.zip.type }), `${bench.name}-print.zip`, SAVE_TYPES.zip.type);
+  return say(phrase('export.sheetsSavedPrintZip', { sheets: files.length, name: bench.name }));
+}
+
+// ---- what is asked
+
+const choice = (id, options, value) => make('select', { id }, ...Object.entries(options).map(([name, text]) => make('option', { value: name, selected: name === String(value) }, text)));
+
+// The other pictures of the library, to be printed with this one.
+async function otherCards() {
+  const keeper = await keep.ready();
+  return (await keeper.cards()).filter((card) => card.id !== keep.id);
+}
+
+function libraryPart(cards) {
+  const boxes = cards.map((card) => make('input', { type: 'checkbox', value: card.id }));
+  const facts = (card) => [card.name, sizeText(card.doc), card.verdict && card.verdict !== 'unique' ? card.verdict : ''].filter(Boolean).join(', ');
+  const part = make('details', { id: 'print-others' }, make('summary', {}, phrase('export.othersLibrary', { count: cards.length })), ...cards.map((card, at) => make('label', {}, boxes[at], facts(card))));
+  return { part: cards.length ? part : '', ids: () => boxes.filter((box) => box.checked).map((box) => box.value) };
+}
+
+function printFields(near, graded) {
+  const check = (id, checked, text) => [make('input', { type: 'checkbox', id, checked }), text];
+  const fields = {
+    title: make('input', { type: 'text', id: 'print-title', value: bench.state.about.title || bench.name, maxlength: '200' }),
+    paper: choice('print-paper', PAPER_NAMES, chosen.paper), wide: make('input', { type: 'checkbox', id: 'print-wide', checked: chosen.isWide }),
+    margin: make('input', { type: 'number', id: 'print-margin', min: MARGINS[0], max: MARGINS[1], value: chosen.margin }),
+    perSheet: choice('print-count', Object.fromEntries(Object.keys(GRIDS).map((count) => [count, count])), chosen.perSheet),
+    show: choice('print-show', SHOWN, near && chosen.show === 'colours' ? 'letters' : chosen.show),
+  };
+  if (near) fields.show.querySelector('[value="colours"]').disabled = true;
+  const [answers, answersText] = check('print-answers', chosen.answers, phrase('export.solutionsEnd'));
+  const [grade, gradeText] = check('print-grade', chosen.hasGrade, graded ? phrase('export.grade2', { word: graded.word }) : phrase('export.gradeWhereOneKnown'));
+  const rows = [make('label', {}, phrase('export.title'), fields.title), make('div', { class: 'group' }, make('label', {}, phrase('export.paper'), fields.paper), make('label', {}, fields.wide, phrase('export.landscape')), make('label', {}, phrase('export.marginMm'), fields.margin)),
+    make('div', { class: 'group' }, make('label', {}, phrase('export.puzzlesSheet'), fields.perSheet), make('label', {}, phrase('export.coloursShown'), fields.show)), make('label', {}, answers, answersText), make('label', {}, grade, gradeText)];
+  return { fields: { ...fields, answers, grade }, rows };
+}
+
+function readFields({ paper, wide, margin, perSheet, show, answers, grade }) {
+  const side = Number(margin.value);
+  return { paper: paper.value in PAPERS ? paper.value : USUAL.paper, isWide: wide.checked, margin: clamp(Number.isFinite(side) ? side : USUAL.margin, ...MARGINS), perSheet: Number(perSheet.value), show: show.value, answers: answers.checked, hasGrade: grade.checked };
+}
+
+// What is to be known before it is printed.
+function warningsOf(puzzle, near) {
+  const parts = isLarge(puzzle) ? phrase('export.goesOverSheetsMap', { sheets: partsOf(puzzle.doc).length }) : '';
+  return [WARNINGS[puzzle.verdict], near && phrase('export.soSheetLettersSigns', { near }), parts].filter(Boolean).map((text) => make('p', { class: text === parts ? 'faint' : 'wrong' }, text));
+}
+
+async function printPuzzle() {
+  await asSeen();
+  const [own, near] = [atHand(), nearText(bench.state)];
+  const { fields, rows } = printFields(near, gradeAtHand());
+  const others = libraryPart(await otherCards());
+  const content = make('div', { class: 'rows' }, ...rows, others.part, ...warningsOf(own, near));
+  const way = await openDialog({ title: phrase('export.print2'), content, wide: true, buttons: [{ name: phrase('export.saveSvg'), value: 'svg' }, { name: phrase('export.print'), value: 'print', main: true }] });
+  if (!way) return;
+  Object.assign(chosen, readFields(fields));
+  const title = fields.title.value.trim();
+  const first = { ...own, doc: { ...own.doc, about: { ...own.doc.about, title } } };
+  const more = [];
+  for (const id of others.ids()) {
+    const [record, card] = [await keep.keeper.record(id), (await keep.keeper.cards()).find((one) => one.id === id)];
+    if (record) more.push({ doc: record.doc, name: record.name, grade: card?.grade ?? null });
+  }
+  const alike = more.find(({ doc }) => chosen.show === 'colours' && nearText(doc));
+  if (alike) return say(phrase('export.printLettersSigns', { name: alike.name, near: nearText(alike.doc) }), 'alarm');
+  const sheets = sheetsFor([first, ...more], chosen);
+  const least = Math.min(...sheets.map(({ cell }) => cell ?? Infinity));
+  if (least < LEAST_CELL) say(phrase('export.smallestCellsMmWide', { value: Math.round(least * 10) / 10 }), 'alarm');
+  if (way === 'svg') return saveSvg(sheets);
+  fillPrint(sheets);
+  globalThis.print();
+}
+
+/** Adds print to the menu File. */
+export function startPrinting() {
+  addAction({ id: 'print', name: phrase('export.print'), key: 'Ctrl+P', place: 'file', group: 'print', run: printPuzzle });
+  // What is opened by the browser's own print, without the dialog, is a sheet too.
+  addEventListener('beforeprint', () => {
+    if (bench.state && !$('print').children.length) fillPrint(sheetsFor([atHand()], { ...chosen, show: nearText(bench.state) && chosen.show === 'colours' ? 'letters' : chosen.show }));
+  });
+  addEventListener('afterprint', () => $('print').replaceChildren());
+}

@@ -1,0 +1,71 @@
+// Links: the puzzle at hand in an address, to be solved or to be changed. Nothing is sent anywhere.
+
+import { make, say } from '../base/elements.js';
+import { docOf } from '../document/document.js';
+import { bench } from '../engine/bench.js';
+import { fragmentOf } from '../formats/link.js';
+import { phrase } from '../texts/phrase.js';
+import { addAction } from '../view/actions.js';
+import { openDialog } from '../view/dialogs.js';
+import { asSeen } from '../view/tools.js';
+import { WARNINGS } from './printing.js';
+
+const LONG = 2000; // characters; some programs cut longer links
+const [PLAY, EDIT, FRAME] = ['play', 'edit', 'frame'];
+const KINDS = { [PLAY]: phrase('export.solve'), [EDIT]: phrase('export.edit'), [FRAME]: phrase('export.htmlSite') };
+const ownAddress = () => (/^https?:$/.test(location.protocol) ? location.href.split('#')[0] : '');
+
+const attributeOf = (text) => text.replaceAll('&', '&amp;').replaceAll('"', '&quot;').replaceAll('<', '&lt;');
+
+/** What is handed out: the link itself, or the HTML of a frame that shows it. */
+function linkText(kind, address, fragment, title) {
+  if (kind !== FRAME) return address + fragment;
+  return `<iframe src="${attributeOf(address + fragment)}" title="${attributeOf(title)}" width="600" height="600"></iframe>`;
+}
+
+// What a link does not tell by itself.
+function notesOn(kind, address, length) {
+  return [
+    address ? '' : phrase('export.pageOpenedFromFile'),
+    kind === EDIT ? '' : phrase('export.linkHoldsSolutionThough'),
+    length > LONG ? phrase('export.linkCharactersSomePrograms', { count: length, LONG }) : '',
+    kind === EDIT ? '' : WARNINGS[bench.state.verdict.word] ?? '',
+  ].filter(Boolean).join(' ');
+}
+
+async function copied(field) {
+  try {
+    await navigator.clipboard.writeText(field.value);
+  } catch { // without the clipboard, as in a page from a file
+    field.select();
+    if (!document.execCommand('copy')) return phrase('export.browserDidNotCopy');
+  }
+  say(phrase('export.linkCopied'));
+  return '';
+}
+
+async function share() {
+  await asSeen();
+  const doc = docOf(bench.state);
+  const title = doc.about.title || bench.name;
+  const fragments = { [PLAY]: await fragmentOf(doc, PLAY), [EDIT]: await fragmentOf(doc, EDIT) };
+  const kind = make('select', { id: 'share-kind' }, ...Object.entries(KINDS).map(([value, name]) => make('option', { value }, name)));
+  const address = make('input', { type: 'url', id: 'share-address', value: ownAddress(), placeholder: 'https://example.org/nonobench.html' });
+  const field = make('textarea', { id: 'share-link', readonly: true, rows: 4, cols: 60 });
+  const note = make('p', { id: 'share-note', class: 'faint', role: 'status' });
+  const fill = () => {
+    const base = address.value.trim() || location.href.split('#')[0];
+    field.value = linkText(kind.value, base, fragments[kind.value === EDIT ? EDIT : PLAY], title);
+    note.textContent = notesOn(kind.value, address.value.trim(), field.value.length);
+  };
+  kind.addEventListener('change', fill);
+  address.addEventListener('input', fill);
+  fill();
+  const content = make('div', { class: 'rows' }, make('label', {}, phrase('export.link'), kind), make('label', {}, phrase('export.addressPage'), address), make('label', {}, phrase('export.link2'), field), note);
+  await openDialog({ title: phrase('export.share'), content, buttons: [{ name: phrase('export.copy'), value: true, main: true, test: () => copied(field) }] });
+}
+
+/** Adds sharing to the menu File. */
+export function startSharing() {
+  addAction({ id: 'share', name: phrase('export.shareLink'), place: 'file', group: 'export', run: share });
+}

@@ -1,0 +1,149 @@
+// The palette in the dialog for pictures: which colours there are and on how many cells, and what is done to one of them: it becomes
+// the background, is locked, is replaced by another one, or is dropped. A palette from a file takes the place of the image's own.
+
+import { make } from '../base/elements.js';
+import { radioGroup } from '../base/radios.js';
+import { hexOf, nameOf, tripleOf } from '../document/colours.js';
+import { LETTERS } from '../document/limits.js';
+import { colourNamed } from '../document/named.js';
+import { readPalette } from '../formats/palettes.js';
+
+const TEXT = {
+  palette: 'Palette', background: 'Background', lock: 'Locked', replace: 'Replace by', drop: 'Drop', reset: 'Start again', file: 'Palette file …', name: 'Name of a colour', nameHint: 'or its name',
+  lockHint: 'It stays, however many colours there are', unknown: (text) => `“${text}” is no colour that has a name.`, from: (name) => `Colours of “${name}” alone.`,
+  share: (percent) => `${percent} %`, isGround: 'background', isLocked: 'locked', wrong: (name, fault) => `“${name}” could not be read: ${fault}.`,
+};
+const same = (one, other) => one.join() === other.join();
+const without = (triples, triple) => triples.filter((one) => !same(one, triple));
+const noEdits = () => ({ locked: [], dropped: [], replaced: [], background: null, palette: null });
+
+export class Inks {
+  changed; drops; doc; isClear;
+
+  /** `changed` hears each edit; `drops` hears that a colour was dropped. */
+  constructor(changed, drops) {
+    Object.assign(this, { changed, drops, edits: noEdits(), doc: null, at: 0 });
+    this.row = make('div', { class: 'swatches', role: 'radiogroup', 'aria-label': TEXT.palette, id: 'import-palette' });
+    this.text = make('output', { class: 'faint', id: 'import-ink' });
+    this.ground = make('button', { type: 'button', onclick: () => this.edit({ background: this.source }) }, TEXT.background);
+    this.locked = make('input', { type: 'checkbox', id: 'import-lock' });
+    this.picker = make('input', { type: 'color', 'aria-label': TEXT.replace });
+    this.named = make('input', { type: 'text', 'aria-label': TEXT.name, placeholder: TEXT.nameHint, list: 'colour-names', size: 9 });
+    this.dropped = make('button', { type: 'button', id: 'import-drop', onclick: () => this.drop() }, TEXT.drop);
+    this.file = make('input', { type: 'file', accept: '.gpl,.pal,.hex,.txt', hidden: true });
+    this.said = make('p', { class: 'faint', role: 'status' });
+    this.element = make('div', { class: 'inks' }, this.row, this.text,
+      make('div', { class: 'ground' }, this.ground, make('label', { title: TEXT.lockHint }, this.locked, TEXT.lock), this.dropped),
+      make('div', { class: 'ground' }, make('label', {}, TEXT.replace, this.picker), this.named),
+      make('div', { class: 'ground' }, make('button', { type: 'button', id: 'import-file', onclick: () => this.file.click() }, TEXT.file), this.file,
+        make('button', { type: 'button', id: 'import-reset', onclick: () => this.reset() }, TEXT.reset)), this.said);
+    this.hear();
+  }
+
+  hear() {
+    radioGroup(this.row, (button) => this.choose(Number(button.dataset.at)));
+    this.locked.addEventListener('input', () => this.edit({ locked: this.locked.checked ? [...this.edits.locked, this.source] : without(this.edits.locked, this.source) }));
+    this.picker.addEventListener('change', () => this.replace(tripleOf(this.picker.value)));
+    this.named.addEventListener('change', () => {
+      const triple = colourNamed(this.named.value);
+      if (triple) this.replace(triple);
+      this.said.textContent = triple || !this.named.value ? '' : TEXT.unknown(this.named.value);
+      this.named.value = '';
+    });
+    this.file.addEventListener('change', () => this.file.files[0] && this.read(this.file.files[0]));
+  }
+
+  /** What docOfCells is told. */
+  get options() {
+    return this.edits;
+  }
+
+  // The chosen colour as the image has it.
+  get source() {
+    return (this.doc.sources ?? this.doc.colours)[this.at];
+  }
+
+  edit(change) {
+    Object.assign(this.edits, change);
+    this.changed();
+  }
+
+  reset() {
+    this.edits = noEdits();
+    this.said.textContent = '';
+    this.changed();
+  }
+
+  /** Has the chosen colour shown as another one; it stays from then on, too. What is transparent is shown by its background. */
+  replace(triple) {
+    const { source, edits } = this;
+    if (this.isClear && this.at === 0) return this.edit({ background: triple });
+    const replaced = edits.replaced.filter(([from]) => !same(from, source));
+    return this.edit({ replaced: same(source, triple) ? replaced : [...replaced, [source, triple]], locked: [...without(edits.locked, source), source] });
+  }
+
+  drop() {
+    const { source, edits } = this;
+    this.at = Math.max(0, this.at - 1);
+    this.drops();
+    this.edit({ dropped: [...edits.dropped, source], locked: without(edits.locked, source), replaced: edits.replaced.filter(([from]) => !same(from, source)) });
+  }
+
+  async read(file) {
+    try {
+      const { colours } = readPalette(await file.text());
+      this.said.textContent = TEXT.from(file.name);
+      this.edit({ ...noEdits(), palette: colours.map(({ triple }) => triple) });
+    } catch (fault) {
+      this.said.textContent = TEXT.wrong(file.name, fault.message);
+    }
+    this.file.value = '';
+  }
+
+  choose(at) {
+    this.at = at;
+    this.mark();
+  }
+
+  /** Shows the colours of a document; `isClear` says that its background is what is transparent. */
+  show(doc, isClear) {
+    Object.assign(this, { doc, isClear, at: Math.min(this.at, doc.colours.length - 1) });
+    const had = this.row.contains(document.activeElement);
+    this.row.replaceChildren(...doc.colours.map((triple, at) => {
+      const button = make('button', { type: 'button', role: 'radio', 'data-at': at, title: hexOf(triple, 255) }, at === 0 ? '·' : this.isLocked(at) ? '■' : '');
+      button.style.background = hexOf(triple, 255);
+      button.style.color = triple[0] * 2 + triple[1] * 5 + triple[2] > 1100 ? '#000' : '#fff';
+      return button;
+    }));
+    this.mark();
+    if (had) /** @type {any} */ (this.row.children[this.at]).focus();
+  }
+
+  isLocked(at) {
+    const source = (this.doc.sources ?? this.doc.colours)[at];
+    return this.edits.locked.some((one) => same(one, source));
+  }
+
+  textOf(at) {
+    const { doc } = this;
+    const cells = doc.picture.join('').split(LETTERS[at]).length - 1;
+    const share = TEXT.share(((100 * cells) / (doc.rows * doc.columns)).toFixed(1));
+    return [`${nameOf(doc.colours[at], 255)} ${hexOf(doc.colours[at], 255)}`, share, at === 0 ? TEXT.isGround : '', this.isLocked(at) ? TEXT.isLocked : ''].filter(Boolean).join(', ');
+  }
+
+  mark() {
+    const { doc, at } = this;
+    [...this.row.children].forEach((/** @type {any} */ button, one) => {
+      button.setAttribute('aria-checked', String(one === at));
+      button.setAttribute('aria-label', this.textOf(one));
+      button.tabIndex = one === at ? 0 : -1;
+    });
+    this.text.value = this.textOf(at);
+    this.picker.value = hexOf(doc.colours[at], 255);
+    this.locked.checked = this.isLocked(at);
+    const isGround = this.isClear && at === 0;
+    this.ground.disabled = at === 0 || this.isClear;
+    this.locked.disabled = isGround;
+    this.dropped.disabled = isGround || doc.colours.length < 3;
+  }
+}

@@ -1,0 +1,84 @@
+// What a puzzle that is not open yet would be like: its verdict and grade, worked out in a worker of its own, of the newest one alone.
+
+import { number } from '../base/words.js';
+import { baseOf } from '../document/cover.js';
+import { pageOf } from '../document/document.js';
+import { answersTo } from '../engine/answers.js';
+import { startEngine } from '../engine/client.js';
+import { openedIn } from '../engine/opening.js';
+
+const TEXT = {
+  none: '', works: 'Looking for another solution …', unique: '✓ Unique', ambiguous: '✗ Not unique', undecided: 'Not decided within some seconds', failed: 'No verdict: the engine failed',
+  guesses: (count) => `${number(count)} cells need guessing`, open: (count) => `${number(count)} cells are open`,
+};
+const REST = 120; // milliseconds without a change
+const MOST_SECONDS = 5;
+
+/** What is told of a document: in words. */
+export function judgedText({ word, open = 0, grade = null }) {
+  const more = !open ? '' : word === 'unique' ? TEXT.guesses(open) : word === 'ambiguous' ? TEXT.open(open) : '';
+  return [TEXT[word], more, grade ? grade.word : ''].filter(Boolean).join(', ');
+}
+
+/** Judges documents one behind the other: a newer one takes the place of what waits and of what is worked on. */
+export class Judging {
+  told; start; seconds; rest; turn; timer; isBusy;
+
+  constructor(told, { start = startEngine, seconds = MOST_SECONDS, rest = REST } = {}) {
+    Object.assign(this, { told, start, seconds, rest, engine: null, turn: 0, timer: 0, isBusy: false });
+  }
+
+  /** Asks for a document's verdict; `told` hears {word, open, grade}, of the newest document alone. */
+  ask(doc) {
+    clearTimeout(this.timer);
+    this.turn++;
+    this.timer = setTimeout(() => this.work(doc, this.turn), this.rest);
+    this.told({ word: 'works' });
+  }
+
+  end() {
+    clearTimeout(this.timer);
+    this.turn++;
+    this.engine?.end();
+    this.engine = null;
+  }
+
+  async work(doc, turn) {
+    if (this.isBusy) { // on an older one
+      this.engine?.end();
+      this.engine = null;
+    }
+    this.isBusy = true;
+    const engine = (this.engine ??= this.start());
+    let isLate = false;
+    const clock = setTimeout(() => {
+      isLate = true;
+      engine.end();
+    }, this.seconds * 1000);
+    let found;
+    try {
+      found = await judged(engine, doc, (part) => turn === this.turn && this.told(part));
+    } catch {
+      found = { word: isLate ? 'undecided' : 'failed' };
+    }
+    clearTimeout(clock);
+    if (engine.isEnded && this.engine === engine) this.engine = null;
+    if (turn !== this.turn) return;
+    this.isBusy = false;
+    this.told(found);
+  }
+}
+
+// Opens a document in an engine, and asks for its verdict and, where it is unique, its grade.
+async function judged(engine, doc, told) {
+  const state = await openedIn(engine, baseOf(doc), pageOf({}));
+  const { open, map } = state;
+  const word = state.verdict.word === 'undecided' ? (await asked(engine, ['allow off', 'verdict'], state)).at(-1).word : state.verdict.word;
+  if (word !== 'unique') return { word, open };
+  told({ word, open });
+  const [certificate] = open ? await asked(engine, ['certify'], state) : [{}];
+  const grade = await engine.call('grade', { puzzle: { picture: state.picture, givens: [...state.givens], verdict: word, map, certificate: certificate.text ?? null } });
+  return { word, open, grade: grade.none ? null : grade };
+}
+
+const asked = async (engine, lines, state) => answersTo(lines, await engine.say(lines), state);

@@ -1,0 +1,140 @@
+// Several files at once: what each holds, with its verdict and grade, in a table; then all of them to the library, or out as one zip.
+
+import { make, say } from '../base/elements.js';
+import { tell } from '../base/events.js';
+import { bareName, many } from '../base/words.js';
+import { Judge } from '../engine/judging.js';
+import { keep } from '../library/keep.js';
+import { faultText, openDoc } from '../library/open.js';
+import { recordOfDoc } from '../library/records.js';
+import { SAVE_TYPES, download } from '../library/saving.js';
+import { openDialog } from '../view/dialogs.js';
+import { secondsChosen } from '../view/verdict.js';
+import { archiveOf, docsOfBytes } from './archives.js';
+
+const MOST_SECONDS = 30; // for a picture
+const MOST_BYTES = 16 * 1024 * 1024; // of a file
+const HEADS = ['Name', 'Size', 'Colours', 'Verdict', 'Grade'];
+
+/** A picture out of a file, with what is known about it so far. */
+class Row {
+  constructor(name, doc, fault = '') {
+    this.name = name;
+    this.doc = doc;
+    this.fault = fault;
+    this.word = doc ? '…' : '';
+    /** @type {any} */
+    this.grade = null;
+    this.element = make('tr', { tabindex: doc ? '0' : null, 'data-name': name });
+    this.show();
+  }
+
+  /** The texts of the table's columns, as a report has them too. */
+  get texts() {
+    const { doc, word, grade } = this;
+    return doc ? [this.name, `${doc.columns} by ${doc.rows}`, String(doc.colours.length), word, grade?.word ?? '–'] : [this.name, this.fault, '', '', ''];
+  }
+
+  show() {
+    const { doc } = this;
+    const [name, size, ...others] = this.texts;
+    const cells = doc ? [make('td', {}, size), ...others.map((text) => make('td', {}, text))] : [make('td', { colspan: HEADS.length - 1, class: 'wrong' }, size)];
+    this.element.replaceChildren(make('th', { scope: 'row' }, name), ...cells);
+  }
+
+  async judge(judge) {
+    const found = await judge.judge(this.doc).catch((fault) => ({ word: faultText(fault), grade: null }));
+    if (!found) return;
+    Object.assign(this, { word: found.word, grade: found.grade });
+    this.show();
+  }
+
+  get facts() {
+    return { verdict: ['unique', 'ambiguous', 'undecided'].includes(this.word) ? this.word : null, grade: this.grade?.word ?? null };
+  }
+}
+
+/** The rows of files: one for each picture, and one for each file that none is read from. */
+async function rowsOf(files, imageDocs) {
+  const rows = [];
+  for (const file of files) {
+    const own = bareName(file.name);
+    try {
+      if (file.size > MOST_BYTES) throw new Error('it has more than 16 MiB');
+      const bytes = new Uint8Array(await file.arrayBuffer());
+      const docs = await imageDocs(file, bytes) ?? await docsOfBytes(bytes);
+      if (!docs.length) throw new Error('it is not a puzzle; an image that has to be scaled is opened by itself');
+      docs.forEach((doc, at) => rows.push(new Row(at ? `${own} ${at + 1}` : own, doc)));
+    } catch (fault) {
+      rows.push(new Row(own, null, faultText(fault)));
+    }
+  }
+  return rows;
+}
+
+// A table of comma-separated values, as spreadsheets read it.
+const valuesText = (rows) => [HEADS, ...rows.map((row) => row.texts)].map((texts) => texts.map((text) => `"${text.replaceAll('"', '""')}"`).join(',')).join('\r\n');
+
+async function keepAll(rows) {
+  const keeper = await keep.ready();
+  let added = 0;
+  for (const row of rows) {
+    if (!(await keeper.put(recordOfDoc(row.doc, row.name, true), row.facts))) break;
+    added++;
+  }
+  tell('library', null);
+  if (added === rows.length) say(`${many(added, 'picture')} added to the library.`);
+}
+
+function exportRows(rows, all) {
+  const report = { name: 'report.csv', bytes: new TextEncoder().encode(`\ufeff${valuesText(all)}\r\n`) };
+  download(new Blob([archiveOf(rows, [report])], { type: SAVE_TYPES.zip.type }), 'nonobench puzzles.zip', SAVE_TYPES.zip.type);
+  say(`${many(rows.length, 'picture')} saved as “nonobench puzzles.zip”, with a report.`);
+}
+
+// Opens the row that was chosen, and closes the table by that.
+function hearRow(row, dialogOf) {
+  const open = async () => {
+    dialogOf().close();
+    await openDoc(row.doc, { name: row.name });
+  };
+  row.element.addEventListener('click', open);
+  row.element.addEventListener('keydown', (event) => {
+    if (event.key !== 'Enter') return;
+    event.preventDefault();
+    open();
+  });
+}
+
+/**
+ * Shows several files in a table. `imageDocs(file, bytes)` gives the documents of an image file, or null where it is none. Judging
+ * goes on while the table is open.
+ */
+export async function takeSeveral(files, imageDocs) {
+  say(`${many(files.length, 'file')} …`);
+  const rows = await rowsOf(files, imageDocs);
+  say('');
+  const puzzles = rows.filter((row) => row.doc);
+  const table = make('table', { id: 'several' }, make('thead', {}, make('tr', {}, ...HEADS.map((head) => make('th', { scope: 'col' }, head)))), make('tbody', {}, ...rows.map((row) => row.element)));
+  for (const row of puzzles) hearRow(row, () => table.closest('dialog'));
+  const count = make('p', { id: 'several-count', role: 'status' });
+  const told = (at) => { count.textContent = `${many(at, 'picture')} of ${puzzles.length} judged. A row opens its picture.`; };
+  told(0);
+  const judge = new Judge({ seconds: Math.min(MOST_SECONDS, secondsChosen()) });
+  const chosen = openDialog({
+    title: many(rows.length, 'puzzle'), wide: true, content: make('div', {}, count, make('div', { class: 'scrolls' }, table)),
+    buttons: [{ name: 'Close', value: null }, ...(puzzles.length ? [{ name: 'Save all as a zip', value: 'zip' }, { name: 'Add to the library', value: 'library', main: true }] : [])],
+  });
+  const judged = (async () => {
+    for (const [at, row] of puzzles.entries()) {
+      await row.judge(judge);
+      told(at + 1);
+    }
+  })();
+  const way = await chosen;
+  judge.end();
+  await judged;
+  if (way === 'library') await keepAll(puzzles);
+  if (way === 'zip') exportRows(puzzles, rows);
+  return true;
+}

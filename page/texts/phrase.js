@@ -1,0 +1,33 @@
+// What the page says, in the language of its user: a table for each language has all texts under the same names. A text has places
+// for values, `{name}`, and for what goes with a number, `{cells|# cell|# cells}`: the forms stand in the order in which
+// Intl.PluralRules names them for the language, and # is the number.
+
+import { EN } from './en.js';
+
+/** @typedef {keyof typeof EN} Phrase */
+/** @typedef {'document.red' | 'document.yellow' | 'document.green' | 'document.cyan' | 'document.blue' | 'document.purple' | 'document.pink'} Hue */
+
+/** The language of the texts, as BCP 47 names it. */
+export const LANGUAGE = 'en';
+
+const ORDER = ['zero', 'one', 'two', 'few', 'many', 'other'];
+const plurals = new Intl.PluralRules(LANGUAGE);
+const forms = plurals.resolvedOptions().pluralCategories.sort((one, other) => ORDER.indexOf(one) - ORDER.indexOf(other));
+const shown = (value) => (typeof value === 'number' ? value.toLocaleString(LANGUAGE) : String(value));
+
+/** A text with its places filled. */
+export const filled = (text, values) => text.replace(/\{(\w+)(?:\|([^}]*))?\}/g, (_, name, choices) => {
+  const value = values[name];
+  if (choices === undefined) return shown(value);
+  const all = choices.split('|');
+  return (all[forms.indexOf(plurals.select(value))] ?? all.at(-1)).replaceAll('#', shown(value));
+});
+
+/**
+ * The text of a name. The values are those that it has places for (`tsc -p page` checks it).
+ * @template {Phrase} Name
+ * @param {Name} name
+ * @param {ValuesOf<(typeof EN)[Name]>} values
+ * @returns {string}
+ */
+export const phrase = (name, ...values) => filled(EN[name], values[0] ?? {});
