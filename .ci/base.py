@@ -29,13 +29,13 @@ CLAIMS = {
 }
 # The most lines that a claim may need: a larger number needs its reason in docs/DECISIONS.md.
 MOST = {
-    'The verdict is true': 65,
-    'A certificate proves uniqueness': 283,
-    'A check answers exactly': 200,
-    'A refused edit changes nothing': 176,
-    'It stays true': 1583,
-    "A session's answers are right": 1521,
-    'Published pairs are accepted': 1504,
+    'The verdict is true': 70,
+    'A certificate proves uniqueness': 299,
+    'A check answers exactly': 210,
+    'A refused edit changes nothing': 185,
+    'It stays true': 1683,
+    "A session's answers are right": 1619,
+    'Published pairs are accepted': 1605,
 }
 # The claim whose base docs/PROOF.md quotes whole.
 QUOTED = 'A certificate proves uniqueness'

@@ -7,8 +7,8 @@ ghost use Rattle.cert_text.specs.declared.fault.CertFault.TheVariants.{Memory};
 use std::alloc::{AllocError, AllocFailed};
 use thiserror::Error;
 
-/// What is wrong with a certificate or with a proof by lemmas: the first fault from the top, with the number of its line,
-/// counted from 1.
+/// What is wrong with a certificate or with a proof by lemmas: the first error from the top, with the number of its
+/// line, counted from 1.
 #[derive(Clone, Copy, Debug, PartialEq, Eq, Error)]
 pub enum CertFault {
     /// The first line is not that of the format.
@@ -20,14 +20,14 @@ pub enum CertFault {
     /// A row or a column is named that the picture doesn't have.
     #[error("line {0}: outside the picture")]
     Place(usize),
-    /// A lemma is named that is not kept. No certificate has this fault.
+    /// A lemma is named that is not kept. No certificate has this error.
     #[error("line {0}: no such lemma")]
     NoLemma(usize),
-    /// A lemma begins, or is dropped, where a branch waits; or a colour is denied behind no lemma's beginning. No certificate
-    /// has this fault.
+    /// A lemma begins, or is dropped, where a branch waits; or a colour is denied after no lemma's beginning. No
+    /// certificate has this error.
     #[error("line {0}: not here")]
     Misplaced(usize),
-    /// The lemmas kept would have too many literals. No certificate has this fault.
+    /// The lemmas kept would have too many literals. No certificate has this error.
     #[error("line {0}: too many literals")]
     Full(usize),
     /// Some list of colours fits the line that is called dead, or some literal of the lemma has a colour left.
@@ -39,7 +39,7 @@ pub enum CertFault {
     /// The lines end before the tree is whole. The number is that of the line that is missing.
     #[error("line {0}: the certificate ends too early")]
     Ended(usize),
-    /// A line stands behind the whole tree.
+    /// A line follows the whole tree.
     #[error("line {0}: behind the end")]
     Trailing(usize),
     /// A growth was refused.
@@ -48,14 +48,14 @@ pub enum CertFault {
 }
 
 impl CertFault {
-    /// The fault's name, as the variant is called.
+    /// The error's name, as the variant is called.
     pub fn name(&self) -> &'static str
         ensures { result.now ≡ name_of self.now }
     {
         self.told().0
     }
 
-    /// The number of the line in fault, counted from 1.
+    /// The number of the line in error, counted from 1.
     pub fn place(&self) -> Option<usize>
         ensures { result ≡ place_of self.now }
     {

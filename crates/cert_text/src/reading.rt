@@ -1,7 +1,7 @@
 //! The reader of certificates.
 
 ghost use Rattle.std.specs.Prelude.{◌≡◌, ◌+◌, ◌^◌, ◌<◌, ◌≤◌, length, IfOk, IfSome};
-ghost use Rattle.picture.specs.Reading.{Gives};
+ghost use Rattle.picture.specs.Readers.{Gives};
 ghost use Rattle.cert_text.specs.Cert.{AreOrdered, AreWritable, IsShort, IsWritable, rank};
 ghost use Rattle.cert_text.specs.Text.{cell_named, cert_line, cert_of, given_line, given_lines, givens_seen, line_named, lines_of, tree_lines};
 
@@ -126,11 +126,12 @@ fn read_lines(alloc: Global, text: &[u8], first: usize) -> Result<Vec<CertLine>,
 
 /// Reads a certificate.
 ///
-/// Lines end with a line feed, which the last may lack. The first is `nonocert 1` or `nonocert 2`, else the fault is
-/// `NotCert` at line 1. In version 2 lines `given R C` may follow, each behind the one before in the order of rows. Each
-/// further line is `line r N`, `line c N`, `split R C`, `dead r N`, `dead c N` or `done`, with single spaces and numbers of
-/// one to three digits without leading zeros; `docs/FORMATS.md` says what they mean. Any other line is `BadLine`. Whether a
-/// picture has the lines and cells is not looked at. Want of memory is answered where it comes, before any later fault.
+/// Lines end with a line feed, which the last may lack. The first is `nonocert 1` or `nonocert 2`, else the error is
+/// `NotCert` at line 1. In version 2 lines `given R C` may follow, each after the one before in the order of rows. Each
+/// further line is `line r N`, `line c N`, `split R C`, `dead r N`, `dead c N` or `done`, with single spaces and
+/// numbers of one to three digits without leading zeros; `docs/FORMATS.md` says what they mean. Any other line is
+/// `BadLine`. Whether a picture has the lines and cells is not looked at. Out of memory is answered where it comes,
+/// before any later error.
 pub fn read_cert(alloc: Global, bytes: &[u8]) -> Result<Cert, CertFault>
     ensures { Gives CertFault.Memory (λ cert. cert) result (cert_of bytes.now) }
 {

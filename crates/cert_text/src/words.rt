@@ -6,7 +6,7 @@ ghost use Rattle.cert_text.specs.Text.{IsCut, IsFirstLine, is_word, number_of, t
 use picture::{short_number_in, split_first};
 
 #[tactic(auto, using(crate::proofs::WordLemmas::first_lines))]
-/// The first line, and the text behind it.
+/// The first line, and the text after it.
 pub fn first_line(text: &[u8]) -> Option<(&[u8], &[u8])>
     ensures { IsFirstLine text.now result }
 {
@@ -25,7 +25,7 @@ pub fn is_word(bytes: &[u8], word: &[u8]) -> bool
     bytes == word
 }
 
-/// The first word, and what stands behind the space behind it.
+/// The first word, and what follows the space after it.
 pub fn cut_word(bytes: &[u8]) -> Option<(&[u8], &[u8])>
     ensures { IsCut bytes.now result }
 {

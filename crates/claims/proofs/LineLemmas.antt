@@ -4,7 +4,8 @@ use Rattle.command_text.specs.Lines.{lines_of}
 use Rattle.live_audit.specs.Bench.{Seen}
 use Rattle.session.specs.Session.{Runs, SaysToAll}
 
-pub says_all : (input left held text : List ℕ) (old new : Seen) (done : Unit {0}) → held ≡ [] → Runs (Some input) (Some left) (Some held) (Some text) old new (Ok done) → SaysToAll (lines_of input) old text new
+pub says_all : (input left held text : List ℕ) (old new : Seen) (done : Unit {0}) → held ≡ [] → Runs (Some input) (Some left) (Some held) (Some text) old new (Ok done)
+    → SaysToAll (lines_of input) old text new
 unfolding Runs
 says_all input left held text old new done empty (read, (consumes, (at_end, (said, (says, appends))))) =
     let whole : input ≡ read = consumes ∙ (ap (λ (xs : List ℕ). read ++ xs) at_end ∙ append-nil read) in

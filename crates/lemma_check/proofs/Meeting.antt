@@ -1,14 +1,16 @@
 -- Pictures that meet literals and lemmas, and the facts that they keep to.
-use Rattle.std.proofs.Common.{◌≡◌, ◌⊎◌, ℕ, zero, suc, ◌+◌, ◌-◌, ◌^◌, ◌<◌, Bool, true, false, List, [], ◌∷◌, ◌++◌, length, get_or, set, get_or-set_same, get_or-set_other, bit_and, refl, sym, ap, subst, ◌∙◌, arith, inl, inr}
+use Rattle.std.proofs.Common.{◌≡◌, ◌⊎◌, ℕ, zero, suc, ◌+◌, ◌-◌, ◌^◌, ◌<◌, Bool, true, false, List, [], ◌∷◌, ◌++◌, length, get_or, set, get_or-set_same, get_or-set_other, bit_and, refl, sym, ap, subst}
+use Rattle.std.proofs.Common.{◌∙◌, arith, inl, inr}
 use Rattle.std.specs.Prelude.{IsBitSet}
 use Rattle.std.specs.Int.{bit_not, w16}
 use Rattle.std.proofs.lemmas.Bool.{cases_eq, cases_lt}
 use Rattle.std.proofs.lemmas.List.{get_or_past, length-set}
 use Rattle.std.proofs.lemmas.Nat.Bits.{bit_at-lt, bit_at_and, bit_at_not}
-use Rattle.picture.specs.BitLaws.{bit_is_set, bit_or_not, no_bit, set_bit, unset}
-use Rattle.picture.specs.Rows.{cell_at, row_at, with_cell}
+use Rattle.line_settle.specs.Masks.{Masks}
+use Rattle.picture.proofs.BitLaws.{bit_is_set, bit_or_not, no_bit, set_bit, unset}
+use Rattle.picture.specs.Rows.{cell_at, row_at, with_cell, Rows}
 use Rattle.line_settle.specs.FactSets.{IsWithin, Leaves}
-use Rattle.line_settle.specs.GridLaws.{at_with_cell, off_with_cell, shape_trans, shape_with_cell}
+use Rattle.line_settle.proofs.GridLaws.{at_with_cell, off_with_cell, shape_trans, shape_with_cell}
 use Rattle.trail.proofs.GridLemmas.{row_there, set_each}
 use Rattle.cert_check.specs.Puzzle.{HasCellNumber}
 use Rattle.cert_check.proofs.BaseLemmas.{at_or_off, left_inside}
@@ -35,24 +37,24 @@ some_colour mask k s = elim (cases_eq mask 0) [ inl e ↦ absurd (no_bit k (rw e
 -- ---- literals
 
 -- the cell lies in the picture, and has one of the colours
-pub record Meets (other : List (List ℕ)) (literal : Literal) : Type 0 where
+pub record Meets (other : Rows) (literal : Literal) : Type 0 where
   pub inside : literal.cell.col - 1 < length (row_at other (literal.cell.row - 1))
   pub has : IsBitSet literal.colours (cell_at other (literal.cell.row - 1) (literal.cell.col - 1))
 
-abbrev pub MeetsSome : List (List ℕ) → List Literal → Type 0
+abbrev pub MeetsSome : Rows → List Literal → Type 0
 MeetsSome other [] = ⊥
 MeetsSome other (literal ∷ literals) = Meets other literal ⊎ MeetsSome other literals
 
-pub some_last : (other : List (List ℕ)) (literals : List Literal) (literal : Literal) → Meets other literal → MeetsSome other (literals ++ literal ∷ [])
+pub some_last : (other : Rows) (literals : List Literal) (literal : Literal) → Meets other literal → MeetsSome other (literals ++ literal ∷ [])
 some_last other [] literal m = inl m
 some_last other (first ∷ literals) literal m = inr (some_last other literals literal m)
 
-pub some_more : (other : List (List ℕ)) (literals : List Literal) (literal : Literal) → MeetsSome other literals → MeetsSome other (literals ++ literal ∷ [])
+pub some_more : (other : Rows) (literals : List Literal) (literal : Literal) → MeetsSome other literals → MeetsSome other (literals ++ literal ∷ [])
 some_more other [] literal s = absurd s
 some_more other (first ∷ literals) literal (inl m) = inl m
 some_more other (first ∷ literals) literal (inr s) = inr (some_more other literals literal s)
 
-module _ (facts other : List (List ℕ)) (keeps : Keeps facts other) where
+module _ (facts : Masks) (other : Rows) (keeps : Keeps facts other) where
   -- a cell held to colours, of which the picture has one
   mask_keeps : (row col mask : ℕ) → col < length (row_at other row) → IsBitSet mask (cell_at other row col) → Keeps (with_cell facts row col mask) other
   mask_keeps row col mask inside s =
@@ -70,11 +72,13 @@ module _ (facts other : List (List ℕ)) (keeps : Keeps facts other) where
   pub held_to_keeps : (literal : Literal) → Meets other literal → Keeps (held_to facts literal) other
   held_to_keeps literal m = mask_keeps (literal.cell.row - 1) (literal.cell.col - 1) (left_of facts literal) m.inside (left_met literal m)
 
-  pub held_off_keeps : (literal : Literal) → literal.cell.col - 1 < length (row_at other (literal.cell.row - 1)) → cell_at other (literal.cell.row - 1) (literal.cell.col - 1) < 16 → literal.colours < 2 ^ 16 → (IsBitSet literal.colours (cell_at other (literal.cell.row - 1) (literal.cell.col - 1)) → ⊥) → Keeps (held_off facts literal) other
+  pub held_off_keeps : (literal : Literal) → literal.cell.col - 1 < length (row_at other (literal.cell.row - 1)) → cell_at other (literal.cell.row - 1) (literal.cell.col - 1) < 16
+      → literal.colours < 2 ^ 16 → (IsBitSet literal.colours (cell_at other (literal.cell.row - 1) (literal.cell.col - 1)) → ⊥) → Keeps (held_off facts literal) other
   held_off_keeps literal inside small c n =
       let row = literal.cell.row - 1 in
       let col = literal.cell.col - 1 in
-      mask_keeps row col (bit_and (cell_at facts row col) (bit_not w16 literal.colours)) inside (without_has (cell_at facts row col) literal.colours (cell_at other row col) c small (keeps.leaves row col inside) n)
+      mask_keeps row col (bit_and (cell_at facts row col) (bit_not w16 literal.colours)) inside
+      (without_has (cell_at facts row col) literal.colours (cell_at other row col) c small (keeps.leaves row col inside) n)
 
   -- of literals of which the picture meets one, it meets one that is open
   open_met : (literals : List Literal) → MeetsSome other literals → MeetsSome other (still_open facts literals)
@@ -100,7 +104,7 @@ module _ (facts other : List (List ℕ)) (keeps : Keeps facts other) where
   none_open literals s e = subst (MeetsSome other) e (open_met literals s)
 
 -- a literal of the picture's lies in each of its rivals
-pub lies_inside : (picture other : List (List ℕ)) (literal : Literal) → IsRival picture other → HasCellNumber picture literal.cell → literal.cell.col - 1 < length (row_at other (literal.cell.row - 1))
+pub lies_inside : (picture other : Rows) (literal : Literal) → IsRival picture other → HasCellNumber picture literal.cell → literal.cell.col - 1 < length (row_at other (literal.cell.row - 1))
 lies_inside picture other literal rival has =
     let rows = rival.same_shape.rows in
     let columns = rival.same_shape.each 0 in
@@ -108,7 +112,8 @@ lies_inside picture other literal rival has =
     omega arith
 
 -- a rival keeps to one of two branches
-pub parts : (picture facts other : List (List ℕ)) (literal : Literal) → IsRival picture other → HasLiteral picture literal → Keeps facts other → Keeps (held_off facts literal) other ⊎ Meets other literal
+pub parts : (picture : Rows) (facts : Masks) (other : Rows) (literal : Literal) → IsRival picture other → HasLiteral picture literal → Keeps facts other
+    → Keeps (held_off facts literal) other ⊎ Meets other literal
 parts picture facts other literal rival has keeps =
     let inside = lies_inside picture other literal rival has.0 in
     elim (bit_or_not literal.colours (cell_at other (literal.cell.row - 1) (literal.cell.col - 1))) [
@@ -117,7 +122,7 @@ parts picture facts other literal rival has keeps =
     ]
 
 -- what is held off leaves nothing new
-pub off_within : (facts : List (List ℕ)) (literal : Literal) → IsWithin facts (held_off facts literal)
+pub off_within : (facts : Masks) (literal : Literal) → IsWithin facts (held_off facts literal)
 off_within facts literal =
     let row = literal.cell.row - 1 in
     let col = literal.cell.col - 1 in
@@ -140,16 +145,16 @@ off_within facts literal =
 -- ---- lemmas
 
 -- a lemma stands for a picture: where it is kept, the picture meets one of its literals
-abbrev pub Stands : List (List ℕ) → Kept → Type 0
+abbrev pub Stands : Rows → Kept → Type 0
 Stands other lemma = lemma.kept ≡ true → MeetsSome other lemma.literals
 
-abbrev pub MeetsAll : List (List ℕ) → List Kept → Type 0
+abbrev pub MeetsAll : Rows → List Kept → Type 0
 MeetsAll other lemmas = (n : ℕ) → Stands other (numbered lemmas n)
 
-pub none_stands : (other : List (List ℕ)) → Stands other no_lemma
+pub none_stands : (other : Rows) → Stands other no_lemma
 none_stands other e = cc
 
-module _ (other : List (List ℕ)) where
+module _ (other : Rows) where
   pub meets_set : (lemmas : List Kept) (i : ℕ) (lemma : Kept) → MeetsAll other lemmas → Stands other lemma → MeetsAll other (set lemmas i lemma)
   meets_set lemmas i lemma all one n = elim (cases_eq n i) [
     | inr d ↦ subst (Stands other) (sym (get_or-set_other lemmas i n lemma no_lemma d)) (all n)
@@ -206,7 +211,8 @@ module _ (other : List (List ℕ)) where
     pub meets_grown : MeetsAll other lemmas → MeetsAll other (with_literal lemmas literal)
     meets_grown all = meets_set lemmas (newest lemmas) grown all (λ k. some_more other (numbered lemmas (newest lemmas)).literals literal (all (newest lemmas) k))
 
-    some_grown : 0 < length lemmas → MeetsSome other ((numbered lemmas (newest lemmas)).literals ++ literal ∷ []) → MeetsSome other (numbered (with_literal lemmas literal) (newest (with_literal lemmas literal))).literals
+    some_grown : 0 < length lemmas → MeetsSome other ((numbered lemmas (newest lemmas)).literals ++ literal ∷ [])
+        → MeetsSome other (numbered (with_literal lemmas literal) (newest (with_literal lemmas literal))).literals
     some_grown some s = let P : Kept → Type 0 = λ lemma. MeetsSome other lemma.literals in subst P (sym (newest_grown some)) s
 
     -- where the picture meets the new literal, or met one before
@@ -216,4 +222,5 @@ module _ (other : List (List ℕ)) where
 
     pub met_before : 0 < length lemmas → MeetsAll other (newest_kept lemmas) → MeetsAll other (newest_kept (with_literal lemmas literal))
     met_before some all =
-        meets_kept (with_literal lemmas literal) (meets_grown (meets_less lemmas all)) (some_grown some (some_more other (numbered lemmas (newest lemmas)).literals literal (meets_newest lemmas some all)))
+        meets_kept (with_literal lemmas literal) (meets_grown (meets_less lemmas all))
+        (some_grown some (some_more other (numbered lemmas (newest lemmas)).literals literal (meets_newest lemmas some all)))

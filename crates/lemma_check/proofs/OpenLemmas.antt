@@ -1,28 +1,30 @@
 -- Literals that are open, one by one.
-use Rattle.std.proofs.Common.{◌≡◌, ◌⊎◌, ℕ, ◌+◌, ◌<◌, ◌≤◌, Bool, true, false, cond, List, [], ◌∷◌, ◌++◌, length, take, drop, drop-cons, add-one, get_or, filter, nat_lt, refl, sym, ap, subst, ◌∙◌, arith, inl, inr}
+use Rattle.std.proofs.Common.{◌≡◌, ◌⊎◌, ℕ, ◌+◌, ◌<◌, ◌≤◌, Bool, true, false, cond, List, [], ◌∷◌, ◌++◌, length, take, drop, drop-cons, add-one, get_or, filter, nat_lt, refl, sym, ap, subst, ◌∙◌}
+use Rattle.std.proofs.Common.{arith, inl, inr}
 use Rattle.std.proofs.lemmas.Bool.{le-ltb, lt-ltb}
 use Rattle.std.proofs.lemmas.List.{take_more, take-append-drop, take_all, append-nil}
 use Rattle.std.proofs.lemmas.List.Elements.{filter-append}
+use Rattle.line_settle.specs.Masks.{Masks}
 use Rattle.lemma_text.specs.declared.lemma_line.Literal.{Literal}
 use Rattle.lemma_check.specs.declared.opening.Open.{Open}
 use Rattle.lemma_check.specs.declared.opening.Open.TheVariants.{Nothing, One, More}
 use Rattle.lemma_check.specs.Opening.{HasLeft}
 use Rattle.lemma_check.specs.Walk.{left_of, still_open, told_open}
 
-abbrev test : List (List ℕ) → Literal → Bool
+abbrev test : Masks → Literal → Bool
 test facts literal = nat_lt 0 (left_of facts literal)
 
-is_open : (facts : List (List ℕ)) (literal : Literal) → 0 < left_of facts literal → test facts literal ≡ true
+is_open : (facts : Masks) (literal : Literal) → 0 < left_of facts literal → test facts literal ≡ true
 is_open facts literal l = lt-ltb 0 (left_of facts literal) l
 
-is_closed : (facts : List (List ℕ)) (literal : Literal) → left_of facts literal ≡ 0 → test facts literal ≡ false
+is_closed : (facts : Masks) (literal : Literal) → left_of facts literal ≡ 0 → test facts literal ≡ false
 is_closed facts literal e = le-ltb 0 (left_of facts literal) (omega arith)
 
 -- what is open of a list that begins with a literal
-pub open_first : (facts : List (List ℕ)) (literal : Literal) (literals : List Literal) → 0 < left_of facts literal → still_open facts (literal ∷ literals) ≡ literal ∷ still_open facts literals
+pub open_first : (facts : Masks) (literal : Literal) (literals : List Literal) → 0 < left_of facts literal → still_open facts (literal ∷ literals) ≡ literal ∷ still_open facts literals
 open_first facts literal literals l = ap (λ (t : Bool). cond t (literal ∷ still_open facts literals) (still_open facts literals)) (is_open facts literal l)
 
-pub closed_first : (facts : List (List ℕ)) (literal : Literal) (literals : List Literal) → left_of facts literal ≡ 0 → still_open facts (literal ∷ literals) ≡ still_open facts literals
+pub closed_first : (facts : Masks) (literal : Literal) (literals : List Literal) → left_of facts literal ≡ 0 → still_open facts (literal ∷ literals) ≡ still_open facts literals
 closed_first facts literal literals e = ap (λ (t : Bool). cond t (literal ∷ still_open facts literals) (still_open facts literals)) (is_closed facts literal e)
 
 -- told of the literals from the first, and the last of them
@@ -37,10 +39,10 @@ told_more (one ∷ []) rest literal n = refl
 told_more (one ∷ next ∷ literals) rest literal n = refl
 
 -- told so far
-abbrev pub ToldSoFar : List (List ℕ) → List Literal → ℕ → Open → Type 0
+abbrev pub ToldSoFar : Masks → List Literal → ℕ → Open → Type 0
 ToldSoFar facts literals i seen = seen ≡ told_open (still_open facts (take i literals))
 
-module _ (facts : List (List ℕ)) (literals : List Literal) (i : ℕ) (d : Literal) (l : i < length literals) where
+module _ (facts : Masks) (literals : List Literal) (i : ℕ) (d : Literal) (l : i < length literals) where
   abbrev here : Literal
   here = get_or literals i d
 
@@ -70,7 +72,7 @@ module _ (facts : List (List ℕ)) (literals : List Literal) (i : ℕ) (d : Lite
           ∙ (filter-append (test facts) (take i literals) (drop i literals)
           ∙ ap (λ (ls : List Literal). still_open facts (take i literals) ++ ls) (ap (still_open facts) rest ∙ open_first facts here (drop (i + 1) literals) some))
 
-pub all_told : (facts : List (List ℕ)) (literals : List Literal) (i : ℕ) (seen : Open) → length literals ≤ i → ToldSoFar facts literals i seen → seen ≡ told_open (still_open facts literals)
+pub all_told : (facts : Masks) (literals : List Literal) (i : ℕ) (seen : Open) → length literals ≤ i → ToldSoFar facts literals i seen → seen ≡ told_open (still_open facts literals)
 all_told facts literals i seen all so_far = so_far ∙ ap (λ (ls : List Literal). told_open (still_open facts ls)) (take_all i literals all)
 
 pub not_first : (seen : Open) → ((literal : Literal) × (seen ≡ One literal)) ⊎ (seen ≡ More) → seen ≡ Nothing → ⊥

@@ -1,10 +1,11 @@
 -- What a proof by lemmas proves is true: no other picture keeps to the facts at its root.
 use Rattle.std.proofs.Common.{◌≡◌, ◌⊎◌, ℕ, zero, suc, ◌+◌, ◌<◌, true, false, List, [], ◌∷◌, ◌++◌, length, Option, Some, None, refl, sym, ap, subst, ◌∙◌, arith, inl, inr}
 use Rattle.std.proofs.lemmas.List.{length-append, length-set}
+use Rattle.line_settle.specs.Masks.{Masks}
 use Rattle.picture.specs.Picture.{IsPicture}
-use Rattle.picture.specs.Rows.{line_of}
+use Rattle.picture.specs.Rows.{line_of, Rows}
 use Rattle.line_settle.specs.FactSets.{IsWithin, Leaves, SameShape}
-use Rattle.line_settle.specs.GridLaws.{shape_refl, shape_sym, shape_trans}
+use Rattle.line_settle.proofs.GridLaws.{shape_refl, shape_sym, shape_trans}
 use Rattle.cert_text.specs.declared.fault.CertFault.{CertFault}
 use Rattle.cert_text.specs.declared.tree_line.CellNumber.{CellNumber}
 use Rattle.cert_text.specs.declared.tree_line.LineNumber.{LineNumber}
@@ -18,7 +19,8 @@ use Rattle.lemma_check.specs.declared.machine.Stage.{Stage}
 use Rattle.lemma_check.specs.declared.machine.Stage.TheVariants.{Free, Denying, Refuting}
 use Rattle.lemma_check.specs.FirstFault.{FirstFault, IsLemmaProof, Leads, found_by}
 use Rattle.lemma_check.specs.Walk.{HasLiteral, Kept, Walk, ended, held_off, held_to, last_at, newest, newest_kept, next_at, no_lemma, numbered, root, settled, taken, used, with_literal}
-use Rattle.lemma_check.proofs.Meeting.{MeetsAll, MeetsSome, held_to_keeps, length_grown, meets_appended, meets_grown, meets_less, meets_set, met_before, met_by_literal, none_open, none_stands, off_within, parts, used_keeps}
+use Rattle.lemma_check.proofs.Meeting.{MeetsAll, MeetsSome, held_to_keeps, length_grown, meets_appended, meets_grown, meets_less, meets_set, met_before, met_by_literal, none_open, none_stands}
+use Rattle.lemma_check.proofs.Meeting.{off_within, parts, used_keeps}
 
 -- ---- what is to be shown of a walk
 
@@ -28,14 +30,14 @@ lasting Free lemmas = lemmas
 lasting Denying lemmas = newest_kept lemmas
 lasting Refuting lemmas = newest_kept lemmas
 
-meets_lasting : (other : List (List ℕ)) (stage : Stage) (lemmas : List Kept) → MeetsAll other (lasting stage lemmas) → MeetsAll other lemmas
+meets_lasting : (other : Rows) (stage : Stage) (lemmas : List Kept) → MeetsAll other (lasting stage lemmas) → MeetsAll other lemmas
 meets_lasting other Free lemmas all = all
 meets_lasting other Denying lemmas all = meets_less other lemmas all
 meets_lasting other Refuting lemmas all = meets_less other lemmas all
 
-module _ (picture other : List (List ℕ)) where
+module _ (picture other : Rows) where
   -- a picture that keeps to facts and meets the lemmas is the known one
-  abbrev Is : List Kept → List (List ℕ) → Type 0
+  abbrev Is : List Kept → Masks → Type 0
   Is lemmas facts = MeetsAll other lemmas → Keeps facts other → other ≡ picture
 
   -- of each of the facts that wait, the last with the lasting lemmas
@@ -55,22 +57,25 @@ module _ (picture other : List (List ℕ)) where
     all_of all = meets_lasting other walk.stage walk.lemmas all
 
     -- other facts at hand, to which the picture keeps too
-    goes_on : (facts : List (List ℕ)) (behind : List (List (List ℕ))) → (MeetsAll other walk.lemmas → Keeps walk.at_hand other → Keeps facts other) → AreIt walk.lemmas (lasting walk.stage walk.lemmas) (facts ∷ behind) → AreIt walk.lemmas (lasting walk.stage walk.lemmas) (walk.at_hand ∷ behind)
+    goes_on : (facts : Masks) (behind : List (List (List ℕ))) → (MeetsAll other walk.lemmas → Keeps walk.at_hand other → Keeps facts other)
+        → AreIt walk.lemmas (lasting walk.stage walk.lemmas) (facts ∷ behind) → AreIt walk.lemmas (lasting walk.stage walk.lemmas) (walk.at_hand ∷ behind)
     goes_on facts [] step is = λ all keeps. is all (step (all_of all) keeps)
     goes_on facts (next ∷ others) step is = ((λ all keeps. is.0 all (step all keeps)), is.1)
 
-    last_holds : (facts : List (List ℕ)) (stage : Stage) → Holds (Some (last_at walk facts stage)) → Is (lasting stage walk.lemmas) facts
+    last_holds : (facts : Masks) (stage : Stage) → Holds (Some (last_at walk facts stage)) → Is (lasting stage walk.lemmas) facts
     last_holds facts Free is = is
     last_holds facts Denying is = is
     last_holds facts Refuting is = is
 
     -- the branch ends, since only the picture can keep to it
-    ends : (behind : List (List (List ℕ))) → (MeetsAll other walk.lemmas → Keeps walk.at_hand other → other ≡ picture) → Holds (next_at walk behind) → AreIt walk.lemmas (lasting walk.stage walk.lemmas) (walk.at_hand ∷ behind)
+    ends : (behind : List (List (List ℕ))) → (MeetsAll other walk.lemmas → Keeps walk.at_hand other → other ≡ picture) → Holds (next_at walk behind)
+        → AreIt walk.lemmas (lasting walk.stage walk.lemmas) (walk.at_hand ∷ behind)
     ends [] dies is = λ all keeps. dies (all_of all) keeps
     ends (next ∷ []) dies is = (dies, last_holds next walk.stage is)
     ends (next ∷ other ∷ others) dies is = (dies, is)
 
-    parted_is : (off to : List (List ℕ)) (behind : List (List (List ℕ))) → (Keeps walk.at_hand other → Keeps off other ⊎ Keeps to other) → AreIt walk.lemmas (lasting walk.stage walk.lemmas) (off ∷ to ∷ behind) → AreIt walk.lemmas (lasting walk.stage walk.lemmas) (walk.at_hand ∷ behind)
+    parted_is : (off to : List (List ℕ)) (behind : List (List (List ℕ))) → (Keeps walk.at_hand other → Keeps off other ⊎ Keeps to other)
+        → AreIt walk.lemmas (lasting walk.stage walk.lemmas) (off ∷ to ∷ behind) → AreIt walk.lemmas (lasting walk.stage walk.lemmas) (walk.at_hand ∷ behind)
     parted_is off to [] some is = λ all keeps. elim (some keeps) [ inl k ↦ is.0 (all_of all) k | inr k ↦ is.1 all k ]
     parted_is off to (next ∷ others) some is = ((λ all keeps. elim (some keeps) [ inl k ↦ is.0 all k | inr k ↦ is.1.0 all k ]), is.1.1)
 
@@ -87,13 +92,14 @@ module _ (picture other : List (List ℕ)) where
   Fit None = Unit {0}
   Fit (Some walk) = walk.stage ≡ Denying → Denied walk
 
-  keeps_first : (first facts : List (List ℕ)) → IsWithin first facts → Keeps facts other → Keeps first other
+  keeps_first : (first : List (List ℕ)) (facts : Masks) → IsWithin first facts → Keeps facts other → Keeps first other
   keeps_first first facts w keeps = record {
     same_shape = shape_trans keeps.same_shape (shape_sym w.same_shape);
     leaves = λ r c l. w.leaves r c _ (keeps.leaves r c l);
   }
 
-  denied_is : (walk : Walk) (literal : Literal) → IsRival picture other → HasLiteral picture literal → (d : Denied walk) → AreIt (with_literal walk.lemmas literal) (newest_kept (with_literal walk.lemmas literal)) (held_off walk.at_hand literal ∷ d.first ∷ []) → AreIt walk.lemmas (newest_kept walk.lemmas) (walk.at_hand ∷ d.first ∷ [])
+  denied_is : (walk : Walk) (literal : Literal) → IsRival picture other → HasLiteral picture literal → (d : Denied walk) → AreIt (with_literal walk.lemmas literal)
+      (newest_kept (with_literal walk.lemmas literal)) (held_off walk.at_hand literal ∷ d.first ∷ []) → AreIt walk.lemmas (newest_kept walk.lemmas) (walk.at_hand ∷ d.first ∷ [])
   denied_is walk literal rival has d is = (
     (λ all keeps. elim (parts picture walk.at_hand other literal rival has keeps) [
       | inl k ↦ is.0 (meets_grown other walk.lemmas literal all) k
@@ -169,14 +175,14 @@ module _ (picture other : List (List ℕ)) where
     led walk Lemma next fit l is = unsettled walk (settled_led (settled walk) Lemma next l (λ x e. cc) is)
     led walk (Forget n) next fit l is = unsettled walk (settled_led (settled walk) (Forget n) next l (λ x e. cc) is)
 
-  -- ---- literals are denied only behind the root
+  -- ---- literals are denied only after the root
 
   not_denying : (stage : Stage) → taken stage ≡ Denying → ⊥
   not_denying Free e = cc
   not_denying Denying e = cc
   not_denying Refuting e = cc
 
-  last_fit : (walk : Walk) (facts : List (List ℕ)) (stage : Stage) → Fit (Some (last_at walk facts stage))
+  last_fit : (walk : Walk) (facts : Masks) (stage : Stage) → Fit (Some (last_at walk facts stage))
   last_fit walk facts Free e = cc
   last_fit walk facts Denying e = cc
   last_fit walk facts Refuting e = cc
@@ -186,7 +192,7 @@ module _ (picture other : List (List ℕ)) where
   ended_fit walk (facts ∷ []) n = last_fit walk facts walk.stage
   ended_fit walk (facts ∷ other ∷ others) n = λ e. absurd (n e)
 
-  within_refl : (facts : List (List ℕ)) → IsWithin facts facts
+  within_refl : (facts : Masks) → IsWithin facts facts
   within_refl facts = record { same_shape = shape_refl facts; leaves = λ r c k l. l }
 
   within_trans : (a b c : List (List ℕ)) → IsWithin a b → IsWithin b c → IsWithin a c
@@ -233,7 +239,7 @@ one_lemma n = only n
     only (suc n) = refl
 
 -- where there is a proof, there is no other picture
-pub proof_is_unique : (picture : List (List ℕ)) (proof : ProofLines) → IsPicture picture → IsLemmaProof picture proof → IsUnique picture proof.givens
+pub proof_is_unique : (picture : Rows) (proof : ProofLines) → IsPicture picture → IsLemmaProof picture proof → IsUnique picture proof.givens
 proof_is_unique picture proof is (inl h) = let e = h.1.1 in cc
 proof_is_unique picture proof is (inr p) = λ other s.
     let shape : SameShape picture other = record { rows = sym s.rows; each = λ i. sym (s.columns i) } in

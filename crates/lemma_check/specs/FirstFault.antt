@@ -1,16 +1,23 @@
--- The first fault of a proof by lemmas, line by line from the top; and what is a proof.
-use Rattle.std.specs.Prelude.{◌≡◌, ◌⊎◌, ℕ, ◌+◌, ◌<◌, ◌≤◌, true, false, List, [], ◌∷◌, length, Bool, Option, Some, None, Result, Ok, Err}
+-- The first error of a proof by lemmas, line by line from the top; and what is a proof.
+use Rattle.std.specs.Prelude.{◌≡◌, ◌⊎◌, ℕ, ◌+◌, ◌<◌, ◌≤◌, true, false, List, [], ◌∷◌, length, Bool, Option, Some, None}
+use Rattle.std.specs.Prelude.{Result, Ok, Err}
+use Rattle.line_settle.specs.Masks.{Masks}
+use Rattle.picture.specs.Rows.{Rows}
 use Rattle.line_settle.specs.FactSets.{SameShape}
 use Rattle.cert_text.specs.declared.fault.CertFault.{CertFault}
-use Rattle.cert_text.specs.declared.fault.CertFault.TheVariants.{Place, NoLemma, Misplaced, Full, NotDead, NotDone, Ended, Trailing, Memory}
+use Rattle.cert_text.specs.declared.fault.CertFault.TheVariants.{Place, NoLemma, Misplaced, Full, NotDead, NotDone}
+use Rattle.cert_text.specs.declared.fault.CertFault.TheVariants.{Ended, Trailing, Memory}
 use Rattle.cert_text.specs.declared.tree_line.CellNumber.{CellNumber}
-use Rattle.cert_check.specs.Puzzle.{HasCellNumber, HasCellNumbers, HasLineNumber, IsDead, IsForced, ShowsOnly, base_of, line_id}
+use Rattle.cert_check.specs.Puzzle.{HasCellNumber, HasCellNumbers, HasLineNumber, IsDead, IsForced, ShowsOnly, base_of}
+use Rattle.cert_check.specs.Puzzle.{line_id}
 use Rattle.lemma_text.specs.declared.lemma_line.LemmaLine.{LemmaLine}
-use Rattle.lemma_text.specs.declared.lemma_line.LemmaLine.TheVariants.{Line, Use, Dead, Broken, Done, Part, Lemma, Deny, Forget}
+use Rattle.lemma_text.specs.declared.lemma_line.LemmaLine.TheVariants.{Line, Use, Dead, Broken, Done, Part, Lemma, Deny}
+use Rattle.lemma_text.specs.declared.lemma_line.LemmaLine.TheVariants.{Forget}
 use Rattle.lemma_text.specs.Proof.{ProofLines}
 use Rattle.lemma_check.specs.declared.store.TheConstants.{MAX_LITERALS}
 use Rattle.lemma_check.specs.declared.machine.Stage.TheVariants.{Denying}
-use Rattle.lemma_check.specs.Walk.{HasLiteral, IsCounted, Machined, Walk, at_facts, begun, denied, dropped, ended, numbered, parted, root, settled, still_open, used}
+use Rattle.lemma_check.specs.Walk.{HasLiteral, IsCounted, Machined, Walk, at_facts, begun, denied, dropped, ended}
+use Rattle.lemma_check.specs.Walk.{numbered, parted, root, settled, still_open, used}
 
 -- a lemma is kept, or it is not
 abbrev pub IsKept : Walk → ℕ → Type 0
@@ -20,21 +27,26 @@ abbrev pub IsLost : Walk → ℕ → Type 0
 IsLost walk n = (numbered walk.lemmas n).kept ≡ false
 
 -- where a line that stands leads to: another walk, or the proof is whole
-abbrev pub Leads : List (List ℕ) → Walk → LemmaLine → Option Walk → Type 0
+abbrev pub Leads : Rows → Walk → LemmaLine → Option Walk → Type 0
 Leads picture walk (Line number) next =
-    HasLineNumber picture number × ((gained : List (List ℕ)) × (IsForced picture walk.at_hand (line_id number) gained × (next ≡ Some (at_facts walk gained))))
-Leads picture walk (Use n) next = IsKept walk n × (next ≡ Some (at_facts walk (used walk.at_hand (numbered walk.lemmas n).literals)))
-Leads picture walk (Dead number) next = HasLineNumber picture number × IsDead picture walk.at_hand (line_id number) × (next ≡ ended walk)
-Leads picture walk (Broken n) next = IsKept walk n × (still_open walk.at_hand (numbered walk.lemmas n).literals ≡ []) × (next ≡ ended walk)
+    HasLineNumber picture number × ((gained : Masks)
+    × (IsForced picture walk.at_hand (line_id number) gained × (next ≡ Some (at_facts walk gained))))
+Leads picture walk (Use n) next =
+    IsKept walk n × (next ≡ Some (at_facts walk (used walk.at_hand (numbered walk.lemmas n).literals)))
+Leads picture walk (Dead number) next =
+    HasLineNumber picture number × IsDead picture walk.at_hand (line_id number) × (next ≡ ended walk)
+Leads picture walk (Broken n) next =
+    IsKept walk n × (still_open walk.at_hand (numbered walk.lemmas n).literals ≡ []) × (next ≡ ended walk)
 Leads picture walk Done next = ShowsOnly picture walk.at_hand × (next ≡ ended walk)
 Leads picture walk (Part literal) next = HasLiteral picture literal × (next ≡ Some (parted walk literal))
 Leads picture walk Lemma next = (walk.behind ≡ []) × (next ≡ Some (begun walk))
 Leads picture walk (Deny literal) next =
-    (walk.stage ≡ Denying) × HasLiteral picture literal × (walk.literals < MAX_LITERALS) × (next ≡ Some (denied walk literal))
+    (walk.stage ≡ Denying) × HasLiteral picture literal × (walk.literals < MAX_LITERALS)
+    × (next ≡ Some (denied walk literal))
 Leads picture walk (Forget n) next = (walk.behind ≡ []) × IsKept walk n × (next ≡ Some (dropped walk n))
 
--- the fault of line n, where it does not stand
-abbrev pub HasFault : List (List ℕ) → Walk → LemmaLine → ℕ → CertFault → Type 0
+-- the error of line n, if it has one
+abbrev pub HasFault : Rows → Walk → LemmaLine → ℕ → CertFault → Type 0
 HasFault picture walk (Line number) n fault = (HasLineNumber picture number → ⊥) × (fault ≡ Place n)
 HasFault picture walk (Use lemma) n fault = IsLost walk lemma × (fault ≡ NoLemma n)
 HasFault picture walk (Dead number) n fault =
@@ -42,7 +54,8 @@ HasFault picture walk (Dead number) n fault =
     ⊎ (HasLineNumber picture number × (IsDead picture walk.at_hand (line_id number) → ⊥) × (fault ≡ NotDead n))
 HasFault picture walk (Broken lemma) n fault =
     (IsLost walk lemma × (fault ≡ NoLemma n))
-    ⊎ (IsKept walk lemma × (still_open walk.at_hand (numbered walk.lemmas lemma).literals ≡ [] → ⊥) × (fault ≡ NotDead n))
+    ⊎ (IsKept walk lemma × (still_open walk.at_hand (numbered walk.lemmas lemma).literals ≡ [] → ⊥)
+    × (fault ≡ NotDead n))
 HasFault picture walk Done n fault = (ShowsOnly picture walk.at_hand → ⊥) × (fault ≡ NotDone n)
 HasFault picture walk (Part literal) n fault = (HasCellNumber picture literal.cell → ⊥) × (fault ≡ Place n)
 HasFault picture walk Lemma n fault = (walk.behind ≡ [] → ⊥) × (fault ≡ Misplaced n)
@@ -58,29 +71,32 @@ abbrev pub found_by : Walk → LemmaLine → Walk
 found_by walk (Deny literal) = walk
 found_by walk line = settled walk
 
--- The first fault of lines, of which the first has number n, where a walk is on, or is over.
-abbrev pub FirstFault : List (List ℕ) → Option Walk → ℕ → List LemmaLine → Option CertFault → Type 0
+-- The first error of lines, of which the first has number n, where a walk is on, or is over.
+abbrev pub FirstFault : Rows → Option Walk → ℕ → List LemmaLine → Option CertFault → Type 0
 FirstFault picture None n [] fault = fault ≡ None
 FirstFault picture (Some walk) n [] fault = fault ≡ Some (Ended n)
 FirstFault picture None n (line ∷ lines) fault = fault ≡ Some (Trailing n)
 FirstFault picture (Some walk) n (line ∷ lines) fault =
     ((found : CertFault) × (HasFault picture (found_by walk line) line n found × (fault ≡ Some found)))
-    ⊎ ((next : Option Walk) × (Leads picture (found_by walk line) line next × FirstFault picture next (n + 1) lines fault))
+    ⊎ ((next : Option Walk)
+    × (Leads picture (found_by walk line) line next × FirstFault picture next (n + 1) lines fault))
 
 -- the first given, of which the first is line n, that lies outside the picture
-abbrev pub GivenFault : List (List ℕ) → ℕ → List CellNumber → CertFault → Type 0
+abbrev pub GivenFault : Rows → ℕ → List CellNumber → CertFault → Type 0
 GivenFault picture n [] fault = ⊥
 GivenFault picture n (cell ∷ cells) fault =
-    ((HasCellNumber picture cell → ⊥) × (fault ≡ Place n)) ⊎ (HasCellNumber picture cell × GivenFault picture (n + 1) cells fault)
+    ((HasCellNumber picture cell → ⊥) × (fault ≡ Place n))
+    ⊎ (HasCellNumber picture cell × GivenFault picture (n + 1) cells fault)
 
--- the first fault of a proof: the givens begin at line 2
-abbrev pub ProofFirstFault : List (List ℕ) → ProofLines → Option CertFault → Type 0
+-- the first error of a proof: the givens begin at line 2
+abbrev pub ProofFirstFault : Rows → ProofLines → Option CertFault → Type 0
 ProofFirstFault picture proof fault =
     ((found : CertFault) × (GivenFault picture 2 proof.givens found × (fault ≡ Some found)))
-    ⊎ (HasCellNumbers picture proof.givens × FirstFault picture (Some (root (base_of picture proof.givens))) (2 + length proof.givens) proof.lines fault)
+    ⊎ (HasCellNumbers picture proof.givens
+    × FirstFault picture (Some (root (base_of picture proof.givens))) (2 + length proof.givens) proof.lines fault)
 
--- a proof by lemmas: no line has a fault, and the walk over its lines is whole
-abbrev pub IsLemmaProof : List (List ℕ) → ProofLines → Type 0
+-- a proof by lemmas: no line has an error, and the walk over its lines is whole
+abbrev pub IsLemmaProof : Rows → ProofLines → Type 0
 IsLemmaProof picture proof = ProofFirstFault picture proof None
 
 -- ---- what the checker's functions do
@@ -90,8 +106,8 @@ abbrev pub reached : Bool → Walk → Option Walk
 reached true walk = Some walk
 reached false walk = None
 
--- A line taken: where it stands, the walk is where it leads to; else its fault is answered.
-abbrev pub Takes : List (List ℕ) → Walk → Machined → LemmaLine → ℕ → Result Bool CertFault → Type 0
+-- A line taken: where it stands, the walk is where it leads to; else its error is answered.
+abbrev pub Takes : Rows → Walk → Machined → LemmaLine → ℕ → Result Bool CertFault → Type 0
 Takes picture old new line n (Ok going) =
     (going ≡ true → IsCounted new)
     × SameShape picture new.walk.at_hand

@@ -1,7 +1,9 @@
--- What a proof by lemmas does: the facts at hand, the branches that wait behind them, and the lemmas kept.
-use Rattle.std.specs.Prelude.{◌≡◌, ℕ, ◌+◌, ◌-◌, ◌<◌, ◌^◌, Bool, true, false, List, [], ◌∷◌, ◌++◌, length, filter, nat_lt, bit_and, get_or, set, Option, Some, None}
+-- What a proof by lemmas does: the facts at hand, the branches that wait after them, and the lemmas kept.
+use Rattle.std.specs.Prelude.{◌≡◌, ℕ, ◌+◌, ◌-◌, ◌<◌, ◌^◌, Bool, true, false, List, [], ◌∷◌, ◌++◌, length, filter}
+use Rattle.std.specs.Prelude.{nat_lt, bit_and, get_or, set, Option, Some, None}
 use Rattle.std.specs.Int.{bit_not, w16}
-use Rattle.picture.specs.Rows.{cell_at, with_cell}
+use Rattle.line_settle.specs.Masks.{Masks}
+use Rattle.picture.specs.Rows.{cell_at, with_cell, Rows}
 use Rattle.cert_check.specs.Puzzle.{HasCellNumber}
 use Rattle.lemma_text.specs.declared.lemma_line.Literal.{Literal}
 use Rattle.lemma_check.specs.declared.machine.Stage.{Stage}
@@ -12,26 +14,27 @@ use Rattle.lemma_check.specs.declared.opening.Open.TheVariants.{Nothing, One, Mo
 -- ---- literals: some colours of a cell
 
 -- a literal of a picture's cell
-abbrev pub HasLiteral : List (List ℕ) → Literal → Type 0
+abbrev pub HasLiteral : Rows → Literal → Type 0
 HasLiteral picture literal = HasCellNumber picture literal.cell × (literal.colours < 2 ^ 16)
 
 -- what is left in the literal's cell
-abbrev pub cell_left : List (List ℕ) → Literal → ℕ
+abbrev pub cell_left : Masks → Literal → ℕ
 cell_left facts literal = cell_at facts (literal.cell.row - 1) (literal.cell.col - 1)
 
 -- the colours of a literal that are left in its cell
-abbrev pub left_of : List (List ℕ) → Literal → ℕ
+abbrev pub left_of : Masks → Literal → ℕ
 left_of facts literal = bit_and (cell_left facts literal) literal.colours
 
 -- the cell of a literal held to its colours, or to all others
-abbrev pub held_to : List (List ℕ) → Literal → List (List ℕ)
+abbrev pub held_to : Masks → Literal → List (List ℕ)
 held_to facts literal = with_cell facts (literal.cell.row - 1) (literal.cell.col - 1) (left_of facts literal)
 
-abbrev pub held_off : List (List ℕ) → Literal → List (List ℕ)
-held_off facts literal = with_cell facts (literal.cell.row - 1) (literal.cell.col - 1) (bit_and (cell_left facts literal) (bit_not w16 literal.colours))
+abbrev pub held_off : Masks → Literal → List (List ℕ)
+held_off facts literal = with_cell facts (literal.cell.row - 1) (literal.cell.col - 1)
+    (bit_and (cell_left facts literal) (bit_not w16 literal.colours))
 
 -- the literals of which a colour is left
-abbrev pub still_open : List (List ℕ) → List Literal → List Literal
+abbrev pub still_open : Masks → List Literal → List Literal
 still_open facts literals = filter (λ literal. nat_lt 0 (left_of facts literal)) literals
 
 -- how many there are: none, one, or more
@@ -41,11 +44,11 @@ told_open (literal ∷ []) = One literal
 told_open (literal ∷ next ∷ literals) = More
 
 -- what one of some literals says of facts: where just one is open, its cell is held to it
-abbrev pub held_by : List (List ℕ) → Open → List (List ℕ)
+abbrev pub held_by : Masks → Open → List (List ℕ)
 held_by facts (One literal) = held_to facts literal
 held_by facts _ = facts
 
-abbrev pub used : List (List ℕ) → List Literal → List (List ℕ)
+abbrev pub used : Masks → List Literal → List (List ℕ)
 used facts literals = held_by facts (told_open (still_open facts literals))
 
 -- ---- lemmas
@@ -72,15 +75,16 @@ newest lemmas = length lemmas - 1
 -- the newest lemma with one literal more, or kept from now on
 abbrev pub with_literal : List Kept → Literal → List Kept
 with_literal lemmas literal =
-    set lemmas (newest lemmas) (lemma_of ((numbered lemmas (newest lemmas)).literals ++ literal ∷ []) (numbered lemmas (newest lemmas)).kept)
+    set lemmas (newest lemmas)
+    (lemma_of ((numbered lemmas (newest lemmas)).literals ++ literal ∷ []) (numbered lemmas (newest lemmas)).kept)
 
 abbrev pub newest_kept : List Kept → List Kept
 newest_kept lemmas = set lemmas (newest lemmas) (lemma_of (numbered lemmas (newest lemmas)).literals true)
 
 -- ---- the walk
 
--- The facts at hand, and those that wait behind them; the lemmas, from number 0, which is none; how many literals those kept
--- have; and whether the newest lemma is still refuted: then the last facts that wait are for when it is kept.
+-- The facts at hand, and those that wait after them; the lemmas, from number 0, which is none; how many literals those
+-- kept have; and whether the newest lemma is still refuted: then the last facts that wait are for when it is kept.
 pub record Walk : Type 0 where
   pub at_hand : List (List ℕ)
   pub behind : List (List (List ℕ))
@@ -93,11 +97,11 @@ walk_of at_hand behind lemmas literals stage =
     record { at_hand = at_hand; behind = behind; lemmas = lemmas; literals = literals; stage = stage }
 
 -- where a walk begins
-abbrev pub root : List (List ℕ) → Walk
+abbrev pub root : Masks → Walk
 root facts = walk_of facts [] (no_lemma ∷ []) 0 Free
 
 -- other facts at hand
-abbrev pub at_facts : Walk → List (List ℕ) → Walk
+abbrev pub at_facts : Walk → Masks → Walk
 at_facts walk facts = walk_of facts walk.behind walk.lemmas walk.literals walk.stage
 
 -- no more literals are taken
@@ -110,7 +114,7 @@ abbrev pub settled : Walk → Walk
 settled walk = walk_of walk.at_hand walk.behind walk.lemmas walk.literals (taken walk.stage)
 
 -- The last facts that wait come to hand: a lemma that was refuted is kept.
-abbrev pub last_at : Walk → List (List ℕ) → Stage → Walk
+abbrev pub last_at : Walk → Masks → Stage → Walk
 last_at walk facts Free = walk_of facts [] walk.lemmas walk.literals Free
 last_at walk facts _ = walk_of facts [] (newest_kept walk.lemmas) walk.literals Free
 
@@ -125,7 +129,8 @@ ended walk = next_at walk walk.behind
 
 -- two branches of a cell
 abbrev pub parted : Walk → Literal → Walk
-parted walk literal = walk_of (held_off walk.at_hand literal) (held_to walk.at_hand literal ∷ walk.behind) walk.lemmas walk.literals walk.stage
+parted walk literal = walk_of (held_off walk.at_hand literal)
+    (held_to walk.at_hand literal ∷ walk.behind) walk.lemmas walk.literals walk.stage
 
 -- a lemma begins, without literals; the facts wait for when it is kept
 abbrev pub begun : Walk → Walk
@@ -133,11 +138,13 @@ begun walk = walk_of walk.at_hand (walk.at_hand ∷ []) (walk.lemmas ++ no_lemma
 
 -- the lemma that begins gets a literal, which is denied
 abbrev pub denied : Walk → Literal → Walk
-denied walk literal = walk_of (held_off walk.at_hand literal) walk.behind (with_literal walk.lemmas literal) (walk.literals + 1) Denying
+denied walk literal =
+    walk_of (held_off walk.at_hand literal) walk.behind (with_literal walk.lemmas literal) (walk.literals + 1) Denying
 
 -- a lemma is kept no longer
 abbrev pub dropped : Walk → ℕ → Walk
-dropped walk n = walk_of walk.at_hand [] (set walk.lemmas n no_lemma) (walk.literals - length (numbered walk.lemmas n).literals) Free
+dropped walk n =
+    walk_of walk.at_hand [] (set walk.lemmas n no_lemma) (walk.literals - length (numbered walk.lemmas n).literals) Free
 
 -- ---- the machine
 

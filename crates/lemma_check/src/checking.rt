@@ -21,7 +21,7 @@ use std::alloc::Global;
 // The line below which the givens stand.
 const FIRST_LINES: usize = 2;
 
-// Takes the lines from the root on, of which the first has a number, and answers the first fault.
+// Takes the lines from the root on, of which the first has a number, and answers the first error.
 fn walk<E: LineEngine>(
     alloc: Global,
     engine: &mut E,
@@ -56,9 +56,9 @@ fn walk<E: LineEngine>(
 /// Checks a proof by lemmas of a picture: whether no other picture has its clues and, in the proof's givens, its colours. No
 /// line of the picture may be longer than the engine takes.
 ///
-/// The answer is Ok exactly where the givens lie in the picture and the lines are a proof; else it is the first fault from the
-/// top with its line, and a refused allocation is answered as `Memory`. The engine is called at most once for each line of the
-/// proof, and not at all where a given lies outside the picture.
+/// The answer is Ok exactly where the givens lie in the picture and the lines are a proof; else it is the first error
+/// from the top with its line, and a refused allocation is answered as `Memory`. The engine is called at most once for
+/// each line of the proof, and not at all where a given lies outside the picture.
 pub fn check_proof<E: LineEngine>(
     alloc: Global,
     engine: &mut E,

@@ -24,7 +24,7 @@ pub(crate) enum Stage {
     Refuting,
 }
 
-// A walk over the lines of a proof. After want of memory it is only for throwing away.
+// A walk over the lines of a proof. After out of memory it is only for throwing away.
 #[derive(Drop)]
 pub(crate) struct Machine {
     trail: Trail,
@@ -59,7 +59,7 @@ impl Machine {
         })
     }
 
-    // Takes a line with its number, and says whether a branch is at hand behind it.
+    // Takes a line with its number, and says whether a branch is at hand after it.
     pub(crate) fn step<E: LineEngine>(
         &mut self,
         engine: &mut E,

@@ -7,8 +7,8 @@ use std::alloc::{AllocError, Global};
 // How many states a set can have.
 const STATES: u32 = 128;
 
-/// The states of a clue's line. A state is how much of the clue's pattern is behind: the cells of its blocks, and the background
-/// between two blocks of one colour. Bit n of a set stands for state n.
+/// The states of a clue's line. A state is how much of the clue's pattern is after: the cells of its blocks, and the
+/// background between two blocks of one colour. Bit n of a set stands for state n.
 #[derive(Drop)]
 pub(crate) struct Automaton {
     // For each colour the states that it leads on from.
@@ -88,7 +88,7 @@ impl Automaton {
         }
     }
 
-    /// The states behind a cell of some colours.
+    /// The states after a cell of some colours.
     pub(crate) fn forward(&self, colours: u16, from: u128) -> u128 {
         ((from & self.moves_by(colours)) << 1) | self.resting(colours, from)
     }

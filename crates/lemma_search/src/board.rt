@@ -11,7 +11,7 @@ use picture::{Axis, CellSet, LineId, MAX_SIDE, Picture};
 use std::alloc::{AllocError, Global};
 use trail::Cell;
 
-/// The masks of a line's cells, and of more behind them.
+/// The masks of a line's cells, and of more after them.
 pub(crate) type Masks = [u16; 128];
 
 /// A picture with its givens, and the automata of its clues.

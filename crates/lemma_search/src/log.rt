@@ -30,7 +30,7 @@ impl Log {
         }
     }
 
-    /// Adds a lemma whose hints are those behind a place.
+    /// Adds a lemma whose hints are those after a place.
     pub(crate) fn add_lemma(&mut self, number: u32, start: usize) -> Result<(), AllocError> {
         let end = self.hints.len();
         self.steps.push(Step::Lemma(number, Span { start, end }))?;

@@ -6,7 +6,7 @@ use picture::MAX_COLOURS;
 use std::alloc::{AllocError, Global};
 use std::mem;
 
-/// A part of a list: its first place, and the one behind its last.
+/// A part of a list: its first place, and the one after its last.
 #[derive(Clone, Copy)]
 pub(crate) struct Span {
     pub start: usize,

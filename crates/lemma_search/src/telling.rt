@@ -23,8 +23,8 @@ pub(crate) enum Told {
     Part(Literal),
 }
 
-// A branch that is told: the hints that are still to come, how many changes of the facts came before it, and the colours of a cell
-// that are left behind it.
+// A branch that is told: the hints that are still to come, how many changes of the facts came before it, and the
+// colours of a cell that are left after it.
 #[derive(Clone, Copy)]
 struct Branch {
     hints: Span,
@@ -168,7 +168,7 @@ impl<'a> Teller<'a> {
         Ok(Gained::Something)
     }
 
-    // Ends the branch at hand, and goes on with what is left behind it.
+    // Ends the branch at hand, and goes on with what is left after it.
     fn end_branch(&mut self, branches: &mut Vec<Branch>) -> Result<(), AllocError> {
         if let Some(branch) = branches.pop() {
             self.facts.take_back(branch.changes);

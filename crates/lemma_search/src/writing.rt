@@ -1,4 +1,5 @@
-//! The lines of a proof as its text has them: lemmas that are needed, numbered as they begin, and dropped behind their last use.
+//! The lines of a proof as its text has them: lemmas that are needed, numbered as they begin, and dropped after their
+//! last use.
 
 use crate::atom::{Literal, small};
 use crate::log::Step;
@@ -147,7 +148,7 @@ impl<'a> Writer<'a> {
         }
     }
 
-    // Drops the lemmas that a step uses last. Behind the end nothing is dropped.
+    // Drops the lemmas that a step uses last. After the end nothing is dropped.
     fn drop_lemmas(&mut self, at: u32) -> Result<(), AllocError> {
         if let Some(Step::End(_)) = self.step(at) {
             return Ok(());

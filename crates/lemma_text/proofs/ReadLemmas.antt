@@ -2,7 +2,7 @@
 use Rattle.std.proofs.Common.{◌≡◌, ℕ, ◌+◌, ◌<◌, eqb, List, [], ◌∷◌, ◌++◌, Option, None, Some, Result, Ok, Err, append_assoc, length, refl, sym, ap, subst, ◌∙◌, arith}
 use Rattle.std.proofs.lemmas.List.{append-nil}
 use Rattle.std.proofs.lemmas.List.Splits.{length-slice_split}
-use Rattle.picture.specs.Reading.{◌>>=◌}
+use Rattle.picture.specs.Readers.{◌>>=◌}
 use Rattle.cert_text.specs.declared.fault.CertFault.{CertFault}
 use Rattle.cert_text.specs.declared.fault.CertFault.TheVariants.{BadLine}
 use Rattle.cert_text.specs.Text.{or_bad, words_of}
@@ -19,7 +19,7 @@ behind_more : (front : List LemmaLine) (line : LemmaLine) (read : Result (List L
 behind_more front line (Ok rest) = ap Ok (append_assoc front (line ∷ []) rest)
 behind_more front line (Err e) = refl
 
--- what is read from here, behind the lines so far, is what is read from the beginning
+-- what is read from here, after the lines so far, is what is read from the beginning
 pub record LinesLeft (front : List LemmaLine) (n : ℕ) (lines : List (List ℕ)) (whole : Result (List LemmaLine) CertFault) : Type 0 where
   pub is : lines_behind front (lemma_lines n lines) ≡ whole
 
@@ -30,7 +30,8 @@ lines_start n lines = record { is = none_before (lemma_lines n lines) }
     none_before (Ok rest) = refl
     none_before (Err e) = refl
 
-pub lines_more : (front new : List LemmaLine) (line : LemmaLine) (text : List ℕ) (n : ℕ) (lines rest : List (List ℕ)) (whole : Result (List LemmaLine) CertFault) → lines ≡ text ∷ rest → Some line ≡ lemma_line text → new ≡ front ++ (line ∷ []) → LinesLeft front n lines whole → LinesLeft new (n + 1) rest whole
+pub lines_more : (front new : List LemmaLine) (line : LemmaLine) (text : List ℕ) (n : ℕ) (lines rest : List (List ℕ)) (whole : Result (List LemmaLine) CertFault) → lines ≡ text ∷ rest
+    → Some line ≡ lemma_line text → new ≡ front ++ (line ∷ []) → LinesLeft front n lines whole → LinesLeft new (n + 1) rest whole
 unfolding lemma_lines
 lines_more front new line text n lines rest whole e l p left =
     let P : List LemmaLine → Type 0 = λ f. LinesLeft f (n + 1) rest whole in
@@ -41,7 +42,8 @@ lines_more front new line text n lines rest whole e l p left =
           ∙ (ap (λ (ls : List (List ℕ)). lines_behind front (lemma_lines n ls)) (sym e) ∙ left.is));
     })
 
-pub lines_stop : (front : List LemmaLine) (text : List ℕ) (n : ℕ) (lines rest : List (List ℕ)) (whole : Result (List LemmaLine) CertFault) → lines ≡ text ∷ rest → None ≡ lemma_line text → LinesLeft front n lines whole → whole ≡ Err (BadLine n)
+pub lines_stop : (front : List LemmaLine) (text : List ℕ) (n : ℕ) (lines rest : List (List ℕ)) (whole : Result (List LemmaLine) CertFault) → lines ≡ text ∷ rest → None ≡ lemma_line text
+    → LinesLeft front n lines whole → whole ≡ Err (BadLine n)
 unfolding lemma_lines
 lines_stop front text n lines rest whole e l left =
     sym left.is
@@ -65,11 +67,13 @@ module _ (line : List ℕ) (named : Option LemmaLine) where
   unfolding lemma_line
   of_two word behind e f n = n ∙ sym (ap by_words (e ∙ ap (λ (ws : List (List ℕ)). word ∷ ws) f))
 
-  pub of_three : (word first behind last : List ℕ) → words_of line ≡ word ∷ words_of behind → words_of behind ≡ first ∷ words_of last → words_of last ≡ last ∷ [] → named ≡ three_words word first last → named ≡ lemma_line line
+  pub of_three : (word first behind last : List ℕ) → words_of line ≡ word ∷ words_of behind → words_of behind ≡ first ∷ words_of last → words_of last ≡ last ∷ [] → named ≡ three_words word first last
+      → named ≡ lemma_line line
   unfolding lemma_line
   of_three word first behind last e f g n = n ∙ sym (ap by_words (e ∙ ap (λ (ws : List (List ℕ)). word ∷ ws) (f ∙ ap (λ (ws : List (List ℕ)). first ∷ ws) g)))
 
-  pub of_four : (word first second behind third last : List ℕ) → words_of line ≡ word ∷ words_of behind → words_of behind ≡ first ∷ words_of third → words_of third ≡ second ∷ words_of last → words_of last ≡ last ∷ [] → named ≡ four_words word first second last → named ≡ lemma_line line
+  pub of_four : (word first second behind third last : List ℕ) → words_of line ≡ word ∷ words_of behind → words_of behind ≡ first ∷ words_of third → words_of third ≡ second ∷ words_of last
+      → words_of last ≡ last ∷ [] → named ≡ four_words word first second last → named ≡ lemma_line line
   unfolding lemma_line
   of_four word first second behind third last e f g h n =
       n ∙ sym (ap by_words (e ∙ ap (λ (ws : List (List ℕ)). word ∷ ws) (f ∙ ap (λ (ws : List (List ℕ)). first ∷ ws) (g ∙ ap (λ (ws : List (List ℕ)). second ∷ ws) h))))
@@ -78,7 +82,8 @@ five_words : (a b c d : List ℕ) (words : List (List ℕ)) → 0 < length words
 five_words a b c d [] some = absurd (omega (arith, some))
 five_words a b c d (next ∷ words) some = refl
 
-pub of_more : (line word first second behind third fourth last rest : List ℕ) → words_of line ≡ word ∷ words_of behind → words_of behind ≡ first ∷ words_of third → words_of third ≡ second ∷ words_of last → words_of last ≡ fourth ∷ words_of rest → None ≡ lemma_line line
+pub of_more : (line word first second behind third fourth last rest : List ℕ) → words_of line ≡ word ∷ words_of behind → words_of behind ≡ first ∷ words_of third
+    → words_of third ≡ second ∷ words_of last → words_of last ≡ fourth ∷ words_of rest → None ≡ lemma_line line
 unfolding lemma_line
 of_more line word first second behind third fourth last rest e f g h =
     sym (ap by_words (e ∙ ap (λ (ws : List (List ℕ)). word ∷ ws) (f ∙ ap (λ (ws : List (List ℕ)). first ∷ ws) (g ∙ ap (λ (ws : List (List ℕ)). second ∷ ws) h)))

@@ -1,5 +1,6 @@
 -- Colours by their letters.
-use Rattle.std.specs.Prelude.{◌≡◌, ℕ, ◌+◌, ◌-◌, ◌^◌, ◌&&◌, bit_and, List, [], ◌∷◌, codes, Option, None, Some, nat_le, ◌==◌, if◌then◌else◌, refl}
+use Rattle.std.specs.Prelude.{◌≡◌, ℕ, ◌+◌, ◌-◌, ◌^◌, ◌&&◌, bit_and, List, [], ◌∷◌, codes, Option, None, Some, nat_le}
+use Rattle.std.specs.Prelude.{◌==◌, if◌then◌else◌, refl}
 use Rattle.std.specs.List.{flat_map, range_with_len}
 use Rattle.cert_text.specs.Text.{is_empty}
 
@@ -15,7 +16,8 @@ with_colour colours least (Some k) rest = if nat_le least k then rest (colours +
 -- the colours so far, and those of further letters, which rise from a least colour on
 unfoldable pub colours_behind : ℕ → ℕ → List ℕ → Option ℕ
 colours_behind colours least [] = Some colours
-colours_behind colours least (b ∷ bytes) = with_colour colours least (colour_at b) (λ more next. colours_behind more next bytes)
+colours_behind colours least (b ∷ bytes) =
+    with_colour colours least (colour_at b) (λ more next. colours_behind more next bytes)
 
 -- the colours that a word names by their letters, which rise: at least one
 abbrev pub colours_named : List ℕ → Option ℕ

@@ -1,14 +1,17 @@
 -- A proof by lemmas read from the lines of a text.
-use Rattle.std.specs.Prelude.{◌≡◌, ℕ, ◌+◌, List, [], ◌∷◌, length, codes, Option, None, Some, Result, Ok, Err, option_map, nat_le, if◌then◌else◌, refl}
+use Rattle.std.specs.Prelude.{◌≡◌, ℕ, ◌+◌, List, [], ◌∷◌, length, codes, Option, None, Some, Result, Ok, Err}
+use Rattle.std.specs.Prelude.{option_map, nat_le, if◌then◌else◌, refl}
 use Rattle.picture.specs.Numbers.{short_number, number_spelled, value_after}
-use Rattle.picture.specs.Reading.{◌>>=◌}
+use Rattle.picture.specs.Readers.{◌>>=◌}
 use Rattle.cert_text.specs.declared.fault.CertFault.{CertFault}
 use Rattle.cert_text.specs.declared.fault.CertFault.TheVariants.{NotCert}
 use Rattle.cert_text.specs.declared.tree_line.CellNumber.{CellNumber}
-use Rattle.cert_text.specs.Text.{cell_named, given_lines, has_leading_zero, is_word, line_named, lines_of, or_bad, words_of}
+use Rattle.cert_text.specs.Text.{cell_named, given_lines, has_leading_zero, is_word, line_named, lines_of, or_bad}
+use Rattle.cert_text.specs.Text.{words_of}
 use Rattle.lemma_text.specs.declared.lemma_line.Literal.{Literal}
 use Rattle.lemma_text.specs.declared.lemma_line.LemmaLine.{LemmaLine}
-use Rattle.lemma_text.specs.declared.lemma_line.LemmaLine.TheVariants.{Line, Use, Dead, Broken, Done, Part, Lemma, Deny, Forget}
+use Rattle.lemma_text.specs.declared.lemma_line.LemmaLine.TheVariants.{Line, Use, Dead, Broken, Done, Part, Lemma, Deny}
+use Rattle.lemma_text.specs.declared.lemma_line.LemmaLine.TheVariants.{Forget}
 use Rattle.lemma_text.specs.Letters.{colours_named}
 use Rattle.lemma_text.specs.Proof.{ProofLines, proof_lines}
 
@@ -37,7 +40,8 @@ literal_named row col letters = literal_with (cell_named row col) (colours_named
 -- ---- the lines of a proof, by their words
 
 abbrev pub one_word : List ℕ → Option LemmaLine
-one_word word = if is_word word (codes "lemma") then Some Lemma else if is_word word (codes "done") then Some Done else None
+one_word word =
+    if is_word word (codes "lemma") then Some Lemma else if is_word word (codes "done") then Some Done else None
 
 abbrev pub two_words : List ℕ → List ℕ → Option LemmaLine
 two_words word number =
@@ -47,7 +51,8 @@ two_words word number =
 
 -- what is dead: a lemma, or a line of the grid
 abbrev pub dead_named : List ℕ → List ℕ → Option LemmaLine
-dead_named first second = if is_word first (codes "l") then option_map Broken (lemma_named second) else option_map Dead (line_named first second)
+dead_named first second = if is_word first (codes "l") then option_map Broken (lemma_named second)
+    else option_map Dead (line_named first second)
 
 abbrev pub three_words : List ℕ → List ℕ → List ℕ → Option LemmaLine
 three_words word first second =
@@ -77,7 +82,8 @@ lemma_line line = by_words (words_of line)
 -- lines below the givens, of which the first has number n
 unfoldable pub lemma_lines : ℕ → List (List ℕ) → Result (List LemmaLine) CertFault
 lemma_lines n [] = Ok []
-lemma_lines n (line ∷ lines) = or_bad n (lemma_line line) >>= λ first. (lemma_lines (n + 1) lines >>= λ rest. Ok (first ∷ rest))
+lemma_lines n (line ∷ lines) =
+    or_bad n (lemma_line line) >>= λ first. (lemma_lines (n + 1) lines >>= λ rest. Ok (first ∷ rest))
 
 abbrev pub below_givens : List CellNumber × List (List ℕ) → Result ProofLines CertFault
 below_givens read = lemma_lines (2 + length read.0) read.1 >>= λ lines. Ok (proof_lines read.0 lines)
@@ -85,9 +91,10 @@ below_givens read = lemma_lines (2 + length read.0) read.1 >>= λ lines. Ok (pro
 -- the proof of lines, of which the first says the format, and the next may be givens
 abbrev pub proof_of_lines : List (List ℕ) → Result ProofLines CertFault
 proof_of_lines [] = Err (NotCert 1)
-proof_of_lines (first ∷ lines) = if is_word first (codes "nonolemma 1") then (given_lines 2 0 lines >>= below_givens) else Err (NotCert 1)
+proof_of_lines (first ∷ lines) =
+    if is_word first (codes "nonolemma 1") then (given_lines 2 0 lines >>= below_givens) else Err (NotCert 1)
 
--- the proof of a text, or the first fault
+-- the proof of a text, or the first error
 abbrev pub proof_of : List ℕ → Result ProofLines CertFault
 proof_of text = proof_of_lines (lines_of text)
 

@@ -1,12 +1,13 @@
 -- The text that is written for a proof by lemmas.
 use Rattle.std.specs.Prelude.{ℕ, List, [], ◌∷◌, ◌++◌, codes}
 use Rattle.std.specs.List.{flat_map}
-use Rattle.picture.specs.Writing.{number_text}
+use Rattle.picture.specs.Writers.{number_text}
 use Rattle.cert_text.specs.declared.tree_line.CellNumber.{CellNumber}
-use Rattle.cert_text.specs.Writing.{givens_text, named_text}
+use Rattle.cert_text.specs.WrittenCert.{givens_text, named_text}
 use Rattle.lemma_text.specs.declared.lemma_line.Literal.{Literal}
 use Rattle.lemma_text.specs.declared.lemma_line.LemmaLine.{LemmaLine}
-use Rattle.lemma_text.specs.declared.lemma_line.LemmaLine.TheVariants.{Line, Use, Dead, Broken, Done, Part, Lemma, Deny, Forget}
+use Rattle.lemma_text.specs.declared.lemma_line.LemmaLine.TheVariants.{Line, Use, Dead, Broken, Done, Part, Lemma, Deny}
+use Rattle.lemma_text.specs.declared.lemma_line.LemmaLine.TheVariants.{Forget}
 use Rattle.lemma_text.specs.Letters.{letters_text}
 use Rattle.lemma_text.specs.Proof.{ProofLines}
 

@@ -12,8 +12,8 @@ pub struct Literal {
 }
 
 /// A line of a proof by lemmas, below its givens. A lemma is a list of literals, of which each other picture meets one.
-/// Lemmas are numbered from 1 as they begin. The branch at hand is some facts, which each line changes or ends; the others
-/// wait behind it.
+/// Lemmas are numbered from 1 as they begin. The branch at hand is some facts, which each line changes or ends; the
+/// others wait after it.
 #[derive(Clone, Copy, Debug, PartialEq, Eq)]
 pub enum LemmaLine {
     /// What the row or column forces is excluded.
@@ -28,8 +28,8 @@ pub enum LemmaLine {
     Done,
     /// Two branches: the cell without these colours, and then the cell with these alone.
     Part(Literal),
-    /// A lemma begins, where nothing waits: the branch at hand is to deny it, and the facts as they are wait behind, with the
-    /// lemma kept.
+    /// A lemma begins, where nothing waits: the branch at hand is to deny it, and the facts as they are wait after,
+    /// with the lemma kept.
     Lemma,
     /// A literal of the lemma that begins: the branch at hand loses its colours.
     Deny(Literal),

@@ -2,7 +2,7 @@
 
 ghost use Rattle.std.specs.Prelude.{◌≡◌, ◌<◌, ◌≤◌, ◌^◌, IfSome, OnOk, OnErr};
 ghost use Rattle.std.specs.Io.KnownBytes.{Appends};
-ghost use Rattle.picture.specs.Writing.{AppendsFront};
+ghost use Rattle.picture.specs.Writers.{AppendsFront};
 ghost use Rattle.lemma_text.specs.Letters.{colour_at, colours_named, letter, letter_where, letters_text};
 
 use picture::{MAX_COLOURS, WriteFault, send};
@@ -63,7 +63,7 @@ fn send_letter<W: Write>(colours: u16, colour: u8, writer: &mut W) -> Result<(),
     }
 }
 
-#[tactic(auto, using(picture::specs::SendingLaws::pieces))]
+#[tactic(auto, using(picture::proofs::SendingLaws::pieces))]
 // Writes the letters of colours.
 pub(crate) fn send_letters<W: Write>(colours: u16, writer: &mut W) -> Result<(), WriteFault>
     ensures ok { OnOk result

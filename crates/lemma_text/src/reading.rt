@@ -1,7 +1,7 @@
 //! The reader of proofs by lemmas.
 
 ghost use Rattle.std.specs.Prelude.{◌≡◌, ◌+◌, ◌^◌, ◌<◌, length};
-ghost use Rattle.picture.specs.Reading.{Gives};
+ghost use Rattle.picture.specs.Readers.{Gives};
 ghost use Rattle.cert_text.specs.Text.{lines_of};
 ghost use Rattle.lemma_text.specs.Text.{four_words, lemma_line, lemma_lines, lemma_named, literal_named, one_word, proof_of, three_words, two_words};
 
@@ -131,11 +131,11 @@ fn read_lines(alloc: Global, text: &[u8], first: usize) -> Result<Vec<LemmaLine>
 
 /// Reads a proof by lemmas.
 ///
-/// Lines end with a line feed, which the last may lack. The first is `nonolemma 1`, else the fault is `NotCert` at line 1.
-/// Lines `given R C` may follow, each behind the one before in the order of rows. Each further line is one of those that
-/// `docs/FORMATS.md` describes, with single spaces and numbers without leading zeros. Any other line is `BadLine`. Whether a
-/// picture has the lines and cells, and whether there are such lemmas, is not looked at. Want of memory is answered where it
-/// comes, before any later fault.
+/// Lines end with a line feed, which the last may lack. The first is `nonolemma 1`, else the error is `NotCert` at line
+/// 1. Lines `given R C` may follow, each after the one before in the order of rows. Each further line is one of those
+/// that `docs/FORMATS.md` describes, with single spaces and numbers without leading zeros. Any other line is `BadLine`.
+/// Whether a picture has the lines and cells, and whether there are such lemmas, is not looked at. Out of memory is
+/// answered where it comes, before any later error.
 pub fn read_proof(alloc: Global, bytes: &[u8]) -> Result<LemmaProof, CertFault>
     ensures { Gives CertFault.Memory (λ proof. proof) result (proof_of bytes.now) }
 {

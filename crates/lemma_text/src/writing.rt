@@ -2,7 +2,7 @@
 
 ghost use Rattle.std.specs.Prelude.{◌≡◌, OnOk, OnErr};
 ghost use Rattle.std.specs.Io.KnownBytes.{Appends};
-ghost use Rattle.picture.specs.Writing.{AppendsFront};
+ghost use Rattle.picture.specs.Writers.{AppendsFront};
 ghost use Rattle.lemma_text.specs.Writing.{colours_text, head_text, line_text, lines_text, literal_text, numbered_text, place_text, proof_text};
 
 use crate::lemma_line::{LemmaLine, Literal};
@@ -12,7 +12,7 @@ use cert_text::{CellNumber, send_givens, send_named};
 use picture::{WriteFault, send, send_number};
 use std::io::Write;
 
-#[tactic(auto, using(picture::specs::SendingLaws::sending))]
+#[tactic(auto, using(picture::proofs::SendingLaws::sending))]
 // Writes a line that names a lemma.
 fn send_numbered<W: Write>(word: &[u8], number: u16, writer: &mut W) -> Result<(), WriteFault>
     ensures ok { OnOk result
@@ -24,7 +24,7 @@ fn send_numbered<W: Write>(word: &[u8], number: u16, writer: &mut W) -> Result<(
     send_number(number, b'\n', writer)
 }
 
-#[tactic(auto, using(picture::specs::SendingLaws::sending))]
+#[tactic(auto, using(picture::proofs::SendingLaws::sending))]
 // Writes a word and a cell.
 fn send_place<W: Write>(word: &[u8], cell: CellNumber, writer: &mut W) -> Result<(), WriteFault>
     ensures ok { OnOk result
@@ -37,7 +37,7 @@ fn send_place<W: Write>(word: &[u8], cell: CellNumber, writer: &mut W) -> Result
     send_number(cell.col, b' ', writer)
 }
 
-#[tactic(auto, using(picture::specs::SendingLaws::sending))]
+#[tactic(auto, using(picture::proofs::SendingLaws::sending))]
 // Writes the letters of colours, and ends the line.
 fn send_colours<W: Write>(colours: u16, writer: &mut W) -> Result<(), WriteFault>
     ensures ok { OnOk result
@@ -49,7 +49,7 @@ fn send_colours<W: Write>(colours: u16, writer: &mut W) -> Result<(), WriteFault
     send(b"\n", writer)
 }
 
-#[tactic(auto, using(picture::specs::SendingLaws::sending))]
+#[tactic(auto, using(picture::proofs::SendingLaws::sending))]
 // Writes a line that names a cell and colours.
 fn send_literal<W: Write>(word: &[u8], literal: Literal, writer: &mut W) -> Result<(), WriteFault>
     ensures ok { OnOk result
@@ -81,7 +81,7 @@ fn send_line<W: Write>(line: LemmaLine, writer: &mut W) -> Result<(), WriteFault
     }
 }
 
-#[tactic(auto, using(picture::specs::SendingLaws::pieces))]
+#[tactic(auto, using(picture::proofs::SendingLaws::pieces))]
 // Writes the lines below the givens.
 fn send_lines<W: Write>(lines: &[LemmaLine], writer: &mut W) -> Result<(), WriteFault>
     ensures ok { OnOk result
@@ -103,9 +103,9 @@ fn head_text() -> &'static [u8]
     b"nonolemma 1\n"
 }
 
-#[tactic(auto, using(picture::specs::SendingLaws::sending))]
-/// Writes a proof by lemmas as a text, each line with a line feed: the first line, the givens and the lines. Nothing is kept in
-/// memory, and after a fault a front of the text is written.
+#[tactic(auto, using(picture::proofs::SendingLaws::sending))]
+/// Writes a proof by lemmas as a text, each line with a line feed: the first line, the givens and the lines. Nothing is
+/// kept in memory, and after an error a prefix of the text is written.
 pub fn write_proof<W: Write>(proof: &LemmaProof, writer: &mut W) -> Result<(), WriteFault>
     ensures ok { OnOk result
         (Appends (W.contents writer.old) (W.contents writer.new) (proof_text proof.now)) }

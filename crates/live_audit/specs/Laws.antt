@@ -1,5 +1,6 @@
--- The law of lists of calls, one of verdicts behind a certificate's call, and one of other pictures.
+-- The law of lists of calls, one of verdicts after a certificate's call, and one of other pictures.
 use Rattle.std.specs.Prelude.{◌≡◌, ◌≤◌, ℕ, List}
+use Rattle.picture.specs.Rows.{Rows}
 use Rattle.picture.specs.Document.{AreColoured}
 use Rattle.edits.specs.Design.{Design}
 use Rattle.live_audit.specs.declared.verdict.Verdict.{Verdict}
@@ -8,14 +9,16 @@ use Rattle.live_audit.specs.Bench.{Seen, IsAudited, nothing_done}
 use Rattle.live_audit.specs.Calls.{Call, AreRight, IsSearched, Lead, after_calls, machine}
 use Rattle.live_audit.specs.Verdict.{IsOtherFor, Tells}
 
--- After any list of edits, undos and redos, verdicts, allowances and certificates, accepted or refused, the state is audited,
--- history and allowance are the machine's, and each answer was right: so each verdict was true of the document that the machine
--- then had, and each certificate fits it. The engine's calls never fall.
+-- After any list of edits, undos, redos, verdicts, allowances and certificates, accepted or refused: the state is
+-- audited, and history and allowance are the machine's. Each answer was right, so each verdict was true of the document
+-- that the machine then had, and each certificate fits it. The engine's calls never fall.
 pub record ListsStayAudited : Type 0 where
   pub audited : (calls : List Call) (old new : Seen) → IsAudited old → Lead calls old new → IsAudited new
-  pub machine_is : (calls : List Call) (old new : Seen) → Lead calls old new → machine new.history new.allowance ≡ after_calls (machine old.history old.allowance) calls
+  pub machine_is : (calls : List Call) (old new : Seen) → Lead calls old new
+      → machine new.history new.allowance ≡ after_calls (machine old.history old.allowance) calls
   pub calls : (calls : List Call) (old new : Seen) → Lead calls old new → old.calls ≤ new.calls
-  pub answers : (calls : List Call) (old new : Seen) → Lead calls old new → AreRight (machine old.history old.allowance) calls
+  pub answers : (calls : List Call) (old new : Seen) → Lead calls old new
+      → AreRight (machine old.history old.allowance) calls
 
 -- A verdict is decided, and its work is none: no part is searched, no line evaluated.
 pub record SearchesNothing (old new : Seen) (verdict : Verdict) : Type 0 where
@@ -24,8 +27,10 @@ pub record SearchesNothing (old new : Seen) (verdict : Verdict) : Type 0 where
 
 -- So is each verdict that is asked right after a certificate's call that was not refused, whatever the allowance.
 abbrev pub CertifiedVerdictsSearchNothing : Type 0
-CertifiedVerdictsSearchNothing = (old between new : Seen) (verdict : Verdict) → IsSearched old between → Tells between new verdict → SearchesNothing between new verdict
+CertifiedVerdictsSearchNothing = (old between new : Seen) (verdict : Verdict) → IsSearched old between
+    → Tells between new verdict → SearchesNothing between new verdict
 
 -- Another picture for a document has colours of the document's palette alone, since clues name no others.
 abbrev pub OthersAreColoured : Type 0
-OthersAreColoured = (d : Design) (other : List (List ℕ)) → AreColoured d.rows d.colours → IsOtherFor d other → AreColoured other d.colours
+OthersAreColoured = (d : Design) (other : Rows) → AreColoured d.rows d.colours → IsOtherFor d other
+    → AreColoured other d.colours

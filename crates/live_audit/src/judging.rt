@@ -2,8 +2,8 @@
 
 ghost use Rattle.std.specs.Prelude.{◌≡◌, ◌≤◌, ℕ, length, None, IfOk, MatchOption, OnErr};
 ghost use Rattle.second_search.specs.Verdict.{Verdict};
-ghost use Rattle.second_search.specs.Carrying.{Carries};
-ghost use Rattle.second_search.specs.Judging.{Done, FirstFilling, HasNoFilling, Judges};
+ghost use Rattle.second_search.specs.CarriedParts.{Carries};
+ghost use Rattle.second_search.specs.JudgedParts.{Done, FirstFilling, HasNoFilling, Judges};
 ghost use Rattle.second_search.specs.Parts.{IsScene};
 ghost use Rattle.kept_audit.specs.Audit.{IsAuditOf};
 ghost use Rattle.edits.specs.Design.{design_of};

@@ -1,4 +1,5 @@
-//! Laws of lists of calls, of verdicts behind a certificate and of other pictures. Each function does nothing, and its contract is the law.
+//! Laws of lists of calls, of verdicts after a certificate and of other pictures. Each function does nothing, and its
+//! contract is the law.
 
 ghost use Rattle.live_audit.specs.Laws.{CertifiedVerdictsSearchNothing, ListsStayAudited, OthersAreColoured};
 

@@ -3,10 +3,10 @@
 ghost use Rattle.std.specs.Prelude.{◌≡◌, ◌<◌, ◌≤◌, IfOk, OnOk};
 ghost use Rattle.picture.specs.LineSet.{name_count};
 ghost use Rattle.line_settle.specs.FactSets.{IsFacts, SameShape};
-ghost use Rattle.fixpoint.specs.Closing.{AreClosable, EachFits, QuietOutside};
+ghost use Rattle.fixpoint.specs.ClosedFacts.{AreClosable, EachFits, QuietOutside};
 ghost use Rattle.fixpoint.specs.LineNames.{AreLinesOf};
-ghost use Rattle.second_search.specs.Looking.{AreRowsSettled, ShowOthers, Shows};
-ghost use Rattle.second_search.specs.Searching.{Comes, ComesClosed, IsCalled, SplitsBut};
+ghost use Rattle.second_search.specs.SettledFacts.{AreRowsSettled, ShowOthers, Shows};
+ghost use Rattle.second_search.specs.FixedOrder.{Comes, ComesClosed, IsCalled, SplitsBut};
 
 use crate::looking::{first_unsettled, shown_on};
 use clues::ClueBook;

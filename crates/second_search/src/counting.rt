@@ -2,12 +2,12 @@
 
 ghost use Rattle.std.specs.Prelude.{◌≡◌, ◌<◌, ◌≤◌, ℕ, IfOk, OnOk};
 ghost use Rattle.picture.specs.LineSet.{name_count};
-ghost use Rattle.fixpoint.specs.Closing.{AreClosable, QuietOutside};
+ghost use Rattle.fixpoint.specs.ClosedFacts.{AreClosable, QuietOutside};
 ghost use Rattle.fixpoint.specs.LineNames.{AreLinesOf};
 ghost use Rattle.line_settle.specs.FactSets.{SameShape};
-ghost use Rattle.second_search.specs.Looking.{AreRowsSettled, ShowOthers};
-ghost use Rattle.second_search.specs.Searching.{EndsAs, IsCalled, raised};
-ghost use Rattle.second_search.specs.Stepping.{Compares, Spends, Steps};
+ghost use Rattle.second_search.specs.SettledFacts.{AreRowsSettled, ShowOthers};
+ghost use Rattle.second_search.specs.FixedOrder.{EndsAs, IsCalled, raised};
+ghost use Rattle.second_search.specs.SearchSteps.{Compares, Spends, Steps};
 
 use crate::coming::{Coming, Due, come_to};
 use clues::ClueBook;

@@ -2,11 +2,11 @@
 
 ghost use Rattle.std.specs.Prelude.{◌≡◌, ◌<◌, ◌≤◌, ◌↔◌, ℕ, length, IfOk, IsTrue, OnErr, MatchOption};
 ghost use Rattle.picture.specs.CellSet.{HasCell};
-ghost use Rattle.line_settle.specs.Counting.{Counts};
+ghost use Rattle.line_settle.specs.Counts.{Counts};
 ghost use Rattle.second_search.specs.Parts.{AreParts, IsPart, IsScene};
-ghost use Rattle.second_search.specs.Answering.{IsAnswer};
-ghost use Rattle.second_search.specs.Carrying.{AreSameLines, Carries, IsCarried, KnowsNothing};
-ghost use Rattle.second_search.specs.Judging.{
+ghost use Rattle.second_search.specs.Answer.{IsAnswer};
+ghost use Rattle.second_search.specs.CarriedParts.{AreSameLines, Carries, IsCarried, KnowsNothing};
+ghost use Rattle.second_search.specs.JudgedParts.{
   AddsUp,
   AnswersAs,
   AreTrue,
@@ -361,8 +361,9 @@ impl Keeper {
         None
     }
 
-    // Goes along the parts, and searches those of which nothing is known, up to the first that has another filling or costs
-    // more than is allowed. Tells at which it stopped, behind the last where there is none, and how the search there ended.
+    // Goes along the parts, and searches those of which nothing is known, up to the first that has another filling or
+    // costs more than is allowed. Tells at which it stopped, after the last where there is none, and how the search
+    // there ended.
     fn search_parts<E: LineEngine>(
         &self,
         engine: &mut E,

@@ -3,7 +3,7 @@
 
 ghost use Rattle.std.specs.Prelude.{◌≡◌, ◌≤◌, ℕ, length, IfOk, OnOk};
 ghost use Rattle.second_search.specs.Parts.{IsPart, IsScene};
-ghost use Rattle.second_search.specs.Searching.{EndsPast, EndsTrue, EndsWithin, IsCalled, alone, raised};
+ghost use Rattle.second_search.specs.FixedOrder.{EndsPast, EndsTrue, EndsWithin, IsCalled, alone, raised};
 ghost use Rattle.second_search.specs.Scene.{CanSearch};
 
 use crate::bounds::{BOUNDS, Bounds, LONGER};

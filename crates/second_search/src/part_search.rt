@@ -5,7 +5,7 @@ ghost use Rattle.picture.specs.Rows.{width_of};
 ghost use Rattle.line_settle.specs.FactSets.{SameShape};
 ghost use Rattle.fixpoint.specs.LineNames.{AreLinesOf};
 ghost use Rattle.second_search.specs.Parts.{IsPart};
-ghost use Rattle.second_search.specs.Searching.{EndsAs, IsCalled, KeepsOutside, alone, raised};
+ghost use Rattle.second_search.specs.FixedOrder.{EndsAs, IsCalled, KeepsOutside, alone, raised};
 ghost use Rattle.second_search.specs.Through.{LeavesRowAlone, PutsBoth, PutsRow, PutsThrough};
 ghost use Rattle.second_search.specs.Scene.{CanSearch, IsWhole};
 

@@ -14,8 +14,8 @@ use picture::LineSet;
 use std::alloc::{AllocError, Global};
 use std::marker::Model;
 
-/// The trail by which a search or a walk over a tree backtracks: the facts of the branch at hand, and the notes that tell
-/// which others wait behind them, the newest last.
+/// The trail by which a search or a walk over a tree backtracks: the facts of the branch at hand, and the notes that
+/// tell which others wait after them, the newest last.
 ///
 /// A cell's mask is noted only where it changes, and a branch only while it has colours to try. So where `advance` follows each
 /// split, and colours are only taken from cells, cells and colours bound the notes, however deep a search goes. After lack of
@@ -39,7 +39,7 @@ impl Model for Trail {
 }
 
 impl Trail {
-    /// A trail with these facts at hand, and none behind them.
+    /// A trail with these facts at hand, and none after them.
     pub fn start(alloc: Global, facts: Facts) -> Trail
         ensures { result ≡ trail_of facts [] [] }
     {

@@ -1,6 +1,6 @@
 use Rattle.std.proofs.Common.{◌<◌, length, arith}
 use Rattle.std.proofs.lemmas.Result.{err_from_is_err_and}
-use Rattle.picture.specs.SendingLaws.{piece_cut}
+use Rattle.picture.proofs.SendingLaws.{piece_cut}
 use Rattle.lemma_text.specs.Writing.{line_text}
 use Rattle.lemma_text.proofs.writing.send_lines.Goals as goal
 

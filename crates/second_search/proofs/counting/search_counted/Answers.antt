@@ -1,5 +1,5 @@
 use Rattle.std.proofs.Common.{◌≡◌, ◌∙◌, [], None, Option, Some, arith, refl}
-use Rattle.line_settle.specs.GridLaws.{shape_trans}
+use Rattle.line_settle.proofs.GridLaws.{shape_trans}
 use Rattle.trail.specs.declared.cell.Cell.{Cell}
 use Rattle.trail.specs.Trail.{GoesOn, Trailed}
 use Rattle.second_search.specs.Through.{across}
@@ -11,7 +11,8 @@ use Rattle.second_search.proofs.counting.search_counted.Goals as goal
 
 pub loop-search-init : goal.loop-search-init
 loop-search-init g c =
-    let ready = ready_first c.args.book.now c.args.known.now c.args.start.lines c.args.start.facts c.args.start.lines c.start.result c.start.ensures c.requires.lines c.requires.quiet c.requires.others in
+    let ready =
+    ready_first c.args.book.now c.args.known.now c.args.start.lines c.args.start.facts c.args.start.lines c.start.result c.start.ensures c.requires.lines c.requires.quiet c.requires.others in
     record {
       counting = counting_starts c.args.book.now c.args.known.now c.args.start.facts c.args.start.allowance c.start.result c.start.ensures;
       ready = ready.0;
@@ -37,7 +38,8 @@ pub returns-in-Some-clause-ends : goal.returns-in-Some-clause-ends
 returns-in-Some-clause-ends g c =
     let s = c.loop-search.search in
     let t = c.look_once.new.self in
-    counted_ending least_is_unique c.args.book.now c.args.known.now c.args.start.facts c.args.start.allowance s.trail t.trail s.budget t.budget c.loop-search.invariant.counting c.in-Some.ending (rw c.in-Some.is at c.in_ok-found.ensures.steps)
+    counted_ending least_is_unique c.args.book.now c.args.known.now c.args.start.facts c.args.start.allowance s.trail t.trail s.budget t.budget c.loop-search.invariant.counting c.in-Some.ending
+    (rw c.in-Some.is at c.in_ok-found.ensures.steps)
 
 nothing_waits : (s t : Trailed) (cell : Option Cell) → ((x : Cell) → cell ≡ Some x → ⊥) → GoesOn s t cell → s.behind ≡ []
 nothing_waits s t None none on = on

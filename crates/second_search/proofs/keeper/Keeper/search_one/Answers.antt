@@ -15,4 +15,5 @@ returns-clause-ends g c =
     let part = c.index-part.result.now in
     let here = part_is c.self.inside.kept.items c.args.self.now c.args.i part c.self.view_is c.requires.place c.index-part.ensures in
     let done = c.in_ok-searched in
-    searched_once s.clues.now s.facts.now s.picture.now c.args.allowance c.args.self.now c.args.i part done.searched.ending done.searched.splits _ _ _ here c.in-Unknown.is done.ensures.ends c.decide_part.ensures.calls done.ensures.called (omega arith) (omega arith)
+    searched_once s.clues.now s.facts.now s.picture.now c.args.allowance c.args.self.now c.args.i part done.searched.ending done.searched.splits _ _ _ here c.in-Unknown.is done.ensures.ends
+    c.decide_part.ensures.calls done.ensures.called (omega arith) (omega arith)

@@ -1,5 +1,5 @@
 use Rattle.std.proofs.Common.{◌≡◌, ◌≤◌}
-use Rattle.second_search.specs.Judging.{DoneBy, Passes}
+use Rattle.second_search.specs.JudgedParts.{DoneBy, Passes}
 use Rattle.second_search.proofs.keeper.Keeper.search_parts.Given as goal
 
 abbrev pub invariant-loop-i : goal.invariant-loop-i
