@@ -12,7 +12,7 @@ use Rattle.clues.specs.ClueBook.{Clues, clues_of}
 use Rattle.clues.specs.Solution.{IsOther}
 use Rattle.clues.proofs.SolutionLaws.{other_fewer}
 use Rattle.line_settle.specs.declared.meter.Meter.{Meter}
-use Rattle.line_settle.specs.Counts.{counted}
+use Rattle.line_settle.specs.Counts.{Counts, counted}
 use Rattle.line_settle.specs.FactSets.{IsBase}
 use Rattle.justify.specs.Book.{Account}
 use Rattle.second_search.specs.declared.keeper.Answer.TheVariants.{Filling}
@@ -26,6 +26,7 @@ use Rattle.second_search.specs.JudgedParts.{AreTrue, Changes, Done, HasFilling, 
 use Rattle.second_search.specs.JudgedParts as judging
 use Rattle.second_search.specs.Laws.{AllowancesBreakOff, SoundFacts}
 use Rattle.second_search.specs.Parts.{AreParts, IsScene}
+use Rattle.second_search.specs.Evaluations.{AreFew}
 use Rattle.edits.specs.Design.{Design, design_of}
 use Rattle.edits.specs.History.{History, history}
 use Rattle.edits.specs.Laws.{MarksAreGivens}
@@ -195,17 +196,27 @@ each_evaluated : (parts splits : ℕ) (search : Meter) (before after : ℕ) (Is 
 each_evaluated parts splits search before after Is d =
     omega arith
 
+-- what a meter counted from nothing is no more than what was done
+pub few_counted : (allowance : Option ℕ) (facts : Masks) (parts evaluations before after : ℕ) (meter end : Meter) → meter ≡ nothing_done → Counts evaluations 0 meter end before after
+    → AreFew allowance facts parts evaluations → AreFew allowance facts parts end.evaluations
+few_counted None facts parts evaluations before after meter end e c few = tt
+few_counted (Some most) facts parts evaluations before after meter end e c few =
+    let none = ap (λ (m : Meter). m.evaluations) e in
+    let all = c.evaluations in
+    omega arith
+
 -- what was judged of the present document is decided of the bench
 pub decided : (d : Document) (h : History) (clues : Clues) (book : Account) (kept next : List KeptPart) (allowance : Option ℕ) (work : Work) (search : Meter) (parts splits before after : ℕ)
     (old : Seen) (j : Judgement)
     → design_of d ≡ h.document → seen h clues book kept allowance work before ≡ old
     → Done 0 parts 0 splits nothing_done search before after (Judges clues book.facts d.picture allowance kept next j)
+    → AreFew allowance book.facts (length kept) search.evaluations
     → Decides old (seen h clues book next allowance (record { edit = work.edit; search = search; parts = parts; splits = splits }) after) j
-decided d h clues book kept next allowance work search parts splits before after old j e was done =
+decided d h clues book kept next allowance work search parts splits before after old j e was done few =
     let P : Design → Type 0 = λ x. Done 0 parts 0 splits nothing_done search before after (Judges clues book.facts x.rows allowance kept next j) in
     let new : Seen = seen h clues book next allowance (record { edit = work.edit; search = search; parts = parts; splits = splits }) after in
     let here : Decides (seen h clues book kept allowance work before) new j =
-    record { same = refl; work = subst P e done; calls = each_called parts splits search before after _ done; evaluated = each_evaluated parts splits search before after _ done } in
+    record { same = refl; work = subst P e done; calls = each_called parts splits search before after _ done; evaluated = each_evaluated parts splits search before after _ done; few = few } in
     subst (λ (s : Seen). Decides s new j) was here
 
 -- the bench stays audited where only what is kept of the parts changes

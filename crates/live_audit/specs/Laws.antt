@@ -1,12 +1,19 @@
--- The law of lists of calls, one of verdicts after a certificate's call, and one of other pictures.
-use Rattle.std.specs.Prelude.{◌≡◌, ◌≤◌, ℕ, List}
+-- The law of lists of calls, one of strokes, one of verdicts after a certificate's call, and one of other pictures.
+use Rattle.std.specs.Prelude.{◌≡◌, ◌+◌, ◌≤◌, ℕ, List}
 use Rattle.picture.specs.Rows.{Rows}
 use Rattle.picture.specs.Document.{AreColoured}
+use Rattle.picture.specs.LineSet.{Lines, name_count}
+use Rattle.clues.specs.Change.{Moves}
+use Rattle.justify.specs.Book.{Account, IsAccount}
+use Rattle.retract.specs.Dirty.{AreDirty}
+use Rattle.retract.specs.StandingSteps.{AreStanding}
+use Rattle.propagate.specs.Turns.{cells_drawn, steps_added}
 use Rattle.edits.specs.Design.{Design}
 use Rattle.live_audit.specs.declared.verdict.Verdict.{Verdict}
 use Rattle.live_audit.specs.declared.verdict.Verdict.TheVariants.{Undecided}
 use Rattle.live_audit.specs.Bench.{Seen, IsAudited, nothing_done}
-use Rattle.live_audit.specs.Calls.{Call, AreRight, IsSearched, Lead, after_calls, machine}
+use Rattle.live_audit.specs.Calls.{Accepts, Call, AreRight, IsSearched, Lead, after_calls, machine}
+use Rattle.live_audit.specs.Stroke.{Stroke, stroke_moves}
 use Rattle.live_audit.specs.Verdict.{IsOtherFor, Tells}
 
 -- After any list of edits, undos, redos, verdicts, allowances and certificates, accepted or refused: the state is
@@ -19,6 +26,23 @@ pub record ListsStayAudited : Type 0 where
   pub calls : (calls : List Call) (old new : Seen) → Lead calls old new → old.calls ≤ new.calls
   pub answers : (calls : List Call) (old new : Seen) → Lead calls old new
       → AreRight (machine old.history old.allowance) calls
+
+-- Of the steps before a stroke those that stand are kept; all other steps are new. Each dirty line is evaluated, and
+-- beyond these no more lines than there are cells on which new steps draw, each cell counted once for each step.
+pub record EvaluatesFew (moves : Moves) (old new : Seen) : Type 0 where
+  pub kept : Account
+  pub is_account : IsAccount kept
+  pub over : kept.base ≡ new.book.base
+  pub standing : AreStanding moves old.clues new.clues new.book.base old.book.steps kept.steps
+  pub dirty : Lines
+  pub are_dirty : AreDirty moves old.clues new.clues old.book.facts kept.facts dirty
+  pub evaluations : new.work.edit.evaluations ≤ name_count dirty + cells_drawn (steps_added kept new.book)
+  pub calls : new.calls ≤ old.calls + (name_count dirty + cells_drawn (steps_added kept new.book))
+
+-- So does each stroke that is accepted.
+abbrev pub StrokesEvaluateFew : Type 0
+StrokesEvaluateFew = (stroke : Stroke) (old new : Seen) → Accepts stroke old new
+    → EvaluatesFew (stroke_moves old.history stroke) old new
 
 -- A verdict is decided, and its work is none: no part is searched, no line evaluated.
 pub record SearchesNothing (old new : Seen) (verdict : Verdict) : Type 0 where

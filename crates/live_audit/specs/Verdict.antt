@@ -10,6 +10,7 @@ use Rattle.second_search.specs.declared.keeper.KeptPart.{KeptPart}
 use Rattle.second_search.specs.Verdict.{Verdict as Judgement}
 use Rattle.second_search.specs.Verdict as judgement
 use Rattle.second_search.specs.JudgedParts.{Done, FirstFilling, HasFilling, HasNoFilling, Judges}
+use Rattle.second_search.specs.Evaluations.{AreFew}
 use Rattle.edits.specs.Design.{Design}
 use Rattle.live_audit.specs.declared.verdict.Verdict.{Verdict}
 use Rattle.live_audit.specs.declared.verdict.Verdict.TheVariants.{Unique, Ambiguous, Undecided}
@@ -28,16 +29,18 @@ IsVerdictOn d allowance (Undecided splits) = allowance ≡ Some splits
 
 -- ---- what a verdict takes and keeps
 
--- The picture is judged by its parts. Where another filling of a part is kept, nothing is searched; else the
--- parts of which nothing is known are searched in order, up to the first that has another filling or costs more
--- than is allowed. What the searches that ended found is kept, and the last verdict's work is counted: each
--- evaluation is a call of the engine, and a part that is searched takes at least one. All else is as before.
+-- The picture is judged by its parts. Where another filling of a part is kept, nothing is searched; else
+-- the parts of which nothing is known are searched in order, up to the first that has another filling or
+-- costs more than is allowed. What the searches that ended found is kept, and the last verdict's work is
+-- counted: each evaluation is a call of the engine, a part that is searched takes at least one, and
+-- under an allowance all parts together take as many at most as it allows. All else is as before.
 pub record Decides (old new : Seen) (j : Judgement) : Type 0 where
   pub same : new ≡ record old { kept = new.kept; work = record new.work { edit = old.work.edit }; calls = new.calls }
   pub work : Done 0 new.work.parts 0 new.work.splits nothing_done new.work.search old.calls new.calls
       (Judges old.clues old.book.facts old.history.document.rows old.allowance old.kept new.kept j)
   pub calls : new.calls ≡ counted old.calls new.work.search.evaluations
   pub evaluated : new.work.parts ≤ new.work.search.evaluations
+  pub few : AreFew old.allowance old.book.facts (length old.kept) new.work.search.evaluations
 
 -- what a picture is judged to be, as a verdict: the other picture is the first filling that is kept
 abbrev pub AnswersAs : Seen → Verdict → Judgement → Type 0

@@ -19,7 +19,7 @@ use Rattle.edits.specs.History.{History}
 use Rattle.live_audit.specs.Bench.{Seen}
 use Rattle.live_audit.specs.Certify.{Certifies, NamesMarks}
 use Rattle.live_audit.specs.Verdict.{IsOtherFor}
-use Rattle.session.specs.Session.{certified_text, content}
+use Rattle.session.specs.Texts.{certified_text, content}
 use Rattle.answers.specs.Check.{IsCheck, IsCheckOf, accepted_text}
 use Rattle.published.specs.Laws.{AreAccepted, ArePublished, PairsAreAccepted, background_in}
 use Rattle.published.specs.Printed.{UniqueArePublished}

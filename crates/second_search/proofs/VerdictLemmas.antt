@@ -16,7 +16,7 @@ use Rattle.second_search.specs.JudgedParts.{Changes, FirstFilling, HasFilling, H
 use Rattle.second_search.specs.JudgedParts.{kept_at, parts_of, AddsUp, Done, DoneBy, EndsBy, EndsPart, Passes, StopsAt}
 use Rattle.second_search.proofs.LookLemmas.{below_next}
 use Rattle.line_settle.specs.declared.meter.Meter.{Meter}
-use Rattle.line_settle.specs.Counts.{counted}
+use Rattle.line_settle.specs.Counts.{Counts, counted}
 use Rattle.second_search.specs.declared.keeper.Spent.{Spent}
 use Rattle.second_search.specs.FixedOrder.{EndsWithin, IsCalled, alone, raised}
 use Rattle.second_search.specs.Laws.{AllowancesBreakOff}
@@ -205,6 +205,14 @@ done_added s t a b spent start end p q Is d x y z w = record {
   none = d.none;
   at_least = d.at_least;
 }
+
+-- the evaluations that were counted for it are added to a meter
+pub spent_added : (spent : Spent) (start end : Meter) (p q : ℕ) (Is : ℕ → ℕ → Type 0) → DoneBy spent p q Is → end.evaluations ≡ counted start.evaluations spent.evaluations
+    → end.trials ≡ counted start.trials 0 → Counts spent.evaluations 0 start end p q
+spent_added spent start end p q Is d e t =
+    let n = d.counts.evaluations in
+    let calls = d.counts.calls in
+    record { evaluations = e; trials = t; calls = omega arith }
 
 module _ (clues : Clues) (facts : Masks) (picture : Rows) (allowance : Option ℕ) (kept : List KeptPart) where
   pub passes_more : (i : ℕ) (m n x y : ℕ) → Passes clues facts picture allowance kept i m n → EndsPart clues facts picture allowance (kept_at kept i) ending.Nothing x y

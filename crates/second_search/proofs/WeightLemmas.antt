@@ -21,30 +21,23 @@ total_append : {X : Type 0} (f : X → ℕ) (xs ys : List X) → total f (xs ++ 
 total_append f [] ys = omega arith
 total_append f (x ∷ xs) ys = let rest = total_append f xs ys in omega arith
 
-total_set : {X : Type 0} (f : X → ℕ) (xs : List X) (i : ℕ) (y d : X) → i < length xs → total f (set xs i y) + f (get_or xs i d) ≡ total f xs + f y
+pub total_set : {X : Type 0} (f : X → ℕ) (xs : List X) (i : ℕ) (y d : X) → i < length xs → total f (set xs i y) + f (get_or xs i d) ≡ total f xs + f y
 total_set f [] i y d l = absurd (omega arith)
 total_set f (x ∷ xs) zero y d l = omega arith
 total_set f (x ∷ xs) (suc i) y d l = let rest = total_set f xs i y d (omega arith) in omega arith
 
 -- ---- fewer colours weigh less
 
-row_le : (a b : List ℕ) → length a ≡ length b → ((i : ℕ) → get_or a i 0 ≤ get_or b i 0) → row_weight a ≤ row_weight b
-unfolding row_weight
-row_le [] [] e h = omega arith
-row_le [] (y ∷ ys) e h = omega arith
-row_le (x ∷ xs) [] e h = absurd (omega arith)
-row_le (x ∷ xs) (y ∷ ys) e h = let first = h 0 in let rest = row_le xs ys (omega arith) (λ i. h (suc i)) in omega arith
-
-rows_le : (a b : List (List ℕ)) → length a ≡ length b → ((i : ℕ) → row_weight (get_or a i []) ≤ row_weight (get_or b i [])) → weight a ≤ weight b
-unfolding weight
-rows_le [] [] e h = omega arith
-rows_le [] (y ∷ ys) e h = omega arith
-rows_le (x ∷ xs) [] e h = absurd (omega arith)
-rows_le (x ∷ xs) (y ∷ ys) e h = let first = h 0 in let rest = rows_le xs ys (omega arith) (λ i. h (suc i)) in omega arith
+pub total_le : {X : Type 0} (f : X → ℕ) (d : X) (a b : List X) → length a ≡ length b → ((i : ℕ) → f (get_or a i d) ≤ f (get_or b i d)) → total f a ≤ total f b
+total_le f d [] [] e h = omega arith
+total_le f d [] (y ∷ ys) e h = omega arith
+total_le f d (x ∷ xs) [] e h = absurd (omega arith)
+total_le f d (x ∷ xs) (y ∷ ys) e h = let first = h 0 in let rest = total_le f d xs ys (omega arith) (λ i. h (suc i)) in omega arith
 
 pub weight_within : (few many : Masks) → IsWithin few many → weight many ≤ weight few
-weight_within few many w =
-    rows_le many few (sym w.same_shape.rows) (λ i. row_le (row_at many i) (row_at few i) (sym (w.same_shape.each i)) (λ j. fewer_le (cell_at many i j) (cell_at few i j) (λ k s. w.leaves i j k s)))
+unfolding weight row_weight
+weight_within few many w = total_le row_weight [] many few (sym w.same_shape.rows)
+    (λ i. total_le (λ (x : ℕ). x) 0 (row_at many i) (row_at few i) (sym (w.same_shape.each i)) (λ j. fewer_le (cell_at many i j) (cell_at few i j) (λ k s. w.leaves i j k s)))
 
 -- ---- a cell held
 
@@ -99,7 +92,7 @@ held_below facts row col h l (k ∷ ks) m a =
     let positive = pow_pos (5 * w) in
     omega arith
 
-few_colours : (mask : ℕ) → length (colours_of mask) ≤ 16
+pub few_colours : (mask : ℕ) → length (colours_of mask) ≤ 16
 unfolding colours_of
 few_colours mask =
     let kept = length-filter (λ k. bit_at mask k == 1) (range_with_len 0 16) in

@@ -15,3 +15,4 @@ pub mod JudgedParts
 pub mod Answer
 pub mod CarriedParts
 pub mod Costs
+pub mod Evaluations

@@ -31,7 +31,8 @@ use Rattle.session.specs.declared.answer.Answer.TheVariants.{Silence, Done, Text
 use Rattle.session.specs.Answer.{GivesNon, IsAsked, answer_text, stroke_said, text_said}
 use Rattle.report_text.specs.ClueText.{clues_text}
 use Rattle.session.specs.Refusal.{edit_line, memory_line, refusal_line}
-use Rattle.session.specs.Session.{Judges, Replies, SaysStroke, certified_text, content, done_text, report_on, verdict_text, verdict_word, why_text}
+use Rattle.session.specs.Session.{Judges, Replies, SaysStroke, report_on}
+use Rattle.session.specs.Texts.{certified_text, content, done_text, verdict_text, verdict_word, why_text}
 use Rattle.report_text.specs.Report.{ending_text, front_text}
 use Rattle.report_text.specs.Shown.{map_text}
 

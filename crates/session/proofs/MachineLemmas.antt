@@ -13,11 +13,12 @@ use Rattle.command_text.specs.declared.request.Request.TheVariants as request
 use Rattle.session.specs.Laws.{AreAnswers, Follows, IsAt, SessionsStayAudited, after_answer, after_asked, after_command, after_lawful, after_lines}
 use Rattle.command_text.specs.Lines.{request_of}
 use Rattle.session.specs.Refusal.{edit_line, memory_line}
-use Rattle.session.specs.Session.{IsShort, LacksMemory, Replies, Says, SaysStroke, SaysTo, SaysToAll, done_text}
+use Rattle.session.specs.Session.{IsShort, LacksMemory, Replies, Says, SaysStroke, SaysTo, SaysToAll}
+use Rattle.session.specs.Texts.{done_text}
 use Rattle.command_text.specs.Words.{is_word}
 
 -- the machine that a state shows
-abbrev machine_of : Seen → Machine
+abbrev pub machine_of : Seen → Machine
 machine_of s = machine s.history s.allowance
 
 -- ---- states that differ in what the machine does not hold
@@ -127,7 +128,7 @@ by_reply : (c : Command) (old new : Seen) (text : List ℕ) → IsAudited old �
 by_reply c old new text a (inl h) = said_at c old new text a h
 by_reply c old new text a (inr h) = lacked_at c old new text a h
 
-answered_at : (r : Request) (old new : Seen) (text : List ℕ) → IsAudited old → Says old r text new → IsAt (after_answer (machine_of old) r text) new
+pub answered_at : (r : Request) (old new : Seen) (text : List ℕ) → IsAudited old → Says old r text new → IsAt (after_answer (machine_of old) r text) new
 unfolding Says Replies
 answered_at request.Nothing old new text a h = shown_at old new text a h.1
 answered_at (request.Refused fault) old new text a h = shown_at old new text a h.1

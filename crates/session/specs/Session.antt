@@ -1,29 +1,23 @@
 -- What a session says: a relation of the state of the bench, a line's request, the text that is written, and the state
 -- after it. The text is fixed by the request and the state, but for the other picture that is shown, the premises of a
 -- reason, and a refusal since memory ran out.
-use Rattle.std.specs.Prelude.{◌≡◌, ◌≤◌, ◌⊎◌, ℕ, true, false, List, [], ◌∷◌, ◌++◌, length, codes, decimal, take, Option}
-use Rattle.std.specs.Prelude.{Some, None, Result, Ok, Err}
+use Rattle.std.specs.Prelude.{◌≡◌, ◌≤◌, ◌⊎◌, ℕ, true, false, List, [], ◌∷◌, ◌++◌, length, take, Option, Some, None}
+use Rattle.std.specs.Prelude.{Result, Ok, Err}
 use Rattle.std.specs.Io.KnownBytes.{Appends, Consumes, IsAtEnd}
-use Rattle.picture.specs.Rows.{Rows}
-use Rattle.picture.specs.Document.{Content}
 use Rattle.ppm_text.specs.Text.{ppm_text}
 use Rattle.non_text.specs.WrittenNon.{is_two_colour}
 use Rattle.non_text.specs.Written.{non_text_of}
 use Rattle.edits.specs.declared.fault.EditFault.{EditFault}
 use Rattle.edits.specs.declared.fault.EditFault.TheVariants.{Place}
-use Rattle.edits.specs.Design.{Design}
 use Rattle.edits.specs.Fault.{has_cell}
 use Rattle.live_audit.specs.declared.verdict.Verdict.{Verdict}
-use Rattle.live_audit.specs.declared.verdict.Verdict.TheVariants.{Unique, Ambiguous, Undecided}
 use Rattle.live_audit.specs.declared.why.Why.{Why}
-use Rattle.live_audit.specs.declared.why.Why.TheVariants.{Possible, Given, By}
 use Rattle.live_audit.specs.Bench.{IsAudited, Seen}
 use Rattle.live_audit.specs.Calls.{Accepts, IsAsBefore, Learns, Refuses}
 use Rattle.live_audit.specs.Reason.{Explains}
 use Rattle.live_audit.specs.Stroke.{Stroke, Edits, Undoes, Redoes}
 use Rattle.live_audit.specs.Verdict.{IsVerdictOn, Tells}
 use Rattle.cert_text.specs.Cert.{Certificate}
-use Rattle.cert_text.specs.WrittenCert.{cert_text}
 use Rattle.live_audit.specs.Certify.{Certifies}
 use Rattle.command_text.specs.declared.command.Command.{Command}
 use Rattle.command_text.specs.declared.command.Command.TheVariants as command
@@ -33,31 +27,12 @@ use Rattle.command_text.specs.declared.session_fault.SessionFault.TheVariants as
 use Rattle.command_text.specs.declared.request.Request.TheVariants as request
 use Rattle.report_text.specs.ClueText.{clues_text}
 use Rattle.command_text.specs.Lines.{ended_lines_of, lines_of, request_of}
-use Rattle.report_text.specs.ReasonText.{reason_text}
 use Rattle.session.specs.Refusal.{edit_line, line_line, memory_line, two_colours_line}
+use Rattle.session.specs.Texts.{certified_text, content, done_text, verdict_text, verdict_word, why_text}
 use Rattle.report_text.specs.Report.{report_text}
-use Rattle.report_text.specs.Shown.{map_text, picture_text}
+use Rattle.report_text.specs.Shown.{map_text}
 
--- ---- texts that are not fixed by the state alone
-
-abbrev pub done_text : List ℕ
-done_text = codes "ok\n"
-
-abbrev pub undecided_text : ℕ → List ℕ
-undecided_text splits = codes "undecided " ++ (decimal splits ++ 10 ∷ [])
-
-abbrev pub other_text : Rows → List ℕ
-other_text rows = codes "ambiguous\n" ++ picture_text rows
-
-abbrev pub verdict_text : Verdict → List ℕ
-verdict_text Unique = codes "unique\n"
-verdict_text (Ambiguous other) = other_text other.now
-verdict_text (Undecided splits) = undecided_text splits
-
-abbrev pub verdict_word : Verdict → List ℕ
-verdict_word Unique = codes "unique"
-verdict_word (Ambiguous other) = codes "ambiguous"
-verdict_word (Undecided splits) = codes "undecided"
+-- ---- reports
 
 -- the report of a state with a verdict's word
 abbrev pub report_by : Seen → List ℕ → List ℕ
@@ -66,20 +41,6 @@ report_by s word =
 
 abbrev pub report_on : Seen → Verdict → List ℕ
 report_on s verdict = report_by s (verdict_word verdict)
-
-abbrev pub why_text : Why → List ℕ
-why_text Possible = codes "possible\n"
-why_text Given = codes "given\n"
-why_text (By reason) = reason_text reason.line reason.premises
-
--- a certificate's text, or that there is another picture
-abbrev pub certified_text : Option Certificate → List ℕ
-certified_text None = codes "ambiguous\n"
-certified_text (Some cert) = cert_text cert
-
--- the P3 text shows no givens
-abbrev pub content : Design → Content
-content d = record { colours = d.colours; rows = d.rows; givens = [] }
 
 -- ---- one command
 

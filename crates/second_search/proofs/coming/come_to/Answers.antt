@@ -1,5 +1,6 @@
 use Rattle.line_settle.proofs.GridLaws.{shape_trans}
 use Rattle.second_search.proofs.ComingLemmas.{comes_closed, splits_but}
+use Rattle.second_search.proofs.DrawLemmas.{closing_few}
 use Rattle.second_search.proofs.LookLemmas.{others_stay, rows_stay}
 use Rattle.second_search.proofs.coming.come_to.Goals as goal
 
@@ -23,3 +24,15 @@ pub returns-in_ok-coming-in-Narrowed-clause-kept :
     goal.returns-in_ok-coming-in-Narrowed-clause-kept
 returns-in_ok-coming-in-Narrowed-clause-kept g c = splits_but c.args.facts.now c.in_ok-settled.settled c.close_naming-closed.new.facts c.in_ok-coming-in-Narrowed.coming _ c.in_ok-settled.ensures
     c.close_naming-closed.ensures.kept c.in_ok-coming-in-Narrowed.ensures
+
+pub returns-in_err-coming-in-Narrowed-clause-few : goal.returns-in_err-coming-in-Narrowed-clause-few
+returns-in_err-coming-in-Narrowed-clause-few g c =
+    closing_few c.args.book.now c.args.facts.now _ c.args.due.now.lines _ _ _ _ _ c.height.ensures.facts c.requires.lines (rw c.in_ok-settled.ensures at c.close_naming-closed.ensures.works)
+
+pub returns-in-Dead-clause-few : goal.returns-in-Dead-clause-few
+returns-in-Dead-clause-few g c =
+    closing_few c.args.book.now c.args.facts.now _ c.args.due.now.lines _ _ _ _ _ c.height.ensures.facts c.requires.lines (rw c.in_ok-settled.ensures at c.close_naming-closed.ensures.works)
+
+pub returns-in_ok-coming-in-Narrowed-clause-few : goal.returns-in_ok-coming-in-Narrowed-clause-few
+returns-in_ok-coming-in-Narrowed-clause-few g c =
+    closing_few c.args.book.now c.args.facts.now _ c.args.due.now.lines _ _ _ _ _ c.height.ensures.facts c.requires.lines (rw c.in_ok-settled.ensures at c.close_naming-closed.ensures.works)

@@ -39,6 +39,8 @@ returns-in_ok-at-in-None g c =
     (λ m n h. turn m n c.in-None.ensures h noted) in
     record {
       judges = (verdict, (told_by old new at.at at.ending is_decided c.in-None.ensures place noted, done));
+      spent = at.ensures.spent;
+      few = c.search_parts.ensures.few;
       refused = search rules;
       parts = subst (AreParts s.facts.now) (sym (same_kept s.clues.now s.facts.now s.picture.now c.args.allowance old new verdict d.searched d.splits j)) c.requires.parts;
       true_answers = judged_true clues_are_of_lines books_are_their_clues closing_keeps_fillings only_is_closed fillings_are_of_facts parts_decide s.clues.now s.givens.now s.facts.now s.picture.now

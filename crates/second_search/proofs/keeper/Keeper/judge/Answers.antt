@@ -2,7 +2,7 @@ use Rattle.std.proofs.Common.{◌≤◌, arith, refl}
 use Rattle.second_search.specs.JudgedParts.{Judges}
 use Rattle.second_search.proofs.KnownLaws.{books_are_their_clues, closing_keeps_fillings, clues_are_of_lines, fillings_are_of_facts, only_is_closed, parts_decide}
 use Rattle.second_search.proofs.TruthLemmas.{answer_true}
-use Rattle.second_search.proofs.VerdictLemmas.{done_added}
+use Rattle.second_search.proofs.VerdictLemmas.{done_added, spent_added}
 use Rattle.second_search.proofs.keeper.Keeper.judge.Goals as goal
 
 pub returns : goal.returns
@@ -22,7 +22,7 @@ returns g c =
         keeps = tt;
         answer = answer_true clues_are_of_lines books_are_their_clues closing_keeps_fillings only_is_closed fillings_are_of_facts parts_decide s.clues.now s.givens.now s.facts.now s.picture.now
             c.requires.scene c.args.allowance c.args.self.now new _ v done.searched done.splits c.requires.parts c.requires.true_answers done.is answers;
-        counts = (done.evaluations, done.counts);
+        counts = (c.in-Ok.decided.1.evaluations, spent_added c.in-Ok.decided.1 c.args.meter.now _ _ _ _ d.judges.1.1 (omega arith) (omega arith), d.spent);
         rises = rises;
         as_before = tt;
         same_longest = all.same_longest;

@@ -1,6 +1,6 @@
 use Rattle.command_text.specs.Lines.{steps_left}
 use Rattle.session.specs.Run.{HasRun}
-use Rattle.session.proofs.session.run_session.Given as goal
+use Rattle.session.proofs.session.answer_lines.Given as goal
 
 abbrev pub invariant-loop-request : goal.invariant-loop-request
 invariant-loop-request g l =
