@@ -8,7 +8,7 @@ import { Hands } from './page_inputs.mjs';
 import { pause } from './page_browser.mjs';
 import { SIZES, SLACK, ppmOf } from './page_trial.mjs';
 
-const INPUTS = [['small', 'mouse'], ['small', 'keys'], ['large', 'mouse'], ['phone', 'touch'], ['phone', 'keys']];
+const INPUTS = [['small', 'mouse'], ['small', 'keys'], ['large', 'mouse'], ['large', 'keys'], ['phone', 'touch'], ['phone', 'keys']];
 const colours = (page) => page.run(() => [...document.querySelectorAll('#import-palette button')].map((one) => one.title));
 const facts = (page, text, ms = 10000) => page.until((wanted) => document.querySelector('#import-facts')?.textContent.includes(wanted), ms * SLACK, text);
 
@@ -104,7 +104,7 @@ export async function paletteWhileChoosing(all) {
 export async function verdictWhileSliding(all) {
     await withHands(all, 'sliding', async (hands, { page, trial }) => {
         await openIcon(page, 'mug');
-        const told = () => page.until(() => /^(✓ Unique.*(easy|medium|hard|expert)|✗ Not unique)/.exec(document.querySelector('#import-verdict').textContent)?.[0], 15000 * SLACK);
+        const told = () => page.until(() => /^(✓ Unique.*(easy|medium|hard|expert)|≠ Ambiguous)/.exec(document.querySelector('#import-verdict').textContent)?.[0], 15000 * SLACK);
         await told();
         for (const [id, toMost] of [['import-brightness', true], ['import-brightness', false], ['import-contrast', false], ['import-colours', false], ['import-specks', true]]) {
             const before = await page.run(() => document.querySelector('#import-preview').toDataURL());
@@ -119,7 +119,7 @@ export async function verdictWhileSliding(all) {
         await hands.press('dialog button.main');
         await isOpen(page);
         const word = await trial.judged();
-        assert.ok(shown.startsWith(word === 'unique' ? '✓ Unique' : '✗ Not unique'), `${shown}, but ${word}`);
+        assert.ok(shown.startsWith(word === 'unique' ? '✓ Unique' : '≠ Ambiguous'), `${shown}, but ${word}`);
     });
 }
 
@@ -236,6 +236,11 @@ export async function droppedPalettes({ browser, url, folder }) {
     await page.until(() => document.getElementById('said').textContent.includes('the count in line 3'), 5000 * SLACK);
     await drop(page, folder, 'two.hex', 'ff0000\n00ff00\n');
     await page.until(() => document.querySelectorAll('#palette-file button').length === 2, 5000 * SLACK);
+    await page.press('Escape');
+    await page.until(() => !document.querySelector('dialog[open]'), 3000 * SLACK);
+    await openIcon(page, 'house');
+    await drop(page, folder, 'three.hex', 'a0c8e8\nb04030\n408040\n'); // the dialog for pictures takes them
+    await page.until(() => [...document.querySelectorAll('#import-palette button')].every((one) => ['#a0c8e8', '#b04030', '#408040'].includes(one.title)), 5000 * SLACK);
     await page.press('Escape');
     await page.close();
 }

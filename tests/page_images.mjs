@@ -114,6 +114,7 @@ test('what is transparent is background, apart from all colours that are drawn',
     assert.deepEqual([doc.colours, doc.picture], [[[255, 255, 255], COLOURS.r, COLOURS.k], ['.a.', 'aba']]);
     const white = docOfCells(imageOf(['-w-', 'wkw'], COLOURS), { colours: 3 });
     assert.equal(white.colours.length, 3);
+    assert.deepEqual([white.isClear, docOfCells(imageOf(['wr'], COLOURS), { colours: 3 }).isClear], [true, false]);
     assert.deepEqual([white.picture, new Set(white.colours.map(String)).size], [['.a.', 'aba'], 3]);
     assert.notDeepEqual(white.colours[0], COLOURS.w);
     const nothing = docOfCells(imageOf(['--', '--'], COLOURS), { colours: 4 });
@@ -186,6 +187,11 @@ test('colours are locked, dropped and replaced', () => {
     const of = (options) => docOfCells(image, options);
     const has = (doc, triple) => doc.colours.map(String).includes(String(triple));
     for (const locked of [COLOURS.r, COLOURS.g, COLOURS.y, COLOURS.k]) assert.ok(has(of({ colours: 2, locked: [locked] }), locked), String(locked));
+    const all = [COLOURS.r, COLOURS.y, COLOURS.k];
+    for (const triple of all) assert.ok(has(of({ colours: 2, locked: all }), triple), 'what is locked stays, even where that is more than is asked for');
+    const many = Array.from({ length: 20 }, (_, at) => [at * 12, 255 - at * 12, 128]);
+    const crowded = of({ colours: 16, locked: many });
+    assert.ok(crowded.colours.length <= 16 && crowded.picture.join('').match(/^[.a-o]+$/), String(crowded.colours.length));
     const dropped = of({ colours: 4, dropped: [COLOURS.y] });
     assert.ok(!has(dropped, COLOURS.y));
     for (const triple of [COLOURS.w, COLOURS.r, COLOURS.g, COLOURS.k]) assert.ok(has(dropped, triple), String(triple));

@@ -34,6 +34,15 @@ export class Hands {
         return this.page.press('Enter');
     }
 
+    /** Takes one stroke back, by its key or its button. A finger's click comes some time behind it. */
+    async undo() {
+        const strokes = await this.page.run(() => bench.past.length);
+        if (this.byKeys) await this.page.press('Control+z');
+        else await this.press('#quick [data-action="undo"]');
+        await this.page.until((before) => bench.past.length < before, 3000 * SLACK, strokes);
+        return this.trial.settled();
+    }
+
     /** Types into a field in place of what stands there. */
     async fill(selector, text) {
         if (this.byKeys) await this.tabTo(selector);

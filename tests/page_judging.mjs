@@ -59,6 +59,6 @@ test('a search that does not end is given up', needsModule, async () => {
 test('what is told, in words', () => {
     assert.equal(judgedText({ word: 'unique', open: 0, grade: { word: 'easy' } }), '✓ Unique, easy');
     assert.equal(judgedText({ word: 'unique', open: 1200, grade: { word: 'expert' } }), '✓ Unique, 1,200 cells need guessing, expert');
-    assert.equal(judgedText({ word: 'ambiguous', open: 4 }), '✗ Not unique, 4 cells are open');
+    assert.equal(judgedText({ word: 'ambiguous', open: 4 }), '≠ Ambiguous, 4 cells are open');
     assert.equal(judgedText({ word: 'works' }), 'Looking for another solution …');
 });

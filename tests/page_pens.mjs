@@ -8,7 +8,7 @@ import { Hands } from './page_inputs.mjs';
 import { SIZES, SLACK, noise, ppmOf } from './page_trial.mjs';
 import { pause } from './page_browser.mjs';
 
-const INPUTS = [['small', 'mouse'], ['small', 'keys'], ['large', 'mouse'], ['phone', 'touch'], ['phone', 'keys']];
+const INPUTS = [['small', 'mouse'], ['small', 'keys'], ['large', 'mouse'], ['large', 'keys'], ['phone', 'touch'], ['phone', 'keys']];
 const blank = (rows, columns) => [...Array(rows - 1).fill('.'.repeat(columns)), `${'.'.repeat(columns - 2)}ab`];
 
 async function withHands({ browser, url, folder }, what, act) {

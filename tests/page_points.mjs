@@ -14,7 +14,6 @@ import { pause } from './page_browser.mjs';
 const PAIR = ['a.....', '.a....', '......', '...aaa', '...aaa', '...aaa'];
 const pathOf = (name) => fileURLToPath(new URL(name, examples));
 const textOf = (name) => readFileSync(new URL(name, examples), 'utf8');
-const undo = (hands) => (hands.byKeys ? hands.page.press('Control+z') : hands.press('#quick [data-action="undo"]')).then(() => hands.trial.settled());
 const goOn = (hands) => hands.press('#kept .kept').then(() => isOpen(hands.page));
 const isNarrow = (page) => page.run(() => document.getElementById('verdict-open').checkVisibility());
 const moreOf = async (hands) => { if (await isNarrow(hands.page)) await hands.press('#verdict-open'); };
@@ -78,8 +77,8 @@ async function neverLost(hands, { own }) {
     await goOn(hands);
     const rows = await trial.picture();
     assert.deepEqual([rows[2], rows[4]], ['...aaaa.............', '....a...............']);
-    await undo(hands);
-    await undo(hands);
+    await hands.undo();
+    await hands.undo();
     assert.equal((await trial.picture()).join('').replaceAll('.', ''), '', 'taken back');
     if (hands.byKeys) await page.press('Control+s');
     else await hands.menu('file', 'save');
@@ -151,7 +150,7 @@ async function drawing(hands) {
     await hands.menu('picture', 'turn-right');
     await trial.settled();
     assert.deepEqual((await trial.picture()).length, 9, 'turned');
-    for (let turn = 0; turn < 8; turn++) await undo(hands);
+    for (let turn = 0; turn < 8; turn++) await hands.undo();
     await shows(rows, 'a stroke for each undo');
 }
 
@@ -202,7 +201,7 @@ async function meaning(hands) {
     await hands.press('#fix-give');
     await page.until(() => bench.state.givens.size > 0, 8000 * SLACK);
     assert.equal(await trial.judged(), 'unique');
-    await undo(hands);
+    await hands.undo();
     assert.equal((await trial.state()).givens.length, 0, 'one undo takes it back');
     await trial.open(ppmOf(['aa.', '.bb', 'a.a']), 'small');
     await trial.judged();

@@ -40,9 +40,7 @@ async function firstRepair(hands, before) {
     await page.until((rows) => bench.state.picture.join() !== rows, 5000 * SLACK, before.join());
     assert.equal(await trial.judged(), 'unique');
     const after = await trial.picture();
-    if (hands.byKeys) await page.press('Control+z');
-    else await hands.press('#quick [data-action="undo"]');
-    await trial.settled();
+    await hands.undo();
     assert.deepEqual(await trial.picture(), before, 'one undo takes it back');
     return { places: differing(before, after), after };
 }
@@ -288,17 +286,30 @@ export async function pinchInPlay({ browser, url, folder }) {
         assert.ok(await side() > smaller, `${name}: larger again`);
         for (let turn = 0; turn < 4; turn++) await pinch(12, 90);
         assert.equal(await marks(), 0, `${name}: two fingers mark nothing`);
+        await trial.page.press('Escape');
+        await trial.open(ppmOf(Array(40).fill('a'.repeat(40))), 'large');
+        await page.run(() => { runAction('play'); });
+        await page.until(() => document.querySelector('#play-room')?.open && play.state.rows === 40, 3000 * SLACK);
+        const under = ([x, y]) => page.run((left, top) => {
+            const box = document.getElementById('play-field').getBoundingClientRect();
+            return [(left - box.left) / play.side, (top - box.top) / play.side];
+        }, x, y);
+        for (let turn = 0; turn < 3; turn++) await pinch(12, 90);
+        const [held, at] = [await middle(), await side()];
+        const cell = await under(held);
+        await pinch(80, 40);
+        assert.ok(await side() < at, `${name}: smaller again`);
+        const [dx, dy] = (await under(held)).map((one, axis) => Math.abs(one - cell[axis]));
+        assert.ok(dx < 0.6 && dy < 0.6, `${name}: the cell between the fingers stays there: ${dx} ${dy}`);
         const scrolled = () => page.run(() => document.getElementById('play-board').scrollLeft + document.getElementById('play-board').scrollTop);
         if (size.touch) {
-            const [before, [x, y]] = [await scrolled(), await middle()];
-            await page.touch([[x - 20, y], [x - 50, y - 20], [x - 80, y - 40]], [[x + 20, y], [x - 10, y - 20], [x - 40, y - 40]]);
+            const [x, y] = await middle();
+            const along = (left) => [0, 1, 2, 3, 4, 5, 6].map((step) => [left - 10 * step, y - 6 * step]);
+            const before = await scrolled();
+            await page.touch(along(x - 70), along(x + 70));
             assert.ok(await scrolled() > before, `${name}: two fingers move the board`);
         }
-        const at = await page.run(() => {
-            const [field, board] = ['play-field', 'play-board'].map((id) => document.getElementById(id).getBoundingClientRect());
-            return [Math.max(field.left, board.left) + play.side * 1.5, Math.max(field.top, board.top) + play.side * 1.5];
-        });
-        await page.touch([at]);
+        await page.touch([await middle()]);
         assert.equal(await marks(), 1, `${name}: one finger marks`);
         await page.shot(`${folder}/pinch-${name}.png`);
         assert.deepEqual(page.faults, []);

@@ -51,6 +51,14 @@ test('several colours: digits are black, on a pale box or in a dark frame', () =
     assert.equal(boxes[0].stroke, '#000078');
 });
 
+test('however small the cells are, each block of several colours has its colour', () => {
+    const doc = docOf(Array(60).fill('ab'.repeat(30)), [[255, 255, 255], [0, 0, 120], [200, 0, 0]]);
+    const [sheet] = sheets([doc], { paper: 'a5', perSheet: 6 });
+    const frames = rectsOf(sheet).filter(({ stroke, fill }) => fill === '#fff' && ['#000078', '#c80000'].includes(stroke));
+    assert.equal(frames.length, 60 * 60 + 60, 'of each row 60, of each column one');
+    for (const { width, height, 'stroke-width': weight } of frames.slice(0, 5)) assert.ok(width > 0 && height > 0 && weight > 0.05);
+});
+
 test('letters and signs for colours, in clues, solution and legend', () => {
     const doc = docOf(['aab', '.cc'], [[255, 255, 255], [200, 0, 0], [0, 0, 200], [0, 180, 0]]);
     const [letters, solved] = sheets([doc], { show: 'letters', answers: true });

@@ -11,8 +11,8 @@ export PAGE="${PAGE:-$PWD/dist/nonobench.html}"
 program="$PWD/crates/nonobench/out/nonobench"
 if [ -z "${NONOBENCH+set}" ] && [ -x "$program" ]; then NONOBENCH=$program; fi
 export NONOBENCH="${NONOBENCH:-}"
-for tool in node "${CHROMIUM:-chromium}"; do
-    command -v "$tool" >/dev/null || { echo "this test wants $tool: apt-get install -y nodejs chromium" >&2; exit 2; }
+for tool in node unzip pdfinfo pdftotext "${CHROMIUM:-chromium}"; do
+    command -v "$tool" >/dev/null || { echo "this test wants $tool: apt-get install -y nodejs chromium poppler-utils unzip" >&2; exit 2; }
 done
 [ -f "$PAGE" ] || { echo "no page at $PAGE: build it with web/build, or set PAGE" >&2; exit 2; }
 [ -n "$NONOBENCH" ] || echo "no program: what is shown is not compared with a session (set NONOBENCH)"

@@ -80,7 +80,7 @@ function boxOf(look, at) {
 /** One block of a clue in its box. */
 export function drawBlock(surface, look, block, { x, y, width, height }) {
   const box = boxOf(look, LETTERS.indexOf(block.letter));
-  if (box) surface.chip(x, y, width, height, { fill: box.fill, edge: height > 4 ? box.edge : null, weight: box.share * Math.min(width, height) || look.hair, radius: Math.min(look.radius, height / 4) });
+  if (box) surface.chip(x, y, width, height, { fill: box.fill, edge: look.isWhole && height <= 4 ? null : box.edge, weight: box.share * Math.min(width, height) || look.hair, radius: Math.min(look.radius, height / 4) });
   const text = blockText(look, block);
   const size = Math.min(look.font, height, (width * (1 - 2 * (box?.share ?? 0))) / (text.length * DIGIT));
   const [middle, high] = look.isWhole ? [height / 2 + 0.5, Math.floor(size)] : [height / 2, size];

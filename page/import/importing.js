@@ -6,6 +6,7 @@ import { clamp } from '../base/words.js';
 import { MOST_CELLS, MOST_COLOURS } from '../document/limits.js';
 import { COLOUR_NAMES } from '../document/named.js';
 import { drawSmall, penOf } from '../draw/small.js';
+import { kindOfPalette } from '../formats/palettes.js';
 import { openDoc } from '../library/open.js';
 import { phrase } from '../texts/phrase.js';
 import { openDialog } from '../view/dialogs.js';
@@ -14,7 +15,6 @@ import { Inks } from './inks.js';
 import { Judging, judgedText } from './judging.js';
 import { Maker } from './making.js';
 import { proposalFor, withoutMargin } from './proposing.js';
-import { hasClear } from './spots.js';
 import { thresholdFor } from './tone.js';
 
 const TEXT = {
@@ -47,7 +47,6 @@ class Importing {
   constructor(image) {
     this.proposal = proposalFor(image);
     this.full = image;
-    this.isClear = hasClear(image);
     this.canvas = canvasOfImage(image);
     this.middle = this.smaller(MOST_MIDDLE); // what large parts are taken of: to make all of a photo smaller takes long
     this.worked = null; // the part that is taken, no larger than the dialog works on
@@ -235,16 +234,28 @@ class Importing {
   draw() {
     drawSmall(this.preview, this.doc, SHOWN_SIDE);
     this.source.draw(this.crop);
-    this.inks.show(this.doc, this.isClear);
+    this.inks.show(this.doc);
     this.facts.textContent = TEXT.facts(this.doc);
   }
+}
+
+let atHand = null; // what the open dialog makes
+const MOST_PALETTE = 1 << 16; // bytes
+
+/** Has the open dialog take the colours of a palette file; answers whether there is one, and the file is one. */
+export async function takesPalette(file) {
+  if (!atHand || file.size > MOST_PALETTE || !kindOfPalette(await file.text())) return false;
+  await atHand.inks.read(file);
+  return true;
 }
 
 /** Lets the user make a puzzle of an image; answers whether one was opened. */
 export async function importImage(image, name) {
   const importing = new Importing(image);
+  atHand = importing;
   const doc = await openDialog({ title: TEXT.title(name), content: importing.content, wide: true, buttons: [{ name: TEXT.create, value: () => importing.finished(), main: true }] });
   importing.judging.end();
+  if (atHand === importing) atHand = null;
   if (!doc || !(await openDoc(doc, { name, isSaved: false }))) return false;
   say(TEXT.done(name));
   return true;

@@ -106,9 +106,9 @@ export class Inks {
     this.mark();
   }
 
-  /** Shows the colours of a document; `isClear` says that its background is what is transparent. */
-  show(doc, isClear) {
-    Object.assign(this, { doc, isClear, at: Math.min(this.at, doc.colours.length - 1) });
+  /** Shows the colours of a document. */
+  show(doc) {
+    Object.assign(this, { doc, isClear: doc.isClear ?? false, at: Math.min(this.at, doc.colours.length - 1) });
     const had = this.row.contains(document.activeElement);
     this.row.replaceChildren(...doc.colours.map((triple, at) => {
       const button = make('button', { type: 'button', role: 'radio', 'data-at': at, title: hexOf(triple, 255) }, at === 0 ? '·' : this.isLocked(at) ? '■' : '');

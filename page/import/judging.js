@@ -9,7 +9,7 @@ import { gradeName } from '../grade/names.js';
 import { phrase } from '../texts/phrase.js';
 
 const TEXT = {
-  none: '', works: phrase('import.lookingAnotherSolution'), unique: phrase('import.unique'), ambiguous: phrase('import.notUnique'), undecided: phrase('import.notDecidedWithinSome'), failed: phrase('import.noVerdictEngineFailed'),
+  works: phrase('import.lookingAnotherSolution'), unique: phrase('view.unique'), ambiguous: phrase('view.ambiguous'), undecided: phrase('import.notDecidedWithinSome'), failed: phrase('import.noVerdictEngineFailed'),
   guesses: (count) => phrase('import.cellsNeedGuessing', { count }), open: (count) => phrase('import.cellsOpen', { count }),
 };
 const REST = 120; // milliseconds without a change

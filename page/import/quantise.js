@@ -26,11 +26,16 @@ export function paletteFor(image, most, { locked = [], from = null, isExact = tr
   });
 }
 
-// The palette as it was edited: what was dropped is found, so that the others stay as they are, and taken out.
+// The palette as it was edited: what was dropped is found, so that the others stay as they are, and taken out. What is locked stays,
+// even where that is more than is asked for.
 function editedPalette(image, most, { locked = [], dropped = [], palette = null }, isExact) {
-  const found = paletteFor(image, Math.min(LETTERS.length, most + dropped.length), { locked, from: palette, isExact });
+  const fixed = locked.slice(1 - LETTERS.length); // one is left for what is transparent
+  const wanted = Math.max(1, most, fixed.length);
+  const found = paletteFor(image, Math.min(LETTERS.length, wanted + dropped.length), { locked: fixed, from: palette, isExact });
   const left = found.filter((triple) => !isIn(dropped, triple));
-  return (left.length ? left : found.slice(0, 1)).slice(0, Math.max(1, most));
+  const kept = left.length ? left : found.slice(0, 1);
+  const others = kept.filter((triple) => !isIn(fixed, triple)).slice(0, wanted - fixed.length);
+  return kept.filter((triple) => isIn(fixed, triple) || isIn(others, triple));
 }
 
 // Which number most cells of the border have; -1 is transparent.
@@ -103,7 +108,8 @@ function groundFirst(numbers, palette, chosen, columns, rows) {
   return [ground, ...palette.keys()].filter((one, at, all) => all.indexOf(one) === at && (at === 0 || numbers.includes(one)));
 }
 
-// The document of numbers; colours that are shown the same are one. `sources` has what of the palette each of its colours is.
+// The document of numbers; colours that are shown the same are one. `sources` has what of the palette each of its colours is, and
+// `isClear` says that its background is what is transparent.
 function docOfColours(numbers, order, { shown, palette, first }, columns, rows) {
   const colours = first ? [first] : [];
   const sources = first ? [first] : [];
@@ -113,7 +119,7 @@ function docOfColours(numbers, order, { shown, palette, first }, columns, rows) 
     letterOf.set(one, at < 0 ? colours.push(shown[one]) - 1 : at);
     if (at < 0) sources.push(palette[one]);
   }
-  return { ...docOfNumbers(numbers.map((one) => letterOf.get(one) ?? 0), colours, columns, rows), sources };
+  return { ...docOfNumbers(numbers.map((one) => letterOf.get(one) ?? 0), colours, columns, rows), sources, isClear: first !== null };
 }
 
 function docOfNumbers(numbers, colours, columns, rows) {

@@ -19,7 +19,7 @@ import { takeCertificate } from './certificates.js';
 import { HEAD, IMAGES, MOST_IMAGE, imageOfFile } from './decoding.js';
 import { filesIn } from './folders.js';
 import { docOfImage, kindOfFile, sizeOfImage } from './images.js';
-import { importImage } from './importing.js';
+import { importImage, takesPalette } from './importing.js';
 import { takePalette } from './palettes.js';
 import { NOT_READ, aboutNon, docOfNon, isNonText, readPpmFile, readXmlFile } from './reading.js';
 import { takeSeveral } from './several.js';
@@ -132,6 +132,7 @@ async function closeDialogs() {
 }
 
 async function takeDropped(files, handle) {
+  if (files.length === 1 && await takesPalette(files[0])) return true;
   await closeDialogs();
   return files.length === 1 ? takeFile(files[0], handle) : takeSeveral(files, imageDocs);
 }

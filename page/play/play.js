@@ -221,20 +221,22 @@ function endPlay() {
 }
 
 const playFingers = new Map();
-const fingersApart = () => {
+// How far two fingers are apart, and the point between them.
+function spanOfFingers() {
   const [one, other] = [...playFingers.values()];
-  return Math.hypot(one.clientX - other.clientX, one.clientY - other.clientY);
-};
+  const middle = [(one.clientX + other.clientX) / 2, (one.clientY + other.clientY) / 2];
+  return { apart: Math.hypot(one.clientX - other.clientX, one.clientY - other.clientY), middle };
+}
 let pinched = 0; // pixels between two fingers at the last step of the zoom
 
 // Two fingers that go apart, or together, zoom a step each time that their distance is another one.
 function pinchPlay() {
-  const apart = fingersApart();
+  const { apart, middle } = spanOfFingers();
   if (pinched === 0 || apart === 0) pinched = apart;
   const way = apart > pinched * 1.2 ? 1 : apart < pinched / 1.2 ? -1 : 0;
   if (way === 0) return;
   pinched = apart;
-  zoomPlay(way);
+  zoomPlay(way, middle);
 }
 
 const playPointer = {

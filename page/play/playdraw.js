@@ -48,10 +48,23 @@ export function fitPlay() {
   afterPlay();
 }
 
-export function zoomPlay(way) {
+const boxOf = (id) => $(id).getBoundingClientRect();
+
+// The middle of the board, in the window.
+function middleOfBoard() {
+  const { left, top, width, height } = boxOf('play-board');
+  return [left + width / 2, top + height / 2];
+}
+
+/** Takes the next larger or smaller cells. What lies at a point of the window stays there, as far as the board can be moved. */
+export function zoomPlay(way, [x, y] = middleOfBoard()) {
+  const before = boxOf('play-field');
+  const [col, row] = [(x - before.left) / play.side, (y - before.top) / play.side];
   const at = PLAY_SIDES.findIndex((side) => side >= play.side);
   play.side = PLAY_SIDES[clamp(at + way, 0, PLAY_SIDES.length - 1)];
   drawPlay();
+  const after = boxOf('play-field');
+  $('play-board').scrollBy(after.left + col * play.side - x, after.top + row * play.side - y);
 }
 
 // A canvas of a size in the page's pixels, sharp on the screen, as a surface.

@@ -18,7 +18,7 @@ const AT_ONCE = 400; // questions in one text
 const FIRST_SLICE = 60; // milliseconds of work on the path before it is shown, and at a time after that
 const SLICE = 12;
 
-const walking = { walk: null, at: 0, told: '', timer: 0, order: 'easiest', marks: null };
+const walking = { walk: null, at: 0, told: '', isToCome: false, timer: 0, order: 'easiest', marks: null };
 
 /** Whether the path is shown in place of the player's marks. */
 export const isWalking = () => walking.walk !== null;
@@ -32,7 +32,7 @@ export function walkBar() {
     make('input', { type: 'range', id: 'walk-at', min: 0, value: 0, 'aria-label': phrase('play.step'), oninput: (event) => goTo(Number(event.target.value)) }),
     button('walk-on', '▸', () => goTo(walking.at + 1), { 'aria-label': phrase('play.stepOn') }),
     button('walk-play', phrase('play.play'), turnPlaying), button('walk-hardest', phrase('play.hardestStep'), () => goTo(walking.walk.hardest)),
-    make('label', {}, phrase('play.order'), make('select', { id: 'walk-order', onchange: (event) => begin(event.target.value) }, ...ORDERS.map(([value, name]) => make('option', { value }, name)))),
+    make('label', {}, phrase('play.order'), make('select', { id: 'walk-order', onchange: (event) => takeOrder(event.target.value) }, ...ORDERS.map(([value, name]) => make('option', { value }, name)))),
     make('label', {}, make('input', { type: 'checkbox', id: 'walk-heat', onchange: showHeat }), phrase('play.heatMap')),
     button('walk-end', phrase('play.solveYourself'), endWalk));
 }
@@ -41,10 +41,15 @@ export function walkBar() {
 export async function startWalk() {
   walking.marks ??= play.marks;
   $('walk-bar').hidden = false;
-  await begin(walking.order);
+  const walk = await begin(walking.order);
+  if (!walk) return;
   $('walk-at').focus();
+  await complete(walk);
 }
 
+const takeOrder = (order) => begin(order).then((walk) => walk && complete(walk));
+
+// Shows the beginning of a path in this order, and gives the path; nothing where Play is closed by then.
 async function begin(order) {
   stopPlaying();
   walking.order = order;
@@ -53,17 +58,27 @@ async function begin(order) {
   const puzzle = puzzleOf(state);
   if (order === 'book') playSays(phrase('play.askingReasonsSoFar'));
   const walk = new Walk(puzzle, order === 'book' ? await stepsOfBook(puzzle, state) : easiestSteps(puzzle));
-  if (!$('walk-bar') || play.state !== state) return;
-  walking.walk = walk;
+  if (!$('walk-bar') || play.state !== state) return null;
+  Object.assign(walking, { walk, isToCome: state.open > 0 && state.verdict.word === 'unique' });
   workOn(walk, FIRST_SLICE);
   goTo(0);
+  return walk;
+}
+
+// Works out the rest of a path; where it guesses, its end is that of a certificate.
+async function complete(walk) {
   await lengthen(walk);
-  if (state.open === 0 || state.verdict.word !== 'unique' || !isShown(walk)) return;
+  if (!isShown(walk) || !walking.isToCome) return;
   const tree = await searches.certify();
-  if (tree && isShown(walk)) await lengthen(walk.and([...treeSteps(puzzle, tree), onlyStep(puzzle)]));
+  if (!isShown(walk)) return;
+  walking.isToCome = false;
+  if (tree) await lengthen(walk.and([...treeSteps(walk.puzzle, tree), onlyStep(walk.puzzle)]));
+  else showLength();
 }
 
 const isShown = (walk) => walking.walk === walk && $('walk-bar') !== null;
+// Whether all steps of the path are known.
+const isKnown = () => walking.walk.isWhole && !walking.isToCome;
 
 function workOn(walk, milliseconds) {
   const until = performance.now() + milliseconds;
@@ -132,7 +147,7 @@ function goTo(at) {
   play.shown = step && { line: step.line ?? null, cells: step.settled, premises: step.premises };
   walking.told = step ? `: ${textOf(step)}` : phrase('play.emptyPuzzle');
   showLength();
-  if (walk.isWhole && walking.at === walk.steps.length) stopPlaying();
+  if (isKnown() && walking.at === walk.steps.length) stopPlaying();
   drawPlay();
 }
 
@@ -143,8 +158,8 @@ function showLength() {
   $('walk-at').value = at;
   $('walk-back').disabled = at === 0;
   $('walk-on').disabled = at === walk.steps.length;
-  $('walk-hardest').disabled = !walk.isWhole;
-  playSays(phrase('play.stepOf', { at, count: walk.steps.length, isWhole: walk.isWhole ? '' : phrase('play.soFar'), told }));
+  $('walk-hardest').disabled = !isKnown();
+  playSays(phrase('play.stepOf', { at, count: walk.steps.length, isWhole: isKnown() ? '' : phrase('play.soFar'), told }));
 }
 
 function turnPlaying() {
@@ -190,7 +205,7 @@ export function walkKey(event) {
   if (event.key === 'Home') goTo(0);
   else if (event.key === 'End') goTo(walking.walk.steps.length);
   else if (event.key === ' ' && event.target === $('play-field')) turnPlaying();
-  else if (event.key === 'h' && walking.walk.isWhole) goTo(walking.walk.hardest);
+  else if (event.key === 'h' && isKnown()) goTo(walking.walk.hardest);
   else return false;
   return true;
 }

@@ -626,8 +626,6 @@ export const EN = /** @type {const} */ ({
   'import.coloursAlone': 'Colours of “{name}” alone.',
   'import.fileNotRead': '“{name}” could not be read: {fault}.',
   'import.lookingAnotherSolution': 'Looking for another solution …',
-  'import.unique': '✓ Unique',
-  'import.notUnique': '✗ Not unique',
   'import.notDecidedWithinSome': 'Not decided within some seconds',
   'import.noVerdictEngineFailed': 'No verdict: the engine failed',
   'import.cellsNeedGuessing': '{count|# cell needs|# cells need} guessing',

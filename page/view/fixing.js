@@ -19,6 +19,7 @@ const GOALS = [['unique', phrase('view.oneSolution')], ['lines', phrase('view.no
 const MIRRORS = [['', phrase('view.comes')], ['x', phrase('view.leftRightSame')], ['y', phrase('view.topBottomSame')]];
 const MOST_SHOWN = 24;
 const MOST_MIXED = 2;
+const QUICK = 0.2; // seconds for given cells before repaints are looked for; where that is too short there is more time behind them
 const FEW = 8; // cells: what needs more is too loose
 const SPARE = 3; // seconds that a search in the worker has left to end by itself
 const LONGER = phrase('view.longerSearchTimeMay');
@@ -145,7 +146,7 @@ async function takeGivens(state, { given, isLeast }) {
 
 // Lists proposals, while they are found: the smallest and least seen first.
 async function findRepairs() {
-  Object.assign(fixing, { found: fixing.found.filter((one) => fixing.kept.has(one) && isOfThis()), near: null, of: bench.state });
+  Object.assign(fixing, { found: fixing.found.filter((one) => fixing.kept.has(one) && isOfThis()), near: null, of: bench.state, said: '' });
   showFound();
   const { goal } = fixing;
   const part = Math.min(2, secondsChosen() / 4); // of the time, for the givens, and for mixtures
@@ -157,9 +158,14 @@ async function findRepairs() {
       else fixing.near = { ...nearer, far: farOf(state, goal, nearer), state };
       copy.note(noteOf());
     };
-    const given = await copy.work('give', { board, goal, seconds: part }, () => {});
-    if (given.given) add(state, given);
+    const give = async (seconds) => {
+      const given = await copy.work('give', { board, goal, seconds }, () => {});
+      if (given.given) add(state, given);
+      return given.isLeast;
+    };
+    const isLeast = await give(QUICK);
     copy.found = await copy.work('repair', { board, goal, seconds: Math.max(1, secondsChosen() - 2) }, told);
+    if (!isLeast) await give(part);
     const bound = Math.min(...fixing.found.filter((one) => one.state === state).map(sizeOf), Infinity);
     await copy.work('mix', { board, goal, near: copy.found.near, bound, seconds: part }, told);
     return copy.found;
@@ -178,7 +184,7 @@ const sizeOf = ({ cells = [], given = [] }) => cells.length + given.length;
 const bySize = (one, other) => sizeOf(one) - sizeOf(other) || Number(one.open > 0) - Number(other.open > 0) || one.pain - other.pain;
 const repaints = () => fixing.found.filter(({ cells, given }) => cells && !given).sort(bySize);
 const mixtures = () => fixing.found.filter(({ cells, given }) => cells && given).sort(bySize);
-const givens = () => fixing.found.filter(({ cells }) => !cells);
+const givens = () => fixing.found.filter(({ cells }) => !cells).sort((one, other) => other.given.length - one.given.length);
 
 // How far the picture is from the goal, and how far what came nearer, in words.
 function farOf(state, goal, near) {
