@@ -52,7 +52,7 @@ try {
             await trial.settled(60000);
             times.push(await trial.page.run(press, 3 + ((turn * 3) % (rows.length - 5)), 5 + (turn % 7)));
         }
-        console.log(`${name}: ${median(times.map(([drawn]) => drawn)).toFixed(0)} ms until clues and map are drawn, ${median(times.map(([, frame]) => frame)).toFixed(0)} ms to the frame behind it (medians of ${turns})`);
+        console.log(`${name}: ${median(times.map(([drawn]) => drawn)).toFixed(1)} ms until clues and map are drawn, ${median(times.map(([, frame]) => frame)).toFixed(1)} ms to the frame behind it (medians of ${turns})`);
     }
 } finally {
     await browser.close();

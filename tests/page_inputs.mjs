@@ -88,7 +88,7 @@ export class Hands {
     async stroke(from, to = from) {
         if (this.byKeys) {
             await this.goTo(...from);
-            const isDot = ['pencil', 'pin', 'bucket', 'recolour', 'why'].includes(await this.page.run(() => tools.name));
+            const isDot = ['pencil', 'pin', 'bucket', 'recolour', 'wand', 'why'].includes(await this.page.run(() => tools.name));
             if (isDot && from.join() !== to.join()) {
                 await this.page.hold('Shift', true);
                 await this.page.press(...waysBetween(from, to).map((key) => `Shift+${key}`));

@@ -88,6 +88,31 @@ test('of records that wait the last one counts', async () => {
     assert.deepEqual([puts, keeper.isDone], [[1, 5], true]);
 });
 
+test('what may rest is made a moment later, with the next that may not, or before its document goes', async () => {
+    const made = [];
+    const shelf = memoryShelf();
+    const keeper = new Keeper(shelf, () => {});
+    const note = (when, mayRest) => keeper.note(() => {
+        made.push(when);
+        return { record: record('x', when) };
+    }, mayRest);
+    note(1, true);
+    const rested = note(2, true);
+    assert.deepEqual([made, keeper.isDone], [[], false], 'a stroke does not wait for it');
+    await rested;
+    assert.deepEqual([made, keeper.isDone, (await shelf.get('work:x')).when], [[2], true, 2], 'of quick strokes the last one counts');
+    note(3, true);
+    await Promise.race([note(4), new Promise((go) => { setTimeout(go, 20); })]);
+    assert.deepEqual([made, keeper.isDone], [[2, 4], true], 'one that may not rest ends the rest');
+    const last = note(5, true);
+    keeper.hurry();
+    assert.deepEqual(made, [2, 4, 5], 'made at once');
+    await last;
+    assert.equal((await shelf.get('work:x')).when, 5);
+    keeper.hurry();
+    assert.deepEqual(made, [2, 4, 5], 'nothing rests');
+});
+
 test('a hundred pictures stay, whether they are in a file or not', async () => {
     const said = [];
     const keeper = new Keeper({ ...memoryShelf(), lasts: true }, (one) => said.push(one.kind));

@@ -121,6 +121,7 @@ export async function keysAfterChoice({ trial, page }) {
     assert.equal(await page.run(() => tools.name), 'line', 'a letter after a choice by the mouse');
     await page.press('Escape');
     await page.click('#menus [popovertarget="menu-edit"]');
+    await page.until(() => document.querySelector('#menu-edit:popover-open [data-action="cut"]'), 3000 * SLACK);
     await page.click('#menu-edit [data-action="redo"][aria-disabled], #menu-edit [data-action="cut"]');
     await page.press('Escape');
     assert.equal(await page.run(() => document.querySelector('.menu:popover-open')), null, 'Escape closes the menu');

@@ -43,7 +43,7 @@ const COMPLAINTS = () => {
 };
 
 // What opens over the page: menus and dialogs, by their actions.
-const OVER = ['resize', 'keys', 'about', 'print', 'paste'];
+const OVER = ['resize', 'keys', 'about', 'print', 'paste', 'vision', 'palette-save'];
 async function overThePage(trial, page, where) {
     for (const place of ['file', 'edit', 'picture', 'view', 'check']) {
         await page.run((one) => document.getElementById(`menu-${one}`).showPopover(), place);

@@ -79,7 +79,7 @@ export async function lateVerdict({ browser, url, folder }) {
     await page.close();
 }
 
-/** An archive that comes back adds nothing that is there; what has changed since stands beside it. */
+/** An archive that comes back adds nothing that is there, whatever its name; what has changed since stands beside it. */
 export async function archiveTwice({ browser, url, folder }) {
     const { page, trial, own } = await fresh(browser, url, folder, 'twice');
     await clean(page);
@@ -88,7 +88,7 @@ export async function archiveTwice({ browser, url, folder }) {
     await trial.drag([[3, 5]]);
     await isKept(page);
     await page.run(() => runAction('new'));
-    await page.until(() => document.querySelector('#library-export'), 5000 * SLACK);
+    await page.until(() => document.querySelector('#library .kept'), 5000 * SLACK);
     await page.click('#library-export');
     const { content } = await downloaded(page, own, '.zip');
     const count = () => page.run(async () => (await keep.keeper.cards()).length);
@@ -96,7 +96,15 @@ export async function archiveTwice({ browser, url, folder }) {
     await drop(page, own, 'back.zip', content);
     await page.until(() => document.getElementById('said').textContent.includes('there already'), 5000 * SLACK);
     assert.equal(await count(), 1, await said(page));
-    await page.run(async () => { const [card] = await keep.keeper.cards(); await keep.keeper.rename(card.id, 'other'); });
+    await page.run(async () => { const [card] = await keep.keeper.cards(); await keep.keeper.duplicate(card.id, 'other'); });
+    await drop(page, own, 'back.zip', content);
+    await page.until(() => document.getElementById('said').textContent.includes('there already'), 5000 * SLACK);
+    assert.equal(await count(), 2, 'whatever it is named');
+    await page.click('#start-back');
+    await isOpen(page);
+    await trial.drag([[1, 5]]);
+    await isKept(page);
+    await page.run(async () => { const card = (await keep.keeper.cards()).find((one) => one.name === 'other'); await keep.keeper.drop(card.id); runAction('new'); });
     await drop(page, own, 'back.zip', content);
     await page.until(() => document.getElementById('said').textContent.includes('1 picture added'), 5000 * SLACK);
     assert.equal(await count(), 2);

@@ -160,32 +160,3 @@ export async function gradeGoesOut({ trial, page }) {
     await page.until(() => bench.state.about.description, 5000 * SLACK); // the dialog is heard after it has closed
     assert.equal(await page.run(() => bench.state.about.description), 'Grade: easy: rounds 2, evaluations 8, longest wait 2', 'once');
 }
-
-/** What docs/TUTORIAL.md says of the duck and of the icon with three solutions. */
-export async function tutorialMends({ trial, page }) {
-    const proposals = () => page.run(() => [...document.querySelectorAll('#fix-list button')].map((button) => button.textContent));
-    await trial.example('duck');
-    assert.equal(await trial.judged(), 'ambiguous');
-    await trial.action('fix');
-    await page.click('#fix-paint');
-    await listed(page);
-    assert.ok((await proposals()).some((text) => /^→1 cell: row 5, column 9:/.test(text)), (await proposals()).join('\n'));
-    await trial.example('computer');
-    assert.equal(await trial.judged(), 'ambiguous');
-    await trial.action('fix');
-    await page.run(() => {
-        const goal = document.getElementById('fix-goal');
-        goal.value = 'lines';
-        goal.dispatchEvent(new Event('change'));
-    });
-    await page.click('#fix-paint');
-    await listed(page);
-    assert.match(await trial.text('#fix-said'), /None is smaller/);
-    const square = (await proposals()).findIndex((text) => /2 cells: row 3, column 4; row 3, column 13/.test(text));
-    assert.ok(square >= 0, (await proposals()).join('\n'));
-    await page.run((at) => document.querySelectorAll('#fix-list button')[at].click(), square);
-    await page.until(() => bench.state.picture[2] === '...aaaaaaaaaa...', 5000 * SLACK);
-    assert.equal(await trial.judged(), 'unique');
-    assert.equal((await trial.state()).open, 0, 'line logic solves it');
-    await page.until(() => /^(easy|medium|hard) /.test(document.getElementById('grade').textContent), 20000 * SLACK);
-}

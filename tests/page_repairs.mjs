@@ -1,6 +1,8 @@
 // Trials of the panel Fix it beyond a list of repaints: symmetry, locks, proposals that repaint and give, partial credit; of the grade
 // where it stands whole; of the path through a large picture; and of two fingers in Play.
 import assert from 'node:assert/strict';
+import { readFileSync } from 'node:fs';
+import { drop, examples, fresh, isOpen } from './page_hands.mjs';
 import { SIZES, SLACK, Trial, ppmOf } from './page_trial.mjs';
 
 // Two single cells mend it: row 1, column 2 and row 2, column 1.
@@ -137,7 +139,7 @@ export async function looseIsSaid({ trial, page }) {
     await trial.action('fix');
     await page.click('#fix-paint');
     await fixSaid(page, 'found');
-    assert.match(await trial.text('#fix-said'), /More than 8 cells: the picture is too loose: a bolder threshold at import/);
+    assert.match(await trial.text('#fix-said'), /More than 8 cells: the picture is too loose, and a bolder threshold at import/);
     const texts = await proposals(page);
     assert.match(texts[0], /^→10 cells: .*; then no guessing$/, texts.join('\n'));
 }
@@ -187,6 +189,75 @@ export async function walkOfALargePicture({ trial, page }) {
     const [settled, open] = await page.run(() => [play.marks.flat().filter((mark) => mark !== '?').length, bench.state.open]);
     assert.equal(settled, 14400 - open, 'the path ends at the map');
     await page.press('Escape');
+}
+
+const exampleOf = (name) => readFileSync(new URL(name, examples));
+const chosen = (page, id, value) => page.run((one, option) => {
+    const choice = document.getElementById(one);
+    choice.value = option;
+    choice.dispatchEvent(new Event('change'));
+}, id, value);
+
+/** The steps of docs/TUTORIAL.md on the page, as they are written there: the duck, and the icon with three solutions. */
+export async function tutorialSteps({ browser, url, folder }) {
+    const { page, trial } = await fresh(browser, url, folder, 'tutorial');
+    await drop(page, folder, 'duck.png', exampleOf('duck.png'));
+    await page.until(() => document.querySelector('#import-facts')?.textContent.includes('10 by 10 cells'), 20000 * SLACK);
+    await page.until(() => document.querySelector('dialog button.main').textContent === 'Create the puzzle', 3000 * SLACK);
+    await page.click('dialog button.main');
+    await isOpen(page);
+    assert.equal(await trial.judged(), 'ambiguous');
+    await page.click('[data-action="other"]');
+    assert.equal(await page.run(() => sheet.other), true, 'the other picture');
+    await page.click('[data-action="other"]');
+    const duck = await trial.picture();
+    await trial.action('fix');
+    await page.click('#fix-paint');
+    await listed(page);
+    const tail = (await proposals(page)).findIndex((text) => /^→1 cell: row 5, column 9:/.test(text));
+    assert.ok(tail >= 0, (await proposals(page)).join('\n'));
+    await page.run((at) => document.querySelectorAll('#fix-list button')[at].focus(), tail);
+    assert.equal(await page.run(() => sheet.overlay.size), 1, 'it is seen first');
+    await page.run((at) => document.querySelectorAll('#fix-list button')[at].click(), tail);
+    await page.until(() => bench.state.picture[4][8] !== '.', 5000 * SLACK);
+    assert.equal(await trial.judged(), 'unique');
+    await trial.press('Control+z');
+    assert.deepEqual(await trial.picture(), duck);
+    assert.equal(await trial.judged(), 'ambiguous');
+    assert.ok((await proposals(page)).length > tail, 'the list is there again');
+    await page.click('#fix-give');
+    await page.until(() => bench.state.givens.size > 0, 10000 * SLACK);
+    assert.equal(await trial.judged(), 'unique');
+    assert.deepEqual(await trial.picture(), duck, 'the picture is as it was');
+
+    await drop(page, folder, 'computer.ppm', exampleOf('computer.ppm'));
+    await page.until(() => bench.name === 'computer', 8000 * SLACK);
+    assert.equal(await trial.judged(), 'ambiguous');
+    await trial.action('fix');
+    await chosen(page, 'fix-goal', 'lines');
+    await page.click('#fix-paint');
+    await listed(page);
+    assert.match(await trial.text('#fix-said'), /None is smaller/);
+    const square = (await proposals(page)).findIndex((text) => /2 cells: row 3, column 4; row 3, column 13/.test(text));
+    assert.ok(square >= 0, (await proposals(page)).join('\n'));
+    await page.run((at) => document.querySelectorAll('#fix-list button')[at].click(), square);
+    await page.until(() => bench.state.picture[2] === '...aaaaaaaaaa...', 5000 * SLACK);
+    assert.equal(await trial.judged(), 'unique');
+    assert.equal((await trial.state()).open, 0, 'nothing needs guessing');
+    await page.until(() => /^(easy|medium|hard) /.test(document.getElementById('grade').textContent), 20000 * SLACK);
+    await trial.action('walk');
+    await page.until(() => /^Step 0 of [1-9][0-9]*: /.test(document.getElementById('play-said')?.textContent), 10000 * SLACK);
+    await page.press('End');
+    assert.deepEqual(await page.run(() => play.marks.map((row) => row.join(''))), await trial.picture(), 'solved step by step');
+    await page.press('Escape');
+
+    await trial.press('Control+z');
+    await page.click('#fix-give');
+    await page.until(() => bench.state.givens.size > 0, 10000 * SLACK);
+    assert.equal((await trial.state()).givens.length, 2, 'two cells are given');
+    assert.equal(await trial.judged(), 'unique');
+    assert.deepEqual(page.faults, []);
+    await page.close();
 }
 
 /** Two fingers that go apart have larger cells in Play, and together smaller ones; they move the board, and mark nothing. */

@@ -12,6 +12,7 @@ import * as marks from './page_marks.mjs';
 import * as meaning from './page_meaning.mjs';
 import * as mending from './page_mending.mjs';
 import * as out from './page_out.mjs';
+import * as pens from './page_pens.mjs';
 import * as phone from './page_phone.mjs';
 import * as points from './page_points.mjs';
 import * as repairs from './page_repairs.mjs';
@@ -22,7 +23,7 @@ import * as ways from './page_ways.mjs';
 const [folder, ...only] = [resolve(process.argv[2]), ...process.argv.slice(3)];
 const url = hookedPage(process.env.PAGE, folder);
 const isWanted = (name) => !only.length || only.some((one) => name === one || (one.endsWith(':') && name.startsWith(one)));
-const tests = Object.entries({ ...drawing, ...lasting, ...loss, ...marks, ...meaning, ...mending, ...repairs, ...ways, ...stored, ...out, ...looks, ...phone, ...sharing, ...coming, ...points.tests })
+const tests = Object.entries({ ...drawing, ...lasting, ...loss, ...marks, ...meaning, ...mending, ...repairs, ...ways, ...stored, ...out, ...looks, ...pens, ...phone, ...sharing, ...coming, ...points.tests })
     .filter(([name, test]) => typeof test === 'function' && name !== 'hard' && !name.endsWith('Point') && isWanted(name));
 const browser = new Browser();
 const passed = new Set();

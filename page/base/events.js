@@ -19,3 +19,20 @@ export function tell(name, value) {
     }
   }
 }
+
+/**
+ * Puts off what the eye does not wait for until the next frame is drawn: what it gives may be called often, and `run` is called once
+ * behind that frame. A tab in the background draws none, so it runs when the tab is shown again.
+ */
+export function behindFrame(run) {
+  let isAsked = false;
+  const go = () => {
+    isAsked = false;
+    run();
+  };
+  return () => {
+    if (isAsked) return;
+    isAsked = true;
+    requestAnimationFrame(() => setTimeout(go));
+  };
+}

@@ -1,9 +1,8 @@
 // Numbers and file names as texts, and a bound for numbers.
 
-import { LANGUAGE, phrase } from '../texts/phrase.js';
+import { number, phrase } from '../texts/phrase.js';
 
-export const number = (count) => count.toLocaleString(LANGUAGE);
-export const many = (count, what) => `${number(count)} ${what}${count === 1 ? '' : 's'}`;
+export { number };
 export const clamp = (value, least, most) => Math.max(least, Math.min(most, value));
 
 /** The size of a document in words. */

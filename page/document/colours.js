@@ -19,7 +19,7 @@ export function inkOn(triple, maxval) {
 
 /**
  * Hues by their ends, in degrees; one has no name of its own.
- * @type {{ end: number, name?: import('../texts/phrase.js').Hue }[]}
+ * @type {{ end: number, name?: import('../texts/phrase.js').PlainPhrase }[]}
  */
 const HUES = [{ end: 14, name: 'document.red' }, { end: 42 }, { end: 68, name: 'document.yellow' }, { end: 165, name: 'document.green' }, { end: 200, name: 'document.cyan' },
   { end: 258, name: 'document.blue' }, { end: 292, name: 'document.purple' }, { end: 344, name: 'document.pink' }, { end: 361, name: 'document.red' }];

@@ -74,10 +74,10 @@ const isText = (text, most) => typeof text === 'string' && text.length <= most;
 
 /** Refuses what no bench would open, as a file or the browser's storage may hold it; else the document of a plain value. */
 export function unpackedDoc(value) {
-  must(value && isWhole(value.columns, 1, MOST_CELLS) && isWhole(value.rows, 1, MOST_CELLS), phrase('document.puzzle1RowsColumns', { MOST_CELLS }));
+  must(value && isWhole(value.columns, 1, MOST_CELLS) && isWhole(value.rows, 1, MOST_CELLS), phrase('document.puzzle1RowsColumns', { most: MOST_CELLS }));
   const { columns, rows, maxval, colours, picture } = value;
   must(isWhole(maxval, 1, 65535), phrase('document.maxvalPuzzleNotFrom'));
-  must(Array.isArray(colours) && isWhole(colours.length, 1, MOST_COLOURS), phrase('document.puzzleMostColours', { MOST_COLOURS }));
+  must(Array.isArray(colours) && isWhole(colours.length, 1, MOST_COLOURS), phrase('document.puzzleMostColours', { most: MOST_COLOURS }));
   must(colours.every((triple) => Array.isArray(triple) && triple.length === 3 && triple.every((sample) => isWhole(sample, 0, maxval))), phrase('document.colourPuzzleNotThree'));
   must(new Set(colours.map(String)).size === colours.length, phrase('document.twoColoursPuzzleSame'));
   const letters = LETTERS.slice(0, colours.length);

@@ -92,13 +92,13 @@ export function resized(doc, rows, columns, anchor) {
 /** A rectangle of a document as a small document. */
 export const cutOut = (doc, { top, left, bottom, right }) => remade(doc, bottom - top + 1, right - left + 1, (row, col) => [row + top, col + left]);
 
-/** Rows of letters put over a picture at a place; what lies outside is left out. */
+/** Rows of letters put over a picture at a place; what lies outside is left out, and below a blank the picture stays. */
 export function stamped(picture, rows, top, left) {
   return picture.map((row, at) => {
     const piece = rows[at - top];
     if (piece === undefined) return row;
     let text = '';
-    for (let col = 0; col < row.length; col++) text += piece[col - left] ?? row[col];
+    for (let col = 0; col < row.length; col++) text += (piece[col - left] ?? ' ') === ' ' ? row[col] : piece[col - left];
     return text;
   });
 }
@@ -122,6 +122,10 @@ export function reordered(doc, order, into = 0) {
 
 /** The cells (row * columns + column) in which two pictures of one size differ. */
 export function cellsThatDiffer(picture, other) {
-  const columns = picture[0].length;
-  return picture.flatMap((row, at) => [...row].flatMap((letter, col) => (letter === other[at][col] ? [] : [at * columns + col])));
+  const places = [];
+  picture.forEach((row, at) => {
+    if (row === other[at]) return;
+    for (let col = 0; col < row.length; col++) if (row[col] !== other[at][col]) places.push(at * row.length + col);
+  });
+  return places;
 }

@@ -1,4 +1,7 @@
-// Marks over the cells: a reason with its premises, a selection, the rubber of a drag.
+// Marks over the cells: a reason with its premises, a selection, the rubber of a drag, the axes of symmetric pens.
+
+import { HOLE } from '../document/regions.js';
+import { isPossible } from '../document/symmetry.js';
 
 function ringAround(pen, sheet, row, col, ink, dash, grow) {
   const { geometry: at } = sheet;
@@ -29,17 +32,60 @@ function drawReason(pen, sheet) {
   ringAround(pen, sheet, reason.row, reason.col, sheet.inks.alarm, [], 1);
 }
 
-function drawBox(pen, sheet, { top, left, bottom, right }) {
-  const { geometry: at } = sheet;
-  const box = [at.x(left), at.y(top), (right - left + 1) * at.cell, (bottom - top + 1) * at.cell];
-  pen.lineWidth = 3.5 * at.scale;
+// The sides of a shape's cells beyond which there is none of it.
+function edgesOf(path, at, { top, left }, shape) {
+  const has = (row, col) => (shape[row]?.[col] ?? HOLE) !== HOLE;
+  const side = (x, y, toX, toY) => {
+    path.moveTo(at.x(left + x), at.y(top + y));
+    path.lineTo(at.x(left + toX), at.y(top + toY));
+  };
+  for (let row = 0; row <= shape.length; row++) {
+    for (let col = 0; col <= shape[0].length; col++) {
+      if (has(row, col) !== has(row - 1, col)) side(col, row, col + 1, row);
+      if (has(row, col) !== has(row, col - 1)) side(col, row, col, row + 1);
+    }
+  }
+}
+
+// A dashed line that is seen on any colour.
+function drawDashed(pen, sheet, path) {
+  const { scale } = sheet.geometry;
+  pen.lineWidth = 3.5 * scale;
   pen.strokeStyle = '#fff';
-  pen.strokeRect(...box);
-  pen.lineWidth = 2 * at.scale;
+  pen.stroke(path);
+  pen.lineWidth = 2 * scale;
   pen.strokeStyle = sheet.inks.accent;
-  pen.setLineDash([5 * at.scale, 3 * at.scale]);
-  pen.strokeRect(...box);
+  pen.setLineDash([5 * scale, 3 * scale]);
+  pen.stroke(path);
   pen.setLineDash([]);
+}
+
+function drawBox(pen, sheet, box) {
+  const { geometry: at } = sheet;
+  const path = new Path2D();
+  if (box.shape?.some((row) => row.includes(HOLE))) edgesOf(path, at, box, box.shape);
+  else path.rect(at.x(box.left), at.y(box.top), (box.right - box.left + 1) * at.cell, (box.bottom - box.top + 1) * at.cell);
+  drawDashed(pen, sheet, path);
+}
+
+// The axes of symmetric pens; quarter turns have a ring about the middle.
+function drawAxes(pen, sheet) {
+  const { geometry: at, state, symmetry } = sheet;
+  const [x, y] = [at.x(0) + (state.columns * at.cell) / 2, at.y(0) + (state.rows * at.cell) / 2];
+  const path = new Path2D();
+  if (symmetry !== 'down') {
+    path.moveTo(x, at.y(0));
+    path.lineTo(x, at.y(state.rows));
+  }
+  if (symmetry !== 'across') {
+    path.moveTo(at.x(0), y);
+    path.lineTo(at.x(state.columns), y);
+  }
+  if (symmetry === 'quarter') {
+    path.moveTo(x + at.cell, y);
+    path.arc(x, y, at.cell, 0, 2 * Math.PI);
+  }
+  drawDashed(pen, sheet, path);
 }
 
 /** Draws all marks of a sheet. */
@@ -49,6 +95,7 @@ export function drawMarks(pen, sheet) {
   pen.beginPath();
   pen.rect(at.originX - 2, at.originY - 2, at.width, at.height);
   pen.clip();
+  if (sheet.symmetry !== 'none' && isPossible(sheet.symmetry, sheet.state)) drawAxes(pen, sheet);
   if (sheet.reason) drawReason(pen, sheet);
   for (const box of sheet.boxes) drawBox(pen, sheet, box);
   pen.restore();

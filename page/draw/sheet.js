@@ -37,7 +37,9 @@ class Sheet {
     this.other = false; // whether the other picture is shown
     this.reason = null;
     this.held = null; // a line that is dragged: {axis, word, from, to}
-    this.boxes = []; // rectangles over the cells: {top, left, bottom, right, kind}
+    this.boxes = []; // rectangles over the cells: {top, left, bottom, right, shape}
+    this.symmetry = 'none'; // of the pens, as document/symmetry.js has it
+    this.underlay = null; // an image to trace
     this.frame = 0;
     this.wanted = { all: false, cells: false, marks: false };
     this.inks = {};
@@ -142,6 +144,7 @@ class Sheet {
     this.overlay = cells ?? new Map();
     if (hadRivals || (!this.overlay.size && this.state.verdict.other)) this.cells.changed(this);
     else this.cells.some(this, places);
+    this.underlay?.ask();
   }
 
   // ---- drawing
@@ -230,6 +233,7 @@ class Sheet {
     const pen = this.marks.getContext('2d');
     pen.clearRect(0, 0, this.marks.width, this.marks.height);
     drawMarks(pen, this);
+    this.underlay?.ask();
     this.placeCursor();
   }
 

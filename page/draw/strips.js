@@ -2,10 +2,10 @@
 // drawn again only when its clue, its mark or its place changes. Where Fit folds the clues, edges with the numbers of some lines
 // stand there.
 
-import { drawBlock, drawClue } from './board.js';
+import { drawClue } from './board.js';
+import { Sprites } from './sprites.js';
 import { CanvasSurface } from './surface.js';
 
-const MOST_SPRITES = 600;
 const EDGE = 5; // the page's pixels of the marks of lines where the clues are folded
 
 export class Strips {
@@ -13,14 +13,15 @@ export class Strips {
     this.canvases = { r: rowCanvas, c: columnCanvas };
     this.pens = { r: rowCanvas.getContext('2d', { alpha: false }), c: columnCanvas.getContext('2d', { alpha: false }) };
     this.surfaces = { r: new CanvasSurface(this.pens.r), c: new CanvasSurface(this.pens.c) };
-    this.sprites = new Map();
+    this.sprites = new Sprites();
+    this.copy = this.sprites.drawer();
   }
 
   /** Draws all lines that are seen. */
   all(sheet) {
     const { geometry: at } = sheet;
     const key = [at.cell, at.font, at.pitch, at.letters, at.scale, sheet.doc.maxval, ...sheet.doc.colours].join();
-    if (key !== this.key || this.sprites.size > MOST_SPRITES) this.sprites.clear();
+    this.sprites.keepFor(key);
     this.key = key;
     for (const axis of ['r', 'c']) {
       const pen = this.pens[axis];
@@ -128,18 +129,6 @@ export class Strips {
     this.clue(sheet, 'c', col, { near: at.originY - gap - Math.round(4 * at.scale), far: at.slackY() + 6 * at.scale, middle: x + at.cell / 2, gap: 1, sizeOf: () => ({ width, height }) });
     pen.restore();
   }
-
-  // One block, copied from where it was drawn first.
-  copy = (surface, look, block, { x, y, width, height }) => {
-    const key = `${block.length}${block.letter} ${width} ${height}`;
-    let sprite = this.sprites.get(key);
-    if (!sprite) {
-      sprite = new OffscreenCanvas(Math.max(1, width), Math.max(1, height));
-      drawBlock(new CanvasSurface(sprite.getContext('2d')), look, block, { x: 0, y: 0, width, height });
-      this.sprites.set(key, sprite);
-    }
-    surface.pen.drawImage(sprite, x, y);
-  };
 
   /** Whether a clue is drawn in part only, or without its numbers. */
   isCut(sheet, axis, at) {

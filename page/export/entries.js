@@ -6,6 +6,7 @@ import { eightBitDoc } from '../document/document.js';
 import { LETTERS } from '../document/limits.js';
 import { hasOneInk, signsOf } from '../draw/papers.js';
 import { cluesOfRows } from '../formats/webpbn.js';
+import { gradeName } from '../grade/names.js';
 import { phrase } from '../texts/phrase.js';
 import { inkName } from '../view/dress.js';
 
@@ -54,5 +55,5 @@ function factsOf(doc, grade) {
 
 /** What is printed of a document. */
 export function entryOf({ doc, name, grade = null }, { show, hasGrade }) {
-  return { doc, clues: cluesOfRows(doc.picture), title: doc.about.title || name, facts: factsOf(doc, hasGrade ? grade : null), legend: legendOf(doc, show) };
+  return { doc, clues: cluesOfRows(doc.picture), title: doc.about.title || name, facts: factsOf(doc, hasGrade && grade ? gradeName(grade) : null), legend: legendOf(doc, show) };
 }

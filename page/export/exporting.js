@@ -75,7 +75,7 @@ const ABOUT_FIELDS = { title: phrase('export.title'), author: phrase('export.aut
 const LONG_FIELDS = ['description', 'note'];
 
 // A description with the grade as its last line, in place of an earlier one.
-const withGrade = (text) => [...text.split('\n').filter((line) => line && !line.startsWith('Grade: ')), phrase('export.grade', { gradeLine: gradeLine() })].join('\n');
+const withGrade = (text) => [...text.split('\n').filter((line) => line && !line.startsWith('Grade: ')), phrase('export.gradeLine', { gradeLine: gradeLine() })].join('\n');
 
 /** Asks for the texts about the puzzle, which go into its files and on the printed sheet, and for the name of the file. */
 async function askAbout() {
@@ -114,5 +114,5 @@ export function startExporting() {
 export function showExportPanel() {
   const button = (id, name) => make('button', { type: 'button', 'data-action': id, onclick: (event) => runAction(id, event) }, name);
   $('out').replaceChildren(make('h2', {}, phrase('export.saveExport')), make('p', { class: 'group' },
-    button('save', phrase('export.save')), button('export-xml', 'XML'), button('export-empty', phrase('export.puzzlePng')), button('export-picture', phrase('export.picturePng')), button('print', phrase('export.print')), button('certificate', phrase('export.certificate'))));
+    button('save', phrase('export.save')), button('export-xml', 'XML'), button('export-empty', phrase('export.puzzlePng')), button('export-picture', phrase('export.picturePng')), button('print', phrase('export.printAction')), button('certificate', phrase('export.certificate'))));
 }

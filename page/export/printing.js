@@ -5,6 +5,7 @@ import { clamp, sizeText } from '../base/words.js';
 import { docOf } from '../document/document.js';
 import { bench } from '../engine/bench.js';
 import { writeZip } from '../formats/zip.js';
+import { gradeName, verdictName } from '../grade/names.js';
 import { keep } from '../library/keep.js';
 import { SAVE_TYPES, download, exportAs } from '../library/saving.js';
 import { phrase } from '../texts/phrase.js';
@@ -16,7 +17,7 @@ import { asSeen } from '../view/tools.js';
 import { SHEET_TEXTS, entryOf } from './entries.js';
 import { GRIDS, PAPERS, isLarge, partsOf, sheetsOf } from './sheets.js';
 
-const PAPER_NAMES = { a4: 'A4', a5: 'A5', letter: phrase('export.usLetter'), book: phrase('export.69Inches') };
+const PAPER_NAMES = { a4: 'A4', a5: 'A5', letter: phrase('export.usLetter'), book: phrase('export.sixByNine') };
 const SHOWN = { colours: phrase('export.colours'), letters: phrase('export.letters'), signs: phrase('export.signs') };
 const MARGINS = [5, 40]; // millimetres
 const LEAST_CELL = 3; // millimetres that are read and filled easily
@@ -71,7 +72,7 @@ async function otherCards() {
 
 function libraryPart(cards) {
   const boxes = cards.map((card) => make('input', { type: 'checkbox', value: card.id }));
-  const facts = (card) => [card.name, sizeText(card.doc), card.verdict && card.verdict !== 'unique' ? card.verdict : ''].filter(Boolean).join(', ');
+  const facts = (card) => [card.name, sizeText(card.doc), card.verdict && card.verdict !== 'unique' ? verdictName(card.verdict) : ''].filter(Boolean).join(', ');
   const part = make('details', { id: 'print-others' }, make('summary', {}, phrase('export.othersLibrary', { count: cards.length })), ...cards.map((card, at) => make('label', {}, boxes[at], facts(card))));
   return { part: cards.length ? part : '', ids: () => boxes.filter((box) => box.checked).map((box) => box.value) };
 }
@@ -87,7 +88,7 @@ function printFields(near, graded) {
   };
   if (near) fields.show.querySelector('[value="colours"]').disabled = true;
   const [answers, answersText] = check('print-answers', chosen.answers, phrase('export.solutionsEnd'));
-  const [grade, gradeText] = check('print-grade', chosen.hasGrade, graded ? phrase('export.grade2', { word: graded.word }) : phrase('export.gradeWhereOneKnown'));
+  const [grade, gradeText] = check('print-grade', chosen.hasGrade, graded ? phrase('export.gradeField', { word: gradeName(graded.word) }) : phrase('export.gradeWhereOneKnown'));
   const rows = [make('label', {}, phrase('export.title'), fields.title), make('div', { class: 'group' }, make('label', {}, phrase('export.paper'), fields.paper), make('label', {}, fields.wide, phrase('export.landscape')), make('label', {}, phrase('export.marginMm'), fields.margin)),
     make('div', { class: 'group' }, make('label', {}, phrase('export.puzzlesSheet'), fields.perSheet), make('label', {}, phrase('export.coloursShown'), fields.show)), make('label', {}, answers, answersText), make('label', {}, grade, gradeText)];
   return { fields: { ...fields, answers, grade }, rows };
@@ -110,7 +111,7 @@ async function printPuzzle() {
   const { fields, rows } = printFields(near, gradeAtHand());
   const others = libraryPart(await otherCards());
   const content = make('div', { class: 'rows' }, ...rows, others.part, ...warningsOf(own, near));
-  const way = await openDialog({ title: phrase('export.print2'), content, wide: true, buttons: [{ name: phrase('export.saveSvg'), value: 'svg' }, { name: phrase('export.print'), value: 'print', main: true }] });
+  const way = await openDialog({ title: phrase('export.printTitle'), content, wide: true, buttons: [{ name: phrase('export.saveSvg'), value: 'svg' }, { name: phrase('export.printAction'), value: 'print', main: true }] });
   if (!way) return;
   Object.assign(chosen, readFields(fields));
   const title = fields.title.value.trim();
@@ -132,7 +133,7 @@ async function printPuzzle() {
 
 /** Adds print to the menu File. */
 export function startPrinting() {
-  addAction({ id: 'print', name: phrase('export.print'), key: 'Ctrl+P', place: 'file', group: 'print', run: printPuzzle });
+  addAction({ id: 'print', name: phrase('export.printAction'), key: 'Ctrl+P', place: 'file', group: 'print', run: printPuzzle });
   // What is opened by the browser's own print, without the dialog, is a sheet too.
   addEventListener('beforeprint', () => {
     if (bench.state && !$('print').children.length) fillPrint(sheetsFor([atHand()], { ...chosen, show: nearText(bench.state) && chosen.show === 'colours' ? 'letters' : chosen.show }));

@@ -28,7 +28,7 @@ function notesOn(kind, address, length) {
   return [
     address ? '' : phrase('export.pageOpenedFromFile'),
     kind === EDIT ? '' : phrase('export.linkHoldsSolutionThough'),
-    length > LONG ? phrase('export.linkCharactersSomePrograms', { count: length, LONG }) : '',
+    length > LONG ? phrase('export.linkCharactersSomePrograms', { count: length, long: LONG }) : '',
     kind === EDIT ? '' : WARNINGS[bench.state.verdict.word] ?? '',
   ].filter(Boolean).join(' ');
 }
@@ -61,7 +61,7 @@ async function share() {
   kind.addEventListener('change', fill);
   address.addEventListener('input', fill);
   fill();
-  const content = make('div', { class: 'rows' }, make('label', {}, phrase('export.link'), kind), make('label', {}, phrase('export.addressPage'), address), make('label', {}, phrase('export.link2'), field), note);
+  const content = make('div', { class: 'rows' }, make('label', {}, phrase('export.linkKind'), kind), make('label', {}, phrase('export.addressPage'), address), make('label', {}, phrase('export.linkField'), field), note);
   await openDialog({ title: phrase('export.share'), content, buttons: [{ name: phrase('export.copy'), value: true, main: true, test: () => copied(field) }] });
 }
 

@@ -7,7 +7,7 @@ import { phrase } from '../texts/phrase.js';
 const MOST_COLOURS = 1024; // in a file
 const FAULTS = {
   NoPalette: () => phrase('formats.paletteNotRead'), BadColour: (line) => phrase('formats.paletteBadColour', { line }), BadCount: (line) => phrase('formats.paletteBadCount', { line }),
-  NoColours: () => phrase('formats.paletteNoColours'), TooMany: () => phrase('formats.paletteTooMany', { MOST_COLOURS }),
+  NoColours: () => phrase('formats.paletteNoColours'), TooMany: () => phrase('formats.paletteTooMany', { most: MOST_COLOURS }),
 };
 
 /** A palette that is not read; `kind` names why. */

@@ -45,7 +45,7 @@ class PpmTokens {
 function boundSides(width, height) {
   if (width < 1 || height < 1) throw new FileFault(phrase('formats.pictureNoPixels'));
   if (width > MOST_PIXELS || height > MOST_PIXELS) {
-    throw new FileFault(phrase('formats.picturePixelsMostSide', { width, height, MOST_PIXELS }));
+    throw new FileFault(phrase('formats.picturePixelsMostSide', { width, height, most: MOST_PIXELS }));
   }
 }
 
@@ -58,7 +58,8 @@ export function readPpm(bytes) {
   const maxval = tokens.number(phrase('formats.maxval'));
   if (maxval < 1 || maxval > 65535) throw new FileFault(phrase('formats.picturesMaxvalNotFrom'));
   const data = new Uint8ClampedArray(width * height * 4);
-  const next = raw ? rawSamples(tokens, maxval, width * height * 3) : () => tokens.number('samples');
+  const what = phrase('formats.samples');
+  const next = raw ? rawSamples(tokens, maxval, width * height * 3) : () => tokens.number(what);
   for (let at = 0; at < data.length; at++) {
     if (at % 4 === 3) {
       data[at] = 255;

@@ -27,7 +27,7 @@ export function readWebpbnImage(text) {
       at = end;
     }
     row.push(sign);
-    if (row.length > MOST_CELLS || rows.length > MOST_CELLS) throw new FileFault(phrase('formats.solutionLarger', { MOST_CELLS }));
+    if (row.length > MOST_CELLS || rows.length > MOST_CELLS) throw new FileFault(phrase('formats.solutionLarger', { most: MOST_CELLS }));
   }
   if (row || !rows.length || !rows[0].length) throw new FileFault(phrase('formats.solutionNoPicture'));
   return rows;

@@ -1,12 +1,13 @@
 // Archives of the library: all pictures as XML in one zip, and back.
 
 import { say } from '../base/elements.js';
-import { bareName, cleanName, many } from '../base/words.js';
+import { bareName, cleanName } from '../base/words.js';
 import { webpbnText } from '../formats/webpbn.js';
 import { readZip, writeZip } from '../formats/zip.js';
 import { keep } from '../library/keep.js';
 import { recordOfDoc } from '../library/records.js';
 import { SAVE_TYPES, download } from '../library/saving.js';
+import { phrase } from '../texts/phrase.js';
 import { kindOfFile } from './images.js';
 import { aboutNon, docOfNon, isNonText, readPpmFile, readXmlFile } from './reading.js';
 
@@ -33,9 +34,9 @@ export async function exportAll() {
   const records = [];
   for (const { id } of cards) records.push(await keeper.record(id));
   const sound = records.filter(Boolean);
-  if (!sound.length) return say('The library has no pictures.');
+  if (!sound.length) return say(phrase('import.libraryNoPictures'));
   download(new Blob([archiveOf(sound)], { type: SAVE_TYPES.zip.type }), 'nonobench library.zip', SAVE_TYPES.zip.type);
-  return say(`${many(sound.length, 'picture')} saved as “nonobench library.zip”${sound.length < cards.length ? `; ${many(cards.length - sound.length, 'damaged one')} left out` : ''}.`, sound.length < cards.length ? 'alarm' : '');
+  return say(phrase('import.picturesSavedNonobenchLibrary', { pictures: sound.length, count: sound.length < cards.length ? phrase('import.onesLeftOut', { ones: cards.length - sound.length }) : '' }), sound.length < cards.length ? 'alarm' : '');
 }
 
 /** The documents that a file of puzzles holds; none where it has no picture that opens by itself. */
@@ -66,14 +67,17 @@ const sameText = (one, other) => webpbnText(one) === webpbnText(other);
 export async function takeArchive(bytes, name) {
   const { docs, unread } = await readArchive(bytes);
   const keeper = await keep.ready();
+  const before = new Set(await keeper.cards()); // each of them is one picture of the archive at most
   let [added, known] = [0, 0];
   for (const { name: title, doc } of docs) {
-    if (await keeper.has(title, doc, sameText)) known++;
+    const card = await keeper.cardOfDoc(before, doc, sameText);
+    before.delete(card);
+    if (card) known++;
     else if (await keeper.put(recordOfDoc(doc, title, true))) added++;
     else break;
   }
   const there = added + known;
-  const left = [known ? `${many(known, 'picture')} there already` : '', unread.length ? `${many(unread.length, 'file')} not read` : '', there < docs.length ? `${many(docs.length - there, 'picture')} not taken` : ''].filter(Boolean).join(', ');
-  if (there === docs.length) say(`“${name}”: ${many(added, 'picture')} added to the library${left ? `; ${left}` : ''}.`, unread.length ? 'alarm' : '');
+  const left = [known ? phrase('import.picturesThereAlready', { pictures: known }) : '', unread.length ? phrase('import.filesNotRead', { files: unread.length }) : '', there < docs.length ? phrase('import.picturesNotTaken', { pictures: docs.length - there }) : ''].filter(Boolean).join(', ');
+  if (there === docs.length) say(phrase('import.picturesFromArchive', { name, pictures: added, left: left ? `; ${left}` : '' }), unread.length ? 'alarm' : '');
   return there;
 }

@@ -5,9 +5,10 @@ import { columnOf, rowOf } from '../document/document.js';
 import { LETTERS } from '../document/limits.js';
 import { bench } from '../engine/bench.js';
 import { startEngine } from '../engine/client.js';
+import { phrase } from '../texts/phrase.js';
 import { asSeen } from '../view/tools.js';
 
-const STRANGE = 'It counts on cells that this puzzle does not give.';
+const STRANGE = phrase('import.countsCellsPuzzleDoes');
 
 /** The picture of a document as a P3 text, cell by cell. */
 function pictureText({ rows, columns, maxval, colours, picture }) {
@@ -28,9 +29,9 @@ export async function checkedCertificate(certificate, doc, engine = startEngine(
     const givens = [...doc.givens].map((place) => [rowOf(doc, place) + 1, columnOf(doc, place) + 1]);
     const { accepted, text } = await engine.check(pictureText(doc), certificate, { background: doc.colours[0].join(','), givens });
     if (/UnpublishedGiven/.test(text)) return { proves: false, text: STRANGE };
-    if (!accepted) return { proves: false, text: `It does not prove this picture (${text.trim().replace(/^nonobench: /, '')}).` };
+    if (!accepted) return { proves: false, text: phrase('import.doesNotProvePicture', { value: text.trim().replace(/^nonobench: /, '') }) };
     if (givensOf(certificate, doc.columns).some((place) => !doc.givens.has(place))) return { proves: false, text: STRANGE };
-    return { proves: true, text: `It proves that this picture is the only solution${doc.givens.size ? ' with its given cells' : ''}.` };
+    return { proves: true, text: phrase('import.provesPictureOnlySolution', { count: doc.givens.size ? phrase('import.givenCells') : '' }) };
   } finally {
     engine.end();
   }
@@ -39,7 +40,7 @@ export async function checkedCertificate(certificate, doc, engine = startEngine(
 /** Checks a certificate against the picture at hand, and tells what came of it. */
 export async function takeCertificate(certificate, name) {
   if (!bench.state) {
-    say(`“${name}” is a certificate. Open its picture first, then drop it here to have it checked.`, 'alarm');
+    say(phrase('import.certificateOpenPictureFirst', { name }), 'alarm');
     return false;
   }
   await asSeen();

@@ -3,8 +3,9 @@
 import { make, withoutGestures } from '../base/elements.js';
 import { clamp } from '../base/words.js';
 import { penOf } from '../draw/small.js';
+import { phrase } from '../texts/phrase.js';
 
-const TEXT = { source: 'The image. Drag to select a part of it.' };
+const TEXT = { source: phrase('import.imageDragSelectPart') };
 const LEAST = 2; // pixels a side of a part
 
 export class Source {

@@ -10,6 +10,7 @@ const FLAT_PART = 0.4; // .. this part of the pixels at least, the most used col
 const SAME_FAR = 0.02; // in Oklab: nearer colours look the same
 const MOST_GROUPS = 400;
 const GUARDED = 0.01; // of the area: such a colour goes last. Half of what is promised, since only some pixels are looked at
+const WIDE = 0.04; // of the area: a single colour that has so much is no smoothed edge
 const SPECK = 0.002; // of the area: less of a colour is none
 const EDGE_WEIGHT = 1 / 8; // of a pixel whose colour lies between those beside it
 const DETOUR = 1.25; // how much longer the way over such a colour is, at most
@@ -45,7 +46,7 @@ function gathered(image) {
     const place = placeOfTriple(triple);
     let at = nearestOf(places, place);
     if (!places.length || (farness(places[at], place) > SAME_FAR ** 2 && places.length < MOST_GROUPS)) {
-      groups.push({ triple, place, area: 0, edges: 0 });
+      groups.push({ triple, place, area: 0, edges: 0, exact: weight });
       at = places.push(place) - 1;
     }
     groups[at].area += weight;
@@ -81,6 +82,8 @@ export function groupsOf(image) {
         if (isAcross || (row > 0 && row < height - 1 && isBetween(groups, numbers[at - width], numbers[at], numbers[at + width]))) groups[numbers[at]].edges++;
       }
     }
+    const total = weightOf(groups.map(({ area }) => ({ weight: area })));
+    for (const group of groups) if (group.exact >= total * WIDE) group.edges = 0;
     return groups.sort((a, b) => b.area - a.area);
   });
 }

@@ -2,11 +2,12 @@
 // drawn anew at each change, with its verdict.
 
 import { make, say } from '../base/elements.js';
-import { clamp, many } from '../base/words.js';
+import { clamp } from '../base/words.js';
 import { MOST_CELLS, MOST_COLOURS } from '../document/limits.js';
 import { COLOUR_NAMES } from '../document/named.js';
 import { drawSmall, penOf } from '../draw/small.js';
 import { openDoc } from '../library/open.js';
+import { phrase } from '../texts/phrase.js';
 import { openDialog } from '../view/dialogs.js';
 import { Source } from './cropping.js';
 import { Inks } from './inks.js';
@@ -17,12 +18,12 @@ import { hasClear } from './spots.js';
 import { thresholdFor } from './tone.js';
 
 const TEXT = {
-  title: (name) => `${name}: turn the image into a puzzle`, create: 'Create the puzzle', done: (name) => `“${name}” is a puzzle now. Export or print it from the menu File.`,
-  preview: 'The puzzle', drag: 'Drag over the image to select a part of it.', part: 'Part of the image, in pixels', left: 'Left', top: 'Top', wide: 'Width', high: 'Height', whole: 'Whole image', trim: 'Trim the margin',
-  cells: 'Cells', columns: 'Columns', rows: 'Rows', keeps: 'Keep proportions', sharp: 'Pixel art: one pixel for each cell', colours: 'Colours', count: 'How many, with the background',
-  two: 'Two colours, by lightness', inverted: 'Draw the light parts', threshold: 'Dark below', lines: 'Line art: by the area that is dark', area: 'Percent of a cell',
-  light: 'Light and dots', brightness: 'Brightness', contrast: 'Contrast', dither: 'Dithering', specks: 'Remove specks up to so many cells',
-  facts: ({ columns, rows, colours }) => `${columns} by ${rows} cells, ${many(colours.length, 'colour')} with the background`,
+  title: (name) => phrase('import.turnImageIntoPuzzle', { name }), create: phrase('import.createPuzzle'), done: (name) => phrase('import.madeFromImageVerdict', { name }),
+  preview: phrase('import.puzzle'), drag: phrase('import.dragOverImageSelect'), part: phrase('import.partImagePixels'), left: phrase('import.left'), top: phrase('import.top'), wide: phrase('import.width'), high: phrase('import.height'), whole: phrase('import.wholeImage'), trim: phrase('import.trimMargin'),
+  cells: phrase('import.cells'), columns: phrase('import.columns'), rows: phrase('import.rows'), keeps: phrase('import.keepProportions'), sharp: phrase('import.pixelArtOnePixel'), colours: phrase('import.colours'), count: phrase('import.howManyBackground'),
+  two: phrase('import.twoColoursLightness'), inverted: phrase('import.drawLightParts'), threshold: phrase('import.darkBelow'), lines: phrase('import.lineArtAreaDark'), area: phrase('import.percentCell'),
+  light: phrase('import.lightDots'), brightness: phrase('import.brightness'), contrast: phrase('import.contrast'), dither: phrase('import.dithering'), specks: phrase('import.removeSpecksUpSo'),
+  facts: ({ columns, rows, colours }) => phrase('import.cellsColoursBackground', { columns, rows, colours: colours.length }),
 };
 const MOST_WORKED = 480; // pixels a side that the dialog works on; a larger part is made smaller first
 const MOST_MIDDLE = 960; // pixels a side of a copy of the image

@@ -7,11 +7,12 @@ import { hexOf, nameOf, tripleOf } from '../document/colours.js';
 import { LETTERS } from '../document/limits.js';
 import { colourNamed } from '../document/named.js';
 import { readPalette } from '../formats/palettes.js';
+import { phrase } from '../texts/phrase.js';
 
 const TEXT = {
-  palette: 'Palette', background: 'Background', lock: 'Locked', replace: 'Replace by', drop: 'Drop', reset: 'Start again', file: 'Palette file …', name: 'Name of a colour', nameHint: 'or its name',
-  lockHint: 'It stays, however many colours there are', unknown: (text) => `“${text}” is no colour that has a name.`, from: (name) => `Colours of “${name}” alone.`,
-  share: (percent) => `${percent} %`, isGround: 'background', isLocked: 'locked', wrong: (name, fault) => `“${name}” could not be read: ${fault}.`,
+  palette: phrase('import.palette'), background: phrase('import.background'), lock: phrase('import.locked'), replace: phrase('import.replace'), drop: phrase('import.drop'), reset: phrase('import.startAgain'), file: phrase('import.paletteFile'), name: phrase('import.nameColour'), nameHint: phrase('import.orName'),
+  lockHint: phrase('import.staysHoweverManyColours'), unknown: (text) => phrase('import.noColourName', { text }), from: (name) => phrase('import.coloursAlone', { name }),
+  share: (percent) => `${percent} %`, isGround: 'background', isLocked: 'locked', wrong: (name, fault) => phrase('import.fileNotRead', { name, fault }),
 };
 const same = (one, other) => one.join() === other.join();
 const without = (triples, triple) => triples.filter((one) => !same(one, triple));

@@ -1,15 +1,16 @@
 // What a puzzle that is not open yet would be like: its verdict and grade, worked out in a worker of its own, of the newest one alone.
 
-import { number } from '../base/words.js';
 import { baseOf } from '../document/cover.js';
 import { pageOf } from '../document/document.js';
 import { answersTo } from '../engine/answers.js';
 import { startEngine } from '../engine/client.js';
 import { openedIn } from '../engine/opening.js';
+import { gradeName } from '../grade/names.js';
+import { phrase } from '../texts/phrase.js';
 
 const TEXT = {
-  none: '', works: 'Looking for another solution …', unique: '✓ Unique', ambiguous: '✗ Not unique', undecided: 'Not decided within some seconds', failed: 'No verdict: the engine failed',
-  guesses: (count) => `${number(count)} cells need guessing`, open: (count) => `${number(count)} cells are open`,
+  none: '', works: phrase('import.lookingAnotherSolution'), unique: phrase('import.unique'), ambiguous: phrase('import.notUnique'), undecided: phrase('import.notDecidedWithinSome'), failed: phrase('import.noVerdictEngineFailed'),
+  guesses: (count) => phrase('import.cellsNeedGuessing', { count }), open: (count) => phrase('import.cellsOpen', { count }),
 };
 const REST = 120; // milliseconds without a change
 const MOST_SECONDS = 5;
@@ -17,7 +18,7 @@ const MOST_SECONDS = 5;
 /** What is told of a document: in words. */
 export function judgedText({ word, open = 0, grade = null }) {
   const more = !open ? '' : word === 'unique' ? TEXT.guesses(open) : word === 'ambiguous' ? TEXT.open(open) : '';
-  return [TEXT[word], more, grade ? grade.word : ''].filter(Boolean).join(', ');
+  return [TEXT[word], more, grade ? gradeName(grade.word) : ''].filter(Boolean).join(', ');
 }
 
 /** Judges documents one behind the other: a newer one takes the place of what waits and of what is worked on. */

@@ -43,7 +43,8 @@ export class Maker {
     if (options.sharp || (options.threshold && !options.area)) return null;
     const times = options.area ? Math.max(2, Math.min(8, Math.floor(LINE_PIXELS / Math.max(columns, rows)))) : columns * rows > MANY_CELLS ? 2 : 3;
     // Of a drawing in flat colours single pixels are taken: means across its edges would be colours of their own.
-    const isSharp = !options.threshold && countFlat(this.points(part, options)) > 0 && countFlat(this.points(part, options)) <= MOST_COLOURS;
+    const flat = options.threshold ? 0 : countFlat(this.points(part, options));
+    const isSharp = flat > 0 && flat <= MOST_COLOURS;
     return toned(this.made('fine', part, [columns * times, rows * times], isSharp), options);
   }
 

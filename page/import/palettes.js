@@ -2,13 +2,14 @@
 // colours as such a file.
 
 import { make, say } from '../base/elements.js';
-import { cleanName, many } from '../base/words.js';
+import { cleanName } from '../base/words.js';
 import { hexOf, nameOf } from '../document/colours.js';
 import { eightBitDoc } from '../document/document.js';
 import { LETTERS, MOST_COLOURS } from '../document/limits.js';
 import { bench } from '../engine/bench.js';
 import { paletteText, readPalette } from '../formats/palettes.js';
 import { download } from '../library/saving.js';
+import { phrase } from '../texts/phrase.js';
 import { addAction } from '../view/actions.js';
 import { openDialog } from '../view/dialogs.js';
 import { inkName } from '../view/dress.js';
@@ -17,10 +18,10 @@ import { placeOfTriple } from './flat.js';
 import { farness } from './spots.js';
 
 const TEXT = {
-  open: 'Colours from a palette file …', save: 'Save the palette …', format: 'Format', kinds: { gpl: 'GIMP (.gpl)', pal: 'JASC (.pal)', hex: 'Hexadecimal (.hex)' }, saved: (name) => `Palette saved as “${name}”.`,
-  title: (name) => `Colours of “${name}”`, hint: 'Choose colours to add to the picture. Or have each colour of the picture become the nearest one that is here.',
-  add: 'Add the chosen', near: 'Take the nearest', none: 'Choose a colour first.', full: (free) => `The palette has room for ${many(free, 'more colour')}.`, few: 'It has fewer colours than the picture.',
-  noPicture: (name) => `“${name}” is a palette. Open a picture first, then drop it here.`, wrong: (name, fault) => `“${name}” could not be read: ${fault}.`,
+  open: phrase('import.coloursFromPaletteFile'), save: phrase('import.savePalette'), format: phrase('import.format'), kinds: { gpl: phrase('import.gimpGpl'), pal: phrase('import.jascPal'), hex: phrase('import.hexadecimalHex') }, saved: (name) => phrase('import.paletteSaved', { name }),
+  title: (name) => phrase('import.coloursOf', { name }), hint: phrase('import.chooseColoursAddPicture'),
+  add: phrase('import.addChosen'), near: phrase('import.takeNearest'), none: phrase('import.chooseColourFirst'), full: (free) => phrase('import.paletteRoomColours', { colours: free }), few: phrase('import.fewerColoursPicture'),
+  noPicture: (name) => phrase('import.paletteOpenPictureFirst', { name }), wrong: (name, fault) => phrase('import.fileNotRead', { name, fault }),
 };
 const MOST_SHOWN = 256;
 const same = (one, other) => one.join() === other.join();

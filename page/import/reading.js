@@ -8,9 +8,10 @@ import { stateOf } from '../engine/opening.js';
 import { readPpm } from '../formats/ppm.js';
 import { docOfNotes } from '../formats/ppm_notes.js';
 import { readWebpbn } from '../formats/webpbn_reading.js';
+import { phrase } from '../texts/phrase.js';
 import { docOfImage } from './images.js';
 
-export const NOT_READ = 'it is no picture and no puzzle that this page reads';
+export const NOT_READ = phrase('import.noPictureNoPuzzle');
 
 /** What the bytes of a PPM picture are: `image`, `doc` where it opens cell by cell, else null, and whether it is a text. */
 export function readPpmFile(bytes) {
@@ -50,7 +51,7 @@ export async function docOfNon(text, page = {}, engine = startEngine()) {
     await engine.open(text, { history: 1, background: null });
     const lines = ['allow 0', 'report'];
     const [, report] = answersTo(lines, await engine.say(lines), null);
-    if (report.kind !== 'report') throw new FileFault('there is not enough memory for it');
+    if (report.kind !== 'report') throw new FileFault(phrase('import.thereNotEnoughMemory'));
     return docOf(stateOf(report, null, null, pageOf(page)));
   } finally {
     engine.end();

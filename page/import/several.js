@@ -2,19 +2,21 @@
 
 import { make, say } from '../base/elements.js';
 import { tell } from '../base/events.js';
-import { bareName, many } from '../base/words.js';
+import { bareName, sizeText } from '../base/words.js';
 import { Judge } from '../engine/judging.js';
+import { gradeName, verdictName } from '../grade/names.js';
 import { keep } from '../library/keep.js';
 import { faultText, openDoc } from '../library/open.js';
 import { recordOfDoc } from '../library/records.js';
 import { SAVE_TYPES, download } from '../library/saving.js';
+import { phrase } from '../texts/phrase.js';
 import { openDialog } from '../view/dialogs.js';
 import { secondsChosen } from '../view/verdict.js';
 import { archiveOf, docsOfBytes } from './archives.js';
 
 const MOST_SECONDS = 30; // for a picture
 const MOST_BYTES = 16 * 1024 * 1024; // of a file
-const HEADS = ['Name', 'Size', 'Colours', 'Verdict', 'Grade'];
+const HEADS = [phrase('import.name'), phrase('import.size'), phrase('import.colours'), phrase('import.verdict'), phrase('import.grade')];
 
 /** A picture out of a file, with what is known about it so far. */
 class Row {
@@ -32,7 +34,7 @@ class Row {
   /** The texts of the table's columns, as a report has them too. */
   get texts() {
     const { doc, word, grade } = this;
-    return doc ? [this.name, `${doc.columns} by ${doc.rows}`, String(doc.colours.length), word, grade?.word ?? '–'] : [this.name, this.fault, '', '', ''];
+    return doc ? [this.name, sizeText(doc), String(doc.colours.length), verdictName(word), grade ? gradeName(grade.word) : '–'] : [this.name, this.fault, '', '', ''];
   }
 
   show() {
@@ -60,10 +62,10 @@ async function rowsOf(files, imageDocs) {
   for (const file of files) {
     const own = bareName(file.name);
     try {
-      if (file.size > MOST_BYTES) throw new Error('it has more than 16 MiB');
+      if (file.size > MOST_BYTES) throw new Error(phrase('import.more16Mib'));
       const bytes = new Uint8Array(await file.arrayBuffer());
       const docs = await imageDocs(file, bytes) ?? await docsOfBytes(bytes);
-      if (!docs.length) throw new Error('it is not a puzzle; an image that has to be scaled is opened by itself');
+      if (!docs.length) throw new Error(phrase('import.notPuzzleImageScaled'));
       docs.forEach((doc, at) => rows.push(new Row(at ? `${own} ${at + 1}` : own, doc)));
     } catch (fault) {
       rows.push(new Row(own, null, faultText(fault)));
@@ -83,13 +85,13 @@ async function keepAll(rows) {
     added++;
   }
   tell('library', null);
-  if (added === rows.length) say(`${many(added, 'picture')} added to the library.`);
+  if (added === rows.length) say(phrase('import.picturesAdded', { pictures: added }));
 }
 
 function exportRows(rows, all) {
   const report = { name: 'report.csv', bytes: new TextEncoder().encode(`\ufeff${valuesText(all)}\r\n`) };
   download(new Blob([archiveOf(rows, [report])], { type: SAVE_TYPES.zip.type }), 'nonobench puzzles.zip', SAVE_TYPES.zip.type);
-  say(`${many(rows.length, 'picture')} saved as “nonobench puzzles.zip”, with a report.`);
+  say(phrase('import.picturesSavedNonobenchPuzzles', { pictures: rows.length }));
 }
 
 // Opens the row that was chosen, and closes the table by that.
@@ -111,19 +113,19 @@ function hearRow(row, dialogOf) {
  * goes on while the table is open.
  */
 export async function takeSeveral(files, imageDocs) {
-  say(`${many(files.length, 'file')} …`);
+  say(`${phrase('import.files', { files: files.length })} …`);
   const rows = await rowsOf(files, imageDocs);
   say('');
   const puzzles = rows.filter((row) => row.doc);
   const table = make('table', { id: 'several' }, make('thead', {}, make('tr', {}, ...HEADS.map((head) => make('th', { scope: 'col' }, head)))), make('tbody', {}, ...rows.map((row) => row.element)));
   for (const row of puzzles) hearRow(row, () => table.closest('dialog'));
   const count = make('p', { id: 'several-count', role: 'status' });
-  const told = (at) => { count.textContent = `${many(at, 'picture')} of ${puzzles.length} judged. A row opens its picture.`; };
+  const told = (at) => { count.textContent = phrase('import.picturesJudgedRowOpens', { pictures: at, count: puzzles.length }); };
   told(0);
   const judge = new Judge({ seconds: Math.min(MOST_SECONDS, secondsChosen()) });
   const chosen = openDialog({
-    title: many(rows.length, 'puzzle'), wide: true, content: make('div', {}, count, make('div', { class: 'scrolls' }, table)),
-    buttons: [{ name: 'Close', value: null }, ...(puzzles.length ? [{ name: 'Save all as a zip', value: 'zip' }, { name: 'Add to the library', value: 'library', main: true }] : [])],
+    title: phrase('import.puzzles', { puzzles: rows.length }), wide: true, content: make('div', {}, count, make('div', { class: 'scrolls' }, table)),
+    buttons: [{ name: phrase('import.close'), value: null }, ...(puzzles.length ? [{ name: phrase('import.saveAllZip'), value: 'zip' }, { name: phrase('import.addLibrary'), value: 'library', main: true }] : [])],
   });
   const judged = (async () => {
     for (const [at, row] of puzzles.entries()) {

@@ -3,19 +3,20 @@
 
 import { $, make, say } from '../base/elements.js';
 import { tell } from '../base/events.js';
-import { bareName, many, number } from '../base/words.js';
+import { bareName, number } from '../base/words.js';
 import { FileFault } from '../document/limits.js';
-import { penOf } from '../draw/small.js';
 import { startEngine } from '../engine/client.js';
 import { kindOfPalette } from '../formats/palettes.js';
 import { MOST_BYTES_READ } from '../formats/ppm.js';
 import { keep } from '../library/keep.js';
 import { faultText, openDoc } from '../library/open.js';
 import { recordOfDoc } from '../library/records.js';
+import { phrase } from '../texts/phrase.js';
 import { isTyping } from '../view/actions.js';
 import { openDialog, openDialogs } from '../view/dialogs.js';
 import { takeArchive } from './archives.js';
 import { takeCertificate } from './certificates.js';
+import { HEAD, IMAGES, MOST_IMAGE, imageOfFile } from './decoding.js';
 import { filesIn } from './folders.js';
 import { docOfImage, kindOfFile, sizeOfImage } from './images.js';
 import { importImage } from './importing.js';
@@ -25,9 +26,6 @@ import { takeSeveral } from './several.js';
 
 const TAKEN_KINDS = '.ppm,.pnm,.non,.xml,.cert,.zip,.gpl,.pal,.hex,.png,.jpg,.jpeg,.gif,.webp,image/png,image/jpeg,image/gif,image/webp';
 const MOST_ARCHIVE = 1 << 30; // bytes
-const MOST_IMAGE = 1 << 28;
-const HEAD = 1 << 20; // bytes of an image that are read here: its size is in them
-const IMAGES = new Set(['png', 'jpeg', 'gif', 'webp']);
 
 /** Takes a file (or a blob that was pasted); `handle` is the browser's own for writing it again. */
 export async function takeFile(file, handle = null) {
@@ -35,12 +33,12 @@ export async function takeFile(file, handle = null) {
   try {
     const head = new Uint8Array(await file.slice(0, HEAD).arrayBuffer());
     const kind = kindOfFile(head);
-    const [most, text] = kind === 'zip' ? [MOST_ARCHIVE, '1 GiB'] : IMAGES.has(kind) ? [MOST_IMAGE, '256 MiB'] : [MOST_BYTES_READ, '16 MiB'];
-    if (file.size > most) throw new FileFault(`it has more than ${text}`);
+    const [most, text] = kind === 'zip' ? [MOST_ARCHIVE, phrase('import.1Gib')] : IMAGES.has(kind) ? [MOST_IMAGE, phrase('import.256Mib')] : [MOST_BYTES_READ, phrase('import.16Mib')];
+    if (file.size > most) throw new FileFault(phrase('import.more', { text }));
     if (IMAGES.has(kind)) return await importImage(await imageOfFile(file, head, kind), bareName(file.name));
     return await takeBytes(new Uint8Array(await file.arrayBuffer()), file, handle);
   } catch (fault) {
-    say(`${file.name ? `“${file.name}”` : 'What was pasted'} could not be opened: ${faultText(fault)}`, 'alarm');
+    say(phrase('import.couldNotOpened', { name: file.name ? `“${file.name}”` : phrase('import.whatPasted'), fault: faultText(fault) }), 'alarm');
     return false;
   }
 }
@@ -78,7 +76,7 @@ async function takeXml(text, name, handle) {
     if (doc && await keeper.put(recordOfDoc(doc, doc.about.title || `${name} ${at + 2}`, true))) added++;
   }
   const left = others.length - added;
-  say(`The first of ${others.length + 1} puzzles is open, and ${many(added, 'other')} went to the library${left ? `; ${left} could not be read` : ''}.`, left ? 'alarm' : '');
+  say(phrase('import.firstPuzzlesOpenOthers', { count: others.length + 1, others: added, left: left ? phrase('import.othersNotRead', { left }) : '' }), left ? 'alarm' : '');
   return isOpen;
 }
 
@@ -95,7 +93,7 @@ async function openNon(text, name, page, handle = null) {
   /** @type {any} */
   let dialog = null;
   const timer = setTimeout(() => {
-    openDialog({ title: `Opening ${name}`, content: 'Searching for a picture with these clues.', buttons: [{ name: 'Stop', value: null, main: true }] }).then(() => engine.end('stopped'));
+    openDialog({ title: phrase('import.opening', { name }), content: phrase('import.searchingPictureTheseClues'), buttons: [{ name: phrase('import.stop'), value: null, main: true }] }).then(() => engine.end('stopped'));
     dialog = $('dialogs').lastElementChild;
   }, STOP_AFTER);
   let doc;
@@ -106,42 +104,6 @@ async function openNon(text, name, page, handle = null) {
     dialog?.close();
   }
   return openDoc(doc, { name, handle, form: 'non' });
-}
-
-const MOST_DECODED = 100e6; // pixels of an image file, which the browser unpacks
-const MOST_SIDE = 2048; // pixels a side that a larger one is made smaller to: more than the dialog works on
-
-/**
- * How an image of that size is decoded: a large one smaller, by its width alone, so that a photo that is turned keeps its shape.
- * @param {number[]} size
- * @returns {ImageBitmapOptions}
- */
-function decoding(size) {
-  const [width, height] = size;
-  if (width < 1 || height < 1) throw new FileFault('the picture has no pixels');
-  if (width * height > MOST_DECODED) throw new FileFault(`the picture is ${width} by ${height} pixels; at most ${number(MOST_DECODED)} in all are read`);
-  const scale = MOST_SIDE / Math.max(width, height);
-  return scale < 1 ? { resizeWidth: Math.max(1, Math.round(width * scale)), resizeQuality: 'high' } : {};
-}
-
-/** The pixels of an image file, after the size in its head was looked at: the browser reads the rest of it. */
-async function imageOfFile(file, head, kind) {
-  const size = sizeOfImage(head, kind);
-  if (!size) throw new FileFault('its size is not told at its beginning');
-  const options = decoding(size);
-  let bitmap;
-  try {
-    bitmap = await createImageBitmap(file.type ? file : new Blob([file], { type: `image/${kind}` }), options);
-  } catch {
-    throw new FileFault('the browser does not read this picture');
-  }
-  const scale = Math.min(1, MOST_SIDE / Math.max(bitmap.width, bitmap.height)); // where the browser did not make it smaller
-  const pen = penOf(Math.max(1, Math.round(bitmap.width * scale)), Math.max(1, Math.round(bitmap.height * scale)));
-  pen.imageSmoothingQuality = 'high';
-  pen.drawImage(bitmap, 0, 0, pen.canvas.width, pen.canvas.height);
-  bitmap.close();
-  const { data } = pen.getImageData(0, 0, pen.canvas.width, pen.canvas.height);
-  return { width: pen.canvas.width, height: pen.canvas.height, data };
 }
 
 /** Lets the user choose a file, with a handle to write it again where the browser gives one. */
@@ -210,7 +172,7 @@ export function hearFiles() {
     if (isTyping(event.target) && (!file || text)) return; // a field takes a text itself
     if (file) takeDropped([file], null);
     else if (/^\s*(P3\s|<\?xml|<puzzle|nonocert)/.test(text) || /^width [0-9]/m.test(text)) takeDropped([new File([text], 'pasted')], null);
-    else if (text && !event.defaultPrevented) say(`What was pasted could not be opened: ${NOT_READ}.`, 'alarm');
+    else if (text && !event.defaultPrevented) say(phrase('import.whatPastedCouldNot', { why: NOT_READ }), 'alarm');
     else return;
     event.preventDefault();
   });

@@ -60,12 +60,16 @@ keep.end = () => {
 /** Keeps the document as a stroke has left it: it is the newest of the library now. */
 keep.changed = () => {
   keep.when = Date.now();
-  return keep.now();
+  return keep.now({ mayRest: true });
 };
 
-/** Keeps the document as it is now. What is found out about it later makes it no newer. */
-keep.now = () => {
+/** Another document comes: what rests is kept before that. */
+keep.leave = () => keep.keeper?.hurry();
+
+/** Keeps the document as it is now, or a moment later. What is found out about it later makes it no newer. */
+keep.now = ({ mayRest = false } = {}) => {
   const { id } = keep;
+  const { term } = bench;
   if (!id || !keep.keeper || !bench.state) return Promise.resolve();
   if (keep.untouched && sameDoc(keep.untouched, bench.state)) return Promise.resolve();
   keep.untouched = null;
@@ -74,11 +78,11 @@ keep.now = () => {
     navigator.storage?.persist?.().catch(() => {});
   }
   const made = () => ({ record: recordOf(bench, id, keep.when), facts: { verdict: bench.state.verdict.word, grade: keep.grade } });
-  return keep.keeper.note(() => (keep.id === id && bench.state ? made() : null));
+  return keep.keeper.note(() => (keep.id === id && bench.term === term && bench.state ? made() : null), mayRest);
 };
 
 /** Keeps what the list tells of how hard the picture at hand is, until its next stroke. */
 keep.graded = (grade) => {
   keep.grade = grade;
-  keep.now();
+  keep.now({ mayRest: true });
 };

@@ -5,6 +5,7 @@ import { isFull } from './shelf.js';
 
 const RECORD = 'work:';
 const CARD = 'card:';
+const REST = 50; // milliseconds between a stroke and its record: it is drawn first, and of quick strokes the last one counts
 
 /** Keeps records on a shelf: of each document the last one, one write at a time. */
 export class Keeper {
@@ -13,6 +14,7 @@ export class Keeper {
     this.said = said; // called with {kind: 'kept' | 'failed', why, record}
     this.waiting = null;
     this.writing = null;
+    this.wake = null; // ends a rest
   }
 
   /** Whether all that was handed in is on the shelf. */
@@ -20,14 +22,28 @@ export class Keeper {
     return !this.waiting && !this.writing;
   }
 
-  /** Keeps {record, facts}, made by `make` when it is its turn; of those that wait the last one counts. */
-  note(make) {
+  /**
+   * Keeps {record, facts}, made by `make` when it is its turn; of those that wait the last one counts. What `mayRest` is made and
+   * written a moment later, or with the next that may not.
+   */
+  note(make, mayRest = false) {
     this.waiting = make;
-    this.writing ??= this.write().finally(() => { this.writing = null; });
+    if (!mayRest) this.wake?.();
+    this.writing ??= this.write(mayRest).finally(() => { this.writing = null; });
     return this.writing;
   }
 
-  async write() {
+  /** Makes at once what rests: what it is made of goes. */
+  hurry() {
+    if (!this.wake || !this.waiting) return;
+    const made = this.waiting();
+    this.waiting = () => made;
+    this.wake();
+  }
+
+  async write(mayRest) {
+    if (mayRest) await new Promise((go) => { this.wake = go; setTimeout(go, REST); });
+    this.wake = null;
     while (this.waiting) {
       const made = this.waiting();
       this.waiting = null;
@@ -64,14 +80,14 @@ export class Keeper {
     return readRecord(value) ? readCard(cardOf(value)) : null;
   }
 
-  /** Whether a picture is on the shelf under this name: `isSame` compares its document. */
-  async has(name, doc, isSame) {
-    for (const card of await this.cards()) {
-      if (card.name !== name || card.doc.picture.join() !== doc.picture.join()) continue;
-      const record = await this.record(card.id);
-      if (record && isSame(record.doc, doc)) return true;
+  /** The first of some cards whose picture is this document, as `isSame` compares it; null where none is. */
+  async cardOfDoc(cards, doc, isSame) {
+    const rows = doc.picture.join();
+    for (const card of cards) {
+      const record = card.doc.picture.join() === rows ? await this.record(card.id) : null;
+      if (record && isSame(record.doc, doc)) return card;
     }
-    return false;
+    return null;
   }
 
   /** A record, read, or null where it is none. */

@@ -17,6 +17,7 @@ import { saving, showFileName } from './saving.js';
 export async function openDoc(doc, { name, isSaved = true, id = null, strokes = undefined, handle = null, form = 'xml', isBlank = false }) {
   const isLost = bench.state && !keep.isKept && !bench.isSaved;
   if (isLost && !(await confirmDialog(phrase('library.openAnotherPicture'), phrase('library.notBeenSavedBrowser', { name: bench.name }), phrase('library.open')))) return false;
+  keep.leave();
   keep.isPaused = true;
   try {
     await bench.open(baseOf(doc), { name, page: pageOf(doc), strokes, isSaved });
@@ -44,7 +45,7 @@ export async function openRecord(id) {
 }
 
 const OPEN_FAULTS = {
-  BadSize: phrase('library.widthHeightNotFrom', { MOST_CELLS }), BadCount: phrase('library.tooFewTooMany'), BadClue: phrase('library.clueNoListNumbers'),
+  BadSize: phrase('library.widthHeightNotFrom', { most: MOST_CELLS }), BadCount: phrase('library.tooFewTooMany'), BadClue: phrase('library.clueNoListNumbers'),
   ClueTooLong: phrase('library.clueLongerLine'), BadGoal: phrase('library.goalDoesNotFit'), GoalDisagrees: phrase('library.goalOtherClues'),
   MissingSize: phrase('library.noWidthHeight'), Repeated: phrase('library.partStandsThereTwice'),
 };

@@ -2,7 +2,7 @@
 // A new document is saved as Web Paint-by-Number's XML, which holds all of it; what was opened as PPM or .non is saved as that.
 
 import { $, make, say } from '../base/elements.js';
-import { on } from '../base/events.js';
+import { behindFrame, on } from '../base/events.js';
 import { bareName } from '../base/words.js';
 import { docOf, eightBitDoc } from '../document/document.js';
 import { bench } from '../engine/bench.js';
@@ -140,7 +140,7 @@ export async function saveAs() {
   const name = make('input', { type: 'text', value: bench.name, maxlength: '80' });
   const form = make('select', {}, ...DOCUMENT_FORMS.map((one) => make('option', { value: one, selected: one === saving.form }, SAVE_TYPES[one].what)));
   const content = make('div', { class: 'rows' }, make('label', {}, phrase('library.name'), name), make('label', {}, phrase('library.form'), form));
-  if (!(await openDialog({ title: phrase('library.save'), content, buttons: [{ name: phrase('library.save2'), value: true, main: true }] }))) return false;
+  if (!(await openDialog({ title: phrase('library.saveAs'), content, buttons: [{ name: phrase('library.save'), value: true, main: true }] }))) return false;
   bench.name = bareName(name.value);
   saving.form = form.value;
   return saveDownload(form.value);
@@ -162,6 +162,8 @@ export function showFileName() {
   document.title = isOpen ? `${isSaved ? '' : '• '}${bench.name} – nonobench` : 'nonobench';
 }
 
+const tellFileName = behindFrame(showFileName);
+
 /** Keeps each stroke, shows the name, and asks before an unsaved picture is left. */
 export function startSaving() {
   on('shown', () => {
@@ -169,9 +171,9 @@ export function startSaving() {
       keep.grade = null;
       keep.changed();
     }
-    showFileName();
+    tellFileName();
   });
-  on('judged', () => { if (!keep.isPaused) keep.now(); });
+  on('judged', () => { if (!keep.isPaused) keep.now({ mayRest: true }); });
   on('graded', (grade) => { if (grade && !keep.isPaused) keep.graded(grade.word); });
   on('kept', showFileName);
   on('closed', showFileName);

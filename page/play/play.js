@@ -2,17 +2,18 @@
 
 import { $, make, withoutGestures } from '../base/elements.js';
 import { tell } from '../base/events.js';
-import { clamp, many } from '../base/words.js';
+import { clamp } from '../base/words.js';
 import { cssOf, inkOn, nameOf } from '../document/colours.js';
 import { LETTERS, MOST_CELLS } from '../document/limits.js';
 import { bench } from '../engine/bench.js';
+import { phrase } from '../texts/phrase.js';
 import { addAction, runAction } from '../view/actions.js';
 import { selection } from '../view/select.js';
 import { asSeen } from '../view/tools.js';
 import { searches } from '../view/verdict.js';
 import { isMet, marksOf } from './crossing.js';
 import { nextHint } from './hints.js';
-import { drawPlay, fitPlay, movePlay, zoomPlay } from './playdraw.js';
+import { drawPlay, drawStroke, fitPlay, movePlay, zoomPlay } from './playdraw.js';
 import { endWalk, isWalking, startWalk, walkBar, walkKey } from './walking.js';
 
 export const play = { state: null, marks: [], letter: 'a', past: [], future: [], wrong: new Set(), at: { row: 0, col: 0 }, side: 24, drag: null, isSolved: false, shown: null, heat: null, hint: null };
@@ -28,8 +29,8 @@ export async function openPlay({ isAlone = false } = {}) {
   if (isKept) Object.assign(play, { state, wrong: new Set(), drag: null, shown: null, heat: null, hint: null });
   else Object.assign(play, { state, marks: marksOf(state), letter: state.colours.length > 1 ? 'a' : '.', past: [], future: [], wrong: new Set(), at: { row: 0, col: 0 }, drag: null, isSolved: false, shown: null, heat: null, hint: null });
   searches.stop();
-  const dialog = make('dialog', { id: 'play-room', 'aria-label': 'Play' });
-  dialog.append(playBar(), walkBar(), make('p', { id: 'play-said', role: 'status' }), playBoard(), make('div', { id: 'play-palette', role: 'radiogroup', 'aria-label': 'Colour' }));
+  const dialog = make('dialog', { id: 'play-room', 'aria-label': phrase('play.play') });
+  dialog.append(playBar(), walkBar(), make('p', { id: 'play-said', role: 'status' }), playBoard(), make('div', { id: 'play-palette', role: 'radiogroup', 'aria-label': phrase('play.colour') }));
   dialog.addEventListener('close', () => {
     endWalk();
     dialog.remove();
@@ -43,8 +44,8 @@ export async function openPlay({ isAlone = false } = {}) {
   $('play-field').focus({ preventScroll: true });
   $('play-board').scrollTo(0, 0);
   const { word } = state.verdict;
-  const told = word === 'unique' ? 'One solution. Good luck.' : word === 'ambiguous' ? 'This puzzle has more than one solution.' : 'It is not known whether this puzzle has one solution.';
-  playSays(`${isKept ? 'Your marks are as you left them. ' : ''}${told}${state.givens.size ? ' Cells with a diamond ◆ are given.' : ''}`);
+  const told = word === 'unique' ? phrase('play.oneSolutionGoodLuck') : word === 'ambiguous' ? phrase('play.puzzleMoreOneSolution') : phrase('play.notKnownWhetherPuzzle');
+  playSays(`${isKept ? phrase('play.yourMarksYouLeft') : ''}${told}${state.givens.size ? phrase('play.cellsDiamondGiven') : ''}`);
 }
 
 // Where the player stands alone nothing closes it: neither Escape nor a phone's way back.
@@ -58,18 +59,18 @@ const playButton = (id, name, run, more = {}) => make('button', { type: 'button'
 
 function playBar() {
   return make('div', { class: 'group', id: 'play-bar' },
-    make('h2', {}, 'Play'),
-    playButton('play-undo', 'Undo', () => playTurn('past', 'future')), playButton('play-redo', 'Redo', () => playTurn('future', 'past')),
-    playButton('play-check', 'Check', checkPlay, { title: 'Marks the cells that are not as in your picture' }),
-    playButton('play-hint', 'Hint', hintPlay, { title: 'Which line tells more; again: which cells; again: why' }),
-    playButton('play-clear', 'Start over', clearPlay), playButton('play-walk', 'Walk through', startWalk),
-    playButton('play-smaller', '−', () => zoomPlay(-1), { 'aria-label': 'Smaller cells' }), playButton('play-larger', '+', () => zoomPlay(1), { 'aria-label': 'Larger cells' }),
-    playButton('play-help', '?', () => runAction('guide'), { 'aria-label': 'Guide', title: 'Guide' }),
-    playButton('play-close', 'Back to the picture', () => $('play-room').close()));
+    make('h2', {}, phrase('play.play')),
+    playButton('play-undo', phrase('play.undo'), () => playTurn('past', 'future')), playButton('play-redo', phrase('play.redo'), () => playTurn('future', 'past')),
+    playButton('play-check', phrase('play.check'), checkPlay, { title: phrase('play.marksCellsNotYour') }),
+    playButton('play-hint', phrase('play.hint'), hintPlay, { title: phrase('play.lineTellsMoreAgain') }),
+    playButton('play-clear', phrase('play.startOver'), clearPlay), playButton('play-walk', phrase('play.walkThrough'), startWalk),
+    playButton('play-smaller', '−', () => zoomPlay(-1), { 'aria-label': phrase('play.smallerCells') }), playButton('play-larger', '+', () => zoomPlay(1), { 'aria-label': phrase('play.largerCells') }),
+    playButton('play-help', '?', () => runAction('guide'), { 'aria-label': phrase('play.guide'), title: phrase('play.guide') }),
+    playButton('play-close', phrase('play.backPicture'), () => $('play-room').close()));
 }
 
 function playBoard() {
-  const field = make('canvas', { id: 'play-field', tabindex: '0', role: 'application', 'aria-roledescription': 'puzzle', 'aria-label': 'Puzzle', 'aria-describedby': 'play-cell' });
+  const field = make('canvas', { id: 'play-field', tabindex: '0', role: 'application', 'aria-roledescription': 'puzzle', 'aria-label': phrase('play.puzzle'), 'aria-describedby': 'play-cell' });
   withoutGestures(field);
   field.addEventListener('contextmenu', (event) => event.preventDefault());
   for (const [type, hear] of Object.entries(playPointer)) field.addEventListener(type, hear);
@@ -83,7 +84,7 @@ function playPalette() {
   const { colours, maxval } = play.state;
   const choices = [...LETTERS.slice(1, colours.length), '.', '?'];
   $('play-palette').replaceChildren(...choices.map((letter) => {
-    const name = letter === '.' ? 'background' : letter === '?' ? 'wipe' : nameOf(colours[LETTERS.indexOf(letter)], maxval);
+    const name = letter === '.' ? phrase('play.background') : letter === '?' ? phrase('play.wipe') : nameOf(colours[LETTERS.indexOf(letter)], maxval);
     const sign = { '.': '×', '?': '⌫' }[letter] ?? letter;
     const button = playButton(null, sign, () => choosePlay(letter), { role: 'radio', 'data-letter': letter, 'aria-label': name, title: name });
     if (letter !== '?') {
@@ -150,19 +151,19 @@ export function afterPlay() {
   const solved = clues.rows.every((blocks, row) => isMet(blocks, play.marks[row])) && clues.columns.every((blocks, col) => isMet(blocks, playColumn(col)));
   if (solved && !play.isSolved) {
     const other = play.marks.some((row, at) => row.some((mark, col) => (mark === '?' ? '.' : mark) !== play.state.picture[at][col]));
-    playSays(other ? 'Solved, but with a picture other than yours.' : 'Solved.');
+    playSays(other ? phrase('play.solvedButPictureOther') : phrase('play.solved'));
     tell('solved', null);
   } else if (!solved) playSays('');
   play.isSolved = solved;
   $('play-undo').disabled = !play.past.length;
   $('play-redo').disabled = !play.future.length;
-  drawPlay();
+  drawStroke();
 }
 
 // A cell that another solution has is not wrong: only where the picture is known to be the one solution is it told so.
 function checkText(count) {
-  if (play.state.verdict.word === 'unique') return count ? `${many(count, 'cell')} wrong.` : 'Nothing is wrong so far.';
-  return count ? `${many(count, 'cell')} ${count === 1 ? 'differs' : 'differ'} from your picture.` : 'Nothing differs from your picture so far.';
+  if (play.state.verdict.word === 'unique') return count ? phrase('play.cellsWrong', { cells: count }) : phrase('play.nothingWrongSoFar');
+  return count ? phrase('play.cellsDiffer', { cells: count }) : phrase('play.nothingDiffersFromYour');
 }
 
 function checkPlay() {
@@ -293,6 +294,6 @@ function playKey(event) {
 
 /** Adds Play and the solving path to the menu Check. */
 export function startPlay() {
-  addAction({ id: 'play', name: 'Play', place: 'check', run: openPlay });
-  addAction({ id: 'walk', name: 'Walk through', place: 'check', run: () => openPlay().then(startWalk) });
+  addAction({ id: 'play', name: phrase('play.play'), place: 'check', run: openPlay });
+  addAction({ id: 'walk', name: phrase('play.walkThrough'), place: 'check', run: () => openPlay().then(startWalk) });
 }

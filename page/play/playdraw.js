@@ -6,6 +6,7 @@ import { clamp } from '../base/words.js';
 import { contrastOf, eightBits, lightness, nameOf } from '../document/colours.js';
 import { LETTERS } from '../document/limits.js';
 import { coloursOf, drawClue, drawDot, drawGiven, drawRules, edges, wholeFrame } from '../draw/board.js';
+import { Sprites } from '../draw/sprites.js';
 import { CanvasSurface } from '../draw/surface.js';
 import { phrase } from '../texts/phrase.js';
 import { wordOf } from '../view/dress.js';
@@ -16,6 +17,10 @@ import { drawShown } from './shown.js';
 // Cells without a mark: in the dark a grey from which both black and white stand out.
 const [BLANK, DARK_BLANK] = [[255, 254, 251], [118, 122, 128]];
 const LEAST_CONTRAST = 3;
+
+// The clues as they were drawn last: by axis how, and by line which blocks are crossed off.
+/** @type {any} */
+const strips = { sprites: new Sprites(), drawn: new Map(), r: null, c: null };
 
 const PLAY_SIDES = [8, 10, 12, 14, 16, 18, 20, 24, 28, 32, 40, 48];
 
@@ -39,6 +44,7 @@ export function fitPlay() {
   };
   play.side = PLAY_SIDES.findLast(fits) ?? 16;
   if (play.side < 14) play.side = 16;
+  drawPlay();
   afterPlay();
 }
 
@@ -87,17 +93,43 @@ export function drawPlay() {
   playSurface('play-corner', wide, high);
   drawPlayField();
   const look = playLook();
-  const height = playFont() + 4;
   const { x, y, cell } = playFrame();
+  const height = Math.min(playFont() + 4, cell - 1);
   const left = playSurface('play-left', wide, down);
   const top = playSurface('play-top', across, high);
   const rowSize = (block) => ({ width: playChip(block), height });
-  const columnSize = (block) => ({ width: Math.min(playChip(block), Math.max(cell - 1, playFont() * 1.2)), height });
-  state.clues.rows.forEach((blocks, row) => drawPlayClue(left, look, 'r', blocks, { near: wide - 6, gap: 2, middle: y + (row + 0.5) * cell, sizeOf: rowSize, cells: play.marks[row] }));
-  state.clues.columns.forEach((blocks, col) => drawPlayClue(top, look, 'c', blocks, { near: high - 5, gap: 1, middle: x + (col + 0.5) * cell, sizeOf: columnSize, cells: playColumn(col) }));
+  const columnSize = (block) => ({ width: Math.min(playChip(block), cell - 1), height: playFont() + 4 });
+  const scale = devicePixelRatio || 1;
+  strips.sprites.keepFor([cell, scale, look.font, look.faint, ...look.fills].join());
+  const common = { look, far: -Infinity, unit: 1, cell, drawOne: strips.sprites.drawer(scale) };
+  strips.r = { ...common, surface: left, near: wide - 6, gap: 2, from: y, sizeOf: rowSize, band: (at) => [0, y + at * cell, wide, cell] };
+  strips.c = { ...common, surface: top, near: high - 5, gap: 1, from: x, sizeOf: columnSize, band: (at) => [x + at * cell, 0, cell, high] };
+  strips.drawn.clear();
+  drawPlayClues();
 }
 
-const drawPlayClue = (surface, look, axis, blocks, { cells, ...place }) => drawClue(surface, look, axis, blocks, { ...place, far: -Infinity, unit: 1, crossed: crossedOff(blocks, cells) });
+// Draws the clues of lines whose crossings have changed since they were drawn.
+function drawPlayClues() {
+  const { clues } = play.state;
+  clues.rows.forEach((blocks, row) => drawPlayClue('r', row, blocks, play.marks[row]));
+  clues.columns.forEach((blocks, col) => drawPlayClue('c', col, blocks, playColumn(col)));
+}
+
+function drawPlayClue(axis, at, blocks, cells) {
+  const crossed = crossedOff(blocks, cells);
+  const [key, seen] = [`${axis}${at}`, crossed.join()];
+  if (strips.drawn.get(key) === seen) return;
+  strips.drawn.set(key, seen);
+  const { surface, look, drawOne, from, cell, band, ...place } = strips[axis];
+  surface.pen.clearRect(...band(at));
+  drawClue(surface, look, axis, blocks, { ...place, middle: from + (at + 0.5) * cell, crossed }, drawOne);
+}
+
+/** Draws what a stroke has changed. */
+export function drawStroke() {
+  drawPlayField();
+  drawPlayClues();
+}
 
 function drawPlayField() {
   const { state, side } = play;
@@ -152,8 +184,8 @@ export function movePlay(at, told = false) {
   if (!told) return;
   const mark = play.marks[at.row][at.col];
   const { clues } = play.state;
-  const place = phrase('play.rowColumn', { row: at.row + 1, col: at.col + 1, mark: mark === '?' ? phrase('play.noMark') : wordOf(mark) });
-  $('play-cell').textContent = phrase('play.rowColumn2', { place, playClue: playClueText(clues.rows[at.row]), playClue2: playClueText(clues.columns[at.col]) });
+  const place = phrase('play.cellAt', { row: at.row + 1, col: at.col + 1, mark: mark === '?' ? phrase('play.noMark') : wordOf(mark) });
+  $('play-cell').textContent = phrase('play.cellClues', { place, playClue: playClueText(clues.rows[at.row]), playClue2: playClueText(clues.columns[at.col]) });
   const board = $('play-board').getBoundingClientRect();
   const field = $('play-field').getBoundingClientRect();
   const { wide, high } = playStrips();

@@ -1,16 +1,17 @@
 // Walk through: the solving path on the field, step by step, with a slider, the hardest step, and the heat map.
 
 import { $, make } from '../base/elements.js';
-import { clamp, number } from '../base/words.js';
+import { clamp } from '../base/words.js';
 import { LETTERS } from '../document/limits.js';
 import { nameOf } from '../document/colours.js';
+import { phrase } from '../texts/phrase.js';
 import { searches } from '../view/verdict.js';
 import { Walk, bookSteps, easiestSteps, onlyStep, roundsOf, treeSteps } from '../walk/steps.js';
 import { puzzleOf, stepText } from './hints.js';
 import { play, playSays } from './play.js';
 import { drawPlay } from './playdraw.js';
 
-const ORDERS = [['easiest', 'the easiest line next'], ['book', 'in the order of the proof']];
+const ORDERS = [['easiest', phrase('play.easiestLineNext')], ['book', phrase('play.orderProof')]];
 const PACE = 900; // milliseconds a step
 const MOST_REASONS = 30000; // that are asked for
 const AT_ONCE = 400; // questions in one text
@@ -27,13 +28,13 @@ const button = (id, name, run, more = {}) => make('button', { type: 'button', id
 /** The bar of the path, which is hidden until it is walked. */
 export function walkBar() {
   return make('div', { id: 'walk-bar', class: 'group', hidden: true },
-    button('walk-back', '◂', () => goTo(walking.at - 1), { 'aria-label': 'A step back' }),
-    make('input', { type: 'range', id: 'walk-at', min: 0, value: 0, 'aria-label': 'Step', oninput: (event) => goTo(Number(event.target.value)) }),
-    button('walk-on', '▸', () => goTo(walking.at + 1), { 'aria-label': 'A step on' }),
-    button('walk-play', 'Play', turnPlaying), button('walk-hardest', 'Hardest step', () => goTo(walking.walk.hardest)),
-    make('label', {}, 'Order ', make('select', { id: 'walk-order', onchange: (event) => begin(event.target.value) }, ...ORDERS.map(([value, name]) => make('option', { value }, name)))),
-    make('label', {}, make('input', { type: 'checkbox', id: 'walk-heat', onchange: showHeat }), ' Heat map'),
-    button('walk-end', 'Solve it yourself', endWalk));
+    button('walk-back', '◂', () => goTo(walking.at - 1), { 'aria-label': phrase('play.stepBack') }),
+    make('input', { type: 'range', id: 'walk-at', min: 0, value: 0, 'aria-label': phrase('play.step'), oninput: (event) => goTo(Number(event.target.value)) }),
+    button('walk-on', '▸', () => goTo(walking.at + 1), { 'aria-label': phrase('play.stepOn') }),
+    button('walk-play', phrase('play.play'), turnPlaying), button('walk-hardest', phrase('play.hardestStep'), () => goTo(walking.walk.hardest)),
+    make('label', {}, phrase('play.order'), make('select', { id: 'walk-order', onchange: (event) => begin(event.target.value) }, ...ORDERS.map(([value, name]) => make('option', { value }, name)))),
+    make('label', {}, make('input', { type: 'checkbox', id: 'walk-heat', onchange: showHeat }), phrase('play.heatMap')),
+    button('walk-end', phrase('play.solveYourself'), endWalk));
 }
 
 /** Begins the path from the empty puzzle; the player's marks come back at its end. */
@@ -50,7 +51,7 @@ async function begin(order) {
   $('walk-order').value = order;
   const { state } = play;
   const puzzle = puzzleOf(state);
-  if (order === 'book') playSays('Asking for reasons …');
+  if (order === 'book') playSays(phrase('play.askingReasonsSoFar'));
   const walk = new Walk(puzzle, order === 'book' ? await stepsOfBook(puzzle, state) : easiestSteps(puzzle));
   if (!$('walk-bar') || play.state !== state) return;
   walking.walk = walk;
@@ -86,7 +87,7 @@ async function stepsOfBook(puzzle, state) {
     for (const letter of used) if (LETTERS.indexOf(letter) !== colour) asked.push({ index, colour: LETTERS.indexOf(letter), line: `why ${Math.floor(index / state.columns) + 1} ${(index % state.columns) + 1} ${letter}` });
   });
   if (asked.length > MOST_REASONS) return easiestSteps(puzzle);
-  const answers = await searches.job('Asking for reasons', Infinity, async (copy) => {
+  const answers = await searches.job(phrase('play.askingReasons'), Infinity, async (copy) => {
     const all = [];
     for (let at = 0; at < asked.length; at += AT_ONCE) all.push(...await copy.say(...asked.slice(at, at + AT_ONCE).map(({ line }) => line)));
     return all;
@@ -110,12 +111,12 @@ function reasonOf(puzzle, { index, colour }, answer) {
 
 function textOf(step) {
   const { state } = play;
-  const place = (index) => `row ${Math.floor(index / state.columns) + 1}, column ${(index % state.columns) + 1}`;
-  const line = (at) => (at < state.rows ? `row ${at + 1}` : `column ${at - state.rows + 1}`);
-  if (step.kind === 'suppose') return `Suppose ${place(step.index)} is ${step.colour === 0 ? 'background' : nameOf(state.colours[step.colour], state.maxval)} …`;
-  if (step.kind === 'dead') return `… then ${line(step.line)} cannot be filled: it is not so.`;
-  if (step.kind === 'done') return '… and this is the picture.';
-  if (step.kind === 'only') return 'All is tried, and no other picture fits.';
+  const place = (index) => phrase('play.place', { value: Math.floor(index / state.columns) + 1, columns: (index % state.columns) + 1 });
+  const line = (at) => (at < state.rows ? phrase('play.rowStep', { at: at + 1 }) : phrase('play.columnStep', { rows: at - state.rows + 1 }));
+  if (step.kind === 'suppose') return phrase('play.suppose', { place: place(step.index), colour: step.colour === 0 ? phrase('play.background') : nameOf(state.colours[step.colour], state.maxval) });
+  if (step.kind === 'dead') return phrase('play.thenCannotFilledNot', { line: line(step.line) });
+  if (step.kind === 'done') return phrase('play.picture');
+  if (step.kind === 'only') return phrase('play.allTriedNoOther');
   return stepText(step);
 }
 
@@ -129,7 +130,7 @@ function goTo(at) {
   play.marks = Array.from({ length: rows }, (_, row) => Array.from(masks.subarray(row * columns, (row + 1) * columns), letter));
   const step = walking.at > 0 ? walk.steps[walking.at - 1] : null;
   play.shown = step && { line: step.line ?? null, cells: step.settled, premises: step.premises };
-  walking.told = step ? `: ${textOf(step)}` : ': the empty puzzle.';
+  walking.told = step ? `: ${textOf(step)}` : phrase('play.emptyPuzzle');
   showLength();
   if (walk.isWhole && walking.at === walk.steps.length) stopPlaying();
   drawPlay();
@@ -143,26 +144,26 @@ function showLength() {
   $('walk-back').disabled = at === 0;
   $('walk-on').disabled = at === walk.steps.length;
   $('walk-hardest').disabled = !walk.isWhole;
-  playSays(`Step ${number(at)} of ${number(walk.steps.length)}${walk.isWhole ? '' : ' so far'}${told}`);
+  playSays(phrase('play.stepOf', { at, count: walk.steps.length, isWhole: walk.isWhole ? '' : phrase('play.soFar'), told }));
 }
 
 function turnPlaying() {
   if (walking.timer) return stopPlaying();
   if (walking.at === walking.walk?.steps.length) goTo(0);
-  $('walk-play').textContent = 'Pause';
+  $('walk-play').textContent = phrase('play.pause');
   walking.timer = setInterval(() => goTo(walking.at + 1), PACE);
 }
 
 function stopPlaying() {
   clearInterval(walking.timer);
   walking.timer = 0;
-  if ($('walk-play')) $('walk-play').textContent = 'Play';
+  if ($('walk-play')) $('walk-play').textContent = phrase('play.play');
 }
 
 function showHeat() {
   play.heat = $('walk-heat').checked ? roundsOf(puzzleOf(play.state)) : null;
   drawPlay();
-  if (play.heat) playSays('The number in a cell is the round in which it falls; ? needs a guess.');
+  if (play.heat) playSays(phrase('play.numberCellRoundFalls'));
 }
 
 /** Ends the path: the player's marks stand again. */

@@ -8,6 +8,7 @@ const line = new Uint8Array(MOST);
 const other = new Uint8Array(MOST);
 const masks = new Uint16Array(MOST);
 const kept = new Uint16Array(MOST);
+const changed = new Uint8Array(2 * MOST); // lines
 const POOL = 4000; // witnesses kept
 
 /** Whether two lines of one length have the same clue. */
@@ -30,20 +31,24 @@ export function haveSameClue(one, two, size) {
 export class Witness {
   constructor(board, cells, values, codes, isMask) {
     this.board = board;
-    this.cells = cells;
-    this.values = values;
+    this.cells = Uint16Array.from(cells);
+    this.values = Uint16Array.from(values);
     this.codes = codes;
     this.isMask = isMask;
-    this.inLine = new Map(); // line: positions in `cells`
+    this.inLine = new Map(); // line: places along it and their values, one behind the other
     cells.forEach((index, at) => {
-      for (const one of board.linesOf(index)) {
-        if (!this.inLine.has(one)) this.inLine.set(one, []);
-        this.inLine.get(one).push(at);
-      }
+      const [row, column] = board.linesOf(index);
+      this.#note(row, index % board.columns, values[at]);
+      this.#note(column, row, values[at]);
     });
     this.touches = new Uint8Array(board.lines);
     for (const one of this.inLine.keys()) this.touches[one] = 1;
     this.lineCount = this.inLine.size;
+  }
+
+  #note(one, place, value) {
+    if (!this.inLine.has(one)) this.inLine.set(one, []);
+    this.inLine.get(one).push(place, value);
   }
 
   meets(lines) {
@@ -51,67 +56,73 @@ export class Witness {
     return false;
   }
 
-  // The lines of the witness in which a candidate differs from the one where the witness was found.
-  #changed(candidate) {
+  // Puts into `changed` the lines of the witness in which a candidate differs from the one where it was found; answers how many.
+  #findChanged(candidate) {
     const [mine, its] = [this.codes, candidate.codes];
-    const found = [];
-    const add = (code) => {
-      const row = Math.floor((code >> 4) / this.board.columns);
-      const column = this.board.rows + ((code >> 4) % this.board.columns);
-      if (this.touches[row] && !found.includes(row)) found.push(row);
-      if (this.touches[column] && !found.includes(column)) found.push(column);
-    };
-    let [at, to] = [0, 0];
+    let [at, to, count] = [0, 0, 0];
     while (at < mine.length || to < its.length) {
-      if (to === its.length || (at < mine.length && mine[at] < its[to])) add(mine[at++]);
-      else if (at === mine.length || its[to] < mine[at]) add(its[to++]);
+      if (to === its.length || (at < mine.length && mine[at] < its[to])) count = this.#addChanged(mine[at++], count);
+      else if (at === mine.length || its[to] < mine[at]) count = this.#addChanged(its[to++], count);
       else {
         at++;
         to++;
       }
     }
-    return found;
+    return count;
+  }
+
+  #addChanged(code, count) {
+    const { columns, rows } = this.board;
+    const row = Math.floor((code >> 4) / columns);
+    return this.#addLine(rows + ((code >> 4) % columns), this.#addLine(row, count));
+  }
+
+  #addLine(one, count) {
+    if (!this.touches[one]) return count;
+    for (let at = 0; at < count; at++) if (changed[at] === one) return count;
+    changed[count] = one;
+    return count + 1;
   }
 
   /** Whether it refutes the candidate, too. */
   lives(candidate) {
-    const changed = this.#changed(candidate);
-    if (changed.length === 0) return true;
-    return this.isMask ? this.#holds(candidate, changed) : this.#differs(candidate, changed);
+    const count = this.#findChanged(candidate);
+    if (count === 0) return true;
+    return this.isMask ? this.#holds(candidate, count) : this.#differs(candidate, count);
   }
 
-  #differs(candidate, changed) {
-    if (!this.cells.some((index, at) => candidate.cells[index] !== this.values[at])) return false;
-    for (const one of changed) {
-      const size = this.#read(candidate, one);
-      other.set(line.subarray(0, size));
-      for (const at of this.inLine.get(one)) other[this.#placeIn(one, at)] = this.values[at];
+  #differs(candidate, count) {
+    const { cells, values } = this;
+    let at = 0;
+    while (at < cells.length && candidate.cells[cells[at]] === values[at]) at++;
+    if (at === cells.length) return false;
+    for (let one = 0; one < count; one++) {
+      const size = this.#read(candidate, changed[one]);
+      for (let cell = 0; cell < size; cell++) other[cell] = line[cell];
+      const noted = this.inLine.get(changed[one]);
+      for (let place = 0; place < noted.length; place += 2) other[noted[place]] = noted[place + 1];
       if (!haveSameClue(line, other, size)) return false;
     }
     return true;
   }
 
   // No line may exclude anything from the candidates of the witness's cells, where the other cells are settled.
-  #holds(candidate, changed) {
+  #holds(candidate, count) {
     if (!this.cells.some((index, at) => this.values[at] & ~(1 << candidate.cells[index]))) return false;
-    for (const one of changed) {
-      const size = this.#read(candidate, one);
-      for (let at = 0; at < size; at++) masks[at] = 1 << line[at];
-      for (const at of this.inLine.get(one)) masks[this.#placeIn(one, at)] |= this.values[at];
+    for (let one = 0; one < count; one++) {
+      const size = this.#read(candidate, changed[one]);
+      for (let cell = 0; cell < size; cell++) masks[cell] = 1 << line[cell];
+      const noted = this.inLine.get(changed[one]);
+      for (let place = 0; place < noted.length; place += 2) masks[noted[place]] |= noted[place + 1];
       narrow(masks, size, clueOf(line.subarray(0, size)), kept);
-      for (let at = 0; at < size; at++) if (kept[at] !== masks[at]) return false;
+      for (let cell = 0; cell < size; cell++) if (kept[cell] !== masks[cell]) return false;
     }
     return true;
   }
 
-  #placeIn(one, at) {
-    const index = this.cells[at];
-    return one < this.board.rows ? index % this.board.columns : Math.floor(index / this.board.columns);
-  }
-
   #read(candidate, one) {
-    const [first, step] = this.board.placeOf(one);
-    const size = this.board.sizeOf(one);
+    const { rows, columns } = this.board;
+    const [first, step, size] = one < rows ? [one * columns, 1, columns] : [one - rows, columns, rows];
     for (let at = 0; at < size; at++) line[at] = candidate.cells[first + at * step];
     return size;
   }

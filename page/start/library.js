@@ -5,6 +5,7 @@ import { on } from '../base/events.js';
 import { cleanName, sizeText } from '../base/words.js';
 import { smallPicture } from '../draw/small.js';
 import { bench } from '../engine/bench.js';
+import { gradeName } from '../grade/names.js';
 import { exportAll } from '../import/archives.js';
 import { keep } from '../library/keep.js';
 import { openRecord } from '../library/open.js';
@@ -23,9 +24,9 @@ function ageText(when, now = Date.now()) {
 const VERDICTS = { unique: '✓\u00a0unique', ambiguous: '≠\u00a0ambiguous', undecided: '?\u00a0undecided' };
 const ORDERS = {
   when: [phrase('start.newestFirst'), (a, b) => b.when - a.when],
-  name: [phrase('start.name'), (a, b) => a.name.localeCompare(b.name)],
+  name: [phrase('start.byName'), (a, b) => a.name.localeCompare(b.name)],
   size: [phrase('start.largestFirst'), (a, b) => b.doc.rows * b.doc.columns - a.doc.rows * a.doc.columns],
-  verdict: [phrase('start.verdict'), (a, b) => String(a.verdict).localeCompare(String(b.verdict)) || b.when - a.when],
+  verdict: [phrase('start.byVerdict'), (a, b) => String(a.verdict).localeCompare(String(b.verdict)) || b.when - a.when],
 };
 
 /** A number of bytes in words. */
@@ -95,7 +96,7 @@ async function showRoom(keeper) {
 
 function tileOf(card) {
   const isOpen = card.id === keep.id && bench.state !== null;
-  const facts = [sizeText(card.doc), VERDICTS[card.verdict], card.grade].filter(Boolean).join(', ');
+  const facts = [sizeText(card.doc), VERDICTS[card.verdict], card.grade && gradeName(card.grade)].filter(Boolean).join(', ');
   const when = [isOpen ? phrase('start.openHere') : ageText(card.when), card.isSaved ? '' : phrase('start.notFile')].filter(Boolean).join(', ');
   const open = () => (isOpen ? view.goBack() : openRecord(card.id));
   return make('li', { class: 'tile' },
@@ -106,9 +107,9 @@ function tileOf(card) {
 // What can be done to a picture, in a menu of its own.
 function menuOf(card, isOpen) {
   const list = make('div', { class: 'menu', role: 'menu', popover: 'auto', 'aria-label': card.name });
-  const button = make('button', { type: 'button', class: 'quiet', 'aria-haspopup': 'menu', 'aria-label': phrase('start.more', { name: card.name }), title: phrase('start.more2') }, '⋯');
+  const button = make('button', { type: 'button', class: 'quiet', 'aria-haspopup': 'menu', 'aria-label': phrase('start.moreFor', { name: card.name }), title: phrase('start.more') }, '⋯');
   const item = (name, run) => make('button', { type: 'button', role: 'menuitem', onclick: () => { list.hidePopover(); run(); } }, name);
-  list.append(item(phrase('start.rename'), () => rename(card)), item(phrase('start.duplicate'), () => duplicate(card)), ...(isOpen ? [] : [item(phrase('start.delete'), () => remove([card]))]));
+  list.append(item(phrase('start.renameAction'), () => rename(card)), item(phrase('start.duplicate'), () => duplicate(card)), ...(isOpen ? [] : [item(phrase('start.delete'), () => remove([card]))]));
   list.addEventListener('toggle', (event) => { if (event.newState === 'open') list.querySelector('button').focus(); });
   list.addEventListener('keydown', (event) => {
     const items = [...list.children];
@@ -126,8 +127,8 @@ function menuOf(card, isOpen) {
 }
 
 async function rename(card) {
-  const field = make('input', { type: 'text', value: card.name, maxlength: '80', 'aria-label': phrase('start.name2') });
-  if (!(await openDialog({ title: phrase('start.rename2'), content: field, buttons: [{ name: phrase('start.rename2'), value: true, main: true }] }))) return;
+  const field = make('input', { type: 'text', value: card.name, maxlength: '80', 'aria-label': phrase('start.name') });
+  if (!(await openDialog({ title: phrase('start.rename'), content: field, buttons: [{ name: phrase('start.rename'), value: true, main: true }] }))) return;
   const name = cleanName(field.value);
   await keep.keeper.rename(card.id, name);
   if (card.id === keep.id) {
@@ -162,13 +163,13 @@ async function remove(cards) {
 async function makeRoom() {
   const cards = (await keep.keeper.cards()).filter((card) => card.id !== keep.id).sort((a, b) => Number(b.isSaved) - Number(a.isSaved) || b.size - a.size);
   const boxes = cards.map((card) => make('input', { type: 'checkbox' }));
-  const rows = cards.map((card, at) => make('label', {}, boxes[at], `${card.name}, ${bytesText(card.size)}${card.isSaved ? '' : phrase('start.notFile2')}`));
+  const rows = cards.map((card, at) => make('label', {}, boxes[at], `${card.name}, ${bytesText(card.size)}${card.isSaved ? '' : phrase('start.andNotInFile')}`));
   const warn = make('p', { class: 'wrong', role: 'status' });
   const chosen = () => cards.filter((_, at) => boxes[at].checked);
   const content = make('div', { class: 'rows' }, make('p', {}, phrase('start.browserNoRoomLeft')), ...rows, warn);
   content.addEventListener('change', () => {
     const lost = chosen().filter((card) => !card.isSaved).length;
-    warn.textContent = lost ? phrase('start.picturesPicturesNotBeen', { pictures: lost }) : '';
+    warn.textContent = lost ? phrase('start.picturesNotSaved', { pictures: lost }) : '';
   });
   const test = () => (chosen().length ? '' : phrase('start.chooseLeastOnePicture'));
   if (!(await openDialog({ title: phrase('start.makeRoom'), content, buttons: [{ name: phrase('start.delete'), value: true, main: true, test }] }))) return;

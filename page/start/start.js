@@ -74,7 +74,7 @@ export function startStart() {
   addAction({ id: 'new', name: phrase('start.newOpen'), place: 'file', group: 'open', needs: false, run: showStart });
   addAction({ id: 'open', name: phrase('start.openFile'), key: 'Ctrl+O', place: 'file', group: 'open', needs: false, run: () => chooseFile() });
   addAction({ id: 'save', name: phrase('start.save'), key: 'Ctrl+S', place: 'file', group: 'save', run: save });
-  addAction({ id: 'save-as', name: phrase('start.save2'), key: 'Ctrl+Shift+S', place: 'file', group: 'save', run: saveAs });
+  addAction({ id: 'save-as', name: phrase('start.saveAs'), key: 'Ctrl+Shift+S', place: 'file', group: 'save', run: saveAs });
 
   on('opened', hideStart);
 }

@@ -5,7 +5,10 @@
 import { EN } from './en.js';
 
 /** @typedef {keyof typeof EN} Phrase */
-/** @typedef {'document.red' | 'document.yellow' | 'document.green' | 'document.cyan' | 'document.blue' | 'document.purple' | 'document.pink'} Hue */
+/**
+ * The names of texts without places.
+ * @typedef {{ [Name in Phrase]: ValuesOf<(typeof EN)[Name]> extends [] ? Name : never }[Phrase]} PlainPhrase
+ */
 
 /** The language of the texts, as BCP 47 names it. */
 export const LANGUAGE = 'en';
@@ -13,7 +16,12 @@ export const LANGUAGE = 'en';
 const ORDER = ['zero', 'one', 'two', 'few', 'many', 'other'];
 const plurals = new Intl.PluralRules(LANGUAGE);
 const forms = plurals.resolvedOptions().pluralCategories.sort((one, other) => ORDER.indexOf(one) - ORDER.indexOf(other));
-const shown = (value) => (typeof value === 'number' ? value.toLocaleString(LANGUAGE) : String(value));
+const digits = new Intl.NumberFormat(LANGUAGE); // made once: that takes longer than a number
+
+/** A number as the language writes it. */
+export const number = (count) => digits.format(count);
+
+const shown = (value) => (typeof value === 'number' ? number(value) : String(value));
 
 /** A text with its places filled. */
 export const filled = (text, values) => text.replace(/\{(\w+)(?:\|([^}]*))?\}/g, (_, name, choices) => {

@@ -2,6 +2,7 @@
 
 import { make } from '../base/elements.js';
 import { LETTERS, MOST_CELLS, MOST_COLOURS } from '../document/limits.js';
+import { outlineOf, placesOfBox, placesOfLetter, shadowOf } from '../document/regions.js';
 import { resized, rowsOfText, shifted, turned } from '../document/shapes.js';
 import { sheet } from '../draw/sheet.js';
 import { bench } from '../engine/bench.js';
@@ -12,8 +13,10 @@ import { cursor } from './grid.js';
 import { goToNext } from './minimap.js';
 import { LINE_TEXTS, showCell } from './panels.js';
 import { zoomBy } from './pointer.js';
-import { clearSelected, copyToClipboard, dropSelection, lift, moveFloat, pasteRows, selection, setDown, showSelection, transform } from './select.js';
-import { dropDrag, forgetReason, heard, sendStroke, tools, useColour, useTool } from './tools.js';
+import { clearSelected, copyToClipboard, dropSelection, lift, moveFloat, pasteRows, selectPlaces, selectedPlaces, selection, setDown, showSelection, transform } from './select.js';
+import { dropDrag, forgetReason, heard, nextSymmetry, paintPlaces, sendStroke, tools, useColour, useTool } from './tools.js';
+
+const FAR = 5; // cells that a selection is moved by with Shift
 
 function undoStroke() {
   if (dropSelectionMove()) return null;
@@ -38,14 +41,42 @@ export function addEditActions() {
   edit({ id: 'cut', name: phrase('view.cutCtrlX'), group: 'select', run: () => copyToClipboard(true), can: hasBox });
   edit({ id: 'paste', name: phrase('view.pasteText'), group: 'select', run: pasteByDialog });
   edit({ id: 'clear', name: phrase('view.clearSelection'), key: 'Delete Backspace', group: 'select', run: clearSelected, can: hasBox });
+  edit({ id: 'select-colour', name: phrase('view.selectAllCellsColour'), key: 'Shift+A A', group: 'region', run: selectColour });
+  edit({ id: 'fill-selection', name: phrase('view.fillSelection'), key: 'Shift+F F', group: 'region', run: () => onRegion((places) => places), can: hasBox });
+  edit({ id: 'outline', name: phrase('view.outlineColour'), group: 'region', run: () => onObject(outlineOf) });
+  edit({ id: 'shadow', name: phrase('view.shadowColour'), group: 'region', run: () => onObject(shadowOf) });
+  addAction({ id: 'symmetry-next', name: phrase('view.nextSymmetry'), key: 'm', run: nextSymmetry });
   addAction({ id: 'drop', name: phrase('view.cancel'), key: 'Escape', run: () => { dropDrag(); if (!dropSelection()) forgetReason(); } });
   addAction({ id: 'set-down', name: phrase('view.place'), key: 'Enter', run: setDown, can: () => selection.rows !== null });
+}
+
+function selectColour() {
+  setDown();
+  selectPlaces(placesOfLetter(bench.seen().picture, tools.colour));
+}
+
+// Paints what a function makes of the places that are selected, in the chosen colour.
+function onRegion(change) {
+  setDown();
+  return paintPlaces(change(selectedPlaces() ?? placesOfBox({ top: 0, left: 0, bottom: bench.state.rows - 1, right: bench.state.columns - 1 }, bench.state.columns)), tools.colour);
+}
+
+// Paints beside an object: the cells of a selected shape, or else those in the selection (in the picture) that are not background, and
+// then on background alone.
+function onObject(beside) {
+  return onRegion((places) => {
+    const doc = bench.seen();
+    if (selection.shape) return beside(places, doc);
+    const ground = placesOfLetter(doc.picture, '.');
+    const object = new Set([...places].filter((place) => !ground.has(place)));
+    return new Set([...beside(object, doc)].filter((place) => ground.has(place)));
+  });
 }
 
 function selectAll() {
   useTool('select');
   setDown();
-  selection.box = { top: 0, left: 0, bottom: bench.state.rows - 1, right: bench.state.columns - 1 };
+  Object.assign(selection, { box: { top: 0, left: 0, bottom: bench.state.rows - 1, right: bench.state.columns - 1 }, shape: null });
   showSelection();
 }
 
@@ -53,7 +84,7 @@ async function pasteByDialog() {
   const field = make('textarea', { rows: 8, cols: 40, 'aria-label': phrase('view.rowsLetters'), placeholder: '..aa..\n.abba.' });
   const rows = () => rowsOfText(field.value, bench.state.colours.length);
   const done = await openDialog({
-    title: phrase('view.pasteText2'),
+    title: phrase('view.pasteTextTitle'),
     content: make('div', {}, make('p', {}, phrase('view.oneLineEachRow')), field),
     buttons: [{ name: phrase('view.paste'), value: rows, main: true, test: () => (rows() ? '' : phrase('view.theseNotRowsLetters')) }],
   });
@@ -70,6 +101,11 @@ export function addPictureActions() {
   add('shift-down', phrase('view.shiftDown'), 'Alt+ArrowDown', () => shiftBy(1, 0), 'shift');
   add('shift-left', phrase('view.shiftLeft'), 'Alt+ArrowLeft', () => shiftBy(0, -1), 'shift');
   add('shift-right', phrase('view.shiftRight'), 'Alt+ArrowRight', () => shiftBy(0, 1), 'shift');
+  const far = (id, name, key, down, across) => addAction({ id, name, key, run: () => shiftBy(down * FAR, across * FAR) });
+  far('shift-up-far', phrase('view.shiftUpFar', { cells: FAR }), 'Alt+Shift+ArrowUp', -1, 0);
+  far('shift-down-far', phrase('view.shiftDownFar', { cells: FAR }), 'Alt+Shift+ArrowDown', 1, 0);
+  far('shift-left-far', phrase('view.shiftLeftFar', { cells: FAR }), 'Alt+Shift+ArrowLeft', 0, -1);
+  far('shift-right-far', phrase('view.shiftRightFar', { cells: FAR }), 'Alt+Shift+ArrowRight', 0, 1);
   add('resize', phrase('view.resize'), 'Ctrl+Alt+S', resizeByDialog, 'size');
   for (const word of ['row', 'column']) {
     const at = () => (word === 'row' ? cursor.row : cursor.col) + 1;
@@ -100,9 +136,9 @@ async function resizeByDialog() {
   const isSize = (input) => /^[0-9]+$/.test(input.value) && Number(input.value) >= 1 && Number(input.value) <= MOST_CELLS;
   const chosen = () => places[Number(anchor.querySelector(':checked').value)];
   const done = await openDialog({
-    title: phrase('view.resize2'),
-    content: make('div', {}, make('p', {}, make('label', {}, phrase('view.columns2'), columns), ' ', make('label', {}, phrase('view.rows2'), rows)), make('p', {}, phrase('view.keepPicture')), anchor),
-    buttons: [{ name: phrase('view.resize2'), main: true, value: () => ({ columns: Number(columns.value), rows: Number(rows.value), ...chosen() }), test: () => (isSize(columns) && isSize(rows) ? '' : phrase('view.both1', { MOST_CELLS })) }],
+    title: phrase('view.resizeTitle'),
+    content: make('div', {}, make('p', {}, make('label', {}, phrase('view.columns'), columns), ' ', make('label', {}, phrase('view.rows'), rows)), make('p', {}, phrase('view.keepPicture')), anchor),
+    buttons: [{ name: phrase('view.resizeTitle'), main: true, value: () => ({ columns: Number(columns.value), rows: Number(rows.value), ...chosen() }), test: () => (isSize(columns) && isSize(rows) ? '' : phrase('view.bothSizes', { most: MOST_CELLS })) }],
   });
   if (!done || (done.rows === doc.rows && done.columns === doc.columns)) return;
   heard(bench.become((now) => resized(now, done.rows, done.columns, { down: done.d, across: done.a })));
@@ -141,7 +177,7 @@ export function addKeys() {
   }
   addAction({ id: 'colour-next', name: phrase('view.nextColour'), key: ']', run: () => stepColour(1) });
   addAction({ id: 'colour-before', name: phrase('view.previousColour'), key: '[', run: () => stepColour(-1) });
-  addAction({ id: 'take-colour', name: phrase('view.pickColourCell2'), key: 'i', run: () => useColour(sheet.letterAt(cursor.row, cursor.col)) });
+  addAction({ id: 'take-colour', name: phrase('view.pickColour'), key: 'i', run: () => useColour(sheet.letterAt(cursor.row, cursor.col)) });
 }
 
 function stepColour(by) {

@@ -3,24 +3,26 @@
 
 import { $, make, say } from '../base/elements.js';
 import { on } from '../base/events.js';
-import { many, number } from '../base/words.js';
+import { number } from '../base/words.js';
 import { placeOf, sameBenchPart } from '../document/document.js';
 import { LETTERS } from '../document/limits.js';
 import { cellsThatDiffer } from '../document/shapes.js';
 import { sheet } from '../draw/sheet.js';
 import { bench } from '../engine/bench.js';
 import { cellsOf } from '../grade/puzzle.js';
+import { phrase } from '../texts/phrase.js';
 import { proposalItem } from './proposals.js';
 import { selection, setDown } from './select.js';
 import { searches, secondsChosen, verdictView } from './verdict.js';
 
-const GOALS = [['unique', 'one solution'], ['lines', 'no guessing']];
-const MIRRORS = [['', 'as it comes'], ['x', 'left and right the same'], ['y', 'top and bottom the same']];
+const GOALS = [['unique', phrase('view.oneSolution')], ['lines', phrase('view.noGuessing')]];
+const MIRRORS = [['', phrase('view.comes')], ['x', phrase('view.leftRightSame')], ['y', phrase('view.topBottomSame')]];
 const MOST_SHOWN = 24;
+const MOST_MIXED = 2;
 const FEW = 8; // cells: what needs more is too loose
-const SPARE = 2; // seconds that a search in the worker has left to end by itself
-const LONGER = 'A longer “Search time” may find some.';
-const LOOSE = 'The picture is too loose: a bolder threshold at import, or thicker lines, may help more.';
+const SPARE = 3; // seconds that a search in the worker has left to end by itself
+const LONGER = phrase('view.longerSearchTimeMay');
+const LOOSE = phrase('view.pictureTooLooseBolder');
 
 // What was found, for which picture (`of`), and what was asked for. It stays while a proposal is tried: an undo shows the list again.
 const fixing = { goal: 'unique', rule: true, mirror: '', of: null, found: [], kept: new Set(), near: null, said: '', frame: 0, previews: false, isWanted: false };
@@ -40,14 +42,14 @@ export function openFix() {
   fixing.isWanted = true;
   $('fix').hidden = false;
   $('fix').replaceChildren(
-    make('h3', {}, 'Fix it'),
-    make('p', {}, 'Repaint a few cells, or give some: these are printed with the puzzle.'),
-    make('p', {}, make('label', {}, 'Until it has ', choice('fix-goal', GOALS, fixing.goal, (value) => { fixing.goal = value; }))),
-    make('details', { id: 'fix-more' }, make('summary', {}, 'What may be repainted'), ...choices()),
+    make('h3', {}, phrase('view.fixTitle')),
+    make('p', {}, phrase('view.repaintFewCellsGive')),
+    make('p', {}, make('label', {}, phrase('view.until'), choice('fix-goal', GOALS, fixing.goal, (value) => { fixing.goal = value; }))),
+    make('details', { id: 'fix-more' }, make('summary', {}, phrase('view.whatMayRepainted')), ...choices()),
     make('div', { class: 'group' },
-      button('fix-paint', 'Find cells to repaint', findRepairs), button('fix-give', 'Give cells', giveCells), button('fix-close', 'Close', closeFix)),
+      button('fix-paint', phrase('view.findCellsRepaint'), findRepairs), button('fix-give', phrase('view.giveCells'), giveCells), button('fix-close', phrase('view.close'), closeFix)),
     make('p', { id: 'fix-said', role: 'status' }),
-    make('ul', { id: 'fix-list', 'aria-label': 'Proposals' }),
+    make('ul', { id: 'fix-list', 'aria-label': phrase('view.proposals') }),
   );
   showLocks();
   showFound();
@@ -57,9 +59,9 @@ export function openFix() {
 function choices() {
   const rule = make('input', { type: 'checkbox', id: 'fix-rule', checked: fixing.rule, onchange: (event) => { fixing.rule = event.target.checked; } });
   return [
-    make('p', {}, make('label', {}, rule, ' Only to a neighbour’s colour, and no new lone pixel')),
-    make('p', {}, make('label', {}, 'Symmetry ', choice('fix-mirror', MIRRORS, fixing.mirror, (value) => { fixing.mirror = value; }))),
-    make('div', { class: 'group' }, button('fix-lock', 'Lock all but the selection', lockOutside), button('fix-unlock', 'Unlock all', unlock)),
+    make('p', {}, make('label', {}, rule, phrase('view.onlyNeighboursColourNo'))),
+    make('p', {}, make('label', {}, phrase('view.symmetry'), choice('fix-mirror', MIRRORS, fixing.mirror, (value) => { fixing.mirror = value; }))),
+    make('div', { class: 'group' }, button('fix-lock', phrase('view.lockAllButSelection'), lockOutside), button('fix-unlock', phrase('view.unlockAll'), unlock)),
     make('p', { id: 'fix-locks', class: 'faint' }),
   ];
 }
@@ -68,7 +70,7 @@ function choices() {
 
 function lockOutside() {
   const { box } = selection;
-  if (!box) return fixSays('Select the part that may change first (s).');
+  if (!box) return fixSays(phrase('view.selectPartMayChange'));
   return bench.become((doc) => {
     const locks = new Set();
     for (let place = 0; place < doc.rows * doc.columns; place++) {
@@ -85,7 +87,7 @@ function showLocks() {
   const { state } = bench;
   if (!state || !$('fix-locks')) return;
   const colours = state.inks.filter((ink) => ink.locked).length;
-  $('fix-locks').textContent = `Locked: ${many(state.locks.size, 'cell')}, ${many(colours, 'colour')}. Cells are locked by the tool Lock cells (k), colours in the palette.`;
+  $('fix-locks').textContent = phrase('view.lockedCellsColoursCells', { cells: state.locks.size, colours });
 }
 
 /** What may change, as page/repair/board.js takes it. */
@@ -126,19 +128,19 @@ async function searched(name, work) {
 // Gives the fewest cells that suffice, as one stroke.
 async function giveCells() {
   const { goal } = fixing;
-  const run = await searched('Looking for cells to give', (copy, state) => copy.work('give', { board: boardOf(state), goal, seconds: secondsChosen() }, ({ found }) => {
+  const run = await searched(phrase('view.lookingCellsGive'), (copy, state) => copy.work('give', { board: boardOf(state), goal, seconds: secondsChosen() }, ({ found }) => {
     copy.found = found;
-    copy.note(`${many(found.given.length, 'cell')} suffice`);
+    copy.note(phrase('view.cellsSuffice', { cells: found.given.length }));
   }));
   if (!run) return;
-  if (!run.done?.given) return fixSays(verdictView.ended === 'stopped' ? 'Stopped before there were cells enough.' : `No cells were found in this time. ${LONGER}`);
+  if (!run.done?.given) return fixSays(verdictView.ended === 'stopped' ? phrase('view.stoppedBeforeThereCells') : phrase('view.noCellsFoundTime', { longer: LONGER }));
   await takeGivens(run.state, run.done);
 }
 
 async function takeGivens(state, { given, isLeast }) {
   setDown();
   await bench.stroke(given.map((index) => `pin ${placeOf(state, index)}`));
-  say(`${many(given.length, 'cell')} given${isLeast ? ': no fewer do' : ''}. One undo takes ${given.length === 1 ? 'it' : 'them'} back.`);
+  say(phrase('view.cellsGivenOneUndo', { cells: given.length, isLeast: isLeast ? phrase('view.noFewerDo') : '' }));
 }
 
 // Lists proposals, while they are found: the smallest and least seen first.
@@ -147,7 +149,7 @@ async function findRepairs() {
   showFound();
   const { goal } = fixing;
   const part = Math.min(2, secondsChosen() / 4); // of the time, for the givens, and for mixtures
-  const run = await searched('Looking for repairs', async (copy, state) => {
+  const run = await searched(phrase('view.lookingRepairs'), async (copy, state) => {
     const board = boardOf(state);
     fixing.of = state;
     const told = ({ found, nearer }) => {
@@ -172,22 +174,23 @@ function add(state, one) {
 
 /** How many cells a proposal changes. */
 const sizeOf = ({ cells = [], given = [] }) => cells.length + given.length;
-const bySize = (one, other) => sizeOf(one) - sizeOf(other) || one.pain - other.pain;
+// The fewest cells first; of these what leaves nothing to guess, and then what is seen least.
+const bySize = (one, other) => sizeOf(one) - sizeOf(other) || Number(one.open > 0) - Number(other.open > 0) || one.pain - other.pain;
 const repaints = () => fixing.found.filter(({ cells, given }) => cells && !given).sort(bySize);
 const mixtures = () => fixing.found.filter(({ cells, given }) => cells && given).sort(bySize);
 const givens = () => fixing.found.filter(({ cells }) => !cells);
 
 // How far the picture is from the goal, and how far what came nearer, in words.
 function farOf(state, goal, near) {
-  if (goal === 'lines') return `cells to guess ${number(state.open)} → ${number(near.open)}`;
+  if (goal === 'lines') return phrase('view.cellsGuess', { open: state.open, open2: near.open });
   const { other } = state.verdict;
-  return `other solutions differ in ${other ? `${number(cellsThatDiffer(state.picture, other).length)} → ` : ''}${many(near.differing, 'cell')}`;
+  return phrase('view.otherSolutionsDifferCells', { other: other ? `${number(cellsThatDiffer(state.picture, other).length)} → ` : '', cells: near.differing });
 }
 
 // How far a search is, for the line that tells what runs.
 function noteOf() {
   const [best] = [...mixtures(), ...repaints()].sort(bySize);
-  return best ? many(sizeOf(best), 'cell') : fixing.near?.far ?? '';
+  return best ? phrase('view.cells', { cells: sizeOf(best) }) : fixing.near?.far ?? '';
 }
 
 function tellFound(done) {
@@ -201,13 +204,13 @@ function foundText(done) {
   const ended = verdictView.ended || !done?.isThrough;
   const mixed = mixtures().length;
   if (!best) {
-    const none = `No repaint was found${ended ? ' in this time' : `, and none of up to ${many(done.proved, 'cell')} exists`}.`;
-    const near = mixed ? ' What is listed gives cells, too.' : fixing.near ? ' What is listed comes nearer.' : '';
+    const none = phrase('view.noRepaintFound', { ended: ended ? phrase('view.time') : phrase('view.noneUpCellsExists', { cells: done.proved }) });
+    const near = mixed ? phrase('view.whatListedGivesCells') : fixing.near ? phrase('view.whatListedComesNearer') : '';
     return `${none}${near} ${ended ? `${LONGER} ` : ''}${LOOSE}`;
   }
-  const least = done && done.proved >= best.cells.length - 1 ? ' None is smaller.' : '';
-  const loose = best.cells.length > FEW ? ` More than ${FEW} cells: ${LOOSE[0].toLowerCase()}${LOOSE.slice(1)}` : '';
-  return `${many(repaints().length + mixed, 'proposal')} found.${least}${loose} Choose one to paint it; point at one to see it first.`;
+  const least = done && done.proved >= best.cells.length - 1 ? phrase('view.noneSmaller') : '';
+  const loose = best.cells.length > FEW ? phrase('view.moreCellsPictureToo', { few: FEW }) : '';
+  return phrase('view.proposalsFoundChooseOne', { proposals: listed().length, least, loose });
 }
 
 // ---- the list
@@ -220,11 +223,16 @@ function showFound() {
     fixSays('');
     return;
   }
+  const hears = { take, keep, preview, isKept: (one) => fixing.kept.has(one) };
+  $('fix-list').replaceChildren(...listed().map((one) => proposalItem(one, hears)));
+}
+
+// What is shown: repaints about as small as the smallest, or what came nearer; then mixtures, and the fewest givens.
+function listed() {
   const [best] = repaints();
   const shown = repaints().filter((one) => one.cells.length <= best.cells.length + 1 || fixing.kept.has(one)).slice(0, MOST_SHOWN);
   const near = !best && fixing.near ? [fixing.near] : [];
-  const hears = { take, keep, preview, isKept: (one) => fixing.kept.has(one) };
-  $('fix-list').replaceChildren(...[...shown, ...near, ...mixtures().slice(0, 2), ...givens().slice(-1)].map((one) => proposalItem(one, hears)));
+  return [...shown, ...near, ...mixtures().slice(0, MOST_MIXED), ...givens().slice(-1)];
 }
 
 function keep(one, is) {
@@ -249,8 +257,8 @@ async function take(one) {
   const { state, cells, given = [] } = one;
   const paints = cells.map(({ index, colour }) => `paint ${placeOf(state, index)} ${LETTERS[colour]}`);
   await bench.stroke([...paints, ...given.map((index) => `pin ${placeOf(state, index)}`)]);
-  const more = given.length ? ` and ${number(given.length)} given` : '';
-  say(`${many(cells.length, 'cell')} repainted${more}. One undo takes ${sizeOf(one) === 1 ? 'it' : 'them'} back.`);
+  const more = given.length ? phrase('view.andGiven', { count: given.length }) : '';
+  say(phrase('view.cellsRepaintedOneUndo', { cells: cells.length, more, count: sizeOf(one) }));
 }
 
 /** Shows the proposals with the picture that they are for, and hides them with any other. */

@@ -2,9 +2,10 @@
 
 import { $ } from '../base/elements.js';
 import { on, tell } from '../base/events.js';
-import { many, number } from '../base/words.js';
 import { bench } from '../engine/bench.js';
 import { gradeText } from '../grade/grade.js';
+import { gradeName } from '../grade/names.js';
+import { phrase } from '../texts/phrase.js';
 import { searches, secondsChosen } from './verdict.js';
 
 const REST = 1000; // milliseconds without a stroke or a search
@@ -22,13 +23,13 @@ export const gradeLine = () => (gradeAtHand() ? gradeText(gradeAtHand()) : '');
 
 // The figures in words.
 function figuresText({ rounds, evaluations, wait, open, splits, depth }) {
-  const lines = `${many(rounds, 'round')}, ${many(evaluations, 'line')} looked at, longest wait ${number(wait)}`;
-  return open ? `${number(open)} cells to guess, ${many(splits, 'split')}, depth ${number(depth)}; ${lines}` : lines;
+  const lines = phrase('view.roundsLinesLookedLongest', { rounds, lines: evaluations, wait });
+  return open ? phrase('view.cellsGuessSplitsDepth', { open, splits, depth, lines }) : lines;
 }
 
 function showGrade() {
   const grade = gradeAtHand();
-  $('grade').textContent = grade ? `${grade.word} (${figuresText(grade)})` : '–';
+  $('grade').textContent = grade ? `${gradeName(grade.word)} (${figuresText(grade)})` : '–';
 }
 
 // Waits for rest. Any other search comes first.

@@ -87,7 +87,7 @@ function showWholes(at) {
     const box = wholes[axis];
     box.hidden = at === null || !sheet.state || at.part === (axis === 'r' ? 'column' : 'row') || !sheet.strips.isCut(sheet, axis, line);
     if (box.hidden) continue;
-    fillClue(box, axis === 'r' ? phrase('view.row', { line: line + 1 }) : phrase('view.column', { line: line + 1 }), sheet.clues[axis === 'r' ? 'rows' : 'columns'][line]);
+    fillClue(box, axis === 'r' ? phrase('view.rowLine', { line: line + 1 }) : phrase('view.columnLine', { line: line + 1 }), sheet.clues[axis === 'r' ? 'rows' : 'columns'][line]);
     Object.assign(box.style, geometry.isFolded ? { transform: '', maxWidth: '' } : besideLine(axis, line, at.col));
   }
 }
@@ -120,13 +120,13 @@ function gridKey(event) {
   if (event.key === ' ') return; // at its end: held down it pans
   event.stopPropagation();
   if (selection.rows && !tools.drag) setDown();
-  else useAtCursor();
+  else useAtCursor(event.shiftKey);
 }
 
 // The tool at the cursor: a dot, or the beginning or end of a shape.
-function useAtCursor() {
+function useAtCursor(adds = false) {
   if (tools.drag) return void endDrag();
-  beginDrag({ ...cursor });
+  beginDrag({ ...cursor }, adds);
   if (tools.drag && ['pencil', 'pin', 'lock'].includes(tools.name)) endDrag();
 }
 

@@ -8,9 +8,10 @@ import { openDialog } from './dialogs.js';
 
 const TOUR = [
   [phrase('view.drawOpenPicture'), phrase('view.chooseColourDragPencil')],
+  [phrase('view.drawMoreQuickly'), phrase('view.symmetryBelowToolsWand')],
   [phrase('view.readVerdict'), phrase('view.afterEveryStrokePanel')],
-  [phrase('view.findWeakSpot'), phrase('view.framedCellsDifferOther')],
-  [phrase('view.fix'), phrase('view.fixLooksCellRepaint')],
+  [phrase('view.findWeakSpot'), phrase('view.tourWeakSpot')],
+  [phrase('view.tourFix'), phrase('view.fixLooksCellRepaint')],
   [phrase('view.play'), phrase('view.playMenuCheckShows')],
   [phrase('view.checkColours'), phrase('view.coloursColourBlindMenu')],
   [phrase('view.publish'), phrase('view.menuFilePrintsExports')],
@@ -44,7 +45,7 @@ function showGuide() {
 
 const FIXED_KEYS = [
   [phrase('view.arrows'), phrase('view.moveShiftTheyDraw')], [phrase('view.spaceEnter'), phrase('view.useToolCell')], ['Ctrl+C, X, V', phrase('view.copyCutPasteAlso')],
-  [phrase('view.spaceDrag'), phrase('view.moveViewAlsoTwo')], [phrase('view.wheel'), phrase('view.zoomShiftAcross')], [phrase('view.rightButtonAlt'), phrase('view.pickColourCell')],
+  [phrase('view.spaceDrag'), phrase('view.moveViewAlsoTwo')], [phrase('view.wheel'), phrase('view.zoomShiftAcross')], [phrase('view.rightButtonAlt'), phrase('view.pickColourHelp')],
   [phrase('view.homeEndPage'), phrase('view.jump')],
 ];
 
@@ -52,7 +53,7 @@ function showKeys() {
   const list = make('dl', { class: 'keys' });
   for (const [key, what] of FIXED_KEYS) list.append(make('dt', {}, key), make('dd', {}, what));
   for (const action of actions.values()) if (action.key && !/^colour-[0-9]/.test(action.id)) list.append(make('dt', {}, action.key.replace(' ', phrase('view.or'))), make('dd', {}, action.name));
-  list.append(make('dt', {}, phrase('view.09')), make('dd', {}, phrase('view.chooseColour0Background')));
+  list.append(make('dt', {}, phrase('view.digits')), make('dd', {}, phrase('view.chooseColour0Background')));
   openDialog({ title: phrase('view.keyboardShortcuts'), content: list, wide: true, buttons: [{ name: phrase('view.close'), value: null, main: true }] });
 }
 

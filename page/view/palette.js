@@ -2,9 +2,8 @@
 // take one for another; what it cannot (removing, ordering, another background) opens the picture anew, and undo takes it back.
 
 import { $, make, say } from '../base/elements.js';
-import { on } from '../base/events.js';
+import { behindFrame, on } from '../base/events.js';
 import { radioGroup } from '../base/radios.js';
-import { many } from '../base/words.js';
 import { eightBits, hexOf, nameOf, tripleOf } from '../document/colours.js';
 import { LETTERS, MOST_COLOURS } from '../document/limits.js';
 import { COLOUR_NAMES, colourNamed } from '../document/named.js';
@@ -12,6 +11,7 @@ import { nearPairs } from '../document/near.js';
 import { reordered } from '../document/shapes.js';
 import { bench } from '../engine/bench.js';
 import { inksOf } from '../formats/webpbn.js';
+import { phrase } from '../texts/phrase.js';
 import { addAction } from './actions.js';
 import { openDialog } from './dialogs.js';
 import { colourText, dress, inkName } from './dress.js';
@@ -19,16 +19,16 @@ import { setDown } from './select.js';
 import { heard, tools, useColour } from './tools.js';
 
 const TEXT = {
-  named: 'The chosen colour by its name', namedHint: 'name or #123abc', unknown: (text) => `“${text}” is no colour that has a name.`,
+  named: phrase('view.chosenColourName'), namedHint: phrase('view.name123abc'), unknown: (text) => phrase('view.noColourName', { text }),
 };
 
 const palette = {
-  row: make('div', { id: 'palette', role: 'radiogroup', 'aria-label': 'Colour' }),
+  row: make('div', { id: 'palette', role: 'radiogroup', 'aria-label': phrase('view.colourLabel') }),
   text: make('p', { id: 'colour-text', class: 'faint' }),
-  picker: make('input', { id: 'picker', type: 'color', 'aria-label': 'The chosen colour' }),
+  picker: make('input', { id: 'picker', type: 'color', 'aria-label': phrase('view.chosenColour') }),
   named: make('input', { id: 'colour-named', type: 'text', maxlength: '30', list: 'colour-words', 'aria-label': TEXT.named, placeholder: TEXT.namedHint, size: 13 }),
-  name: make('input', { id: 'ink-name', type: 'text', maxlength: '40', 'aria-label': 'Name of the colour' }),
-  sign: make('input', { id: 'ink-sign', type: 'text', maxlength: '2', 'aria-label': 'Sign of the colour in XML' }),
+  name: make('input', { id: 'ink-name', type: 'text', maxlength: '40', 'aria-label': phrase('view.nameColour') }),
+  sign: make('input', { id: 'ink-sign', type: 'text', maxlength: '2', 'aria-label': phrase('view.signColourXml') }),
   locked: make('input', { id: 'ink-locked', type: 'checkbox' }),
   near: make('p', { id: 'near', role: 'status' }),
 };
@@ -38,7 +38,7 @@ function showPalette() {
   const letters = [...LETTERS.slice(0, colours.length)];
   if (!letters.includes(tools.colour)) tools.colour = letters.at(-1);
   palette.row.replaceChildren(...letters.map((letter, at) => {
-    const button = make('button', { type: 'button', role: 'radio', 'data-letter': letter, 'aria-label': colourText(letter), title: `${colourText(letter)}${at < 10 ? ` (key ${at})` : ''}` }, letter);
+    const button = make('button', { type: 'button', role: 'radio', 'data-letter': letter, 'aria-label': colourText(letter), title: `${colourText(letter)}${at < 10 ? phrase('view.key', { at }) : ''}` }, letter);
     dress(button, letter);
     return button;
   }));
@@ -56,8 +56,6 @@ function markColour() {
     button.tabIndex = is ? 0 : -1;
   }
   palette.picker.value = hexOf(colours[LETTERS.indexOf(tools.colour)], maxval);
-  const count = bench.state.picture.reduce((sum, row) => sum + row.split(tools.colour).length - 1, 0);
-  palette.text.textContent = `${colourText(tools.colour)}: ${many(count, 'cell')}`;
   const ink = bench.state.inks[LETTERS.indexOf(tools.colour)] ?? {};
   const usual = inksOf(bench.state)[LETTERS.indexOf(tools.colour)];
   if (document.activeElement !== palette.name) palette.name.value = ink.name ?? '';
@@ -65,16 +63,24 @@ function markColour() {
   palette.name.placeholder = usual.name;
   palette.sign.placeholder = usual.sign;
   palette.locked.checked = ink.locked === true;
-  showNear();
+  tellColours();
 }
+
+// What is counted in the whole picture: no stroke waits for it.
+const tellColours = behindFrame(() => {
+  if (!bench.state) return;
+  const count = bench.state.picture.reduce((sum, row) => sum + row.split(tools.colour).length - 1, 0);
+  palette.text.textContent = `${colourText(tools.colour)}: ${phrase('view.cells', { cells: count })}`;
+  showNear();
+});
 
 // Colours that a solver may take for one another, in words; '' where there are none.
 export function nearText(doc) {
-  const name = (letter) => (letter === '.' ? 'the background' : `“${inkName(doc, letter)}” (${letter})`);
-  const pairs = nearPairs(doc).map(([one, other]) => `${name(one)} and ${name(other)}`);
+  const name = (letter) => (letter === '.' ? phrase('view.theBackground') : `“${inkName(doc, letter)}” (${letter})`);
+  const pairs = nearPairs(doc).map(([one, other]) => phrase('view.andPair', { name: name(one), name2: name(other) }));
   if (!pairs.length) return '';
-  const more = pairs.length > 2 ? `, and ${many(pairs.length - 2, 'more pair')}` : '';
-  return `Too much alike to be told apart: ${pairs.slice(0, 2).join('; ')}${more}.`;
+  const more = pairs.length > 2 ? phrase('view.pairs', { pairs: pairs.length - 2 }) : '';
+  return phrase('view.tooMuchAlikeTold', { value: pairs.slice(0, 2).join('; '), more });
 }
 
 let nearShown = [];
@@ -104,14 +110,14 @@ function refuse(text) {
 function changeName() {
   const name = palette.name.value.trim();
   const other = inksOf(bench.state).find((ink, at) => at !== LETTERS.indexOf(tools.colour) && ink.name === name);
-  if (other) return refuse(`Another colour is named “${name}”.`);
+  if (other) return refuse(phrase('view.anotherColourNamed', { name }));
   return changeInk(({ name: before, ...ink }) => (name ? { ...ink, name } : ink));
 }
 
 function changeSign() {
   const [sign = ''] = palette.sign.value.trim();
-  if (sign && '?|\\[]'.includes(sign)) return refuse(`“${sign}” means something else in XML.`);
-  if (sign && inksOf(bench.state).some((ink, at) => at !== LETTERS.indexOf(tools.colour) && ink.sign === sign)) return refuse(`Another colour has the sign “${sign}”.`);
+  if (sign && '?|\\[]'.includes(sign)) return refuse(phrase('view.meansSomethingElseXml', { sign }));
+  if (sign && inksOf(bench.state).some((ink, at) => at !== LETTERS.indexOf(tools.colour) && ink.sign === sign)) return refuse(phrase('view.anotherColourSign', { sign }));
   return changeInk(({ sign: before, ...ink }) => (sign ? { ...ink, sign } : ink));
 }
 
@@ -160,7 +166,7 @@ async function changeColour(triple) {
   const at = LETTERS.indexOf(tools.colour);
   const now = withEightBits(bench.state).colours;
   if (now[at].join() === triple.join()) return null;
-  if (hasColour({ colours: now }, triple)) return refuse('The palette has this colour already. To make two colours one, use Merge.');
+  if (hasColour({ colours: now }, triple)) return refuse(phrase('view.paletteColourAlreadyMake'));
   const changed = (old) => {
     const doc = withEightBits(old);
     if (at >= doc.colours.length || hasColour(doc, triple)) return null;
@@ -173,14 +179,14 @@ async function changeColour(triple) {
 // Asks for one of the other colours.
 async function askColour(title, text) {
   const letters = [...LETTERS.slice(0, bench.state.colours.length)].filter((letter) => letter !== tools.colour);
-  const choice = make('select', { 'aria-label': 'Colour' }, ...letters.map((letter) => make('option', { value: letter }, `${LETTERS.indexOf(letter)}: ${colourText(letter)}`)));
+  const choice = make('select', { 'aria-label': phrase('view.colourLabel') }, ...letters.map((letter) => make('option', { value: letter }, `${LETTERS.indexOf(letter)}: ${colourText(letter)}`)));
   return openDialog({ title, content: make('div', {}, make('p', {}, text), choice), buttons: [{ name: title.split(' ')[0], value: () => choice.value, main: true }] });
 }
 
 async function mergeColour() {
   const from = tools.colour;
-  if (from === '.') return say('The background cannot be merged into another colour.', 'alarm');
-  const into = await askColour('Merge this colour', `All cells of ${colourText(from)} get another colour, and it is removed from the palette.`);
+  if (from === '.') return say(phrase('view.backgroundCannotMergedInto'), 'alarm');
+  const into = await askColour(phrase('view.mergeColour'), phrase('view.allCellsGetAnother', { colour: colourText(from) }));
   if (into) removeColour(from, into);
 }
 
@@ -189,20 +195,20 @@ function removeColour(letter, into = '.') {
   setDown();
   const at = LETTERS.indexOf(letter);
   const without = (doc) => reordered(doc, [...doc.colours.keys()].filter((one) => one !== at), LETTERS.indexOf(into));
-  return becomeOpened((doc) => (at < doc.colours.length ? without(doc) : null), 'The colour was removed; those after it have new letters. Undo brings it back.');
+  return becomeOpened((doc) => (at < doc.colours.length ? without(doc) : null), phrase('view.colourRemovedThoseAfter'));
 }
 
 function deleteColour() {
-  if (tools.colour === '.') return say('The background stays: every picture has one.', 'alarm');
+  if (tools.colour === '.') return say(phrase('view.backgroundStaysEveryPicture'), 'alarm');
   return removeColour(tools.colour);
 }
 
 function moveColour(by) {
   const at = LETTERS.indexOf(tools.colour);
   const to = at + by;
-  if (at < 1) return say('The background always comes first.', 'alarm');
-  if (to < 1) return say('This colour is the first one already.', 'alarm');
-  if (to >= bench.state.colours.length) return say('This colour is the last one already.', 'alarm');
+  if (at < 1) return say(phrase('view.backgroundAlwaysComesFirst'), 'alarm');
+  if (to < 1) return say(phrase('view.colourFirstOneAlready'), 'alarm');
+  if (to >= bench.state.colours.length) return say(phrase('view.colourLastOneAlready'), 'alarm');
   setDown();
   const exchanged = (doc) => {
     const order = [...doc.colours.keys()];
@@ -210,7 +216,7 @@ function moveColour(by) {
     return reordered(doc, order);
   };
   tools.colour = LETTERS[to];
-  return becomeOpened((doc) => (Math.max(at, to) < doc.colours.length ? exchanged(doc) : null), 'The colours are in a new order. Undo reverts it.');
+  return becomeOpened((doc) => (Math.max(at, to) < doc.colours.length ? exchanged(doc) : null), phrase('view.coloursNewOrderUndo'));
 }
 
 async function becomeOpened(doc, text) {
@@ -220,17 +226,17 @@ async function becomeOpened(doc, text) {
 /** Makes the panel of colours. */
 export function makePalette() {
   const more = make('div', { class: 'group' });
-  const opens = make('button', { type: 'button', id: 'colours-open', 'aria-expanded': 'false', onclick: () => opens.setAttribute('aria-expanded', $('colours').classList.toggle('open')) }, 'Edit');
-  opens.setAttribute('aria-label', 'Edit the colours');
-  $('colours').append(make('h2', {}, 'Colours'), palette.row, opens, palette.text, more, make('div', { class: 'group' }, make('label', {}, 'Change ', palette.picker), palette.named, make('datalist', { id: 'colour-words' }, ...COLOUR_NAMES.map((name) => make('option', { value: name }))), make('label', { title: 'No repair changes cells of this colour' }, palette.locked, 'Locked')),
-    make('div', { class: 'group' }, make('label', {}, 'Name ', palette.name), make('label', { title: 'One sign for each cell in XML' }, 'Sign ', palette.sign)), palette.near);
+  const opens = make('button', { type: 'button', id: 'colours-open', 'aria-expanded': 'false', onclick: () => opens.setAttribute('aria-expanded', $('colours').classList.toggle('open')) }, phrase('view.edit'));
+  opens.setAttribute('aria-label', phrase('view.editColours'));
+  $('colours').append(make('h2', {}, phrase('view.colours')), palette.row, opens, palette.text, more, make('div', { class: 'group' }, make('label', {}, phrase('view.change'), palette.picker), palette.named, make('datalist', { id: 'colour-words' }, ...COLOUR_NAMES.map((name) => make('option', { value: name }))), make('label', { title: phrase('view.noRepairChangesCells') }, palette.locked, phrase('view.lockedBox'))),
+    make('div', { class: 'group' }, make('label', {}, phrase('view.name'), palette.name), make('label', { title: phrase('view.oneSignEachCell') }, phrase('view.sign'), palette.sign)), palette.near);
   more.id = 'colour-more';
   const add = (id, name, run, can) => addAction({ id, name, place: 'colour-more', run, can });
-  add('colour-add', 'Add', addColour, () => bench.state.colours.length < MOST_COLOURS);
-  add('colour-merge', 'Merge…', mergeColour);
+  add('colour-add', phrase('view.add'), addColour, () => bench.state.colours.length < MOST_COLOURS);
+  add('colour-merge', phrase('view.merge'), mergeColour);
   add('colour-delete', 'Delete', deleteColour);
-  add('colour-earlier', '◂ Earlier', () => moveColour(-1));
-  add('colour-later', 'Later ▸', () => moveColour(1));
+  add('colour-earlier', phrase('view.earlier'), () => moveColour(-1));
+  add('colour-later', phrase('view.later'), () => moveColour(1));
   palette.picker.addEventListener('change', () => changeColour(tripleOf(palette.picker.value)));
   palette.named.addEventListener('change', changeByName);
   palette.name.addEventListener('change', changeName);
@@ -241,7 +247,7 @@ export function makePalette() {
   on('shown', (state) => {
     const key = [state.maxval, ...state.colours, JSON.stringify(state.inks)].join(';');
     if (key !== shown) showPalette();
-    else markColour();
+    else tellColours();
     shown = key;
   });
   on('opened', () => { shown = ''; });

@@ -11,9 +11,10 @@ import { phrase } from '../texts/phrase.js';
 import { addAction } from './actions.js';
 import { cellText, clueInto, cursor } from './grid.js';
 import { setDown } from './select.js';
-import { TOOLS, sendStroke, tools, useTool } from './tools.js';
+import { TOOLS, sendStroke, tools, useSymmetry, useTool } from './tools.js';
 
-const bar = { row: make('div', { id: 'tool-row', role: 'radiogroup', 'aria-label': phrase('view.tool') }), hint: make('p', { id: 'hint', class: 'faint' }) };
+const SYMMETRY_NAMES = { none: phrase('view.noSymmetry'), across: phrase('view.leftRight'), down: phrase('view.topBottom'), both: phrase('view.both'), quarter: phrase('view.quarterTurns') };
+const bar = { row: make('div', { id: 'tool-row', role: 'radiogroup', 'aria-label': phrase('view.tool') }), hint: make('p', { id: 'hint', class: 'faint' }), symmetry: make('select', { id: 'symmetry', 'aria-label': phrase('view.symmetry'), title: phrase('view.symmetricPens') }, ...Object.entries(SYMMETRY_NAMES).map(([kind, name]) => make('option', { value: kind }, name))) };
 
 // The picture of a tool beside its name: lines on a field of 16 by 16.
 function iconOf(name, { icon }) {
@@ -27,7 +28,9 @@ export function makeToolBar() {
     bar.row.append(make('button', { type: 'button', role: 'radio', 'data-tool': name, title: tool.hint, 'aria-keyshortcuts': tool.key }, iconOf(name, tool), make('span', {}, tool.name), make('kbd', { 'aria-hidden': 'true' }, tool.key)));
     addAction({ id: `tool-${name}`, name: tool.name, key: tool.key, run: () => useTool(name) });
   }
-  $('tools').append(bar.row, bar.hint);
+  $('tools').append(bar.row, bar.symmetry, bar.hint);
+  bar.symmetry.addEventListener('change', () => useSymmetry(bar.symmetry.value));
+  on('symmetry', (kind) => { bar.symmetry.value = kind; });
   radioGroup(bar.row, (button) => useTool(button.dataset.tool));
   on('tool', showTool);
   showTool();
@@ -65,8 +68,8 @@ export function showCell(at = cursor) {
     if (!state) return;
     const [row, col] = [Math.min(panel.at.row, state.rows - 1), Math.min(panel.at.col, state.columns - 1)];
     panel.text.textContent = cellText(row, col);
-    fillClue(panel.row, phrase('view.row2', { row: row + 1 }), state.clues.rows[row]);
-    fillClue(panel.column, phrase('view.column2', { col: col + 1 }), state.clues.columns[col]);
+    fillClue(panel.row, phrase('view.rowNumber', { row: row + 1 }), state.clues.rows[row]);
+    fillClue(panel.column, phrase('view.columnNumber', { col: col + 1 }), state.clues.columns[col]);
     showLineNames();
   });
 }
@@ -90,7 +93,7 @@ export function makeLinesPanel() {
     const other = make('input', { type: 'number', min: 1, max: MOST_CELLS, 'aria-label': word === 'row' ? phrase('view.otherRow') : phrase('view.otherColumn') });
     const at = () => (word === 'row' ? cursor.row : cursor.col) + 1;
     const button = (text, label, lines) => make('button', { type: 'button', 'aria-label': label, onclick: () => { setDown(); sendStroke([lines()]); } }, text);
-    $('lines').append(make('div', { class: 'lines', role: 'group', 'aria-label': word === 'row' ? phrase('view.row3') : phrase('view.column3') },
+    $('lines').append(make('div', { class: 'lines', role: 'group', 'aria-label': word === 'row' ? phrase('view.rowGroup') : phrase('view.columnGroup') },
       make('b', { id: `${word}-name` }, word),
       button(word === 'row' ? phrase('view.above') : phrase('view.left'), LINE_TEXTS[word].before, () => `insert ${word} ${at()}`),
       button(word === 'row' ? phrase('view.below') : phrase('view.right'), LINE_TEXTS[word].after, () => `insert ${word} ${at() + 1}`),
@@ -108,6 +111,6 @@ function swapLines(word, at, other) {
 }
 
 function showLineNames() {
-  $('row-name').textContent = phrase('view.row2', { row: cursor.row + 1 });
-  $('column-name').textContent = phrase('view.column2', { col: cursor.col + 1 });
+  $('row-name').textContent = phrase('view.rowNumber', { row: cursor.row + 1 });
+  $('column-name').textContent = phrase('view.columnNumber', { col: cursor.col + 1 });
 }

@@ -94,7 +94,7 @@ function pointerDown(event) {
   moveCursor(at.row, at.col);
   gridCell().focus({ preventScroll: true, focusVisible: false });
   if (event.button === 2 || event.altKey) return useColour(sheet.letterAt(at.row, at.col));
-  beginDrag({ row: at.row, col: at.col });
+  beginDrag({ row: at.row, col: at.col }, event.shiftKey);
 }
 
 function holdLine(at) {

@@ -1,13 +1,13 @@
 // Proposals as they are listed: the picture before and after side by side, which cells change, and what takes or keeps one.
 
 import { make } from '../base/elements.js';
-import { many } from '../base/words.js';
 import { LETTERS } from '../document/limits.js';
 import { smallPicture } from '../draw/small.js';
+import { phrase } from '../texts/phrase.js';
 import { swatchChip } from './dress.js';
 
 const MOST_NAMED = 3; // cells that are named one by one
-const SIDE = 96; // pixels of a small picture
+const SIDE = 100; // pixels of a small picture
 
 // A small picture with frames round some cells.
 function framed(doc, places) {
@@ -29,30 +29,30 @@ function painted(picture, cells) {
   return rows.map((row) => row.join(''));
 }
 
-const placeText = ({ columns }, index) => `row ${Math.floor(index / columns) + 1}, column ${(index % columns) + 1}`;
+const placeText = ({ columns }, index) => phrase('view.placeOfCell', { value: Math.floor(index / columns) + 1, columns: (index % columns) + 1 });
 
 const namedOf = (state, places) => `${places.slice(0, MOST_NAMED).map((index) => placeText(state, index)).join('; ')}${places.length > MOST_NAMED ? '; …' : ''}`;
 
 // What a repaint leaves, where that is not all: how far it is from the goal, or what is to be guessed then.
 function leftOf({ goal, far, open }) {
-  if (far) return `. Nearer only: ${far}`;
+  if (far) return phrase('view.nearerOnly', { far });
   if (goal === 'lines' || open === undefined) return '';
-  return open ? `; then ${many(open, 'cell')} to guess` : '; then no guessing';
+  return open ? phrase('view.thenCellsGuess', { cells: open }) : phrase('view.thenNoGuessing');
 }
 
 // What is repainted, in words: a single cell with its colours, else the places.
 function paintedText({ state, cells }) {
-  if (cells.length > 1) return [`${many(cells.length, 'cell')}: ${namedOf(state, cells.map(({ index }) => index))}`];
+  if (cells.length > 1) return [`${phrase('view.cells', { cells: cells.length })}: ${namedOf(state, cells.map(({ index }) => index))}`];
   const [{ index, colour }] = cells;
   const before = state.picture[Math.floor(index / state.columns)][index % state.columns];
-  return [`1 cell: ${placeText(state, index)}: `, swatchChip(state, before), ' to ', swatchChip(state, LETTERS[colour])];
+  return [phrase('view.oneCell', { place: placeText(state, index) }), swatchChip(state, before), phrase('view.to'), swatchChip(state, LETTERS[colour])];
 }
 
-const givenText = ({ state, given, isLeast }) => `${many(given.length, 'cell')}${isLeast ? ', the fewest' : ''}: ${namedOf(state, given)}`;
+const givenText = ({ state, given, isLeast }) => `${phrase('view.cells', { cells: given.length })}${isLeast ? phrase('view.fewest') : ''}: ${namedOf(state, given)}`;
 
 function textOf(one) {
-  if (!one.cells) return [`Give ${givenText(one)}`];
-  return one.given ? ['Repaint ', ...paintedText(one), `, and give ${givenText(one)}`] : [...paintedText(one), leftOf(one)];
+  if (!one.cells) return [phrase('view.give', { given: givenText(one) })];
+  return one.given ? [phrase('view.repaint'), ...paintedText(one), phrase('view.alsoGive', { given: givenText(one) })] : [...paintedText(one), leftOf(one)];
 }
 
 /** A proposal as an item of a list: `hears` has `take`, `keep`, `preview`, `isKept`. */
@@ -66,5 +66,5 @@ export function proposalItem(one, { take, keep, preview, isKept }) {
   const hide = () => preview(null);
   const button = make('button', { type: 'button', onclick: () => take(one), onpointerenter: show, onfocus: show, onpointerleave: hide, onblur: hide }, pictures, text);
   const box = make('input', { type: 'checkbox', checked: isKept(one), onchange: (event) => keep(one, event.target.checked) });
-  return make('li', {}, button, make('label', { class: 'faint' }, box, ' keep for the next search'));
+  return make('li', {}, button, make('label', { class: 'faint' }, box, phrase('view.keepNextSearch')));
 }

@@ -1,22 +1,43 @@
-// The selection: a rectangle of cells that is copied, cut, moved, mirrored, turned. What is moved floats over the picture until
-// it is set down; then all of it is one stroke.
+// The selection: a rectangle of cells, or those of it that a shape has, that is copied, cut, moved, mirrored, turned. What is moved
+// floats over the picture until it is set down; then all of it is one stroke.
 
 import { say } from '../base/elements.js';
 import { on, tell } from '../base/events.js';
 import { cellsBetween } from '../document/cover.js';
-import { boxCells, boxOf, rowsOfText, stamped } from '../document/shapes.js';
+import { HOLE, boxAround, placesOfShape, shapeOf, without } from '../document/regions.js';
+import { boxOf, rowsOfText, stamped } from '../document/shapes.js';
 import { sheet } from '../draw/sheet.js';
 import { bench } from '../engine/bench.js';
 import { phrase } from '../texts/phrase.js';
 import { isCovered, isTyping } from './actions.js';
-import { heard, paintCells, tools, useTool } from './tools.js';
+import { heard, paintPlaces, tools, useTool } from './tools.js';
 
-// `box` is where it lies; `rows` are its letters where it floats; `under` is the picture below it.
-export const selection = { box: null, rows: null, under: null, grip: null, copied: null };
+// `box` is where it lies; `shape` are rows with holes where it is not all of the box; `rows` are its letters where it floats, with the
+// same holes; `under` is the picture below it.
+export const selection = { box: null, shape: null, rows: null, under: null, grip: null, copied: null };
 
 const isOfSize = (picture, { rows, columns }) => picture.length === rows && picture[0].length === columns;
-export const selectionBoxes = () => (selection.box ? [selection.box] : []);
-const isIn = (box, { row, col }) => box !== null && row >= box.top && row <= box.bottom && col >= box.left && col <= box.right;
+const shapeNow = () => selection.rows ?? selection.shape;
+export const selectionBoxes = () => (selection.box ? [{ ...selection.box, shape: shapeNow() }] : []);
+
+/** Whether a cell is selected. */
+export function isSelected({ row, col }) {
+  const { box } = selection;
+  const isIn = box !== null && row >= box.top && row <= box.bottom && col >= box.left && col <= box.right;
+  return isIn && shapeNow()?.[row - box.top][col - box.left] !== HOLE;
+}
+
+/** The places that are selected, of what does not float; null where nothing is. */
+export const selectedPlaces = () => (selection.box ? placesOfShape(selection.box, selection.shape, bench.state.columns) : null);
+
+/** Selects some places in place of what was. */
+export function selectPlaces(places) {
+  setDown();
+  const { picture } = bench.seen();
+  const box = places.size ? boxAround(places, picture[0].length) : null;
+  Object.assign(selection, { box, shape: box && shapeOf(places, box, picture) });
+  showSelection();
+}
 
 export function showSelection() {
   sheet.boxes = selectionBoxes();
@@ -31,7 +52,7 @@ export function showSelection() {
 }
 
 export function beginSelect(at) {
-  if (isIn(selection.box, at)) {
+  if (isSelected(at)) {
     lift();
     selection.grip = { row: at.row - selection.box.top, col: at.col - selection.box.left };
     tools.drag = { tool: 'select', moves: true, from: at };
@@ -39,7 +60,7 @@ export function beginSelect(at) {
   }
   const hadOne = selection.box !== null;
   setDown();
-  selection.box = boxOf(at, at);
+  Object.assign(selection, { box: boxOf(at, at), shape: null });
   tools.drag = { tool: 'select', moves: false, from: at, hadOne };
   showSelection();
 }
@@ -65,8 +86,8 @@ export function lift() {
   if (selection.rows) return;
   const { box } = selection;
   const { picture } = bench.seen();
-  selection.rows = picture.slice(box.top, box.bottom + 1).map((row) => row.slice(box.left, box.right + 1));
-  selection.under = stamped(picture, selection.rows.map((row) => '.'.repeat(row.length)), box.top, box.left);
+  selection.rows = shapeOf(selectedPlaces(), box, picture);
+  selection.under = without(picture, selection.rows, box);
 }
 
 export function moveFloat(down, across) {
@@ -79,14 +100,24 @@ export function setDown() {
   const { rows, under, box } = selection;
   if (!rows) return;
   const picture = stamped(under, rows, box.top, box.left);
-  Object.assign(selection, { rows: null, under: null });
+  Object.assign(selection, { rows: null, under: null, shape: rows.some((row) => row.includes(HOLE)) ? rows : null });
   const doc = bench.seen();
   sheet.overlay = new Map();
   if (isOfSize(picture, doc)) heard(bench.become((now) => (isOfSize(picture, now) ? { ...now, picture } : null), cellsBetween(doc.picture, picture)));
   sheet.update();
   sheet.redraw();
-  selection.box = clipBox(box, doc);
+  clipSelection(doc);
   showSelection();
+}
+
+// What is selected lies in a document.
+function clipSelection(doc) {
+  const { box, shape } = selection;
+  selection.box = clipBox(box, doc);
+  if (!selection.box) selection.shape = null;
+  if (!selection.shape) return;
+  const { top, left, bottom, right } = selection.box;
+  selection.shape = shape.slice(top - box.top, bottom - box.top + 1).map((row) => row.slice(left - box.left, right - box.left + 1));
 }
 
 function clipBox(box, doc) {
@@ -98,7 +129,7 @@ function clipBox(box, doc) {
 function keepSelection() {
   const { box, rows } = selection;
   if (!box || !bench.state) return;
-  if (!rows) selection.box = clipBox(box, bench.seen());
+  if (!rows) clipSelection(bench.seen());
   if (rows || String(Object.values(selection.box ?? {})) !== String(Object.values(box))) showSelection();
 }
 
@@ -106,7 +137,7 @@ function keepSelection() {
 export function dropSelection() {
   if (selection.rows) Object.assign(selection, { rows: null, under: null });
   else if (!selection.box) return false;
-  selection.box = null;
+  Object.assign(selection, { box: null, shape: null });
   sheet.preview(null);
   showSelection();
   return true;
@@ -116,17 +147,17 @@ export function dropSelection() {
 function selectedRows() {
   const { box, rows } = selection;
   if (!box) return null;
-  return rows ?? bench.seen().picture.slice(box.top, box.bottom + 1).map((row) => row.slice(box.left, box.right + 1));
+  return (rows ?? shapeOf(selectedPlaces(), box, bench.seen().picture)).map((row) => row.replaceAll(HOLE, '.'));
 }
 
 /** Clears what is selected to the background. */
 export function clearSelected() {
   if (!selection.box) return null;
   if (selection.rows) {
-    selection.rows = selection.rows.map((row) => '.'.repeat(row.length));
+    selection.rows = selection.rows.map((row) => row.replace(/[^ ]/g, '.'));
     return setDown();
   }
-  return paintCells(boxCells(selection.box), '.');
+  return paintPlaces(selectedPlaces(), '.');
 }
 
 /** Lets rows of letters float over the picture, where the selection or the view begins. */
@@ -198,5 +229,5 @@ export function startSelection() {
   });
   on('stroke', keepSelection);
   on('shown', keepSelection);
-  on('opened', () => Object.assign(selection, { box: null, rows: null, under: null }));
+  on('opened', () => Object.assign(selection, { box: null, shape: null, rows: null, under: null }));
 }

@@ -6,25 +6,40 @@ import { coverOf } from '../document/cover.js';
 import { placeOf } from '../document/document.js';
 import { LETTERS, MOST_CELLS, MOST_COLOURS } from '../document/limits.js';
 import { boxCells, boxOf, bucketCells, lineCells } from '../document/shapes.js';
+import { SYMMETRIES, cellsWith, isPossible } from '../document/symmetry.js';
 import { sheet } from '../draw/sheet.js';
 import { bench } from '../engine/bench.js';
 import { phrase } from '../texts/phrase.js';
-import { alongSelect, beginSelect, endSelect, selectionBoxes, setDown } from './select.js';
+import { alongSelect, beginSelect, endSelect, isSelected, selectPlaces, selectedPlaces, selectionBoxes, setDown } from './select.js';
 
 export const TOOLS = {
   pencil: { icon: 'M2.5 13.5l.8-3.6 7.6-7.6 2.8 2.8-7.6 7.6z', name: phrase('view.pencil'), key: 'p', hint: phrase('view.dragPaintRightButton') },
   line: { icon: 'M2.5 13.5l11-11', name: phrase('view.line'), key: 'l', hint: phrase('view.dragFromEndEnd') },
-  rectangle: { icon: 'M2.5 3.5h11v9h-11z', name: phrase('view.rectangle'), key: 'r', hint: phrase('view.dragFromCornerCorner') },
-  box: { icon: 'M2.5 3.5h11v9h-11z', name: phrase('view.filledRectangle'), key: 'f', hint: phrase('view.dragFromCornerCorner2') },
+  rectangle: { icon: 'M2.5 3.5h11v9h-11z', name: phrase('view.rectangle'), key: 'r', hint: phrase('view.outlineHint') },
+  box: { icon: 'M2.5 3.5h11v9h-11z', name: phrase('view.filledRectangle'), key: 'f', hint: phrase('view.filledHint') },
   bucket: { icon: 'M7.5 2.5l6 6-5 5-6-6zM2.5 7.5h9M13.5 11v2.5', name: phrase('view.bucket'), key: 'b', hint: phrase('view.fillsConnectedCellsOne') },
   recolour: { icon: 'M2.5 2.5h6v6h-6zM7.5 10.5v3h6v-6h-3', name: phrase('view.recolour'), key: 'e', hint: phrase('view.turnsAllCellsColour') },
+  wand: { icon: 'M2.5 13.5l7-7M11 2v3M9.5 3.5h3M13.5 7v2M12.5 8h2M6 2.5v2M5 3.5h2', name: phrase('view.wand'), key: 'a', hint: phrase('view.selectsConnectedCellsOne') },
   select: { icon: 'M2.5 5v-2.5h2.5M8 2.5h0M11 2.5h2.5v2.5M13.5 8v0M13.5 11v2.5h-2.5M8 13.5h0M5 13.5h-2.5v-2.5M2.5 8v0', name: phrase('view.select'), key: 's', hint: phrase('view.dragSelectRectangleDrag') },
   pin: { icon: 'M8 2l5 6-5 6-5-6z', name: phrase('view.giveCells'), key: 'g', hint: phrase('view.givenCellsPrintedPuzzle') },
   lock: { icon: 'M3.5 7.5h9v6h-9zM5.5 7.5v-2a2.5 2.5 0 015 0v2', name: phrase('view.lockCells'), key: 'k', hint: phrase('view.noRepairChangesLocked') },
   why: { icon: 'M5.3 6a2.7 2.7 0 115.4 0c0 2.2-2.7 2.2-2.7 4.2M8 13.2v.3', name: phrase('view.why'), key: 'w', hint: phrase('view.pointCellSeeWhy') },
 };
 
-export const tools = { name: 'pencil', colour: 'a', drag: null };
+export const tools = { name: 'pencil', colour: 'a', drag: null, symmetry: 'none' };
+
+/** Has the pens draw symmetric. */
+export function useSymmetry(symmetry) {
+  tools.symmetry = sheet.symmetry = symmetry;
+  if (bench.state && !isPossible(symmetry, bench.state)) say(phrase('view.quarterTurnsNeedPicture'), 'alarm');
+  if (sheet.state) sheet.drawMarks();
+  tell('symmetry', symmetry);
+}
+
+export const nextSymmetry = () => useSymmetry(SYMMETRIES[(SYMMETRIES.indexOf(tools.symmetry) + 1) % SYMMETRIES.length]);
+
+// Cells with those that a symmetric pen draws together with them.
+const withImages = (cells) => (tools.symmetry === 'none' ? cells : cells.flatMap((cell) => cellsWith(cell, sheet.doc, tools.symmetry)));
 
 /** Chooses a tool. */
 export function useTool(name) {
@@ -54,14 +69,15 @@ const indexAt = ({ row, col }) => row * bench.state.columns + col;
 // The set of places that a tool marks or takes marks from.
 const MARKS = { pin: 'givens', lock: 'locks' };
 
-/** Begins a drag at a cell. */
-export function beginDrag(at) {
+/** Begins a drag at a cell; `adds` has a selection grow. */
+export function beginDrag(at, adds = false) {
   if (!bench.state) return;
   if (sheet.other) return say(phrase('view.otherPictureGoBack'), 'alarm');
   tell('begun', tools.name);
   if (tools.name === 'why') return tell('asked', { ...at, letter: tools.colour });
   if (tools.name === 'select') return beginSelect(at);
-  if (tools.name === 'bucket') return paintCells(bucketCells(sheet.doc.picture, at));
+  if (tools.name === 'wand') return wandAt(at, adds);
+  if (tools.name === 'bucket') return paintCells(withImages([at]).flatMap((cell) => bucketCells(sheet.doc.picture, cell)));
   if (tools.name === 'recolour') return recolourAt(at);
   const marks = MARKS[tools.name];
   tools.drag = { tool: tools.name, from: at, to: at, letter: tools.colour, touched: new Set(), gives: marks !== undefined && !sheet.doc[marks].has(indexAt(at)) };
@@ -73,8 +89,8 @@ export function alongDrag(at) {
   const { drag } = tools;
   if (!drag) return;
   if (drag.tool === 'select') return alongSelect(at);
-  if (drag.tool === 'pencil' || MARKS[drag.tool]) for (const cell of lineCells(drag.to, at)) drag.touched.add(indexAt(cell));
-  else drag.touched = new Set(cellsOfShape(drag.tool, drag.from, at).map(indexAt));
+  if (drag.tool === 'pencil' || MARKS[drag.tool]) for (const cell of withImages(lineCells(drag.to, at))) drag.touched.add(indexAt(cell));
+  else drag.touched = new Set(withImages(cellsOfShape(drag.tool, drag.from, at)).map(indexAt));
   drag.to = at;
   if (MARKS[drag.tool]) {
     sheet.boxes = [...drag.touched].map((index) => { const [row, col] = [Math.floor(index / bench.state.columns), index % bench.state.columns]; return { top: row, left: col, bottom: row, right: col }; });
@@ -123,20 +139,33 @@ export function paintCells(cells, letter = tools.colour) {
   return paintPlaces(new Set(cells.map(indexAt)), letter);
 }
 
-// Places in one colour, shown until it is answered.
-function paintPlaces(places, letter) {
+/** Places in one colour, shown until it is answered. */
+export function paintPlaces(places, letter) {
   return sendStroke((doc) => coverOf(places, doc.picture, letter), new Map([...places].map((place) => [place, letter])));
+}
+
+// Selects the connected cells of one colour, beside what is selected where it `adds`.
+function wandAt(at, adds) {
+  const cells = bucketCells(sheet.doc.picture, at).map(indexAt);
+  setDown();
+  selectPlaces(new Set([...(adds ? selectedPlaces() ?? [] : []), ...cells]));
 }
 
 function recolourAt(at) {
   const letter = tools.colour;
+  if (isSelected(at)) {
+    setDown();
+    const { picture, columns } = bench.seen();
+    const source = picture[at.row][at.col];
+    return paintPlaces(new Set([...selectedPlaces()].filter((place) => picture[Math.floor(place / columns)][place % columns] === source)), letter);
+  }
   const sourceIn = (picture) => picture[at.row]?.[at.col] ?? letter;
   return sendStroke(({ picture }) => (sourceIn(picture) === letter ? [] : [`recolour ${sourceIn(picture)} ${letter}`]));
 }
 
 const MEANINGS = {
-  Place: phrase('view.liesOutsidePicture'), Colour: phrase('view.paletteNoSuchColour'), TooLarge: phrase('view.thereLinesAlreadyMost', { MOST_CELLS }),
-  LastLine: phrase('view.onlyLine'), PaletteFull: phrase('view.paletteColoursAlready', { MOST_COLOURS }), DuplicateColour: phrase('view.paletteColourAlready'),
+  Place: phrase('view.liesOutsidePicture'), Colour: phrase('view.paletteNoSuchColour'), TooLarge: phrase('view.thereLinesAlreadyMost', { most: MOST_CELLS }),
+  LastLine: phrase('view.onlyLine'), PaletteFull: phrase('view.paletteColoursAlready', { most: MOST_COLOURS }), DuplicateColour: phrase('view.paletteColourAlready'),
   Background: phrase('view.backgroundKeepsColour'), SampleOver: phrase('view.colourTooBrightPicture'), UndoEmpty: phrase('view.thereNothingUndo'),
   RedoEmpty: phrase('view.thereNothingRedo'), Memory: phrase('view.memoryRanOut'), TwoColoursOnly: phrase('view.nonPuzzleOneColour'),
   LongLine: phrase('view.tooLong'), BadNumber: phrase('view.numberWrong'), BadColour: phrase('view.colourWrong'),

@@ -3,17 +3,17 @@
 
 import { $, make, say } from '../base/elements.js';
 import { on } from '../base/events.js';
-import { many, number } from '../base/words.js';
 import { cellsThatDiffer } from '../document/shapes.js';
 import { sheet } from '../draw/sheet.js';
 import { bench } from '../engine/bench.js';
 import { startEngine } from '../engine/client.js';
 import { Searches } from '../engine/searches.js';
+import { phrase } from '../texts/phrase.js';
 import { actionButton, actions, addAction } from './actions.js';
 import { canFix, hideFix, openFix } from './fixing.js';
 
-const TIMES = [['5', '5 s'], ['30', '30 s'], ['', 'until stopped']];
-const HATCHINGS = [['off', 'the picture alone'], ['differing', 'cells that differ'], ['open', 'open cells']];
+const TIMES = [['5', '5 s'], ['30', '30 s'], ['', phrase('view.untilStopped')]];
+const HATCHINGS = [['off', phrase('view.pictureAlone')], ['differing', phrase('view.cellsDiffer')], ['open', phrase('view.openCells')]];
 
 // A choice that the browser keeps where it can.
 function keptChoice(name, values, first) {
@@ -43,7 +43,7 @@ export const searches = new Searches({
     if (why === 'time' || why === 'stopped') showVerdict(bench.state);
   },
   failed(name, fault) {
-    say(`${name} ended: ${fault.text ?? fault.message}.`, 'alarm');
+    say(phrase('view.ended', { name, text: fault.text ?? fault.message }), 'alarm');
     showVerdict(bench.state);
   },
 });
@@ -56,19 +56,19 @@ const choiceOf = (id, values, change) => make('select', { id, onchange: (event) 
 function makeVerdictPanel() {
   $('audit').append(
     make('div', { id: 'verdict-line' }, make('h2', { id: 'verdict' }, '…'), make('span', { id: 'verdict-short' }),
-      make('button', { type: 'button', id: 'verdict-open', 'aria-expanded': 'false', 'aria-controls': 'verdict-more', onclick: turnVerdictMore }, 'More')),
+      make('button', { type: 'button', id: 'verdict-open', 'aria-expanded': 'false', 'aria-controls': 'verdict-more', onclick: turnVerdictMore }, phrase('view.more'))),
     make('div', { id: 'verdict-more' },
       make('p', { id: 'verdict-why' }),
       make('div', { id: 'verdict-do', class: 'group' }),
       make('div', { id: 'fix', hidden: true }),
-      make('dl', {}, make('dt', { id: 'grade-name' }, 'Grade (not proved)'), make('dd', { id: 'grade' }), make('dt', { id: 'open-name' }, 'Need guessing'), make('dd', { id: 'open' }), make('dt', {}, 'Clues that changed'), make('dd', { id: 'changed' })),
-      make('p', {}, make('label', {}, 'Show ', choiceOf('hatching', HATCHINGS, (value) => setHatching(value)))),
+      make('dl', {}, make('dt', { id: 'grade-name' }, phrase('view.gradeNotProved')), make('dd', { id: 'grade' }), make('dt', { id: 'open-name' }, phrase('view.needGuessing')), make('dd', { id: 'open' }), make('dt', {}, phrase('view.cluesChanged')), make('dd', { id: 'changed' })),
+      make('p', {}, make('label', {}, phrase('view.show'), choiceOf('hatching', HATCHINGS, (value) => setHatching(value)))),
       make('p', { id: 'legend', class: 'faint' }),
-      make('p', {}, make('label', {}, 'Search time ', choiceOf('seconds', TIMES, setSeconds)))),
+      make('p', {}, make('label', {}, phrase('view.searchTime'), choiceOf('seconds', TIMES, setSeconds)))),
   );
   $('audit').append(make('p', { id: 'verdict-heard', class: 'unseen', role: 'status' }));
   $('seconds').value = verdictView.seconds;
-  const stop = make('button', { type: 'button', id: 'stop', title: 'Stop the search (.)', onclick: () => searches.stop() }, 'Stop');
+  const stop = make('button', { type: 'button', id: 'stop', title: phrase('view.stopSearch'), onclick: () => searches.stop() }, phrase('view.stop'));
   $('task').append(make('span', { id: 'task-name' }), make('span', { id: 'task-time', 'aria-hidden': 'true' }), stop);
 }
 
@@ -76,7 +76,7 @@ function makeVerdictPanel() {
 function turnVerdictMore() {
   const isOpen = $('audit').classList.toggle('open');
   $('verdict-open').setAttribute('aria-expanded', isOpen);
-  $('verdict-open').textContent = isOpen ? 'Less' : 'More';
+  $('verdict-open').textContent = isOpen ? phrase('view.less') : phrase('view.more');
 }
 
 export function setSeconds(value) {
@@ -98,8 +98,8 @@ function showHatching(state) {
   $('hatching').value = sheet.hatching;
   $('legend').textContent = {
     off: '',
-    differing: state.verdict.other ? 'Framed cells differ: the other picture has the colour in the corner.' : 'No other picture is known.',
-    open: state.verdict.word === 'unique' ? 'Hatched cells are not settled line by line: a solver has to guess.' : 'Hatched cells are not settled line by line.',
+    differing: state.verdict.other ? phrase('view.framedCellsDiffer') : phrase('view.noOtherPictureKnown'),
+    open: state.verdict.word === 'unique' ? phrase('view.hatchedCellsGuess') : phrase('view.hatchedCells'),
   }[sheet.hatching];
   sheet.redraw();
 }
@@ -114,13 +114,18 @@ const numbersOf = (letter, set) => {
   return places.length ? `${letter}${set.size === 1 ? '' : 's'} ${places.join(', ')}` : '';
 };
 
-const differCount = ({ verdict, picture }) => (verdict.other ? cellsThatDiffer(picture, verdict.other).length : 0);
+// In how many cells the other picture differs: counted once for each verdict.
+const counted = { verdict: null, count: 0 };
+function differCount({ verdict, picture }) {
+  if (counted.verdict !== verdict) Object.assign(counted, { verdict, count: verdict.other ? cellsThatDiffer(picture, verdict.other).length : 0 });
+  return counted.count;
+}
 
 // The verdict in a few words beside its title.
 function verdictShort(state) {
   const { word } = state.verdict;
-  if (word === 'ambiguous') return `${many(differCount(state), 'cell')} differ${differCount(state) === 1 ? 's' : ''}`;
-  if (word === 'unique') return state.open ? `${number(state.open)} of ${number(state.rows * state.columns)} cells need guessing` : 'no guessing';
+  if (word === 'ambiguous') return phrase('view.countDiffer', { cells: differCount(state) });
+  if (word === 'unique') return state.open ? phrase('view.cellsNeedGuessing', { open: state.open, count: state.rows * state.columns }) : phrase('view.noGuessing');
   return '';
 }
 
@@ -129,13 +134,13 @@ function verdictTexts(state) {
   const { verdict, givens, open } = state;
   const size = state.rows * state.columns;
   if (verdict.word === 'unique') {
-    const with_ = givens.size ? ` and the ${givens.size === 1 ? 'given cell' : `${number(givens.size)} given cells`}` : '';
-    return ['✓ Unique', `No other picture has these clues${with_}. ${open ? `${number(open)} of ${number(size)} cells need guessing.` : 'Line logic solves it, without guessing.'}`];
+    const with_ = givens.size ? phrase('view.andThe', { count: givens.size === 1 ? phrase('view.givenCell') : phrase('view.givenCells', { count: givens.size }) }) : '';
+    return [phrase('view.unique'), phrase('view.noOtherPictureThese', { with: with_, open: open ? phrase('view.someNeedGuessing', { open, count: size }) : phrase('view.lineLogicSolvesWithout') })];
   }
-  if (verdict.word === 'ambiguous') return ['≠ Ambiguous', `Another picture has these clues too. It differs in ${many(differCount(state), 'cell')}.`];
-  if (searches.running?.judges) return ['… Searching', 'No other picture found so far.'];
-  const why = { time: `within ${number(secondsChosen())} s`, stopped: 'before it was stopped' }[verdictView.ended];
-  return ['? Undecided', why ? `Neither another picture nor a proof was found ${why}.` : 'Neither another picture nor a proof has been found yet.'];
+  if (verdict.word === 'ambiguous') return [phrase('view.ambiguous'), phrase('view.anotherPictureTheseClues', { cells: differCount(state) })];
+  if (searches.running?.judges) return [phrase('view.searching'), phrase('view.noOtherPictureFound')];
+  const why = { time: phrase('view.withinS', { secondsChosen: secondsChosen() }), stopped: phrase('view.beforeStopped') }[verdictView.ended];
+  return [phrase('view.undecided'), why ? phrase('view.nothingFound', { why }) : phrase('view.nothingFoundYet')];
 }
 
 function showVerdict(state) {
@@ -146,9 +151,9 @@ function showVerdict(state) {
   $('verdict').textContent = title;
   $('verdict-why').textContent = told;
   $('verdict-short').textContent = verdictShort(state);
-  $('open-name').textContent = word === 'unique' ? 'Need guessing' : 'Open cells';
-  $('open').textContent = `${number(state.open)} of ${many(state.rows * state.columns, 'cell')}`;
-  $('changed').textContent = [numbersOf('row', state.changed.rows), numbersOf('column', state.changed.columns)].filter(Boolean).join('; ') || 'none';
+  $('open-name').textContent = word === 'unique' ? phrase('view.needGuessing') : phrase('view.openCellsRow');
+  $('open').textContent = phrase('view.openOfCells', { open: state.open, cells: state.rows * state.columns });
+  $('changed').textContent = [numbersOf('row', state.changed.rows), numbersOf('column', state.changed.columns)].filter(Boolean).join('; ') || phrase('view.none');
   $('changed').title = $('changed').textContent;
   if (word !== 'ambiguous') sheet.other = false;
   showVerdictButtons();
@@ -159,10 +164,10 @@ function showVerdictButtons() {
     const action = actions.get(button.dataset.action);
     button.hidden = !action.can();
     if (action.id === 'other') {
-      button.textContent = sheet.other ? 'Back to your picture' : 'Show the other picture';
+      button.textContent = sheet.other ? phrase('view.backYourPicture') : phrase('view.showOtherPicture');
       button.setAttribute('aria-pressed', sheet.other === true);
     }
-    if (action.id === 'search') button.textContent = verdictView.seconds === '' ? 'Search until stopped' : `Search for ${verdictView.seconds} s`;
+    if (action.id === 'search') button.textContent = verdictView.seconds === '' ? phrase('view.searchUntilStopped') : phrase('view.searchS', { seconds: verdictView.seconds });
   }
   if (!canFix()) hideFix();
 }
@@ -176,7 +181,7 @@ function showTask(task) {
     return;
   }
   if ($('task-name').textContent !== task.name) $('task-name').textContent = task.name;
-  const of = Number.isFinite(task.seconds) ? ` of ${number(task.seconds)}` : '';
+  const of = Number.isFinite(task.seconds) ? phrase('view.of', { seconds: task.seconds }) : '';
   $('task-time').textContent = `${Math.floor(task.elapsed)}${of} s${task.note ? ` · ${task.note}` : ''}`;
   if (task.elapsed < 0.01) showVerdict(bench.state);
 }
@@ -190,14 +195,14 @@ function showOther(other) {
 /** A certificate of the present picture as a text, or null; what its search finds is told as the verdict. */
 export async function certificateText() {
   if (bench.state?.verdict.word === 'ambiguous') {
-    say('There is no certificate: another picture has these clues.', 'alarm');
+    say(phrase('view.thereNoCertificateAnother'), 'alarm');
     return null;
   }
   verdictView.ended = null;
   const text = await searches.certify();
   const why = {
-    time: `No certificate was found within ${number(secondsChosen())} s. Choose a longer “Search time”.`,
-    stopped: 'The search for a certificate was stopped.',
+    time: phrase('view.noCertificateFoundWithin', { secondsChosen: secondsChosen() }),
+    stopped: phrase('view.searchCertificateStopped'),
     stroke: 'The search for a certificate was ended by a stroke.',
   }[verdictView.ended];
   if (text === null && why) say(why);
@@ -208,7 +213,7 @@ const isWord = (word) => bench.state?.verdict.word === word;
 function nextHatching() {
   const names = HATCHINGS.map(([value]) => value);
   setHatching(names[(names.indexOf(sheet.hatching) + 1) % names.length]);
-  say(`Shown: ${HATCHINGS.find(([value]) => value === sheet.hatching)[1]}.`);
+  say(phrase('view.shown', { hatching: HATCHINGS.find(([value]) => value === sheet.hatching)[1] }));
 }
 
 // For those who hear the page: the verdict, where it is another one. Those who see it read it in the panel, and what the line
@@ -224,11 +229,11 @@ function sayVerdict(state) {
 /** The actions of the menu Check, and the listeners that keep the panel. */
 export function startVerdict() {
   for (const action of [
-    { id: 'other', name: 'Show the other picture', key: 'x', run: () => showOther(!sheet.other), can: () => isWord('ambiguous') },
-    { id: 'fix', name: 'Fix it …', run: () => openFix(), can: canFix },
-    { id: 'search', name: 'Search for another picture', run: () => searches.judge(), can: () => isWord('undecided') && !searches.running },
-    { id: 'stop', name: 'Stop the search', key: '.', run: () => searches.stop(), can: () => searches.running !== null },
-    { id: 'hatching', name: 'Show open cells, or those that differ', key: 'h', run: nextHatching },
+    { id: 'other', name: phrase('view.showOtherPicture'), key: 'x', run: () => showOther(!sheet.other), can: () => isWord('ambiguous') },
+    { id: 'fix', name: phrase('view.fixAction'), run: () => openFix(), can: canFix },
+    { id: 'search', name: phrase('view.searchAnotherPicture'), run: () => searches.judge(), can: () => isWord('undecided') && !searches.running },
+    { id: 'stop', name: phrase('view.stopSearchAction'), key: '.', run: () => searches.stop(), can: () => searches.running !== null },
+    { id: 'hatching', name: phrase('view.showOpenCellsThose'), key: 'h', run: nextHatching },
   ]) addAction({ place: 'check', ...action });
   on('stroke', () => searches.strokeBegun());
   on('closed', () => searches.shown(null));

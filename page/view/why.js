@@ -46,7 +46,7 @@ function whyParts(reason, doc) {
   if (!reason.premises.length) return [across ? phrase('view.excludedRowAlone', { at: reason.at }) : phrase('view.excludedColumnAlone', { at: reason.at })];
   const parts = [across ? phrase('view.excludedRowWhere', { at: reason.at }) : phrase('view.excludedColumnWhere', { at: reason.at })];
   reason.premises.forEach((premise, at) => {
-    parts.push(at === 0 ? '' : ', ', across ? phrase('view.column4', { at: premise.at }) : phrase('view.row4', { at: premise.at }));
+    parts.push(at === 0 ? '' : ', ', across ? phrase('view.columnIs', { at: premise.at }) : phrase('view.rowIs', { at: premise.at }));
     premiseLetters(premise, doc).forEach((letter, one) => parts.push(...(one ? [phrase('view.or')] : []), swatchChip(doc, letter)));
   });
   return [...parts, '.'];

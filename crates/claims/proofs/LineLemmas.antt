@@ -6,7 +6,8 @@ use Rattle.live_audit.specs.Calls.{Machine}
 use Rattle.session.specs.Truth.{AreReplies, TellsTruth}
 use Rattle.claims.specs.Session.{AnswersAll}
 
-pub answers_all : (input left held text : List ℕ) (m last : Machine) (done : Unit {0}) → held ≡ [] → TellsTruth (Some input) (Some left) (Some held) (Some text) m last (Ok done) → AnswersAll (lines_of input) text m last
+pub answers_all : (input left held text : List ℕ) (m last : Machine) (done : Unit {0}) → held ≡ [] → TellsTruth (Some input) (Some left) (Some held) (Some text) m last (Ok done)
+    → AnswersAll (lines_of input) text m last
 answers_all input left held text m last done empty (read, (consumes, (at_end, told))) =
     let whole : input ≡ read = consumes ∙ (ap (λ (xs : List ℕ). read ++ xs) at_end ∙ append-nil read) in
     record {

@@ -2,6 +2,8 @@
 use Rattle.std.proofs.Common.{◌≡◌, ◌<◌, ◌⊎◌, ℕ, List, [], ◌∷◌, ◌++◌, length, take, Option, Some, None, Result, Ok, Err, inl, inr, sym, ap, subst, ◌∙◌, arith}
 use Rattle.std.specs.List.{concat}
 use Rattle.std.specs.Io.KnownBytes.{Appends}
+use Rattle.line_settle.specs.Masks.{Masks}
+use Rattle.picture.specs.Rows.{Rows}
 use Rattle.clues.specs.ClueBook.{Clues, clues_of}
 use Rattle.line_settle.specs.FactSets.{Excludes, IsLeast, col_on, row_on}
 use Rattle.picture.specs.declared.line_id.LineId.{LineId}
@@ -13,8 +15,8 @@ use Rattle.justify.specs.declared.reason.Reason.{Reason}
 use Rattle.edits.specs.Design.{Design}
 use Rattle.edits.specs.History.{History}
 use Rattle.cert_text.specs.Cert.{Certificate}
-use Rattle.second_search.specs.Judging.{BreaksOff, EndsBy, Judges as JudgesParts, cells_at, answer_at}
-use Rattle.second_search.specs.Searching.{SplitsPast, alone}
+use Rattle.second_search.specs.JudgedParts.{BreaksOff, EndsBy, Judges as JudgesParts, cells_at, answer_at}
+use Rattle.second_search.specs.FixedOrder.{SplitsPast, alone}
 use Rattle.second_search.specs.Verdict.{Verdict as Judgement}
 use Rattle.second_search.specs.Verdict as judgement
 use Rattle.second_search.specs.declared.counting.Ending.TheVariants as ending
@@ -56,7 +58,7 @@ map_of s a = record {
 -- ---- the verdict
 
 -- a part at which going along the parts is broken off is split past the allowance
-splits_past : (clues : Clues) (facts picture : List (List ℕ)) (allowance : Option ℕ) (cells : List ℕ) (answer : Answer) (searched n most : ℕ) → allowance ≡ Some most
+splits_past : (clues : Clues) (facts : Masks) (picture : Rows) (allowance : Option ℕ) (cells : List ℕ) (answer : Answer) (searched n most : ℕ) → allowance ≡ Some most
     → EndsBy clues facts picture allowance cells answer ending.BrokenOff searched n → SplitsPast clues picture (alone cells facts picture ∷ []) most
 splits_past clues facts picture None cells Unknown searched n most e h = absurd cc
 splits_past clues facts picture (Some allowed) cells Unknown searched n most e h =
@@ -99,7 +101,7 @@ true_verdict old new (Undecided most) a h = record {
 
 -- ---- a reason
 
--- what is known before a step is excluded behind all steps
+-- what is known before a step is excluded after all steps
 known_behind : (book : Account) (n row col k : ℕ) → IsAccount book → n < length book.steps → IsKnownBefore book.base book.steps n row col k → Excludes book.facts row col k
 known_behind book n row col k is l (inl base) = λ left. base ((is.behind.leaves row col k).0 left).0
 known_behind book n row col k is l (inr drawn) =
@@ -205,7 +207,7 @@ replied request.Nothing old new text a h = (h.0, ap machine_of h.1)
 replied (request.Refused fault) old new text a h = (h.0, ap machine_of h.1)
 replied (request.Command c) old new text a h = told_by c old new text a h.0
 
--- ---- lines one behind the other
+-- ---- lines one after the other
 
 record IsToldTo (lines : List (List ℕ)) (old : Seen) (text : List ℕ) (new : Seen) : Type 0 where
   texts : List (List ℕ)
@@ -249,7 +251,8 @@ told_in_part lines had has old new a b =
     }
 
 -- what a session says from an audited bench is true
-pub tells_truth : (had have held holds : Option (List ℕ)) (old new : Seen) (r : Result (Unit {0}) SessionFault) → IsAudited old → Runs had have held holds old new r → TellsTruth had have held holds (machine_of old) (machine_of new) r
+pub tells_truth : (had have held holds : Option (List ℕ)) (old new : Seen) (r : Result (Unit {0}) SessionFault) → IsAudited old → Runs had have held holds old new r
+    → TellsTruth had have held holds (machine_of old) (machine_of new) r
 unfolding Runs
 tells_truth had have held holds old new (Ok done) a (read, (consumes, (end, said))) = (read, (consumes, (end, told _ held holds old new a said)))
 tells_truth had have held holds old new (Err fault.Read) a (read, (consumes, said)) = (read, (consumes, told _ held holds old new a said))

@@ -1,8 +1,9 @@
 -- The texts of answers, by what they tell.
 use Rattle.std.specs.Prelude.{ℕ, List, [], ◌∷◌, ◌++◌, codes, decimal, Option, Some, None}
+use Rattle.picture.specs.Rows.{Rows}
 use Rattle.picture.specs.Document.{Content}
 use Rattle.cert_text.specs.Cert.{Certificate}
-use Rattle.cert_text.specs.Writing.{cert_text}
+use Rattle.cert_text.specs.WrittenCert.{cert_text}
 use Rattle.edits.specs.Design.{Design}
 use Rattle.live_audit.specs.declared.verdict.Verdict.{Verdict}
 use Rattle.live_audit.specs.declared.verdict.Verdict.TheVariants.{Unique, Ambiguous, Undecided}
@@ -17,7 +18,7 @@ done_text = codes "ok\n"
 abbrev pub undecided_text : ℕ → List ℕ
 undecided_text splits = codes "undecided " ++ (decimal splits ++ 10 ∷ [])
 
-abbrev pub other_text : List (List ℕ) → List ℕ
+abbrev pub other_text : Rows → List ℕ
 other_text rows = codes "ambiguous\n" ++ picture_text rows
 
 abbrev pub verdict_text : Verdict → List ℕ

@@ -1,17 +1,19 @@
--- What each line of a session is answered, told of the history and the allowance alone: nothing of how it is found, kept
--- or counted.
-use Rattle.std.specs.Prelude.{◌≡◌, ◌⊎◌, ℕ, true, false, List, [], ◌∷◌, ◌++◌, length, take, Option, Some, None, Result, Ok, Err, ◌↔◌}
+-- What each line of a session is answered, told of the history and
+-- the allowance alone: nothing of how it is found, kept or counted.
+use Rattle.std.specs.Prelude.{◌≡◌, ◌⊎◌, ℕ, true, false, List, [], ◌∷◌, ◌++◌, length, take, Option, Some, None, Result}
+use Rattle.std.specs.Prelude.{Ok, Err, ◌↔◌}
 use Rattle.std.specs.List.{concat}
 use Rattle.std.specs.Io.KnownBytes.{Appends, Consumes, IsAtEnd}
-use Rattle.picture.specs.Rows.{line_of}
+use Rattle.line_settle.specs.Masks.{Masks}
+use Rattle.picture.specs.Rows.{line_of, Rows}
 use Rattle.picture.specs.declared.line_id.LineId.{LineId}
 use Rattle.clues.specs.ClueBook.{Clues, clue_at, clues_of}
 use Rattle.ppm_text.specs.Text.{ppm_text}
-use Rattle.non_text.specs.Writing.{is_two_colour}
+use Rattle.non_text.specs.WrittenNon.{is_two_colour}
 use Rattle.non_text.specs.Written.{non_text_of}
 use Rattle.line_settle.specs.FactSets.{Excludes, IsLeast, Leaves, col_on, row_on}
 use Rattle.justify.specs.declared.premise.Premise.{Premise}
-use Rattle.justify.specs.Forcing.{CanHaveWithout, ForcesFrom}
+use Rattle.justify.specs.Exclusions.{CanHaveWithout, ForcesFrom}
 use Rattle.justify.specs.Premises.{ArePremises, Mentions, Says, SaysBut}
 use Rattle.kept_audit.specs.Audit.{AreGivens}
 use Rattle.edits.specs.declared.fault.EditFault.TheVariants.{Place}
@@ -19,7 +21,7 @@ use Rattle.edits.specs.Design.{Design}
 use Rattle.edits.specs.Fault.{has_cell}
 use Rattle.edits.specs.History.{History, or_memory}
 use Rattle.second_search.specs.Parts.{IsPart}
-use Rattle.second_search.specs.Searching.{SplitsPast, alone}
+use Rattle.second_search.specs.FixedOrder.{SplitsPast, alone}
 use Rattle.cert_text.specs.Cert.{Certificate, IsCert}
 use Rattle.cert_check.specs.Tree.{IsProof}
 use Rattle.live_audit.specs.declared.verdict.Verdict.{Verdict}
@@ -46,14 +48,14 @@ use Rattle.session.specs.Texts.{certified_text, content, done_text, verdict_text
 -- ---- what is true of a document
 
 -- what the givens of a document exclude, and the map: the least closed exclusions that hold these
-pub record IsMapOf (d : Design) (base map : List (List ℕ)) : Type 0 where
+pub record IsMapOf (d : Design) (base : Masks) (map : List (List ℕ)) : Type 0 where
   pub givens : AreGivens d base
   pub least : IsLeast (clues_of d.rows) base map
 
 -- A part of the document's map costs more than so many splits: its search in the fixed order makes these, and needs one
 -- more.
 pub record IsPastSplits (d : Design) (splits : ℕ) : Type 0 where
-  pub base : List (List ℕ)
+  pub base : Masks
   pub map : List (List ℕ)
   pub is_map : IsMapOf d base map
   pub cells : List ℕ
@@ -66,7 +68,7 @@ pub record IsTrueVerdict (d : Design) (allowance : Option ℕ) (verdict : Verdic
   pub undecided : (splits : ℕ) → verdict ≡ Undecided splits → IsPastSplits d splits
 
 -- A line forces that colour k is not in a cell, from premises that the map excludes, of which none can be left out.
-pub record IsReason (clues : Clues) (base map : List (List ℕ)) (row col k : ℕ) (line : LineId)
+pub record IsReason (clues : Clues) (base : Masks) (map : List (List ℕ)) (row col k : ℕ) (line : LineId)
     (premises : List Premise) : Type 0 where
   pub place : ℕ
   pub in_row : row ≡ row_on line.axis line.at place
@@ -79,7 +81,7 @@ pub record IsReason (clues : Clues) (base map : List (List ℕ)) (row col k : �
   pub apart : Says premises place k → ⊥
 
 -- The colour is left; or the givens alone exclude it; or they do not, and this is a reason.
-abbrev pub IsWhy : Design → List (List ℕ) → List (List ℕ) → ℕ → ℕ → ℕ → Why → Type 0
+abbrev pub IsWhy : Design → Masks → List (List ℕ) → ℕ → ℕ → ℕ → Why → Type 0
 IsWhy d base map row col k Possible = Leaves map row col k
 IsWhy d base map row col k Given = Excludes base row col k
 IsWhy d base map row col k (By reason) =
@@ -92,11 +94,11 @@ pub record IsCertificateOf (d : Design) (cert : Certificate) : Type 0 where
   pub version : (cert.version ≡ 1) ↔ (cert.givens ≡ [])
   pub givens : NamesMarks (ordered d) cert.givens
   pub proof : IsProof (ordered d).rows cert
-  pub no_other : (other : List (List ℕ)) → IsOtherFor d other → ⊥
+  pub no_other : (other : Rows) → IsOtherFor d other → ⊥
 
 -- that, or there is another picture
 abbrev pub IsCertified : Design → Option Certificate → Type 0
-IsCertified d None = (other : List (List ℕ)) × IsOtherFor d other
+IsCertified d None = (other : Rows) × IsOtherFor d other
 IsCertified d (Some cert) = IsCertificateOf d cert
 
 -- ---- what a command is answered
@@ -106,8 +108,8 @@ abbrev pub report_of : History → List (List ℕ) → Verdict → List ℕ
 report_of h map verdict =
     report_text h.document (clues_of h.document.rows) map (verdict_word verdict) (length h.past) (length h.future)
 
--- An edit, an undo or a redo leads the history on where no fault refuses it. Else the first fault is said, or that memory
--- ran out.
+-- An edit, an undo or a redo leads the history on where no error refuses it. Else the first error is said, or that
+-- memory ran out.
 abbrev pub TellsStroke : Machine → Stroke → List ℕ → Machine → Type 0
 TellsStroke m stroke text next =
     ((stroke_fault m.history stroke ≡ None)
@@ -121,26 +123,27 @@ OrMemory text Is = Is ⊎ (text ≡ memory_line)
 -- What is shown and asked leaves the history and the allowance, and the text is right.
 abbrev pub IsShown : History → Option ℕ → Command → List ℕ → Type 0
 IsShown h allowance command.Clues text = OrMemory text (text ≡ clues_text (clues_of h.document.rows))
-IsShown h allowance command.Map text = OrMemory text ((base : List (List ℕ)) × ((map : List (List ℕ))
+IsShown h allowance command.Map text = OrMemory text ((base : Masks) × ((map : List (List ℕ))
     × (IsMapOf h.document base map × (text ≡ map_text map))))
 IsShown h allowance command.Verdict text = OrMemory text ((verdict : Verdict)
     × (IsTrueVerdict h.document allowance verdict × (text ≡ verdict_text verdict)))
 IsShown h allowance (command.Why row col k) text =
     ((has_cell h.document.rows row col ≡ false) × (text ≡ edit_line Place))
-    ⊎ ((has_cell h.document.rows row col ≡ true) × OrMemory text ((base : List (List ℕ)) × ((map : List (List ℕ))
-    × ((why : Why) × (IsMapOf h.document base map × (IsWhy h.document base map row col k why × (text ≡ why_text why)))))))
+    ⊎ ((has_cell h.document.rows row col ≡ true) × OrMemory text ((base : Masks) × ((map : List (List ℕ))
+    × ((why : Why)
+    × (IsMapOf h.document base map × (IsWhy h.document base map row col k why × (text ≡ why_text why)))))))
 IsShown h allowance command.WritePpm text = OrMemory text (text ≡ ppm_text (content h.document))
 IsShown h allowance command.WriteNon text =
     ((is_two_colour h.document.rows ≡ false) × (text ≡ two_colours_line))
     ⊎ ((is_two_colour h.document.rows ≡ true) × OrMemory text (text ≡ non_text_of h.document.rows))
-IsShown h allowance command.Report text = OrMemory text ((base : List (List ℕ)) × ((map : List (List ℕ))
+IsShown h allowance command.Report text = OrMemory text ((base : Masks) × ((map : List (List ℕ))
     × ((verdict : Verdict) × (IsMapOf h.document base map
     × (IsTrueVerdict h.document allowance verdict × (text ≡ report_of h map verdict))))))
 IsShown h allowance command.Certify text = OrMemory text ((found : Option Certificate)
     × (IsCertified h.document found × (text ≡ certified_text found)))
 IsShown h allowance c text = ⊥
 
--- A command's answer, with the history and the allowance behind it.
+-- A command's answer, with the history and the allowance after it.
 abbrev pub IsAnswered : Machine → Command → List ℕ → Machine → Type 0
 IsAnswered m (command.Edit e) text next = TellsStroke m (Edits e) text next
 IsAnswered m command.Undo text next = TellsStroke m Undoes text next
@@ -148,7 +151,7 @@ IsAnswered m command.Redo text next = TellsStroke m Redoes text next
 IsAnswered m (command.Allow allowance) text next = (text ≡ done_text) × (next ≡ machine m.history allowance)
 IsAnswered m c text next = IsShown m.history m.allowance c text × (next ≡ m)
 
--- A line's answer: a blank line has none, and one that is no command the name of its first fault.
+-- A line's answer: a blank line has none, and one that is no command the name of its first error.
 abbrev pub IsReply : Machine → Request → List ℕ → Machine → Type 0
 IsReply m request.Nothing text next = (text ≡ []) × (next ≡ m)
 IsReply m (request.Refused fault) text next = (text ≡ line_line fault) × (next ≡ m)
@@ -156,7 +159,7 @@ IsReply m (request.Command c) text next = IsAnswered m c text next
 
 -- ---- a whole session
 
--- there is one text for each line, one behind the other
+-- there is one text for each line, one after the other
 abbrev pub AreReplies : Machine → List (List ℕ) → List (List ℕ) → Machine → Type 0
 AreReplies m [] [] last = last ≡ m
 AreReplies m (line ∷ lines) (text ∷ texts) last =
@@ -169,7 +172,7 @@ pub record AreTold (lines : List (List ℕ)) (had has : Option (List ℕ)) (m la
   pub replies : AreReplies m lines texts last
   pub went_out : Appends had has (concat texts)
 
--- The first lines are answered; of the last text a front went out.
+-- The first lines are answered; of the last text a prefix went out.
 pub record AreToldInPart (lines : List (List ℕ)) (had has : Option (List ℕ)) (m last : Machine) : Type 0 where
   pub before : List (List ℕ)
   pub line : List ℕ

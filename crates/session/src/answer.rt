@@ -215,7 +215,7 @@ fn verdict_word(verdict: &Verdict<'_>) -> &'static [u8]
     }
 }
 
-// The P3 text of a document.
+// The P3 text of a document. A write to a `Vec` fails only when memory runs out.
 fn ppm_text(alloc: Global, document: &Document) -> Result<Vec<u8>, AllocError>
     ensures { IfOk result (λ text. text.items ≡ ppm_text (content_of document.now)) }
 {

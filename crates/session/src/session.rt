@@ -15,9 +15,10 @@ use std::io::{Read, Write};
 
 /// Answers each line of the reader's input on the writer, until the input ends.
 ///
-/// Each answer is true of the document that the lines before it lead to. A refused command prints its refusal and the session
-/// goes on. After a failed read each line is answered whose line feed had come, and an unfinished one is not. After a failed
-/// write a front of the right text went out, and the bench holds the effect of the command that was being answered.
+/// Each answer is true of the document that the lines before it lead to. A refused command prints its refusal and the
+/// session goes on. After a failed read each line is answered whose line feed had come, and an unfinished one is not.
+/// After a failed write a prefix of the right text went out, and the bench holds the effect of the command that was
+/// being answered.
 pub fn run_session<R: Read, W: Write, E: LineEngine + Drop, A: Agenda + Drop>(
     alloc: Global,
     reader: &mut R,

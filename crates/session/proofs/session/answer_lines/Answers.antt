@@ -1,6 +1,6 @@
 use Rattle.std.proofs.Common.{List, subst, ℕ}
 use Rattle.std.specs.Io.KnownBytes.{Appends}
-use Rattle.picture.specs.Writing.{AppendsFront}
+use Rattle.picture.specs.Writers.{AppendsFront}
 use Rattle.std.proofs.lemmas.Result.{err_from_is_err_and}
 use Rattle.session.proofs.RunLemmas.{cuts_no_more, cuts_one, run_begins, run_breaks, run_ends, run_goes_on, run_is_cut}
 use Rattle.session.proofs.session.answer_lines.Goals as goal
@@ -19,7 +19,8 @@ returns-in_err-send g c =
     let cut = cuts_one _ _ c.loop-request.lines c.next.new.self c.in_ok-request.field-0 c.in-Some.request c.next.result c.in_ok-request.was c.in-Some.is c.next.ensures.value in
     let wrote = g.W.Write.contents c.loop-request.writer in
     let P : List ℕ → Type 0 = λ bytes. AppendsFront wrote (g.W.Write.contents c.send.new.writer) bytes in
-    rw p.1 (rw p.2 (run_breaks _ _ _ _ wrote _ _ _ _ c.loop-request.lines c.next.new.self c.in-Some.request _ c.loop-request.invariant cut c.answer_to-answer.ensures (subst P c.bytes.ensures c.in_err-send.ensures.err)))
+    rw p.1 (rw p.2 (run_breaks _ _ _ _ wrote _ _ _ _ c.loop-request.lines c.next.new.self c.in-Some.request _ c.loop-request.invariant cut c.answer_to-answer.ensures
+    (subst P c.bytes.ensures c.in_err-send.ensures.err)))
 
 pub loop-request-preserved-in_ok-send : goal.loop-request-preserved-in_ok-send
 loop-request-preserved-in_ok-send g c =
@@ -36,4 +37,5 @@ loop-request-preserved g c =
     run_goes_on _ _ _ _ wrote _ _ _ _ c.loop-request.lines c.next.new.self c.in-Some.request _ c.loop-request.invariant cut c.answer_to-answer.ensures (subst P c.bytes.ensures c.in_ok-send.ensures.ok)
 
 pub returns : goal.returns
-returns g c = run_ends _ _ _ _ _ _ _ c.loop-request.lines c.next.new.self c.loop-request.invariant (cuts_no_more _ _ c.loop-request.lines c.next.new.self c.in_ok-request.field-0 c.next.result c.in_ok-request.was c.in_default.is c.next.ensures.value)
+returns g c = run_ends _ _ _ _ _ _ _ c.loop-request.lines c.next.new.self c.loop-request.invariant
+    (cuts_no_more _ _ c.loop-request.lines c.next.new.self c.in_ok-request.field-0 c.next.result c.in_ok-request.was c.in_default.is c.next.ensures.value)

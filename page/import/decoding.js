@@ -1,0 +1,45 @@
+// Image files as pixels: the size is read from the head of a file, and the browser reads the rest of it, made smaller where it is large.
+
+import { FileFault } from '../document/limits.js';
+import { penOf } from '../draw/small.js';
+import { phrase } from '../texts/phrase.js';
+import { sizeOfImage } from './images.js';
+
+export const MOST_IMAGE = 1 << 28; // bytes of a file
+export const HEAD = 1 << 20; // bytes that are read here: the size is in them
+export const IMAGES = new Set(['png', 'jpeg', 'gif', 'webp']);
+const MOST_DECODED = 100e6; // pixels of an image file, which the browser unpacks
+const MOST_SIDE = 2048; // pixels a side that a larger one is made smaller to: more than the dialog works on
+
+/**
+ * How an image of that size is decoded: a large one smaller, by its width alone, so that a photo that is turned keeps its shape.
+ * @param {number[]} size
+ * @returns {ImageBitmapOptions}
+ */
+function decoding(size) {
+  const [width, height] = size;
+  if (width < 1 || height < 1) throw new FileFault(phrase('import.pictureNoPixels'));
+  if (width * height > MOST_DECODED) throw new FileFault(phrase('import.picturePixelsMostAll', { width, height, most: MOST_DECODED }));
+  const scale = MOST_SIDE / Math.max(width, height);
+  return scale < 1 ? { resizeWidth: Math.max(1, Math.round(width * scale)), resizeQuality: 'high' } : {};
+}
+
+/** The pixels of an image file, after the size in its head was looked at: the browser reads the rest of it. */
+export async function imageOfFile(file, head, kind) {
+  const size = sizeOfImage(head, kind);
+  if (!size) throw new FileFault(phrase('import.sizeNotToldBeginning'));
+  const options = decoding(size);
+  let bitmap;
+  try {
+    bitmap = await createImageBitmap(file.type ? file : new Blob([file], { type: `image/${kind}` }), options);
+  } catch {
+    throw new FileFault(phrase('import.browserDoesNotRead'));
+  }
+  const scale = Math.min(1, MOST_SIDE / Math.max(bitmap.width, bitmap.height)); // where the browser did not make it smaller
+  const pen = penOf(Math.max(1, Math.round(bitmap.width * scale)), Math.max(1, Math.round(bitmap.height * scale)));
+  pen.imageSmoothingQuality = 'high';
+  pen.drawImage(bitmap, 0, 0, pen.canvas.width, pen.canvas.height);
+  bitmap.close();
+  const { data } = pen.getImageData(0, 0, pen.canvas.width, pen.canvas.height);
+  return { width: pen.canvas.width, height: pen.canvas.height, data };
+}
