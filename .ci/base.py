@@ -34,7 +34,7 @@ MOST = {
     'A certificate proves uniqueness': 299,
     'A check answers exactly': 210,
     'A refused edit changes nothing': 185,
-    'It stays true': 1045,
+    'It stays true': 1132,
     "A session's answers are right": 1091,
     'Published pairs are accepted': 1613,
 }
