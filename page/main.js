@@ -11,9 +11,10 @@ import { startTracing } from './import/tracing.js';
 import { keep } from './library/keep.js';
 import { startSaving } from './library/saving.js';
 import { startPlay } from './play/play.js';
+import { openAgain, startLanguage } from './start/language.js';
 import { startLinked } from './start/linked.js';
 import { showStart, startStart } from './start/start.js';
-import { LANGUAGE, phrase } from './texts/phrase.js';
+import { DIRECTION, LANGUAGE, phrase } from './texts/phrase.js';
 import { actionButton, actions, hearKeys, makeMenus } from './view/actions.js';
 import { addEditActions, addKeys, addPictureActions, addViewActions } from './view/commands.js';
 import { startFixing } from './view/fixing.js';
@@ -55,6 +56,7 @@ addPictureActions();
 startPalettes();
 addViewActions();
 startTracing();
+startLanguage();
 addKeys();
 addHelpActions();
 makeQuickButtons();
@@ -68,7 +70,7 @@ keep.ready();
 hearFiles();
 showStart();
 showExportPanel();
-startLinked();
+startLinked().then(openAgain);
 keepOffline();
 
 // ---- what the whole page has
@@ -80,7 +82,7 @@ function nameParts() {
     audit: phrase('main.verdict'), colours: phrase('main.colours'), out: phrase('main.saveExport'), cell: phrase('main.cell'), lines: phrase('main.rowsColumns'),
   };
   for (const [id, name] of Object.entries(names)) $(id).setAttribute('aria-label', name);
-  document.documentElement.lang = LANGUAGE;
+  Object.assign(document.documentElement, { lang: LANGUAGE, dir: DIRECTION });
   document.body.dataset.drop = phrase('main.dropOpen');
 }
 

@@ -48,6 +48,13 @@ function bundled(file, ...words) {
   return stdout.trimEnd();
 }
 
+// The names of texts are short in what is built: each stands there once for each language, and where it is asked for.
+function withShortNames(code) {
+  const names = [...read('page', 'texts', 'en.js').matchAll(/^ {2}'([a-z]+\.\w+)': /gm)].map(([, name]) => name);
+  const short = new Map(names.map((name, at) => [name, `t${at.toString(36)}`]));
+  return code.replace(/"([a-z]+\.\w+)"/g, (whole, name) => (short.has(name) ? `"${short.get(name)}"` : whole));
+}
+
 const script = (file) => bundled(file, '--format=iife', `--define:LIMITS=${JSON.stringify(limitsOf(root))}`);
 const hashOf = (text) => `'sha256-${createHash('sha256').update(text).digest('base64')}'`;
 
@@ -64,7 +71,7 @@ function pageTexts(version) {
   const built = { module: packed.toString('base64'), packed: 'gzip', worker: script(join(root, 'page', 'engine', 'worker.js')), version, commit: commitOf(), trees: treesOf() };
   const icon = Buffer.from(read('page', 'icon.svg')).toString('base64');
   // What must not stand in a script within HTML; esbuild takes care of the end of the script.
-  const code = `\n${script(entry).replaceAll('<!--', '<\\!--')}\n`;
+  const code = `\n${withShortNames(script(entry)).replaceAll('<!--', '<\\!--')}\n`;
   const style = `\n${bundled(join(root, 'page', 'styles', 'index.css'))}\n`;
   const parts = (served) => ({
     '<!-- head: policy, icon -->': `<meta http-equiv="Content-Security-Policy" content="${policyOf(code, style, served)}">\n<link rel="icon" href="data:image/svg+xml;base64,${icon}">${served ? '\n<link rel="manifest" href="manifest.webmanifest">' : ''}`,

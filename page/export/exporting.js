@@ -8,6 +8,7 @@ import { drawPaper, sizeOfPaper } from '../draw/papers.js';
 import { drawSmall, penOf } from '../draw/small.js';
 import { CanvasSurface } from '../draw/surface.js';
 import { bench } from '../engine/bench.js';
+import { GRADE_MARK } from '../grade/grade.js';
 import { keep } from '../library/keep.js';
 import { SAVE_TYPES, download, exportAs, saved, saving, showFileName, textAs } from '../library/saving.js';
 import { phrase } from '../texts/phrase.js';
@@ -75,7 +76,7 @@ const ABOUT_FIELDS = { title: phrase('export.title'), author: phrase('export.aut
 const LONG_FIELDS = ['description', 'note'];
 
 // A description with the grade as its last line, in place of an earlier one.
-const withGrade = (text) => [...text.split('\n').filter((line) => line && !line.startsWith('Grade: ')), phrase('export.gradeLine', { gradeLine: gradeLine() })].join('\n');
+const withGrade = (text) => [...text.split('\n').filter((line) => line && !line.startsWith(GRADE_MARK)), GRADE_MARK + gradeLine()].join('\n');
 
 /** Asks for the texts about the puzzle, which go into its files and on the printed sheet, and for the name of the file. */
 async function askAbout() {

@@ -66,6 +66,9 @@ export function gradeOf({ picture, givens = [], verdict, map, certificate = null
   return { word: wordFor(figures), ...figures };
 }
 
+/** What the line of a grade in a description begins with: the same in all languages. */
+export const GRADE_MARK = 'Grade: ';
+
 /** The grade in one line, for a list or a description. */
 export function gradeText(grade) {
   const { none, word, rounds, evaluations, wait, open, splits, depth } = grade;

@@ -45,6 +45,6 @@ export async function takeCertificate(certificate, name) {
   }
   await asSeen();
   const { proves, text } = await checkedCertificate(certificate, bench.state);
-  say(`${proves ? '✓ ' : ''}“${name}”: ${text}`, proves ? '' : 'alarm');
+  say(`${proves ? '✓ ' : ''}${phrase('import.certificateSays', { name, text })}`, proves ? '' : 'alarm');
   return proves;
 }

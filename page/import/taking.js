@@ -38,7 +38,7 @@ export async function takeFile(file, handle = null) {
     if (IMAGES.has(kind)) return await importImage(await imageOfFile(file, head, kind), bareName(file.name));
     return await takeBytes(new Uint8Array(await file.arrayBuffer()), file, handle);
   } catch (fault) {
-    say(phrase('import.couldNotOpened', { name: file.name ? `“${file.name}”` : phrase('import.whatPasted'), fault: faultText(fault) }), 'alarm');
+    say(phrase('import.couldNotOpened', { name: file.name ? phrase('import.quoted', { name: file.name }) : phrase('import.whatPasted'), fault: faultText(fault) }), 'alarm');
     return false;
   }
 }

@@ -13,7 +13,7 @@ import { openDialog } from '../view/dialogs.js';
 import { asSeen } from '../view/tools.js';
 import { keep } from './keep.js';
 
-export const saving = { handle: null, form: 'xml' };
+export const saving = { handle: null, form: 'xml', asks: true }; // whether it asks before an unsaved picture is left
 export const SAVE_TYPES = {
   xml: { type: 'application/xml', ending: '.xml', what: phrase('library.webPaintNumberXml') },
   ppm: { type: 'image/x-portable-pixmap', ending: '.ppm', what: phrase('library.plainPpmPictureRest') },
@@ -178,7 +178,7 @@ export function startSaving() {
   on('kept', showFileName);
   on('closed', showFileName);
   addEventListener('beforeunload', (event) => {
-    if (!bench.state || bench.isSaved) return;
+    if (!bench.state || bench.isSaved || !saving.asks) return;
     event.preventDefault();
     event.returnValue = 'unsaved'; // what older browsers ask for
   });

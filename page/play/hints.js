@@ -10,10 +10,9 @@ import { play } from './play.js';
 export const puzzleOf = (state) => new Puzzle(state.rows, state.columns, cellsOf(state.picture), state.givens);
 
 const lineName = (line) => (line < play.state.rows ? phrase('play.rowLine', { line: line + 1 }) : phrase('play.columnLine', { rows: line - play.state.rows + 1 }));
-const across = (line) => (line < play.state.rows ? 'column' : 'row');
 const placeIn = (line, index) => (line < play.state.rows ? (index % play.state.columns) + 1 : Math.floor(index / play.state.columns) + 1);
 
-/** Places along a line in words: `columns 2–4, 7`. */
+/** Places along a line in words, as in “columns 2–4, 7”. */
 export function placesText(line, cells) {
   const places = cells.map((index) => placeIn(line, index)).sort((one, other) => one - other);
   const spans = [];
@@ -21,14 +20,16 @@ export function placesText(line, cells) {
     if (spans.length && spans.at(-1)[1] === at - 1) spans.at(-1)[1] = at;
     else spans.push([at, at]);
   }
-  return `${across(line)}${places.length === 1 ? '' : 's'} ${spans.map(([from, to]) => (from === to ? from : `${from}–${to}`)).join(', ')}`;
+  const found = { count: places.length, spans: spans.map(([from, to]) => (from === to ? from : `${from}–${to}`)).join(', ') };
+  return line < play.state.rows ? phrase('play.inColumns', found) : phrase('play.inRows', found);
 }
 
 /** What a step says, as far as it is told: 'line', 'cells' or 'why'. */
 export function stepText({ line, cells, settled, premises }, how = 'why') {
   const told = settled.length ? settled : cells.map(({ index }) => index);
   if (how === 'line') return phrase('play.tellsMore', { lineName: lineName(line) });
-  const first = `${lineName(line)} ${settled.length ? 'settles' : 'narrows'} ${placesText(line, told)}`;
+  const fields = { lineName: lineName(line), places: placesText(line, told) };
+  const first = settled.length ? phrase('play.settles', fields) : phrase('play.narrows', fields);
   if (how === 'cells') return `${first}.`;
   return `${first}${premises.length ? phrase('play.sinceCountKnown', { places: placesText(line, premises), count: premises.length }) : phrase('play.clueAlone')}.`;
 }

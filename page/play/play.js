@@ -70,7 +70,7 @@ function playBar() {
 }
 
 function playBoard() {
-  const field = make('canvas', { id: 'play-field', tabindex: '0', role: 'application', 'aria-roledescription': 'puzzle', 'aria-label': phrase('play.puzzle'), 'aria-describedby': 'play-cell' });
+  const field = make('canvas', { id: 'play-field', tabindex: '0', role: 'application', 'aria-roledescription': phrase('play.puzzle'), 'aria-label': phrase('play.puzzle'), 'aria-describedby': 'play-cell' });
   withoutGestures(field);
   field.addEventListener('contextmenu', (event) => event.preventDefault());
   for (const [type, hear] of Object.entries(playPointer)) field.addEventListener(type, hear);

@@ -31,7 +31,7 @@ export function walkBar() {
     button('walk-back', '◂', () => goTo(walking.at - 1), { 'aria-label': phrase('play.stepBack') }),
     make('input', { type: 'range', id: 'walk-at', min: 0, value: 0, 'aria-label': phrase('play.step'), oninput: (event) => goTo(Number(event.target.value)) }),
     button('walk-on', '▸', () => goTo(walking.at + 1), { 'aria-label': phrase('play.stepOn') }),
-    button('walk-play', phrase('play.play'), turnPlaying), button('walk-hardest', phrase('play.hardestStep'), () => goTo(walking.walk.hardest)),
+    button('walk-play', phrase('play.playSteps'), turnPlaying), button('walk-hardest', phrase('play.hardestStep'), () => goTo(walking.walk.hardest)),
     make('label', {}, phrase('play.order'), make('select', { id: 'walk-order', onchange: (event) => takeOrder(event.target.value) }, ...ORDERS.map(([value, name]) => make('option', { value }, name)))),
     make('label', {}, make('input', { type: 'checkbox', id: 'walk-heat', onchange: showHeat }), phrase('play.heatMap')),
     button('walk-end', phrase('play.solveYourself'), endWalk));
@@ -172,7 +172,7 @@ function turnPlaying() {
 function stopPlaying() {
   clearInterval(walking.timer);
   walking.timer = 0;
-  if ($('walk-play')) $('walk-play').textContent = phrase('play.play');
+  if ($('walk-play')) $('walk-play').textContent = phrase('play.playSteps');
 }
 
 function showHeat() {

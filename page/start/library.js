@@ -5,7 +5,7 @@ import { on } from '../base/events.js';
 import { cleanName, sizeText } from '../base/words.js';
 import { smallPicture } from '../draw/small.js';
 import { bench } from '../engine/bench.js';
-import { gradeName } from '../grade/names.js';
+import { gradeName, verdictName } from '../grade/names.js';
 import { exportAll } from '../import/archives.js';
 import { keep } from '../library/keep.js';
 import { openRecord } from '../library/open.js';
@@ -21,7 +21,7 @@ function ageText(when, now = Date.now()) {
   return age < DAY ? phrase('start.hoursAgo', { hours: Math.floor(age / HOUR) }) : phrase('start.daysAgo', { days: Math.floor(age / DAY) });
 }
 
-const VERDICTS = { unique: '✓\u00a0unique', ambiguous: '≠\u00a0ambiguous', undecided: '?\u00a0undecided' };
+const SIGNS = { unique: '✓', ambiguous: '≠', undecided: '?' };
 const ORDERS = {
   when: [phrase('start.newestFirst'), (a, b) => b.when - a.when],
   name: [phrase('start.byName'), (a, b) => a.name.localeCompare(b.name)],
@@ -96,7 +96,7 @@ async function showRoom(keeper) {
 
 function tileOf(card) {
   const isOpen = card.id === keep.id && bench.state !== null;
-  const facts = [sizeText(card.doc), VERDICTS[card.verdict], card.grade && gradeName(card.grade)].filter(Boolean).join(', ');
+  const facts = [sizeText(card.doc), SIGNS[card.verdict] && `${SIGNS[card.verdict]}\u00a0${verdictName(card.verdict)}`, card.grade && gradeName(card.grade)].filter(Boolean).join(', ');
   const when = [isOpen ? phrase('start.openHere') : ageText(card.when), card.isSaved ? '' : phrase('start.notFile')].filter(Boolean).join(', ');
   const open = () => (isOpen ? view.goBack() : openRecord(card.id));
   return make('li', { class: 'tile' },
@@ -148,7 +148,7 @@ async function duplicate(card) {
 async function remove(cards) {
   const gone = [];
   for (const { id } of cards) gone.push(await keep.keeper.drop(id));
-  const what = cards.length === 1 ? `“${cards[0].name}”` : phrase('start.pictures', { pictures: cards.length });
+  const what = cards.length === 1 ? phrase('start.quoted', { name: cards[0].name }) : phrase('start.pictures', { pictures: cards.length });
   say(phrase('start.deleted', { what }), '', { name: phrase('start.undo'), run: async () => {
     for (const one of gone) await keep.keeper.restore(one);
     say(phrase('start.broughtBack', { what }));

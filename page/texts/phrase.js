@@ -2,7 +2,12 @@
 // for values, `{name}`, and for what goes with a number, `{cells|# cell|# cells}`: the forms stand in the order in which
 // Intl.PluralRules names them for the language, and # is the number.
 
+import { DE } from './de.js';
 import { EN } from './en.js';
+import { DIRECTION, LANGUAGE, MIRRORED } from './language.js';
+import { mirrored } from './mirrored.js';
+
+export { DIRECTION, LANGUAGE };
 
 /** @typedef {keyof typeof EN} Phrase */
 /**
@@ -10,8 +15,12 @@ import { EN } from './en.js';
  * @typedef {{ [Name in Phrase]: ValuesOf<(typeof EN)[Name]> extends [] ? Name : never }[Phrase]} PlainPhrase
  */
 
-/** The language of the texts, as BCP 47 names it. */
-export const LANGUAGE = 'en';
+/**
+ * The tables of all languages: `tsc -p page` refuses one whose names or places are not those of English.
+ * @type {{ en: typeof EN, de: SameTexts<typeof EN, typeof DE> }}
+ */
+const TABLES = { en: EN, de: DE };
+const TEXTS = TABLES[LANGUAGE] ?? EN;
 
 const ORDER = ['zero', 'one', 'two', 'few', 'many', 'other'];
 const plurals = new Intl.PluralRules(LANGUAGE);
@@ -38,4 +47,4 @@ export const filled = (text, values) => text.replace(/\{(\w+)(?:\|([^}]*))?\}/g,
  * @param {ValuesOf<(typeof EN)[Name]>} values
  * @returns {string}
  */
-export const phrase = (name, ...values) => filled(EN[name], values[0] ?? {});
+export const phrase = (name, ...values) => filled(LANGUAGE === MIRRORED ? mirrored(TEXTS[name]) : TEXTS[name], values[0] ?? {});

@@ -29,7 +29,7 @@ export function clueInto(element, name, blocks) {
     return chip;
   });
   element.replaceChildren(make('b', {}, name), ...chips, ...(blocks.length ? [] : ['0']));
-  element.setAttribute('aria-label', `${name}: ${blocks.map((block) => `${block.length} ${wordOf(block.letter)}`).join(', ') || 'empty'}`);
+  element.setAttribute('aria-label', `${name}: ${blocks.map((block) => `${block.length} ${wordOf(block.letter)}`).join(', ') || phrase('view.emptyClue')}`);
 }
 
 /** What is known of a cell, in words. */

@@ -32,7 +32,7 @@ const paragraphs = (texts) => texts.map((text) => make('p', {}, text));
 function versionText() {
   const { version, commit, trees = {} } = built();
   const made = Object.entries(trees).map(([folder, name]) => `${folder} ${String(name).slice(0, 12)}`).join(', ');
-  return `nonobench ${version ?? ''}${commit ? phrase('view.commit', { commit }) : ''}. It runs in your browser alone and sends nothing.${made ? phrase('view.madeGitsNamesThese', { made }) : ''}`;
+  return `nonobench ${version ?? ''}${commit ? phrase('view.commit', { commit }) : ''}. ${phrase('view.runsAlone')}${made ? phrase('view.madeGitsNamesThese', { made }) : ''}`;
 }
 
 function showGuide() {

@@ -76,7 +76,7 @@ const tellColours = behindFrame(() => {
 
 // Colours that a solver may take for one another, in words; '' where there are none.
 export function nearText(doc) {
-  const name = (letter) => (letter === '.' ? phrase('view.theBackground') : `“${inkName(doc, letter)}” (${letter})`);
+  const name = (letter) => (letter === '.' ? phrase('view.theBackground') : phrase('view.nameLetter', { name: inkName(doc, letter), letter }));
   const pairs = nearPairs(doc).map(([one, other]) => phrase('view.andPair', { name: name(one), name2: name(other) }));
   if (!pairs.length) return '';
   const more = pairs.length > 2 ? phrase('view.pairs', { pairs: pairs.length - 2 }) : '';

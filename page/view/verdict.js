@@ -104,14 +104,14 @@ function showHatching(state) {
   sheet.redraw();
 }
 
-const numbersOf = (letter, set) => {
+// The numbers of lines in words of `named`, from 1; '' where there are none.
+const numbersOf = (set, named) => {
   const spans = [];
   for (const at of [...set].sort((a, b) => a - b)) {
     if (spans.length && spans.at(-1)[1] === at) spans.at(-1)[1]++;
     else spans.push([at + 1, at + 1]);
   }
-  const places = spans.map(([from, to]) => (from === to ? from : `${from}–${to}`));
-  return places.length ? `${letter}${set.size === 1 ? '' : 's'} ${places.join(', ')}` : '';
+  return spans.length ? named(set.size, spans.map(([from, to]) => (from === to ? from : `${from}–${to}`)).join(', ')) : '';
 };
 
 // In how many cells the other picture differs: counted once for each verdict.
@@ -134,7 +134,7 @@ function verdictTexts(state) {
   const { verdict, givens, open } = state;
   const size = state.rows * state.columns;
   if (verdict.word === 'unique') {
-    const with_ = givens.size ? phrase('view.andThe', { count: givens.size === 1 ? phrase('view.givenCell') : phrase('view.givenCells', { count: givens.size }) }) : '';
+    const with_ = givens.size ? phrase('view.andGivenCells', { cells: givens.size }) : '';
     return [phrase('view.unique'), phrase('view.noOtherPictureThese', { with: with_, open: open ? phrase('view.someNeedGuessing', { open, count: size }) : phrase('view.lineLogicSolvesWithout') })];
   }
   if (verdict.word === 'ambiguous') return [phrase('view.ambiguous'), phrase('view.anotherPictureTheseClues', { cells: differCount(state) })];
@@ -153,7 +153,7 @@ function showVerdict(state) {
   $('verdict-short').textContent = verdictShort(state);
   $('open-name').textContent = word === 'unique' ? phrase('view.needGuessing') : phrase('view.openCellsRow');
   $('open').textContent = phrase('view.openOfCells', { open: state.open, cells: state.rows * state.columns });
-  $('changed').textContent = [numbersOf('row', state.changed.rows), numbersOf('column', state.changed.columns)].filter(Boolean).join('; ') || phrase('view.none');
+  $('changed').textContent = [numbersOf(state.changed.rows, (rows, places) => phrase('view.changedRows', { rows, places })), numbersOf(state.changed.columns, (columns, places) => phrase('view.changedColumns', { columns, places }))].filter(Boolean).join('; ') || phrase('view.none');
   $('changed').title = $('changed').textContent;
   if (word !== 'ambiguous') sheet.other = false;
   showVerdictButtons();
