@@ -9,6 +9,7 @@ import { fileURLToPath } from 'node:url';
 import '../page/test/limits.mjs';
 
 const { EN } = await import('../page/texts/en.js');
+const { DE } = await import('../page/texts/de.js');
 const { LANGUAGE, filled, phrase } = await import('../page/texts/phrase.js');
 const page = fileURLToPath(new URL('../page/', import.meta.url));
 const modules = readdirSync(page, { recursive: true }).filter((file) => file.endsWith('.js') && !/^(test|texts)\//.test(file)).sort();
@@ -22,12 +23,12 @@ test('each text of the table is used, and each that is asked for is there', () =
     assert.deepEqual(asked.filter((name) => !(name in EN)), []);
 });
 
-test('a name begins with its room, and no text stands twice in a room', () => {
+test('a name begins with its room, and no text stands twice in a room in all languages', () => {
     const rooms = new Set(modules.map((file) => (file.includes('/') ? file.split('/')[0] : 'main')));
     for (const name of Object.keys(EN)) assert.ok(rooms.has(name.split('.')[0]), name);
     const seen = new Map();
     for (const [name, text] of Object.entries(EN)) {
-        const key = `${name.split('.')[0]} ${text}`;
+        const key = `${name.split('.')[0]} ${text} ${DE[name]}`;
         assert.ok(!seen.has(key), `${name} is ${seen.get(key)}`);
         seen.set(key, name);
     }
