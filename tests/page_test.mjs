@@ -5,6 +5,7 @@ import { Browser } from './page_browser.mjs';
 import { Trial, hookedPage } from './page_trial.mjs';
 import * as coming from './page_coming.mjs';
 import * as drawing from './page_drawing.mjs';
+import * as languages from './page_languages.mjs';
 import * as lasting from './page_lasting.mjs';
 import * as looks from './page_looks.mjs';
 import * as loss from './page_loss.mjs';
@@ -23,7 +24,7 @@ import * as ways from './page_ways.mjs';
 const [folder, ...only] = [resolve(process.argv[2]), ...process.argv.slice(3)];
 const url = hookedPage(process.env.PAGE, folder);
 const isWanted = (name) => !only.length || only.some((one) => name === one || (one.endsWith(':') && name.startsWith(one)));
-const tests = Object.entries({ ...drawing, ...lasting, ...loss, ...marks, ...meaning, ...mending, ...repairs, ...ways, ...stored, ...out, ...looks, ...pens, ...phone, ...sharing, ...coming, ...points.tests })
+const tests = Object.entries({ ...drawing, ...languages, ...lasting, ...loss, ...marks, ...meaning, ...mending, ...repairs, ...ways, ...stored, ...out, ...looks, ...pens, ...phone, ...sharing, ...coming, ...points.tests })
     .filter(([name, test]) => typeof test === 'function' && name !== 'hard' && !name.endsWith('Point') && isWanted(name));
 const browser = new Browser();
 const passed = new Set();

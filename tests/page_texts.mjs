@@ -1,4 +1,5 @@
-// Tests of the page's texts: all in one table, each used, with the right number of forms; and no other module has a text of its own.
+// Tests of the page's texts: all in one table for each language, each used, with the same places and the right number of forms; and no
+// other module has a text of its own.
 // The last wants TypeScript's compiler to read the modules, and is left out where there is none. Run: node --test tests/page_texts.mjs
 import assert from 'node:assert/strict';
 import { existsSync, readFileSync, readdirSync } from 'node:fs';
@@ -8,9 +9,12 @@ import { test } from 'node:test';
 import { fileURLToPath } from 'node:url';
 import '../page/test/limits.mjs';
 
-const { EN } = await import('../page/texts/en.js');
 const { DE } = await import('../page/texts/de.js');
+const { EN } = await import('../page/texts/en.js');
+const { LANGUAGES, MIRRORED, languageOf } = await import('../page/texts/language.js');
+const { mirrored } = await import('../page/texts/mirrored.js');
 const { LANGUAGE, filled, phrase } = await import('../page/texts/phrase.js');
+const TABLES = { en: EN, de: DE };
 const page = fileURLToPath(new URL('../page/', import.meta.url));
 const modules = readdirSync(page, { recursive: true }).filter((file) => file.endsWith('.js') && !/^(test|texts)\//.test(file)).sort();
 const read = (file) => readFileSync(join(page, file), 'utf8');
@@ -23,27 +27,78 @@ test('each text of the table is used, and each that is asked for is there', () =
     assert.deepEqual(asked.filter((name) => !(name in EN)), []);
 });
 
-test('a name begins with its room, and no text stands twice in a room in all languages', () => {
+// One word in English, two in other languages.
+const HOMONYMS = ['play.playSteps'];
+
+test('a name begins with its room, and no text stands twice in a room', () => {
     const rooms = new Set(modules.map((file) => (file.includes('/') ? file.split('/')[0] : 'main')));
     for (const name of Object.keys(EN)) assert.ok(rooms.has(name.split('.')[0]), name);
     const seen = new Map();
-    for (const [name, text] of Object.entries(EN)) {
-        const key = `${name.split('.')[0]} ${text} ${DE[name]}`;
+    for (const [name, text] of Object.entries(EN).filter(([one]) => !HOMONYMS.includes(one))) {
+        const key = `${name.split('.')[0]} ${text}`;
         assert.ok(!seen.has(key), `${name} is ${seen.get(key)}`);
         seen.set(key, name);
     }
 });
 
 test('what goes with a number has a form for each that the language knows', () => {
-    const count = new Intl.PluralRules(LANGUAGE).resolvedOptions().pluralCategories.length;
-    for (const [name, text] of Object.entries(EN)) {
-        for (const [, inside] of text.matchAll(/\{([^}]*)\}/g)) {
-            const [place, ...forms] = inside.split('|');
-            assert.match(place, /^\w+$/, name);
-            assert.ok(forms.length === 0 || forms.length === count, `${name}: ${inside}`);
+    assert.deepEqual(Object.keys(TABLES), Object.keys(LANGUAGES));
+    for (const [language, table] of Object.entries(TABLES)) {
+        const count = new Intl.PluralRules(language).resolvedOptions().pluralCategories.length;
+        for (const [name, text] of Object.entries(table)) {
+            for (const [, inside] of text.matchAll(/\{([^}]*)\}/g)) {
+                const [place, ...forms] = inside.split('|');
+                assert.match(place, /^\w+$/, name);
+                assert.ok(forms.length === 0 || forms.length === count, `${language} ${name}: ${inside}`);
+            }
+            assert.doesNotMatch(text.replace(/\{[^}]*\}/g, ''), /[{}]/, `${language} ${name}`);
         }
-        assert.doesNotMatch(text.replace(/\{[^}]*\}/g, ''), /[{}]/, name);
     }
+});
+
+// ---- other languages
+
+const placesOf = (text) => [...new Set([...text.matchAll(/\{(\w+)/g)].map(([, place]) => place))].sort();
+
+test('each language has the texts of English, in its order, with the same places', () => {
+    for (const [language, table] of Object.entries(TABLES)) {
+        assert.deepEqual(Object.keys(table), Object.keys(EN), language);
+        for (const [name, text] of Object.entries(table)) {
+            assert.ok(text.trim(), `${language} ${name} is empty`);
+            assert.deepEqual(placesOf(text), placesOf(EN[name]), `${language} ${name}`);
+            assert.equal(/\s$/.test(text), /\s$/.test(EN[name]), `${language} ${name}: what comes behind it`);
+        }
+    }
+});
+
+// Words that are the same in German.
+const SAME = ['formats.maxval', 'view.name', 'play.pause', 'library.name', 'import.name', 'import.dithering', 'import.palette', 'import.format', 'import.gimpGpl', 'import.jascPal',
+    'import.1Gib', 'import.256Mib', 'import.16Mib', 'export.copyright', 'export.usLetter', 'export.linkField', 'start.name', 'main.start'];
+
+test('no English is left in German', () => {
+    assert.deepEqual(Object.keys(EN).filter((name) => DE[name] === EN[name]).sort(), [...SAME].sort());
+    for (const [name, text] of Object.entries(DE)) {
+        const said = text.replace(/\{\w+\}|\{\w+\|/g, '').replace(/„nonobench [^“]*“/g, '');
+        assert.doesNotMatch(said, /[”"]|(^|[^\w])(the|and|with|cells?|colours?|picture)($|[^\w])/, name);
+        assert.equal(text.split('„').length, text.split('“').length, `${name}: quotes in pairs`);
+    }
+});
+
+test('numbers and forms are those of the language', () => {
+    assert.equal(filled(DE['view.cells'], { cells: 1 }), '1 Feld');
+    assert.equal(filled(DE['view.countDiffer'], { cells: 3 }), '3 Felder weichen ab');
+    assert.equal(filled(DE['view.andGivenCells'], { cells: 1 }), ' und das vorgegebene Feld');
+});
+
+test('the language is the chosen one, else the first of the browser that the page has, else English', () => {
+    assert.equal(languageOf('de', ['en-GB']), 'de');
+    assert.equal(languageOf(null, ['fr-CH', 'de-CH', 'en']), 'de');
+    assert.equal(languageOf('tlh', ['EN-us', 'de']), 'en');
+    assert.equal(languageOf('toString', ['constructor']), 'en');
+    assert.equal(languageOf(null, []), 'en');
+    assert.equal(languageOf(MIRRORED, []), MIRRORED);
+    assert.ok(!(MIRRORED in LANGUAGES));
+    for (const text of Object.values(EN)) assert.deepEqual(placesOf(mirrored(text)), placesOf(text));
 });
 
 test('places are filled: texts as they are, numbers as the language writes them, forms by number', () => {

@@ -1,0 +1,197 @@
+// Tests in the browser of the page's languages: a walk in German by mouse, keys and fingers, another language with all that was done, and
+// what is written from right to left.
+import assert from 'node:assert/strict';
+import { SIZES, SLACK, Trial } from './page_trial.mjs';
+
+const KEPT = 'nonobench-language';
+const MIRRORED = 'en-x-mirrored';
+
+// A trial in a language that was chosen before.
+async function trialIn(language, size, { browser, url, folder }) {
+    const trial = await Trial.start(browser, url, folder, size);
+    await trial.page.run((name, value) => localStorage.setItem(name, value), KEPT, language);
+    await trial.load();
+    return trial;
+}
+
+// What is cut, outside the window, or over something else, of what a user reads or presses.
+const MISLAID = () => {
+    const wrong = [];
+    const isShown = (one) => one.checkVisibility({ visibilityProperty: true, opacityProperty: true }) && one.getClientRects().length > 0;
+    // A part that scrolls, or that shows the rest of a name by dots, has what does not fit.
+    const scroller = (one) => { for (let up = one.parentElement; up; up = up.parentElement) if (/auto|scroll/.test(getComputedStyle(up).overflowX + getComputedStyle(up).overflowY)) return up; return null; };
+    const top = [...document.querySelectorAll('dialog[open]')].at(-1) ?? document.querySelector('.menu:popover-open');
+    const all = [...(top ?? document.body).querySelectorAll('button, input, select, textarea, h1, h2, h3, label, p, legend, dt, dd')].filter(isShown);
+    for (const one of all) {
+        const { left, right, width } = one.getBoundingClientRect();
+        const name = `${one.tagName} ${one.id || one.dataset.action || one.textContent.slice(0, 30)}`;
+        if (width > 1 && !scroller(one) && (left < -1 || right > innerWidth + 1)) wrong.push(`outside the window: ${name}`);
+        if (one.matches('button') && one.scrollWidth > one.clientWidth + 1) wrong.push(`cut: ${name}`);
+    }
+    const buttons = all.filter((one) => one.matches('button, select, input:not([type=checkbox]):not([type=radio])')).map((one) => [one, one.getBoundingClientRect()]);
+    for (const [at, [one, box]] of buttons.entries()) {
+        for (const [other, next] of buttons.slice(at + 1)) {
+            const over = Math.min(box.right, next.right) - Math.max(box.left, next.left) > 2 && Math.min(box.bottom, next.bottom) - Math.max(box.top, next.top) > 2;
+            if (over && scroller(one) === scroller(other) && !one.closest('.view') && !other.closest('.view')) wrong.push(`one over the other: ${one.id || one.textContent.slice(0, 30)}, ${other.id || other.textContent.slice(0, 30)}`);
+        }
+    }
+    if (document.documentElement.scrollWidth > innerWidth + 1) wrong.push(`the page is ${document.documentElement.scrollWidth} px wide`);
+    return wrong;
+};
+
+const closed = (page) => page.run(() => new Promise((go) => { const dialog = document.querySelector('dialog[open]'); dialog.addEventListener('close', () => setTimeout(go)); dialog.close(); }));
+
+// All menus and some dialogs, one behind the other.
+async function overThePage(page, where) {
+    for (const place of ['file', 'edit', 'picture', 'view', 'check', 'help']) {
+        await page.run((one) => document.getElementById(`menu-${one}`).showPopover(), place);
+        assert.deepEqual(await page.run(MISLAID), [], `${where}, the menu ${place}`);
+        await page.run((one) => document.getElementById(`menu-${one}`).hidePopover(), place);
+    }
+    for (const id of ['guide', 'keys', 'resize', 'about', 'print', 'paste', 'vision', 'share']) {
+        await page.run((one) => runAction(one), id);
+        await page.until(() => document.querySelector('dialog[open]'), 3000 * SLACK);
+        assert.deepEqual(await page.run(MISLAID), [], `${where}, the dialog ${id}`);
+        await closed(page);
+    }
+}
+
+// ---- German
+
+export async function germanWalk(rooms) {
+    for (const [name, size] of Object.entries(SIZES)) {
+        const trial = await trialIn('de', size, rooms);
+        const { page } = trial;
+        const press = (selector) => (size.touch ? page.tap(selector) : page.click(selector));
+        assert.deepEqual(await page.run(() => [document.documentElement.lang, document.documentElement.dir]), ['de', 'ltr']);
+        assert.match(await trial.text('#start'), /Beispiele/);
+        assert.deepEqual(await page.run(MISLAID), [], `${name}, the start screen`);
+        await page.shot(`${rooms.folder}/german-${name}-start.png`);
+        await press('#examples li:nth-child(1) button');
+        await trial.judged();
+        assert.equal(await trial.text('#verdict'), '✓ Eindeutig');
+        const [x, y] = await trial.cell(3, 3);
+        const before = (await trial.picture())[2][2];
+        await page.run((letter) => useColour(letter), before === '.' ? 'a' : '.');
+        if (size.touch) await page.touch([[x, y]]);
+        else await page.drag([[x, y]]);
+        await trial.settled();
+        assert.notEqual((await trial.picture())[2][2], before, `${name}: a cell is painted`);
+        await page.press('Control+z');
+        await trial.settled();
+        assert.equal((await trial.picture())[2][2], before, `${name}: and taken back`);
+        await trial.open('P3\n4 4\n255\n0 0 0 255 255 255 255 255 255 255 255 255\n255 255 255 0 0 0 255 255 255 255 255 255\n255 255 255 255 255 255 0 0 0 255 255 255\n255 255 255 255 255 255 255 255 255 0 0 0\n');
+        assert.equal(await trial.judged(), 'ambiguous');
+        assert.equal(await trial.text('#verdict'), '≠ Mehrdeutig');
+        if (size.touch) await press('#verdict-open');
+        await press('#verdict-do [data-action="fix"]');
+        assert.match(await trial.text('#fix'), /Felder zum Ummalen suchen/);
+        assert.deepEqual(await page.run(MISLAID), [], `${name}, Fix it`);
+        await page.shot(`${rooms.folder}/german-${name}-fix.png`);
+        await page.run(() => runAction('about'));
+        await page.until(() => document.querySelector('dialog[open]'), 3000 * SLACK);
+        assert.match(await trial.text('dialog[open]'), /Über das Rätsel/);
+        await page.shot(`${rooms.folder}/german-${name}-about.png`);
+        await closed(page);
+        await overThePage(page, `German, ${name}`);
+        assert.deepEqual(page.faults, []);
+        await page.close();
+    }
+}
+
+export async function languageOfTheBrowser({ browser, url, folder }) {
+    const trial = await Trial.start(browser, url, folder);
+    const { page } = trial;
+    assert.equal(await page.run(() => document.documentElement.lang), 'en');
+    await page.before("Object.defineProperty(navigator, 'languages', { get: () => ['fr', 'de-AT'] });");
+    await trial.load();
+    assert.equal(await page.run(() => document.documentElement.lang), 'de');
+    await page.close();
+}
+
+// ---- another language
+
+export async function languageKeepsAll({ trial, page }) {
+    await page.click('#examples li:nth-child(1) button');
+    await trial.judged();
+    const before = await trial.picture();
+    await trial.drag([[1, 1], [1, 3]]);
+    const painted = await trial.picture();
+    assert.notDeepEqual(painted, before);
+    await page.run(() => document.getElementById('menu-view').showPopover());
+    const loaded = new Promise((go) => page.wakes.push(go));
+    await page.click('#menu-view [data-action="language-de"]');
+    await loaded;
+    await page.until(() => window.bench?.state && !document.getElementById('work').hidden, 5000 * SLACK);
+    await trial.judged();
+    assert.deepEqual(page.dialogs, [], 'nothing is asked');
+    assert.equal(await page.run(() => document.documentElement.lang), 'de');
+    assert.deepEqual(await trial.picture(), painted, 'the picture stays');
+    assert.match(await trial.text('#said'), /^$/, 'it is no copy');
+    await trial.press('Control+z');
+    assert.deepEqual(await trial.picture(), before, 'and its undo');
+    assert.equal(await page.run(async () => (await keep.keeper.cards()).length), 1, 'one picture in the library');
+}
+
+export async function languageKeepsABlankPicture({ trial, page }) {
+    await page.click('#new-go');
+    await page.until(() => bench.state, 3000 * SLACK);
+    await page.run(() => keep.ready().then(() => true));
+    const size = await page.run(() => [bench.state.rows, bench.state.columns]);
+    const loaded = new Promise((go) => page.wakes.push(go));
+    await page.run(() => { runAction('language-de'); });
+    await loaded;
+    await page.until(() => window.bench?.state, 5000 * SLACK);
+    assert.deepEqual(await page.run(() => [bench.state.rows, bench.state.columns]), size);
+    assert.equal(await trial.text('#menus > button'), 'Datei');
+}
+
+export async function languageWaitsWhereNothingIsKept({ trial, page }) {
+    await page.click('#examples li:nth-child(1) button');
+    await trial.judged();
+    await trial.drag([[1, 1], [1, 3]]);
+    const painted = await trial.picture();
+    await page.run(() => { keep.keeper.shelf.putAll = () => Promise.reject(new Error('no')); });
+    await page.run(() => { runAction('language-de'); });
+    await page.until(() => /reload the page/.test(document.getElementById('said').textContent), 3000 * SLACK);
+    assert.deepEqual(await trial.picture(), painted, 'the page stays as it is');
+    assert.equal(await page.run(() => document.documentElement.lang), 'en');
+    await page.run(() => { bench.isSaved = true; }); // the test leaves it
+    assert.equal(await page.run((name) => localStorage.getItem(name), KEPT), 'de', 'the next start has it');
+}
+
+// ---- from right to left
+
+export async function rightToLeft(rooms) {
+    for (const [name, size] of Object.entries(SIZES)) {
+        const trial = await trialIn(MIRRORED, size, rooms);
+        const { page } = trial;
+        assert.equal(await page.run(() => document.documentElement.dir), 'rtl');
+        assert.deepEqual(await page.run(MISLAID), [], `${name}, the start screen`);
+        await page.shot(`${rooms.folder}/mirrored-${name}-start.png`);
+        await trial.example('apple');
+        await trial.judged();
+        const edges = await page.run(() => { const { geometry: at } = sheet; return [at.x(0), at.x(1), at.y(0), at.y(1)]; });
+        assert.ok(edges[0] < edges[1] && edges[2] < edges[3], `${name}: columns go from left to right`);
+        const [[x1], [x2]] = [await trial.cell(2, 2), await trial.cell(2, 3)];
+        assert.ok(x1 < x2);
+        const from = (await trial.picture())[1];
+        await page.run((letter) => useColour(letter), from[1] === '.' ? 'a' : '.');
+        const [x, y] = await trial.cell(2, 2);
+        if (size.touch) await page.touch([[x, y]]);
+        else await page.drag([[x, y]]);
+        await trial.settled();
+        assert.notEqual((await trial.picture())[1][1], from[1], `${name}: the pencil paints the cell that it is at`);
+        assert.equal((await trial.picture())[1].slice(2), from.slice(2));
+        await page.run(() => { cursor.row = 0; cursor.col = 0; document.querySelector('.cell').focus(); });
+        await page.press('ArrowRight');
+        assert.deepEqual(await page.run(() => [cursor.row, cursor.col]), [0, 1], `${name}: an arrow goes to the right`);
+        await page.run(() => { if (document.getElementById('verdict-open').checkVisibility()) document.getElementById('verdict-open').click(); runAction('fix'); });
+        assert.deepEqual(await page.run(MISLAID), [], `${name}, the bench`);
+        await page.shot(`${rooms.folder}/mirrored-${name}.png`);
+        assert.equal(await page.run(() => document.querySelectorAll('[data-action*="mirrored"]').length), 0, 'it is in no menu');
+        await overThePage(page, `mirrored, ${name}`);
+        assert.deepEqual(page.faults, []);
+        await page.close();
+    }
+}
