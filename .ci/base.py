@@ -3,7 +3,8 @@
 
 For each claim: its clauses and laws by name, and from the words in them, through the imports of each file, all definitions
 in specs/ that they need, in reading order. docs/BASE.md lists these with file, line and the comment's first sentence. It must be what
-this script makes, no claim may need more lines than MOST says, and docs/PROOF.md must quote the whole base of QUOTED.
+this script makes, no claim may need more lines than MOST says, and docs/PROOF.md must quote the whole base of QUOTED. And no line
+of an .antt file may have more columns than WIDTHS says.
 
 Usage: .ci/base.py [--write | --counts]: with --write docs/BASE.md is written, with --counts the counts alone are printed.
 """
@@ -23,23 +24,25 @@ CLAIMS = {
     'A certificate proves uniqueness': [('answers/src/check.rt', 'run_check', 'unique')],
     'A check answers exactly': [('cert_check/src/checking.rt', 'check_cert', name) for name in ('first', 'proof', 'only', 'unique')],
     'A refused edit changes nothing': [('live_audit/src/bench.rt', call, 'refused') for call in ('apply', 'undo', 'redo')],
-    'It stays true': [('live_audit/src/laws.rt', 'lists_stay_audited', ''), ('session/src/laws.rt', 'sessions_stay_audited', '')],
-    "A session's answers are right": [('session/src/session.rt', 'run_session', '')],
+    'It stays true': [('live_audit/src/laws.rt', 'lists_stay_audited', '')],
+    "A session's answers are right": [('session/src/session.rt', 'run_session', 'truth')],
     'Published pairs are accepted': [('published/src/laws.rt', 'published_pairs_are_accepted', name) for name in ('accepted', 'made')],
 }
 # The most lines that a claim may need: a larger number needs its reason in docs/DECISIONS.md.
 MOST = {
-    'The verdict is true': 65,
-    'A certificate proves uniqueness': 283,
-    'A check answers exactly': 200,
-    'A refused edit changes nothing': 176,
-    'It stays true': 1583,
-    "A session's answers are right": 1521,
-    'Published pairs are accepted': 1504,
+    'The verdict is true': 70,
+    'A certificate proves uniqueness': 299,
+    'A check answers exactly': 210,
+    'A refused edit changes nothing': 185,
+    'It stays true': 1132,
+    "A session's answers are right": 1091,
+    'Published pairs are accepted': 1613,
 }
+# The most columns of a line: definitions are read by whoever audits a claim, proofs by whoever mends them.
+WIDTHS = {'specs': 120, 'proofs': 200}
 # The claim whose base docs/PROOF.md quotes whole.
 QUOTED = 'A certificate proves uniqueness'
-HEAD = '''# What the claims stand on
+HEAD = '''# What the claims depend on
 
 For somebody who wants to read all that a claim of [README](../README.md#what-is-proved) means: its definitions, in reading order. Proofs, code and the definitions of the toolchain are left out. A definition that an earlier claim has is counted again, but not listed again. Made by `.ci/base.py --write`.
 '''
@@ -60,6 +63,13 @@ class Definition:
 
     def code(self):
         return [line for line in self.lines if line.strip()]
+
+    def said(self):
+        """The lines of code that a quotation must have: an abbreviation's without its type."""
+        lines = self.code()
+        if lines[0].startswith(('abbrev', 'unfoldable')):
+            return lines[next((n for n, line in enumerate(lines) if line.startswith(self.name)), 0):]
+        return lines
 
     def sentence(self):
         """The first sentence of the comment, or what the definition is of."""
@@ -194,13 +204,15 @@ class House:
         """The definitions that a clause of a function names."""
         text = (CRATES / file).read_text(encoding='utf-8')
         imports = {}
-        for line in text.split('\n'):
-            imports.update(imports_of(line) if line.startswith('ghost use') else ())
+        for brought in re.findall(r'^ghost use [^;]*;', text, re.M):
+            imports.update(imports_of(re.sub(r'\s+', ' ', brought).replace(', }', '}')))
         body = re.search(rf'\bfn {function}\b.*?^\s*{{', text, re.M | re.S)
         found = body and re.search(rf'ensures\*? {clause + " " if clause else ""}{{(.*?)}}\n', body[0], re.S)
         if not found:
             sys.exit(f'crates/{file}: {function} has no clause {clause or "without a name"}')
         named = [self.find(*imports[word]) for word in WORD.findall(found[1]) if word in imports and imports[word][1]]
+        if not any(named):
+            sys.exit(f'crates/{file}: the clause {clause or "without a name"} of {function} names no definition')
         return [definition for definition in named if definition is not None]
 
 
@@ -239,9 +251,17 @@ def faults(found):
             yield f'{title}: {size(base)} lines, and at most {MOST[title]} are allowed'
     quoted = {line.strip() for line in PROOF.read_text(encoding='utf-8').split('\n')}
     for definition in found[QUOTED]:
-        lines = definition.code()
-        if any(line.strip() not in quoted for line in (lines[1:] if lines[0].startswith(('abbrev', 'unfoldable')) else lines)):
+        if any(line.strip() not in quoted for line in definition.said()):
             yield f'docs/PROOF.md does not quote {definition.name} of {definition.file}'
+
+
+def wide_lines():
+    """The lines of .antt files that are too wide."""
+    for part, width in WIDTHS.items():
+        for path in sorted(CRATES.glob(f'*/{part}/**/*.antt')):
+            for number, line in enumerate(path.read_text(encoding='utf-8').split('\n'), 1):
+                if len(line) > width:
+                    yield f'{path.relative_to(ROOT)}:{number}: {len(line)} columns, and at most {width} are allowed'
 
 
 def main():
@@ -254,7 +274,7 @@ def main():
         return 0
     if '--write' in sys.argv[1:]:
         PAGE.write_text(page(found), encoding='utf-8')
-    told = list(faults(found))
+    told = [*faults(found), *wide_lines()]
     for fault in told:
         print(fault)
     print(f'{len(found)} claims, {len(told)} faults')

@@ -13,7 +13,7 @@ ROOT = pathlib.Path(__file__).resolve().parent.parent
 LINE = re.compile(r'^ {4}([a-z_]+): ((?:proofs|edits|tests|builds) .*)$')
 HEAD = """# What a change costs
 
-For somebody who changes the code. A changed crate is proved again, its must-fail edits are tried again, and so are all crates that depend on it. These are processor minutes of one run of `bash .ci/run` from nothing, on {date}, in the order of the last column. `.ci/costs.py` makes this page of the output of such a run.
+For somebody who changes the code. A changed crate is proved again, its must-fail edits are tried again, and so are all crates that depend on it. These are processor minutes of one run of `bash .ci/run` from nothing, on {date}, in the order of the last column. `.ci/costs.py` makes this page of the output of such a run; crates that are newer are missing.
 
 | crate | its proofs, tests and builds | its edits | with all crates above it |
 |---|---|---|---|
@@ -56,7 +56,7 @@ def main():
     edits = {crate: minutes.get(crate, {}).get('edits', 0) for crate in lower}
     own = {crate: sum(minutes.get(crate, {}).values()) - edits[crate] for crate in lower}
     whole = {crate: sum(own[one] + edits[one] for one in above(crate, lower)) for crate in lower}
-    rows = [f'| `{crate}` | {own[crate]:.1f} | {edits[crate]:.1f} | {whole[crate]:.0f} |\n' for crate in sorted(lower, key=lambda one: -whole[one])]
+    rows = [f'| `{crate}` | {own[crate]:.1f} | {edits[crate]:.1f} | {whole[crate]:.0f} |\n' for crate in sorted(minutes.keys() & lower.keys(), key=lambda one: (-whole[one], one))]
     date = datetime.date.fromtimestamp(log.stat().st_mtime)
     (ROOT / 'docs' / 'COSTS.md').write_text(HEAD.format(date=f'{date.day} {date:%B %Y}') + ''.join(rows))
 

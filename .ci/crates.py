@@ -1,9 +1,9 @@
 #!/usr/bin/env python3
 """Keeps the list of crates in one order: .ci/crates.py [--write]
 
-crates.txt must name each crate behind those that it stands on, in the order of the list in docs/ARCHITECTURE.md, and
-crates/README.md must be what this script makes of crates.txt and the first sentence of each crate's root file. With --write
-that file is written.
+Each crate has a room, by ROOMS. crates.txt must name the crates room by room, each after those that it depends on, and the list
+in docs/ARCHITECTURE.md must have their order. crates/README.md must be what this script makes of crates.txt and the first
+sentence of each crate's root file. With --write all three are put into order.
 """
 import re
 import sys
@@ -11,6 +11,22 @@ from pathlib import Path
 
 ROOT = Path(__file__).resolve().parent.parent
 README = ROOT / 'crates' / 'README.md'
+LIST = ROOT / 'crates.txt'
+ARCHITECTURE = ROOT / 'docs' / 'ARCHITECTURE.md'
+# The rooms, in reading order: what stands there, and its crates.
+ROOMS = {
+    'Ground': ('pictures and their clues', 'picture clues clue_laws'),
+    'Line': ('one line and its clue', 'line_settle'),
+    'Settling': ('all lines together, with a reason for each step', 'justify worklist fixpoint propagate retract'),
+    'Checking': ('certificates as texts, and their checker', 'trail cert_text lemma_text cert_check lemma_check'),
+    'Search': ('other pictures, and certificates that there is none',
+               'split_choice second_search certificate lemma_search lemma_proof'),
+    'Bench': ('a picture kept up to date while it is edited', 'edits kept_audit live_audit'),
+    'Outside': ('texts, sessions, the program and its hosts',
+                'ppm_text non_text command_text report_text session program_options command_line answers published program '
+                'claims web nonobench'),
+    'Tests': ('programs that only tests run', 'table_words tables search_tables lemma_tables refused'),
+}
 HEAD = '''# Crates
 
 For somebody who looks for a place in the code: the crates in reading order. [ARCHITECTURE.md](../docs/ARCHITECTURE.md) names their main items, and `crates.txt` what they depend on. Made by `.ci/crates.py --write`.
@@ -18,10 +34,21 @@ For somebody who looks for a place in the code: the crates in reading order. [AR
 '''
 
 
+def room_of(crate):
+    """The name of a crate's room."""
+    return next((room for room, (_, crates) in ROOMS.items() if crate in crates.split()), None)
+
+
+def place_of(crate):
+    """Where a crate comes in the order of rooms; at the end, where it has none."""
+    order = [name for _, crates in ROOMS.values() for name in crates.split()]
+    return order.index(crate) if crate in order else len(order)
+
+
 def listed():
-    """Each crate of crates.txt with the crates of the repository that it stands on."""
+    """Each crate of crates.txt with the crates of the repository that it depends on."""
     crates = {}
-    for line in (ROOT / 'crates.txt').read_text(encoding='utf-8').splitlines():
+    for line in LIST.read_text(encoding='utf-8').splitlines():
         if line.strip():
             name, _, deps = line.partition(':')
             crates[name.split()[0]] = [word for word in deps.split() if (ROOT / 'crates' / word).is_dir()]
@@ -39,11 +66,35 @@ def told(crate):
     return ''
 
 
-def in_architecture():
-    """The crates of the list in docs/ARCHITECTURE.md, in its order: those before the colon of each item."""
-    text = (ROOT / 'docs' / 'ARCHITECTURE.md').read_text(encoding='utf-8')
-    part = re.search(r'^## Crates in reading order\n(.*?)^## ', text, re.M | re.S)
-    return [name for item in re.findall(r'^- (.*?):', part[1], re.M) for name in re.findall(r'`(\w+)`', item)]
+def items_of(text):
+    """The list of crates in docs/ARCHITECTURE.md: what is before it, its items, and what follows."""
+    found = re.search(r'^## Crates in reading order\n.*?(?=^- )', text, re.M | re.S)
+    items = re.match(r'(- .*\n)+', text[found.end():])[0]
+    return text[:found.end()], items.splitlines(), text[found.end() + len(items):]
+
+
+def crates_of(item):
+    """The crates of an item: those before its colon."""
+    return re.findall(r'`(\w+)`', item.partition(':')[0])
+
+
+def page(crates):
+    """The text of crates/README.md."""
+    text = HEAD
+    for room, (what, _) in ROOMS.items():
+        items = ''.join(f'- [`{name}`]({name}): {told(name)}\n' for name in crates if room_of(name) == room)
+        text += f'## {room}: {what}\n\n{items}\n' if items else ''
+    return text.rstrip('\n') + '\n'
+
+
+def put_in_order():
+    """Writes crates.txt and the list in docs/ARCHITECTURE.md in the order of rooms."""
+    lines = [line for line in LIST.read_text(encoding='utf-8').splitlines() if line.strip()]
+    lines.sort(key=lambda line: place_of(line.partition(':')[0].split()[0]))
+    LIST.write_text(''.join(f'{line}\n' for line in lines), encoding='utf-8')
+    front, items, end = items_of(ARCHITECTURE.read_text(encoding='utf-8'))
+    items.sort(key=lambda item: min(place_of(name) for name in crates_of(item)))
+    ARCHITECTURE.write_text(front + ''.join(f'{item}\n' for item in items) + end, encoding='utf-8')
 
 
 def faults(crates, text):
@@ -52,11 +103,15 @@ def faults(crates, text):
     for name, deps in crates.items():
         for dep in deps:
             if dep not in seen:
-                yield f'crates.txt: {name} stands in front of {dep}, which it needs'
+                yield f'crates.txt: {name} comes before {dep}, on which it depends'
         seen.add(name)
+        if room_of(name) is None:
+            yield f'.ci/crates.py: {name} has no room'
         if not told(name):
             yield f'crates/{name}: its root file does not begin with what it holds'
-    order = in_architecture()
+    if list(crates) != sorted(crates, key=place_of):
+        yield 'crates.txt is not in the order of rooms: run .ci/crates.py --write'
+    order = [name for item in items_of(ARCHITECTURE.read_text(encoding='utf-8'))[1] for name in crates_of(item)]
     if order != list(crates):
         at = next((i for i, pair in enumerate(zip(order, crates)) if pair[0] != pair[1]), min(len(order), len(crates)))
         yield (f'docs/ARCHITECTURE.md: its list goes on with {" ".join(order[at:at + 1]) or "nothing"}, and crates.txt with '
@@ -67,12 +122,14 @@ def faults(crates, text):
 
 def main(words):
     """Writes the list where asked, and tells what is not in order."""
-    crates = listed()
-    text = HEAD + ''.join(f'- [`{name}`]({name}): {told(name)}\n' for name in crates)
-    if words == ['--write']:
-        README.write_text(text, encoding='utf-8')
-    elif words:
+    if words not in ([], ['--write']):
         sys.exit('usage: .ci/crates.py [--write]')
+    if words:
+        put_in_order()
+    crates = listed()
+    text = page(crates)
+    if words:
+        README.write_text(text, encoding='utf-8')
     found = list(faults(crates, text))
     for fault in found:
         print(fault)

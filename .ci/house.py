@@ -46,6 +46,21 @@ def wide_clauses():
                 yield place(file, number)
 
 
+def wide_lines(part, width):
+    """Lines of .antt files that are too wide."""
+    for file, text in sources(part, '.antt'):
+        for number, line in enumerate(text.split('\n'), 1):
+            if len(line) > width:
+                yield place(file, number)
+
+
+def unsorted_grids(part):
+    """Lists of lists of numbers in .antt files that have no sort as `Rows`."""
+    for file, text in sources(part, '.antt'):
+        for found in re.finditer(r'List\s+\(List\s+ℕ\)', text):
+            yield place(file, text.count('\n', 0, found.start()) + 1)
+
+
 def heads(text):
     """The name, the parameters and the first line of each function of a source text."""
     for found in re.finditer(r'\bfn (\w+)', text):
@@ -178,6 +193,10 @@ def shared_places():
 COUNTS = (
     ('definitions of another picture', other_pictures),
     ('clauses above 100 columns', wide_clauses),
+    ('lines of specs above 120 columns', lambda: wide_lines('specs', 120)),
+    ('lines of proofs above 200 columns', lambda: wide_lines('proofs', 200)),
+    ('lists of lists of numbers in specs without a sort', lambda: unsorted_grids('specs')),
+    ('lists of lists of numbers in proofs without a sort', lambda: unsorted_grids('proofs')),
     ('functions above 6 parameters', long_heads),
     ('functions that carry a counter by &mut', carried_counters),
     ('pairs of places that share six lines, in .rt', shared_places),

@@ -1,4 +1,4 @@
-"""A plain second reading of docs/FORMATS.md and docs/DEFINITIONS.md, for tests from outside.
+"""A plain second reading of docs/FORMATS.md and of what docs/BASE.md says of definitions, for tests from outside.
 
 Nothing here looks at the program's source or shares a table with it. Everything is written for being read, not for
 speed: whole copies, whole lists, small pictures. Pictures are lists of rows of numbers, and so are the facts: for each

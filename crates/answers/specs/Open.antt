@@ -1,10 +1,11 @@
 -- What a file is opened as.
-use Rattle.std.specs.Prelude.{◌≡◌, ◌⊎◌, ℕ, Bool, true, false, List, [], ◌∷◌, length, Option, None, Some, Result, Ok, Err}
+use Rattle.std.specs.Prelude.{◌≡◌, ◌⊎◌, ℕ, Bool, true, false, List, [], ◌∷◌, length, Option, None, Some, Result, Ok}
+use Rattle.std.specs.Prelude.{Err}
 use Rattle.picture.specs.declared.document.Document.{Document}
 use Rattle.picture.specs.declared.rgb.Rgb.{Rgb}
 use Rattle.picture.specs.CellSet.{no_cells}
 use Rattle.picture.specs.Palette.{Colours}
-use Rattle.picture.specs.Rows.{width_of}
+use Rattle.picture.specs.Rows.{width_of, Rows}
 use Rattle.clues.specs.ClueBook.{Clues}
 use Rattle.ppm_text.specs.Ppm.{ppm_of}
 use Rattle.non_text.specs.declared.fault.NonFault.{NonFault}
@@ -24,7 +25,7 @@ abbrev pub two_colours : Colours
 two_colours = record { maxval = 255; triples = rgb 255 255 255 ∷ rgb 0 0 0 ∷ [] }
 
 -- a picture in these colours, without givens
-abbrev pub black_on_white : List (List ℕ) → Design
+abbrev pub black_on_white : Rows → Design
 black_on_white rows = design two_colours rows (marks_of (length rows) (width_of rows) no_cells)
 
 -- what a call answers that looks for a picture with these clues
@@ -32,10 +33,11 @@ abbrev pub FindsPicture : Clues → Result (List (List ℕ)) ProgramFault → Ty
 FindsPicture clues (Ok rows) = FindsFirst clues (Some rows)
 FindsPicture clues (Err fault) = (fault ≡ Memory) ⊎ ((fault ≡ NoPicture) × FindsFirst clues None)
 
--- A puzzle with a goal is opened as the goal; one without as a picture that was found and has the clues, or there is none.
+-- A puzzle with a goal is opened as the goal; one without as a
+-- picture that was found and has the clues, or there is none.
 abbrev pub OpensPuzzle : Clues → Option (List (List ℕ)) → Result Design ProgramFault → Type 0
 OpensPuzzle clues (Some goal) opened = opened ≡ Ok (black_on_white goal)
-OpensPuzzle clues None (Ok d) = (rows : List (List ℕ)) × (FindsFirst clues (Some rows) × (d ≡ black_on_white rows))
+OpensPuzzle clues None (Ok d) = (rows : Rows) × (FindsFirst clues (Some rows) × (d ≡ black_on_white rows))
 OpensPuzzle clues None (Err fault) = (fault ≡ NoPicture) × FindsFirst clues None
 
 abbrev pub OpensRead : Result NonPuzzle NonFault → Result Design ProgramFault → Type 0
@@ -58,7 +60,7 @@ OpensAs false file background opened = OpensPpm file background opened
 abbrev pub OpensFile : List ℕ → Options → Result Design ProgramFault → Type 0
 OpensFile file options opened = OpensAs options.non file options.background opened
 
--- what a call answers that opens something: that, or want of memory
+-- what a call answers that opens something: that, or out of memory
 abbrev pub Opened : (Result Design ProgramFault → Type 0) → Result Document ProgramFault → Type 0
 Opened Opens (Ok document) = Opens (Ok (design_of document))
 Opened Opens (Err fault) = (fault ≡ Memory) ⊎ Opens (Err fault)

@@ -3,7 +3,7 @@ use Rattle.std.specs.Prelude.{◌≡◌, ◌⊎◌, ℕ, List, length, Option, N
 use Rattle.std.specs.Option.{option_map}
 use Rattle.std.specs.Io.KnownBytes.{Appends, Keeps}
 use Rattle.picture.specs.Document.{Content}
-use Rattle.picture.specs.Writing.{AppendsFront}
+use Rattle.picture.specs.Writers.{AppendsFront}
 use Rattle.ppm_text.specs.declared.fault.PpmFault.{PpmFault}
 use Rattle.ppm_text.specs.Ppm.{ppm_of}
 use Rattle.clues.specs.ClueBook.{clues_of}
@@ -42,15 +42,17 @@ clues_shown (Ok d) = Ok (clues_text (clues_of d.rows))
 abbrev pub paint_of : ℕ × ℕ × ℕ → Edit
 paint_of p = Paint p.0 p.1 p.2
 
--- the text for an input, or the fault
+-- the text for an input, or the error
 abbrev pub shown_for : List ℕ → Option Edit → Result (List ℕ) ProgramFault
 shown_for bytes edit = clues_shown (after_edit edit (ppm_of bytes None))
 
 abbrev pub shown : List ℕ → Option (ℕ × ℕ × ℕ) → Result (List ℕ) ProgramFault
 shown bytes paint = shown_for bytes (option_map paint_of paint)
 
--- What a call wrote, given what was to be shown: the text; after a write fault a front of it; after any other fault nothing.
-abbrev pub Writes : Option (List ℕ) → Option (List ℕ) → {X : Type 0} → Result X ProgramFault → Result (List ℕ) ProgramFault → Type 0
+-- What a call wrote, given what was to be shown: the text; after a write error a prefix of it; after any other error
+-- nothing.
+abbrev pub Writes : Option (List ℕ) → Option (List ℕ) → {X : Type 0} → Result X ProgramFault
+    → Result (List ℕ) ProgramFault → Type 0
 Writes old new (Ok x) text = (bytes : List ℕ) × (text ≡ Ok bytes) × Appends old new bytes
 Writes old new (Err fault) text =
     ((bytes : List ℕ) × (fault ≡ Write) × (text ≡ Ok bytes) × AppendsFront old new bytes)

@@ -16,12 +16,12 @@ use report_text::push_number;
 use std::alloc::{AllocError, Global};
 use std::io::Write;
 
-/// Checks a certificate of the picture that a P3 text gives, with a background of its own where one is handed in, and
+/// Checks a certificate of the picture that a P3 text gives, with a background of its own where one is passed, and
 /// writes `certificate accepted`, with the number of givens where there are some.
 ///
 /// Where the answer is Ok, the picture is the only one of its size with its clues and its colours in the certificate's
-/// givens. The answer is else the fault of the first that refuses: the reader of the picture, the reader of the
-/// certificate, the checker. After a write fault a front of the line was written, and after any other fault nothing.
+/// givens. The answer is else the error of the first that refuses: the reader of the picture, the reader of the
+/// certificate, the checker. After a write error a prefix of the line was written, and after any other error nothing.
 pub fn run_check<W: Write>(
     alloc: Global,
     file: &[u8],

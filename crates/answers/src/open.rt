@@ -29,7 +29,7 @@ const BLACK: Rgb = Rgb { r: 0, g: 0, b: 0 };
 
 /// A bench with the document that a file is opened as, and an empty history of the depth that the options ask for.
 ///
-/// A file that is refused is answered with its fault.
+/// A file that is refused is answered with its error.
 pub fn start_bench(
     alloc: Global,
     file: &[u8],

@@ -1,6 +1,6 @@
 //! The run without words.
 
-ghost use Rattle.picture.specs.Reading.{Gives};
+ghost use Rattle.picture.specs.Readers.{Gives};
 ghost use Rattle.ppm_text.specs.Ppm.{ppm_of};
 ghost use Rattle.edits.specs.Design.{design_of};
 ghost use Rattle.answers.specs.Run.{after_edit, shown, shown_for, Writes};
@@ -14,9 +14,9 @@ use report_text::clues_text;
 use std::alloc::Global;
 use std::io::Write;
 
-/// Writes the clues of the picture that a P3 text gives, with one cell painted first where that is asked.
-/// The paint is a row, a column and a colour, all from 0. After a write fault a front of the clues was written, and
-/// after any other fault nothing.
+/// Writes the clues of the picture that a P3 text gives, with one cell painted first where that is asked. The paint is
+/// a row, a column and a colour, all from 0. After a write error a prefix of the clues was written, and after any other
+/// error nothing.
 pub fn run_clues<W: Write>(
     alloc: Global,
     bytes: &[u8],

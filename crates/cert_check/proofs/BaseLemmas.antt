@@ -3,15 +3,16 @@ use Rattle.std.proofs.Common.{◌≡◌, ◌⊎◌, ℕ, ◌+◌, ◌-◌, ◌^�
 use Rattle.std.specs.Prelude.{IsBitSet}
 use Rattle.std.proofs.lemmas.Bool.{cases_eq, cases_lt}
 use Rattle.std.proofs.lemmas.List.{get_or_past}
-use Rattle.picture.specs.Rows.{row_at, cell_at}
+use Rattle.line_settle.specs.Masks.{Masks}
+use Rattle.picture.specs.Rows.{row_at, cell_at, Rows}
 use Rattle.line_settle.specs.FactSets.{Leaves, SameShape, with_given}
-use Rattle.line_settle.specs.GridLaws.{at_with_cell, off_with_cell, shape_with_cell}
-use Rattle.picture.specs.BitLaws.{no_bit, power_has}
+use Rattle.line_settle.proofs.GridLaws.{at_with_cell, off_with_cell, shape_with_cell}
+use Rattle.picture.proofs.BitLaws.{no_bit, power_has}
 use Rattle.cert_text.specs.declared.tree_line.CellNumber.{CellNumber}
 use Rattle.cert_check.specs.Puzzle.{HasCellNumbers, IsAmong, numbered, with_givens}
 
 -- a colour is left inside the grid alone
-pub left_inside : (facts : List (List ℕ)) (row col k : ℕ) → Leaves facts row col k → (row < length facts) × (col < length (row_at facts row))
+pub left_inside : (facts : Masks) (row col k : ℕ) → Leaves facts row col k → (row < length facts) × (col < length (row_at facts row))
 left_inside facts row col k l = elim (cases_lt row (length facts)) [
   | inr p ↦ absurd (no_bit k (rw (get_or_past facts row [] p) at l))
   | inl h ↦ elim (cases_lt col (length (row_at facts row))) [
@@ -21,17 +22,17 @@ left_inside facts row col k l = elim (cases_lt row (length facts)) [
 ]
 
 -- one given held
-abbrev once : List (List ℕ) → List (List ℕ) → CellNumber → List (List ℕ)
+abbrev once : Rows → Masks → CellNumber → List (List ℕ)
 once picture facts cell = with_given picture facts (cell.row - 1) (cell.col - 1)
 
 -- a place is a cell's, or it is not
-at_or_off : (r c : ℕ) (cell : CellNumber) → ((r ≡ cell.row - 1) × (c ≡ cell.col - 1)) ⊎ ((r ≡ cell.row - 1) × (c ≡ cell.col - 1) → ⊥)
+pub at_or_off : (r c : ℕ) (cell : CellNumber) → ((r ≡ cell.row - 1) × (c ≡ cell.col - 1)) ⊎ ((r ≡ cell.row - 1) × (c ≡ cell.col - 1) → ⊥)
 at_or_off r c cell = elim (cases_eq r (cell.row - 1)) [
   | inr n ↦ inr (λ p. n p.0)
   | inl e ↦ elim (cases_eq c (cell.col - 1)) [ inl f ↦ inl (e, f) | inr n ↦ inr (λ p. n p.1) ]
 ]
 
-at_once : (picture facts : List (List ℕ)) (cell : CellNumber) (k : ℕ) → Leaves (once picture facts cell) (cell.row - 1) (cell.col - 1) k → k ≡ cell_at picture (cell.row - 1) (cell.col - 1)
+at_once : (picture : Rows) (facts : Masks) (cell : CellNumber) (k : ℕ) → Leaves (once picture facts cell) (cell.row - 1) (cell.col - 1) k → k ≡ cell_at picture (cell.row - 1) (cell.col - 1)
 at_once picture facts cell k l =
     let row = cell.row - 1 in
     let col = cell.col - 1 in
@@ -42,13 +43,13 @@ at_once picture facts cell k l =
     (power_has p k).0 (rw (at_with_cell facts row col (2 ^ p) (omega arith) (omega arith)) at l)
 
 -- one given leaves the picture's colour there, and elsewhere what was left
-left_once : (picture facts : List (List ℕ)) (cell : CellNumber) (r c k : ℕ) → Leaves (once picture facts cell) r c k → Leaves facts r c k ⊎ (k ≡ cell_at picture r c)
+left_once : (picture : Rows) (facts : Masks) (cell : CellNumber) (r c k : ℕ) → Leaves (once picture facts cell) r c k → Leaves facts r c k ⊎ (k ≡ cell_at picture r c)
 left_once picture facts cell r c k l = elim (at_or_off r c cell) [
   | inl p ↦ inr (rw (p.0, p.1) (at_once picture facts cell k (rw (p.0, p.1) at l)))
   | inr n ↦ let P : ℕ → Type 0 = λ m. IsBitSet m k in inl (subst P (off_with_cell facts (cell.row - 1) (cell.col - 1) (2 ^ cell_at picture (cell.row - 1) (cell.col - 1)) r c n) l)
 ]
 
-pub left_or_given : (picture facts : List (List ℕ)) (cells : List CellNumber) (r c k : ℕ) → Leaves (with_givens picture cells facts) r c k → Leaves facts r c k ⊎ (k ≡ cell_at picture r c)
+pub left_or_given : (picture : Rows) (facts : Masks) (cells : List CellNumber) (r c k : ℕ) → Leaves (with_givens picture cells facts) r c k → Leaves facts r c k ⊎ (k ≡ cell_at picture r c)
 left_or_given picture facts [] r c k l = inl l
 left_or_given picture facts (cell ∷ cells) r c k l = elim (left_or_given picture (once picture facts cell) cells r c k l) [
   | inl h ↦ left_once picture facts cell r c k h
@@ -56,7 +57,7 @@ left_or_given picture facts (cell ∷ cells) r c k l = elim (left_or_given pictu
 ]
 
 -- in a given only the picture's colour is left
-pub given_left : (picture facts : List (List ℕ)) (cells : List CellNumber) (r c k : ℕ) → IsAmong (numbered r c) cells → Leaves (with_givens picture cells facts) r c k → k ≡ cell_at picture r c
+pub given_left : (picture : Rows) (facts : Masks) (cells : List CellNumber) (r c k : ℕ) → IsAmong (numbered r c) cells → Leaves (with_givens picture cells facts) r c k → k ≡ cell_at picture r c
 given_left picture facts [] r c k m l = absurd m
 given_left picture facts (cell ∷ cells) r c k (inl e) l = elim (left_or_given picture (once picture facts cell) cells r c k l) [
   | inr f ↦ f
@@ -70,7 +71,8 @@ given_left picture facts (cell ∷ cells) r c k (inl e) l = elim (left_or_given 
 given_left picture facts (cell ∷ cells) r c k (inr m) l = given_left picture (once picture facts cell) cells r c k m l
 
 -- what is left stays left, but for the other colours of a given
-open_once : (picture facts : List (List ℕ)) (cell : CellNumber) (r c k : ℕ) → (((r ≡ cell.row - 1) × (c ≡ cell.col - 1)) → k ≡ cell_at picture r c) → Leaves facts r c k → Leaves (once picture facts cell) r c k
+open_once : (picture : Rows) (facts : Masks) (cell : CellNumber) (r c k : ℕ) → (((r ≡ cell.row - 1) × (c ≡ cell.col - 1)) → k ≡ cell_at picture r c) → Leaves facts r c k
+    → Leaves (once picture facts cell) r c k
 open_once picture facts cell r c k h l = elim (at_or_off r c cell) [
   | inr n ↦ let P : ℕ → Type 0 = λ m. IsBitSet m k in subst P (sym (off_with_cell facts (cell.row - 1) (cell.col - 1) (2 ^ cell_at picture (cell.row - 1) (cell.col - 1)) r c n)) l
   | inl p ↦
@@ -80,7 +82,8 @@ open_once picture facts cell r c k h l = elim (at_or_off r c cell) [
       rw (p.0, p.1, at_with_cell facts row col (2 ^ cell_at picture row col) inside.0 inside.1) ((power_has (cell_at picture row col) k).1 (rw (p.0, p.1) at (h p)))
 ]
 
-pub open_stays : (picture facts : List (List ℕ)) (cells : List CellNumber) → HasCellNumbers picture cells → (r c k : ℕ) → (IsAmong (numbered r c) cells → k ≡ cell_at picture r c) → Leaves facts r c k → Leaves (with_givens picture cells facts) r c k
+pub open_stays : (picture : Rows) (facts : Masks) (cells : List CellNumber) → HasCellNumbers picture cells → (r c k : ℕ) → (IsAmong (numbered r c) cells → k ≡ cell_at picture r c) → Leaves facts r c k
+    → Leaves (with_givens picture cells facts) r c k
 open_stays picture facts [] has r c k h l = l
 open_stays picture facts (cell ∷ cells) has r c k h l =
     open_stays picture (once picture facts cell) cells has.1 r c k (λ m. h (inr m)) (open_once picture facts cell r c k (λ p. h (inl (number_is p.0 p.1))) l)
@@ -92,7 +95,7 @@ open_stays picture facts (cell ∷ cells) has r c k h l =
         ap (λ (x : ℕ). let it : CellNumber = record { row = x; col = c + 1 } in it) a ∙ ap (λ (y : ℕ). let it : CellNumber = record { row = cell.row; col = y } in it) b
 
 -- givens change no size
-pub givens_shape : (picture facts : List (List ℕ)) (cells : List CellNumber) → SameShape picture facts → SameShape picture (with_givens picture cells facts)
+pub givens_shape : (picture : Rows) (facts : Masks) (cells : List CellNumber) → SameShape picture facts → SameShape picture (with_givens picture cells facts)
 givens_shape picture facts [] s = s
 givens_shape picture facts (cell ∷ cells) s =
     let t = shape_with_cell facts (cell.row - 1) (cell.col - 1) (2 ^ cell_at picture (cell.row - 1) (cell.col - 1)) in

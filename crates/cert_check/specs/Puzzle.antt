@@ -1,11 +1,12 @@
 -- What a certificate speaks of: a picture, its clues, and facts on its cells.
 use Rattle.std.specs.Prelude.{◌≡◌, ◌⊎◌, ℕ, ◌+◌, ◌-◌, ◌<◌, ◌≤◌, List, [], ◌∷◌, length}
+use Rattle.line_settle.specs.Masks.{Masks}
 use Rattle.picture.specs.declared.line_id.LineId.{LineId}
-use Rattle.picture.specs.Rows.{width_of, cell_at, line_of, lines_along}
+use Rattle.picture.specs.Rows.{width_of, cell_at, line_of, lines_along, Rows}
 use Rattle.clues.specs.ClueBook.{clue_at, clues_of}
 use Rattle.clues.specs.Solution.{IsOnlySolution}
 use Rattle.line_settle.specs.declared.line_engine.Outcome.{Outcome}
-use Rattle.line_settle.specs.Fitting.{CanFit}
+use Rattle.line_settle.specs.Fits.{CanFit}
 use Rattle.line_settle.specs.FactSets.{Gains, Leaves, nothing_excluded, with_given}
 use Rattle.line_settle.specs.Branches.{branches}
 use Rattle.cert_text.specs.declared.tree_line.CellNumber.{CellNumber}
@@ -14,7 +15,7 @@ use Rattle.cert_text.specs.declared.tree_line.LineNumber.{LineNumber}
 -- ---- places by number
 
 -- the grid has a line with that number
-abbrev pub HasLineNumber : List (List ℕ) → LineNumber → Type 0
+abbrev pub HasLineNumber : Rows → LineNumber → Type 0
 HasLineNumber grid line = (0 < line.number) × (line.number ≤ lines_along line.axis grid)
 
 -- the line that a number names
@@ -22,11 +23,11 @@ abbrev pub line_id : LineNumber → LineId
 line_id line = record { axis = line.axis; at = line.number - 1 }
 
 -- the grid has a cell with these numbers
-abbrev pub HasCellNumber : List (List ℕ) → CellNumber → Type 0
+abbrev pub HasCellNumber : Rows → CellNumber → Type 0
 HasCellNumber grid cell = (0 < cell.row) × (cell.row ≤ length grid) × (0 < cell.col) × (cell.col ≤ width_of grid)
 
 -- the picture has the cells with these numbers
-abbrev pub HasCellNumbers : List (List ℕ) → List CellNumber → Type 0
+abbrev pub HasCellNumbers : Rows → List CellNumber → Type 0
 HasCellNumbers picture [] = Unit {0}
 HasCellNumbers picture (cell ∷ cells) = HasCellNumber picture cell × HasCellNumbers picture cells
 
@@ -45,38 +46,39 @@ IsNamed cells row col = IsAmong (numbered row col) cells
 -- ---- what lines say of facts, for the clues of a picture
 
 -- the facts gain all that a line forces
-abbrev pub IsForced : List (List ℕ) → List (List ℕ) → LineId → List (List ℕ) → Type 0
+abbrev pub IsForced : Rows → Masks → LineId → List (List ℕ) → Type 0
 IsForced picture facts line more = (outcome : Outcome) × Gains (clue_at (clues_of picture) line) line facts more outcome
 
 -- no list fits a line
-abbrev pub IsDead : List (List ℕ) → List (List ℕ) → LineId → Type 0
+abbrev pub IsDead : Rows → Masks → LineId → Type 0
 IsDead picture facts line = CanFit (clue_at (clues_of picture) line) (line_of facts line) → ⊥
 
 -- the branches of a cell: one for each colour left in it
-abbrev pub split_at : List (List ℕ) → CellNumber → List (List (List ℕ))
+abbrev pub split_at : Masks → CellNumber → List (List (List ℕ))
 split_at facts cell = branches facts (cell.row - 1) (cell.col - 1) (cell_at facts (cell.row - 1) (cell.col - 1))
 
 -- no colour is left anywhere but the picture's
-abbrev pub ShowsOnly : List (List ℕ) → List (List ℕ) → Type 0
+abbrev pub ShowsOnly : Rows → Masks → Type 0
 ShowsOnly picture facts = (row col k : ℕ) → Leaves facts row col k → k ≡ cell_at picture row col
 
 -- ---- givens
 
 -- the facts with the picture's colour alone left in each given
-abbrev pub with_givens : List (List ℕ) → List CellNumber → List (List ℕ) → List (List ℕ)
+abbrev pub with_givens : Rows → List CellNumber → Masks → Masks
 with_givens picture [] facts = facts
-with_givens picture (cell ∷ cells) facts = with_givens picture cells (with_given picture facts (cell.row - 1) (cell.col - 1))
+with_givens picture (cell ∷ cells) facts =
+    with_givens picture cells (with_given picture facts (cell.row - 1) (cell.col - 1))
 
 -- the facts without an exclusion, of the size of a picture
-abbrev pub blank_for : List (List ℕ) → List (List ℕ)
+abbrev pub blank_for : Rows → Masks
 blank_for picture = nothing_excluded (length picture) (width_of picture)
 
 -- the facts that the givens say: the root of a tree
-abbrev pub base_of : List (List ℕ) → List CellNumber → List (List ℕ)
+abbrev pub base_of : Rows → List CellNumber → Masks
 base_of picture givens = with_givens picture givens (blank_for picture)
 
 -- ---- what a certificate shows
 
 -- no other picture of the same size has the picture's clues and its colours in the givens
-abbrev pub IsUnique : List (List ℕ) → List CellNumber → Type 0
+abbrev pub IsUnique : Rows → List CellNumber → Type 0
 IsUnique picture givens = IsOnlySolution (clues_of picture) (IsNamed givens) picture

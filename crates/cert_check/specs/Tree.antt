@@ -1,11 +1,14 @@
 -- Trees of lines, and what it is that a tree proves.
 use Rattle.std.specs.Prelude.{◌≡◌, ℕ, List, [], ◌∷◌, ◌++◌}
+use Rattle.line_settle.specs.Masks.{Masks}
+use Rattle.picture.specs.Rows.{Rows}
 use Rattle.cert_text.specs.declared.tree_line.LineNumber.{LineNumber}
 use Rattle.cert_text.specs.declared.tree_line.CellNumber.{CellNumber}
 use Rattle.cert_text.specs.declared.tree_line.CertLine.{CertLine}
 use Rattle.cert_text.specs.declared.tree_line.CertLine.TheVariants.{Line, Split, Dead, Done}
 use Rattle.cert_text.specs.Cert.{Certificate}
-use Rattle.cert_check.specs.Puzzle.{HasCellNumber, HasCellNumbers, HasLineNumber, IsDead, IsForced, ShowsOnly, base_of, line_id, split_at}
+use Rattle.cert_check.specs.Puzzle.{HasCellNumber, HasCellNumbers, HasLineNumber, IsDead, IsForced, ShowsOnly, base_of}
+use Rattle.cert_check.specs.Puzzle.{line_id, split_at}
 
 mutual
   pub data Tree : Type 0 where
@@ -30,25 +33,26 @@ abbrev mutual
   each_written none = []
   each_written (more tree trees) = written tree ++ each_written trees
 
--- A tree proves a picture from facts: where it ends as done, no other colour is left; where it ends as dead, no list fits
--- the line; behind a line, it proves the picture with all that the line forces; at a split, each branch does.
+-- A tree proves a picture from facts. At `done` no other colour is left. At `dead` no list fits the line. After a
+-- `line` the rest proves it with all that the line forces. At a `split` each branch proves it.
 abbrev mutual
-  pub Proves : List (List ℕ) → List (List ℕ) → Tree → Type 0
+  pub Proves : Rows → Masks → Tree → Type 0
   Proves picture facts done = ShowsOnly picture facts
   Proves picture facts (dead number) = HasLineNumber picture number × IsDead picture facts (line_id number)
   Proves picture facts (forced number tree) =
-      HasLineNumber picture number × ((gained : List (List ℕ)) × (IsForced picture facts (line_id number) gained × Proves picture gained tree))
+      HasLineNumber picture number
+      × ((gained : Masks) × (IsForced picture facts (line_id number) gained × Proves picture gained tree))
   Proves picture facts (split cell trees) = HasCellNumber picture cell × EachProves picture (split_at facts cell) trees
 
   -- as many trees as there are facts, each of which proves the picture from its own
-  pub EachProves : List (List ℕ) → List (List (List ℕ)) → Trees → Type 0
+  pub EachProves : Rows → List (List (List ℕ)) → Trees → Type 0
   EachProves picture [] none = Unit {0}
   EachProves picture [] (more tree trees) = ⊥
   EachProves picture (facts ∷ others) none = ⊥
   EachProves picture (facts ∷ others) (more tree trees) = Proves picture facts tree × EachProves picture others trees
 
 -- The givens lie in the picture, and the lines are a tree that proves it from what the givens say.
-pub record IsProof (picture : List (List ℕ)) (cert : Certificate) : Type 0 where
+pub record IsProof (picture : Rows) (cert : Certificate) : Type 0 where
   pub inside : HasCellNumbers picture cert.givens
   pub tree : Tree
   pub lines : cert.lines ≡ written tree

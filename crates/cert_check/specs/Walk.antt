@@ -1,7 +1,9 @@
--- The walk over the lines of a certificate: the facts at hand, and those that wait behind them.
-use Rattle.std.specs.Prelude.{◌≡◌, ◌⊎◌, ℕ, ◌+◌, ◌≤◌, List, [], ◌∷◌, ◌++◌, length, Bool, true, false, Option, Some, Result, Ok, Err}
+-- The walk over the lines of a certificate: the facts at hand, and those that wait after them.
+use Rattle.std.specs.Prelude.{◌≡◌, ◌⊎◌, ℕ, ◌+◌, ◌≤◌, List, [], ◌∷◌, ◌++◌, length, Bool, true, false, Option, Some}
+use Rattle.std.specs.Prelude.{Result, Ok, Err}
+use Rattle.line_settle.specs.Masks.{Masks}
 use Rattle.picture.specs.Picture.{IsPicture}
-use Rattle.picture.specs.Rows.{width_of}
+use Rattle.picture.specs.Rows.{width_of, Rows}
 use Rattle.clues.specs.ClueBook.{Clues, clues_of}
 use Rattle.line_settle.specs.FactSets.{SameShape}
 use Rattle.cert_text.specs.declared.fault.CertFault.{CertFault}
@@ -17,21 +19,25 @@ waiting true trail = trail.at_hand ∷ trail.behind
 waiting false trail = []
 
 -- a picture and its clues, and no line is longer than an engine takes
-pub record CanCheck (picture : List (List ℕ)) (clues : Clues) (longest : ℕ) : Type 0 where
+pub record CanCheck (picture : Rows) (clues : Clues) (longest : ℕ) : Type 0 where
   pub is_picture : IsPicture picture
   pub clues_are : clues ≡ clues_of picture
   pub wide : width_of picture ≤ longest
   pub tall : length picture ≤ longest
 
--- A line taken: where it stands, what waits is what it leads to and what waited before; else its fault is answered.
-abbrev pub Takes : List (List ℕ) → Trailed → Trailed → CertLine → ℕ → Result Bool CertFault → Type 0
+-- A line taken: where it stands, what waits is what it leads to and what waited before; else its error is answered.
+abbrev pub Takes : Rows → Trailed → Trailed → CertLine → ℕ → Result Bool CertFault → Type 0
 Takes picture old new line n (Ok going) =
-    SameShape picture new.at_hand × ((next : List (List (List ℕ))) × (Leads picture old.at_hand line next × (waiting going new ≡ next ++ old.behind)))
+    SameShape picture new.at_hand
+    × ((next : List Masks) × (Leads picture old.at_hand line next × (waiting going new ≡ next ++ old.behind)))
 Takes picture old new line n (Err e) = (e ≡ Memory) ⊎ HasFault picture old.at_hand line n e
 
--- The givens held from facts on: behind them what is first from the lines is first from line 2; else a given's fault is.
-abbrev pub GivesBase : List (List ℕ) → List (List ℕ) → List CellNumber → Result (Unit {0}) CertFault → List (List ℕ) → Type 0
+-- Facts with givens held. The first error of the lines after them is the first error from line 2 on, unless a given has
+-- one.
+abbrev pub GivesBase : Rows → Masks → List CellNumber → Result (Unit {0}) CertFault → List (List ℕ) → Type 0
 GivesBase picture facts givens (Ok x) new =
     SameShape picture new
-    × ((lines : List CertLine) (fault : Option CertFault) → FirstFault picture (new ∷ []) (2 + length givens) lines fault → FirstFaultBehind picture facts 2 givens lines fault)
-GivesBase picture facts givens (Err e) new = (lines : List CertLine) → FirstFaultBehind picture facts 2 givens lines (Some e)
+    × ((lines : List CertLine) (fault : Option CertFault) → FirstFault picture (new ∷ [])
+    (2 + length givens) lines fault → FirstFaultBehind picture facts 2 givens lines fault)
+GivesBase picture facts givens (Err e) new = (lines : List CertLine)
+    → FirstFaultBehind picture facts 2 givens lines (Some e)

@@ -49,9 +49,9 @@ pub fn set_givens(
 /// No line of the picture may be longer than the engine takes.
 ///
 /// The answer is Ok exactly where the givens lie in the picture and the lines are a tree that proves it; else it is the
-/// first fault from the top with its line, and a refused allocation is answered as `Memory`. How much memory is taken is not
-/// promised. The engine is called at most once for each line of the certificate, and not at all where a given lies outside
-/// the picture.
+/// first error from the top with its line, and a refused allocation is answered as `Memory`. How much memory is taken
+/// is not promised. The engine is called at most once for each line of the certificate, and not at all where a given
+/// lies outside the picture.
 pub fn check_cert<E: LineEngine>(
     alloc: Global,
     engine: &mut E,

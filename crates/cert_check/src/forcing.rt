@@ -3,10 +3,10 @@
 ghost use Rattle.std.specs.Prelude.{◌≡◌, ◌<◌, ◌≤◌, ◌↔◌, length, slice_index, OnOk, IsTrue};
 ghost use Rattle.picture.specs.Rows.{HasLine, line_of, with_cell};
 ghost use Rattle.line_settle.specs.declared.line_engine.Outcome.{Outcome};
-ghost use Rattle.line_settle.specs.Counting.{counted};
+ghost use Rattle.line_settle.specs.Counts.{counted};
 ghost use Rattle.line_settle.specs.FactSets.{Gains, HoldsLine, IsFacts, col_on, row_on};
-ghost use Rattle.line_settle.specs.Fitting.{CanFit};
-ghost use Rattle.line_settle.specs.Narrowing.{Narrows};
+ghost use Rattle.line_settle.specs.Fits.{CanFit};
+ghost use Rattle.line_settle.specs.NarrowedLine.{Narrows};
 
 use clues::Clue;
 use line_settle::{Facts, LineEngine, Outcome};
@@ -40,13 +40,8 @@ fn narrow_line<E: LineEngine>(
     engine.narrow(&mut count, clue, &left[..cells], out)
 }
 
-// Whether no list of colours fits a line, in one call of the engine.
-pub(crate) fn is_dead<E: LineEngine>(
-    engine: &mut E,
-    facts: &Facts,
-    clue: &Clue,
-    line: LineId,
-) -> bool
+/// Whether no list of colours fits a line, in one call of the engine.
+pub fn is_dead<E: LineEngine>(engine: &mut E, facts: &Facts, clue: &Clue, line: LineId) -> bool
     requires line { HasLine facts.now line }
     requires short { length (line_of facts.now line) ≤ E.longest engine.old }
     ensures dead { IsTrue result ↔ (CanFit clue.now (line_of facts.now line) → ⊥) }
@@ -58,7 +53,7 @@ pub(crate) fn is_dead<E: LineEngine>(
     narrow_line(engine, facts, clue, line, &mut out[..cells]) == Outcome::Dead
 }
 
-#[tactic(auto, using(line_settle::specs::AlongLaws::places))]
+#[tactic(auto, using(line_settle::proofs::AlongLaws::places))]
 // Gives the cells of a line of the facts at hand other colours.
 fn hold_line(trail: &mut Trail, line: LineId, masks: &[u16]) -> Result<(), AllocError>
     requires line { HasLine trail.old.at_hand line }
@@ -76,8 +71,8 @@ fn hold_line(trail: &mut Trail, line: LineId, masks: &[u16]) -> Result<(), Alloc
     Ok(())
 }
 
-// Adds to the facts at hand all that a line forces by its clue, in one call of the engine.
-pub(crate) fn force<E: LineEngine>(
+/// Adds to the facts at hand all that a line forces by its clue, in one call of the engine.
+pub fn force<E: LineEngine>(
     engine: &mut E,
     trail: &mut Trail,
     clue: &Clue,

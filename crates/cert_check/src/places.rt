@@ -7,8 +7,8 @@ use cert_text::{CellNumber, LineNumber};
 use picture::{LineId, Picture};
 use trail::Cell;
 
-// The line that a number names, where the picture has it.
-pub(crate) fn line_at(picture: &Picture, line: LineNumber) -> Option<LineId>
+/// The line that a number names, where the picture has it.
+pub fn line_at(picture: &Picture, line: LineNumber) -> Option<LineId>
     ensures { MatchOption
         result
         (HasLineNumber picture.now line → ⊥)
@@ -24,8 +24,8 @@ pub(crate) fn line_at(picture: &Picture, line: LineNumber) -> Option<LineId>
     })
 }
 
-// The cell that two numbers name, where the picture has it.
-pub(crate) fn cell_in(picture: &Picture, cell: CellNumber) -> Option<Cell>
+/// The cell that two numbers name, where the picture has it.
+pub fn cell_in(picture: &Picture, cell: CellNumber) -> Option<Cell>
     ensures { MatchOption
         result
         (HasCellNumber picture.now cell → ⊥)

@@ -32,8 +32,8 @@ fn row_shows_only(facts: &Facts, picture: &Picture, row: u8) -> bool
     true
 }
 
-// Whether no colour is left anywhere but the picture's.
-pub(crate) fn shows_only(facts: &Facts, picture: &Picture) -> bool
+/// Whether no colour is left anywhere but the picture's.
+pub fn shows_only(facts: &Facts, picture: &Picture) -> bool
     requires same_shape { SameShape picture.now facts.now }
     ensures { IsTrue result ↔ ShowsOnly picture.now facts.now }
 {

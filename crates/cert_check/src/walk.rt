@@ -15,14 +15,14 @@ use picture::Picture;
 use std::alloc::Global;
 use trail::Trail;
 
-// What a certificate is checked against: a picture, and its clues.
+/// What a certificate or a proof by lemmas is checked against: a picture, and its clues.
 #[derive(Clone, Copy, Drop)]
-pub(crate) struct Claim<'a> {
+pub struct Claim<'a> {
     pub picture: &'a Picture,
     pub clues: &'a ClueBook,
 }
 
-// Takes a line with its number, and says whether a branch is at hand behind it.
+// Takes a line with its number, and says whether a branch is at hand after it.
 pub(crate) fn take_line<E: LineEngine>(
     engine: &mut E,
     claim: &Claim,
@@ -83,7 +83,7 @@ fn go_on(trail: &mut Trail) -> Result<bool, CertFault>
     Ok(trail.advance()?.is_some())
 }
 
-// Takes the lines from the root on, of which the first has a number, and answers the first fault.
+// Takes the lines from the root on, of which the first has a number, and answers the first error.
 pub(crate) fn walk<E: LineEngine>(
     alloc: Global,
     engine: &mut E,

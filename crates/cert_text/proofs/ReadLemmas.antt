@@ -1,9 +1,10 @@
 -- Lines read one by one: what is read so far, and what is left to read.
-use Rattle.std.proofs.Common.{◌≡◌, ℕ, ◌+◌, ◌<◌, ◌≤◌, Bool, true, false, cond, List, [], ◌∷◌, ◌++◌, Option, None, Some, Result, Ok, Err, append_assoc, refl, sym, ap, subst, ◌∙◌, arith, inl, inr, nat_le}
+use Rattle.std.proofs.Common.{◌≡◌, ℕ, ◌+◌, ◌<◌, ◌≤◌, Bool, true, false, cond, List, [], ◌∷◌, ◌++◌, Option, None, Some, Result, Ok, Err, append_assoc, refl, sym, ap, subst, ◌∙◌, arith, inl, inr}
+use Rattle.std.proofs.Common.{nat_le}
 use Rattle.std.proofs.lemmas.Bool.{le-leb}
 use Rattle.std.proofs.lemmas.Bool.Decides.{leb_tells}
 use Rattle.std.proofs.lemmas.List.{append-nil}
-use Rattle.picture.specs.Reading.{◌>>=◌}
+use Rattle.picture.specs.Readers.{◌>>=◌}
 use Rattle.cert_text.specs.declared.fault.CertFault.{CertFault}
 use Rattle.cert_text.specs.declared.fault.CertFault.TheVariants.{BadLine}
 use Rattle.cert_text.specs.declared.tree_line.CellNumber.{CellNumber}
@@ -21,7 +22,7 @@ behind_more : (front : List CertLine) (line : CertLine) (read : Result (List Cer
 behind_more front line (Ok rest) = ap Ok (append_assoc front (line ∷ []) rest)
 behind_more front line (Err e) = refl
 
--- what is read from here, behind the lines so far, is what is read from the beginning
+-- what is read from here, after the lines so far, is what is read from the beginning
 pub record LinesLeft (front : List CertLine) (n : ℕ) (lines : List (List ℕ)) (whole : Result (List CertLine) CertFault) : Type 0 where
   pub is : lines_behind front (tree_lines n lines) ≡ whole
   pub writable : (more : List CertLine) → AreWritable more → AreWritable (front ++ more)
@@ -33,7 +34,8 @@ lines_start n lines = record { is = none_before (tree_lines n lines); writable =
     none_before (Ok rest) = refl
     none_before (Err e) = refl
 
-pub lines_more : (front new : List CertLine) (line : CertLine) (text : List ℕ) (n : ℕ) (lines rest : List (List ℕ)) (whole : Result (List CertLine) CertFault) → lines ≡ text ∷ rest → Some line ≡ cert_line text → IsWritable line → new ≡ front ++ (line ∷ []) → LinesLeft front n lines whole → LinesLeft new (n + 1) rest whole
+pub lines_more : (front new : List CertLine) (line : CertLine) (text : List ℕ) (n : ℕ) (lines rest : List (List ℕ)) (whole : Result (List CertLine) CertFault) → lines ≡ text ∷ rest
+    → Some line ≡ cert_line text → IsWritable line → new ≡ front ++ (line ∷ []) → LinesLeft front n lines whole → LinesLeft new (n + 1) rest whole
 unfolding tree_lines
 lines_more front new line text n lines rest whole e l w p left =
     let P : List CertLine → Type 0 = λ f. LinesLeft f (n + 1) rest whole in
@@ -45,7 +47,8 @@ lines_more front new line text n lines rest whole e l w p left =
       writable = λ more m. subst AreWritable (sym (append_assoc front (line ∷ []) more)) (left.writable (line ∷ more) (w, m));
     })
 
-pub lines_stop : (front : List CertLine) (text : List ℕ) (n : ℕ) (lines rest : List (List ℕ)) (whole : Result (List CertLine) CertFault) → lines ≡ text ∷ rest → None ≡ cert_line text → LinesLeft front n lines whole → whole ≡ Err (BadLine n)
+pub lines_stop : (front : List CertLine) (text : List ℕ) (n : ℕ) (lines rest : List (List ℕ)) (whole : Result (List CertLine) CertFault) → lines ≡ text ∷ rest → None ≡ cert_line text
+    → LinesLeft front n lines whole → whole ≡ Err (BadLine n)
 unfolding tree_lines
 lines_stop front text n lines rest whole e l left =
     sym left.is
@@ -86,13 +89,15 @@ not_below : (a b : ℕ) → b < a → nat_le a b ≡ false
 not_below a b l = elim (leb_tells a b) [ inl p ↦ absurd (let q = p.1 in omega arith) | inr p ↦ p.0 ]
 
 -- the first line, by what it gives
-by_first : (front : List CellNumber) (text : List ℕ) (n least : ℕ) (lines rest : List (List ℕ)) (whole : Read) (o : Option CellNumber) → lines ≡ text ∷ rest → o ≡ given_line text → GivensLeft front n least lines whole → givens_behind front (take_given n least (text ∷ rest) o (λ from. given_lines (n + 1) from rest)) ≡ whole
+by_first : (front : List CellNumber) (text : List ℕ) (n least : ℕ) (lines rest : List (List ℕ)) (whole : Read) (o : Option CellNumber) → lines ≡ text ∷ rest → o ≡ given_line text
+    → GivensLeft front n least lines whole → givens_behind front (take_given n least (text ∷ rest) o (λ from. given_lines (n + 1) from rest)) ≡ whole
 unfolding given_lines
 by_first front text n least lines rest whole o e g left =
     ap (λ (p : Option CellNumber). givens_behind front (take_given n least (text ∷ rest) p (λ from. given_lines (n + 1) from rest))) g
     ∙ (ap (λ (ls : List (List ℕ)). givens_behind front (given_lines n least ls)) (sym e) ∙ left.is)
 
-pub givens_more : (front new : List CellNumber) (cell : CellNumber) (text : List ℕ) (n m least : ℕ) (lines rest : List (List ℕ)) (whole : Read) → lines ≡ text ∷ rest → Some cell ≡ given_line text → IsShort cell.row × IsShort cell.col → least ≤ rank cell → new ≡ front ++ (cell ∷ []) → m ≡ n + 1 → GivensLeft front n least lines whole → GivensLeft new m (rank cell + 1) rest whole
+pub givens_more : (front new : List CellNumber) (cell : CellNumber) (text : List ℕ) (n m least : ℕ) (lines rest : List (List ℕ)) (whole : Read) → lines ≡ text ∷ rest → Some cell ≡ given_line text
+    → IsShort cell.row × IsShort cell.col → least ≤ rank cell → new ≡ front ++ (cell ∷ []) → m ≡ n + 1 → GivensLeft front n least lines whole → GivensLeft new m (rank cell + 1) rest whole
 givens_more front new cell text n m least lines rest whole e g short l p q left =
     let yes_test : nat_le least (rank cell) ≡ true = le-leb least (rank cell) l in
     let P : List CellNumber → Type 0 = λ f. GivensLeft f m (rank cell + 1) rest whole in
@@ -105,13 +110,15 @@ givens_more front new cell text n m least lines rest whole e g short l p q left 
       ordered = λ more o. subst (AreOrdered 0) (sym (append_assoc front (cell ∷ []) more)) (left.ordered (cell ∷ more) (short.0, short.1, (let k : least < rank cell + 1 = omega arith in k), o));
     }))
 
-pub givens_stop : (front : List CellNumber) (cell : CellNumber) (text : List ℕ) (n least : ℕ) (lines rest : List (List ℕ)) (whole : Read) → lines ≡ text ∷ rest → Some cell ≡ given_line text → rank cell < least → GivensLeft front n least lines whole → whole ≡ Err (BadLine n)
+pub givens_stop : (front : List CellNumber) (cell : CellNumber) (text : List ℕ) (n least : ℕ) (lines rest : List (List ℕ)) (whole : Read) → lines ≡ text ∷ rest → Some cell ≡ given_line text
+    → rank cell < least → GivensLeft front n least lines whole → whole ≡ Err (BadLine n)
 givens_stop front cell text n least lines rest whole e g l left =
     let no_test : nat_le least (rank cell) ≡ false = not_below least (rank cell) l in
     sym (by_first front text n least lines rest whole (Some cell) e g left)
     ∙ ap (λ (b : Bool). givens_behind front (cond b (given_lines (n + 1) (rank cell + 1) rest >>= λ read. Ok (with_given_before cell read)) (Err (BadLine n)))) no_test
 
-pub givens_end : (front : List CellNumber) (text : List ℕ) (n least : ℕ) (lines rest : List (List ℕ)) (whole : Read) → lines ≡ text ∷ rest → None ≡ given_line text → GivensLeft front n least lines whole → whole ≡ Ok (front, lines)
+pub givens_end : (front : List CellNumber) (text : List ℕ) (n least : ℕ) (lines rest : List (List ℕ)) (whole : Read) → lines ≡ text ∷ rest → None ≡ given_line text
+    → GivensLeft front n least lines whole → whole ≡ Ok (front, lines)
 givens_end front text n least lines rest whole e g left =
     sym (by_first front text n least lines rest whole None e g left)
     ∙ (ap (λ (cells : List CellNumber). Ok (cells, text ∷ rest)) (append-nil front) ∙ ap (λ (ls : List (List ℕ)). Ok (front, ls)) (sym e))

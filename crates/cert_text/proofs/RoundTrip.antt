@@ -1,13 +1,14 @@
 -- The text that is written for a certificate is read as the same certificate.
-use Rattle.std.proofs.Common.{◌≡◌, ℕ, ◌+◌, ◌<◌, Bool, true, false, cond, not, eqb, List, [], ◌∷◌, ◌++◌, length, get_or, append_assoc, Option, None, Some, Result, Ok, Err, refl, sym, ap, ◌∙◌, subst, arith, inl, inr, codes, decimal, nat_le, option_map}
+use Rattle.std.proofs.Common.{◌≡◌, ℕ, ◌+◌, ◌<◌, Bool, true, false, cond, not, eqb, List, [], ◌∷◌, ◌++◌, length, get_or, append_assoc, Option, None, Some, Result, Ok, Err, refl, sym, ap, ◌∙◌, subst}
+use Rattle.std.proofs.Common.{arith, inl, inr, codes, decimal, nat_le, option_map}
 use Rattle.std.proofs.lemmas.Bool.{and_from, cases_lt, le-leb, ne_eqb}
 use Rattle.std.proofs.lemmas.Fmt.{decimal_digit, first_decimal, length-decimal-le}
 use Rattle.std.proofs.lemmas.List.Folds.{list_all-append}
 use Rattle.picture.specs.Numbers.{number_spelled, short_number}
-use Rattle.picture.specs.NumberLaws.{decimal_lacks, number_spelled-decimal}
-use Rattle.picture.specs.Reading.{◌>>=◌}
-use Rattle.picture.specs.SplitLaws.{lacks, one_piece, split_at}
-use Rattle.picture.specs.Writing.{number_text}
+use Rattle.picture.proofs.NumberLaws.{decimal_lacks, number_spelled-decimal}
+use Rattle.picture.specs.Readers.{◌>>=◌}
+use Rattle.picture.proofs.SplitLaws.{lacks, one_piece, split_at}
+use Rattle.picture.specs.Writers.{number_text}
 use Rattle.picture.specs.declared.line_id.Axis.{Axis}
 use Rattle.picture.specs.declared.line_id.Axis.TheVariants.{Across, Down}
 use Rattle.cert_text.specs.declared.fault.CertFault.{CertFault}
@@ -17,8 +18,9 @@ use Rattle.cert_text.specs.declared.tree_line.CertLine.{CertLine}
 use Rattle.cert_text.specs.declared.tree_line.CertLine.TheVariants.{Line, Split, Dead, Done}
 use Rattle.cert_text.specs.declared.tree_line.LineNumber.{LineNumber}
 use Rattle.cert_text.specs.Cert.{Certificate, certificate, AreOrdered, AreWritable, IsCert, IsShort, IsWritable, rank}
-use Rattle.cert_text.specs.Text.{below_givens, cell_named, cell_number, cell_with, cert_line, cert_of_lines, given_line, given_lines, given_of_three, has_leading_zero, line_named, line_number, line_of_three, line_with, lines_of, number_of, or_bad, take_given, three_of, tree_lines, with_given_before, words_of}
-use Rattle.cert_text.specs.Writing.{IsReadAgain, axis_text, given_text, givens_text, line_text, lines_text, named_text}
+use Rattle.cert_text.specs.Text.{below_givens, cell_named, cell_number, cell_with, cert_line, cert_of_lines, given_line, given_lines, given_of_three, has_leading_zero, line_named, line_number}
+use Rattle.cert_text.specs.Text.{line_of_three, line_with, lines_of, number_of, or_bad, take_given, three_of, tree_lines, with_given_before, words_of}
+use Rattle.cert_text.specs.WrittenCert.{IsReadAgain, axis_text, given_text, givens_text, line_text, lines_text, named_text}
 use Rattle.cert_text.proofs.WordLemmas.{lines_more, lines_none}
 
 -- ---- numbers
@@ -94,7 +96,8 @@ module _ (a b d : List ℕ) (is_a : IsWord a) (is_b : IsWord b) (is_d : IsWord d
       ap lines_of (parts a b d rest)
       ∙ first_line_is (spaced a b d) rest (lacks_append 10 a (32 ∷ (b ++ 32 ∷ d)) is_a.no_feed (lacks_append 10 b (32 ∷ d) is_b.no_feed is_d.no_feed))
 
-named_first : (word : List ℕ) (line : LineNumber) → IsWord word → IsShort line.number → (rest : List ℕ) → lines_of (named_text (word ++ 32 ∷ []) line ++ rest) ≡ spaced word (axis_word line.axis) (decimal line.number) ∷ lines_of rest
+named_first : (word : List ℕ) (line : LineNumber) → IsWord word → IsShort line.number → (rest : List ℕ)
+    → lines_of (named_text (word ++ 32 ∷ []) line ++ rest) ≡ spaced word (axis_word line.axis) (decimal line.number) ∷ lines_of rest
 named_first word line is l rest =
     ap (λ (axis : List ℕ). lines_of (((word ++ 32 ∷ []) ++ (axis ++ number_text line.number 10)) ++ rest)) (axis_text_is line.axis)
     ∙ spaced_first word (axis_word line.axis) (decimal line.number) is (axis_is line.axis) (number_is line.number l) rest
@@ -169,7 +172,8 @@ none_given (line ∷ lines) n least w =
     ∙ (ap (λ (o : Option CellNumber). take_given n least (text_of line ∷ lines_of (lines_text lines)) o (λ from. given_lines (n + 1) from (lines_of (lines_text lines)))) a.no_given
     ∙ ap (λ (ls : List (List ℕ)). Ok ([], ls)) (sym first))
 
-givens_again : (givens : List CellNumber) (lines : List CertLine) (n least : ℕ) → AreOrdered least givens → AreWritable lines → given_lines n least (lines_of (givens_text givens ++ lines_text lines)) ≡ Ok (givens, lines_of (lines_text lines))
+givens_again : (givens : List CellNumber) (lines : List CertLine) (n least : ℕ) → AreOrdered least givens → AreWritable lines
+    → given_lines n least (lines_of (givens_text givens ++ lines_text lines)) ≡ Ok (givens, lines_of (lines_text lines))
 unfolding given_lines
 givens_again [] lines n least o w = none_given lines n least w
 givens_again (cell ∷ cells) lines n least o w =
@@ -177,7 +181,8 @@ givens_again (cell ∷ cells) lines n least o w =
     let text = spaced (codes "given") (decimal cell.row) (decimal cell.col) in
     let further = λ (from : ℕ). given_lines (n + 1) from rest in
     let passes : nat_le least (rank cell) ≡ true = le-leb least (rank cell) (let l = o.2 in omega arith) in
-    ap (given_lines n least) (ap lines_of (append_assoc (given_text cell) (givens_text cells) (lines_text lines)) ∙ spaced_first (codes "given") (decimal cell.row) (decimal cell.col) (record { no_space = refl; no_feed = refl }) (number_is cell.row o.0) (number_is cell.col o.1) (givens_text cells ++ lines_text lines))
+    ap (given_lines n least) (ap lines_of (append_assoc (given_text cell) (givens_text cells) (lines_text lines)) ∙ spaced_first (codes "given") (decimal cell.row) (decimal cell.col)
+    (record { no_space = refl; no_feed = refl }) (number_is cell.row o.0) (number_is cell.col o.1) (givens_text cells ++ lines_text lines))
     ∙ (ap (λ (c : Option CellNumber). take_given n least (text ∷ rest) c further) (given_again cell o.0 o.1)
     ∙ (ap (λ (t : Bool). cond t (further (rank cell + 1) >>= λ read. Ok (with_given_before cell read)) (Err (BadLine n))) passes
     ∙ ap (λ (r : Result (List CellNumber × List (List ℕ)) CertFault). r >>= λ read. Ok (with_given_before cell read)) (givens_again cells lines (n + 1) (rank cell + 1) o.3 w)))
@@ -187,7 +192,8 @@ givens_again (cell ∷ cells) lines n least o w =
 first_again : (givens : List CellNumber) (lines : List CertLine) → givens ≡ [] → AreWritable lines → IsReadAgain (certificate 1 givens lines)
 first_again givens lines e w =
     let P : List CellNumber → Type 0 = λ cells. IsReadAgain (certificate 1 cells lines) in
-    subst P (sym e) (ap cert_of_lines (first_line_is (codes "nonocert 1") (lines_text lines) refl) ∙ ap (λ (r : Result (List CertLine) CertFault). r >>= λ read. Ok (certificate 1 [] read)) (tree_again lines 2 w))
+    subst P (sym e)
+    (ap cert_of_lines (first_line_is (codes "nonocert 1") (lines_text lines) refl) ∙ ap (λ (r : Result (List CertLine) CertFault). r >>= λ read. Ok (certificate 1 [] read)) (tree_again lines 2 w))
 
 second_again : (givens : List CellNumber) (lines : List CertLine) → AreOrdered 0 givens → AreWritable lines → IsReadAgain (certificate 2 givens lines)
 second_again givens lines o w =

@@ -47,7 +47,8 @@ four_words : (word first second : List ℕ) (words : List (List ℕ)) → 0 < le
 four_words word first second [] some = absurd (omega (arith, some))
 four_words word first second (next ∷ words) some = refl
 
-pub more_words : (line word behind first second third last : List ℕ) → words_of line ≡ word ∷ words_of behind → words_of behind ≡ first ∷ words_of second → words_of second ≡ third ∷ words_of last → None ≡ three_of (words_of line)
+pub more_words : (line word behind first second third last : List ℕ) → words_of line ≡ word ∷ words_of behind → words_of behind ≡ first ∷ words_of second → words_of second ≡ third ∷ words_of last
+    → None ≡ three_of (words_of line)
 more_words line word behind first second third last e f g =
     sym (ap three_of (e ∙ (ap (λ (ws : List (List ℕ)). word ∷ ws) f ∙ ap (λ (ws : List (List ℕ)). word ∷ first ∷ ws) g))
     ∙ four_words word first third (words_of last) (omega (arith, length-slice_split (λ b. eqb b 32) last)))

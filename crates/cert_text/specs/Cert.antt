@@ -31,10 +31,11 @@ AreWritable (line ∷ lines) = IsWritable line × AreWritable lines
 abbrev pub rank : CellNumber → ℕ
 rank cell = cell.row * 1000 + cell.col
 
--- cells in the order of rows, none twice, and each behind a rank
+-- cells in the order of rows, none twice, and each after a rank
 abbrev pub AreOrdered : ℕ → List CellNumber → Type 0
 AreOrdered least [] = Unit {0}
-AreOrdered least (cell ∷ cells) = IsShort cell.row × IsShort cell.col × (least < rank cell + 1) × AreOrdered (rank cell + 1) cells
+AreOrdered least (cell ∷ cells) =
+    IsShort cell.row × IsShort cell.col × (least < rank cell + 1) × AreOrdered (rank cell + 1) cells
 
 -- what a certificate is: of version 1 without givens, or of version 2
 pub record IsCert (cert : Certificate) : Type 0 where

@@ -1,13 +1,17 @@
--- The names of the faults, and the lines that they carry.
+-- The names of the errors, and the lines that they carry.
 use Rattle.std.specs.Prelude.{ℕ, List, codes, Option, Some, None}
 use Rattle.cert_text.specs.declared.fault.CertFault.{CertFault}
-use Rattle.cert_text.specs.declared.fault.CertFault.TheVariants.{NotCert, BadLine, Place, NotDead, NotDone, Ended, Trailing, Memory}
+use Rattle.cert_text.specs.declared.fault.CertFault.TheVariants.{NotCert, BadLine, Place, NoLemma, Misplaced, Full}
+use Rattle.cert_text.specs.declared.fault.CertFault.TheVariants.{NotDead, NotDone, Ended, Trailing, Memory}
 
--- the name, and the line in fault, where the fault has one
+-- the name, and the line in error, where the error has one
 abbrev pub told_of : CertFault → List ℕ × Option ℕ
 told_of (NotCert line) = (codes "NotCert", Some line)
 told_of (BadLine line) = (codes "BadLine", Some line)
 told_of (Place line) = (codes "Place", Some line)
+told_of (NoLemma line) = (codes "NoLemma", Some line)
+told_of (Misplaced line) = (codes "Misplaced", Some line)
+told_of (Full line) = (codes "Full", Some line)
 told_of (NotDead line) = (codes "NotDead", Some line)
 told_of (NotDone line) = (codes "NotDone", Some line)
 told_of (Ended line) = (codes "Ended", Some line)

@@ -1,4 +1,4 @@
 pub mod Cert
 pub mod Faults
 pub mod Text
-pub mod Writing
+pub mod WrittenCert

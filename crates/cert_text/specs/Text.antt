@@ -1,11 +1,12 @@
 -- A certificate read from the lines of a text.
-use Rattle.std.specs.Prelude.{◌≡◌, ℕ, ◌+◌, ◌<◌, Bool, true, false, List, [], ◌∷◌, length, codes, Option, None, Some, Result, Ok, Err, option_map, ◌==◌, nat_eq, nat_le, if◌then◌else◌, refl}
+use Rattle.std.specs.Prelude.{◌≡◌, ℕ, ◌+◌, ◌<◌, Bool, true, false, List, [], ◌∷◌, length, codes, Option, None, Some}
+use Rattle.std.specs.Prelude.{Result, Ok, Err, option_map, ◌==◌, nat_eq, nat_le, if◌then◌else◌, refl}
 use Rattle.std.proofs.Common.{Vec, Global}
 use Rattle.std.specs.Borrow.{Bor}
 use Rattle.std.specs.Cmp.Lexicographic.{pointwise}
 use Rattle.std.specs.List.{slice_split}
 use Rattle.picture.specs.Numbers.{number_spelled, short_number, value_after}
-use Rattle.picture.specs.Reading.{◌>>=◌}
+use Rattle.picture.specs.Readers.{◌>>=◌}
 use Rattle.picture.specs.declared.line_id.Axis.{Axis}
 use Rattle.picture.specs.declared.line_id.Axis.TheVariants.{Across, Down}
 use Rattle.cert_text.specs.declared.fault.CertFault.{CertFault}
@@ -114,23 +115,27 @@ or_bad n (Some x) = Ok x
 -- lines below the givens, of which the first has number n
 unfoldable pub tree_lines : ℕ → List (List ℕ) → Result (List CertLine) CertFault
 tree_lines n [] = Ok []
-tree_lines n (line ∷ lines) = or_bad n (cert_line line) >>= λ first. (tree_lines (n + 1) lines >>= λ rest. Ok (first ∷ rest))
+tree_lines n (line ∷ lines) =
+    or_bad n (cert_line line) >>= λ first. (tree_lines (n + 1) lines >>= λ rest. Ok (first ∷ rest))
 
 -- what stands before a list of givens
 abbrev pub with_given_before : CellNumber → List CellNumber × List (List ℕ) → List CellNumber × List (List ℕ)
 with_given_before cell read = (cell ∷ read.0, read.1)
 
--- the givens from a line on, by what that line gives: nothing, or a cell that has to stand behind those before it
-abbrev pub take_given : ℕ → ℕ → List (List ℕ) → Option CellNumber → (ℕ → Result (List CellNumber × List (List ℕ)) CertFault) → Result (List CellNumber × List (List ℕ)) CertFault
+-- the givens from a line on, by what that line gives: nothing, or a cell that has to follow those before it
+abbrev pub take_given : ℕ → ℕ → List (List ℕ) → Option CellNumber
+    → (ℕ → Result (List CellNumber × List (List ℕ)) CertFault) → Result (List CellNumber × List (List ℕ)) CertFault
 take_given n least lines None rest = Ok ([], lines)
 take_given n least lines (Some cell) rest =
-    if nat_le least (rank cell) then (rest (rank cell + 1) >>= λ read. Ok (with_given_before cell read)) else Err (BadLine n)
+    if nat_le least (rank cell) then (rest (rank cell + 1) >>= λ read. Ok (with_given_before cell read))
+    else Err (BadLine n)
 
--- The givens that stand first, of which the first line has number n, in the order of rows and from a rank on; and the lines
--- below them.
+-- The givens that stand first, of which the first line has number n,
+-- in the order of rows and from a rank on; and the lines below them.
 unfoldable pub given_lines : ℕ → ℕ → List (List ℕ) → Result (List CellNumber × List (List ℕ)) CertFault
 given_lines n least [] = Ok ([], [])
-given_lines n least (line ∷ lines) = take_given n least (line ∷ lines) (given_line line) (λ from. given_lines (n + 1) from lines)
+given_lines n least (line ∷ lines) =
+    take_given n least (line ∷ lines) (given_line line) (λ from. given_lines (n + 1) from lines)
 
 abbrev pub below_givens : List CellNumber × List (List ℕ) → Result Certificate CertFault
 below_givens read = tree_lines (2 + length read.0) read.1 >>= λ lines. Ok (certificate 2 read.0 lines)
@@ -147,7 +152,7 @@ cert_of_lines (first ∷ lines) =
     else if is_word first (codes "nonocert 2") then second_of_lines lines
     else Err (NotCert 1)
 
--- the certificate of a text, or the first fault
+-- the certificate of a text, or the first error
 abbrev pub cert_of : List ℕ → Result Certificate CertFault
 cert_of text = cert_of_lines (lines_of text)
 

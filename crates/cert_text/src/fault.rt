@@ -1,4 +1,4 @@
-//! What can be wrong with a certificate, with names and line numbers.
+//! What can be wrong with a certificate or with a proof by lemmas, with names and line numbers.
 
 ghost use Rattle.std.specs.Prelude.{◌≡◌};
 ghost use Rattle.cert_text.specs.Faults.{name_of, place_of};
@@ -7,19 +7,30 @@ ghost use Rattle.cert_text.specs.declared.fault.CertFault.TheVariants.{Memory};
 use std::alloc::{AllocError, AllocFailed};
 use thiserror::Error;
 
-/// What is wrong with a certificate: the first fault from the top, with the number of its line, counted from 1.
+/// What is wrong with a certificate or with a proof by lemmas: the first error from the top, with the number of its
+/// line, counted from 1.
 #[derive(Clone, Copy, Debug, PartialEq, Eq, Error)]
 pub enum CertFault {
-    /// The first line is neither `nonocert 1` nor `nonocert 2`.
+    /// The first line is not that of the format.
     #[error("line {0}: not a certificate")]
     NotCert(usize),
-    /// The line has another form than a certificate's lines, or stands where it may not.
+    /// The line has another form than the format's lines, or a given stands where it may not.
     #[error("line {0}: not a line of a certificate")]
     BadLine(usize),
     /// A row or a column is named that the picture doesn't have.
     #[error("line {0}: outside the picture")]
     Place(usize),
-    /// Some list of colours fits the line that is called dead.
+    /// A lemma is named that is not kept. No certificate has this error.
+    #[error("line {0}: no such lemma")]
+    NoLemma(usize),
+    /// A lemma begins, or is dropped, where a branch waits; or a colour is denied after no lemma's beginning. No
+    /// certificate has this error.
+    #[error("line {0}: not here")]
+    Misplaced(usize),
+    /// The lemmas kept would have too many literals. No certificate has this error.
+    #[error("line {0}: too many literals")]
+    Full(usize),
+    /// Some list of colours fits the line that is called dead, or some literal of the lemma has a colour left.
     #[error("line {0}: not dead")]
     NotDead(usize),
     /// Some cell has a colour left other than the picture's.
@@ -28,7 +39,7 @@ pub enum CertFault {
     /// The lines end before the tree is whole. The number is that of the line that is missing.
     #[error("line {0}: the certificate ends too early")]
     Ended(usize),
-    /// A line stands behind the whole tree.
+    /// A line follows the whole tree.
     #[error("line {0}: behind the end")]
     Trailing(usize),
     /// A growth was refused.
@@ -37,14 +48,14 @@ pub enum CertFault {
 }
 
 impl CertFault {
-    /// The fault's name, as the variant is called.
+    /// The error's name, as the variant is called.
     pub fn name(&self) -> &'static str
         ensures { result.now ≡ name_of self.now }
     {
         self.told().0
     }
 
-    /// The number of the line in fault, counted from 1.
+    /// The number of the line in error, counted from 1.
     pub fn place(&self) -> Option<usize>
         ensures { result ≡ place_of self.now }
     {
@@ -60,6 +71,9 @@ impl CertFault {
             CertFault::NotCert(line) => ("NotCert", Some(line)),
             CertFault::BadLine(line) => ("BadLine", Some(line)),
             CertFault::Place(line) => ("Place", Some(line)),
+            CertFault::NoLemma(line) => ("NoLemma", Some(line)),
+            CertFault::Misplaced(line) => ("Misplaced", Some(line)),
+            CertFault::Full(line) => ("Full", Some(line)),
             CertFault::NotDead(line) => ("NotDead", Some(line)),
             CertFault::NotDone(line) => ("NotDone", Some(line)),
             CertFault::Ended(line) => ("Ended", Some(line)),

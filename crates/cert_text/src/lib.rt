@@ -11,6 +11,7 @@ mod writing;
 
 pub use cert::Cert;
 pub use fault::CertFault;
-pub use reading::read_cert;
+pub use reading::{cell_named, line_named, read_cert, read_givens};
 pub use tree_line::{CellNumber, CertLine, LineNumber};
-pub use writing::write_cert;
+pub use words::{cut_word, first_line, is_word};
+pub use writing::{send_givens, send_named, write_cert};

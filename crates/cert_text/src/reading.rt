@@ -1,7 +1,7 @@
 //! The reader of certificates.
 
 ghost use Rattle.std.specs.Prelude.{◌≡◌, ◌+◌, ◌^◌, ◌<◌, ◌≤◌, length, IfOk, IfSome};
-ghost use Rattle.picture.specs.Reading.{Gives};
+ghost use Rattle.picture.specs.Readers.{Gives};
 ghost use Rattle.cert_text.specs.Cert.{AreOrdered, AreWritable, IsShort, IsWritable, rank};
 ghost use Rattle.cert_text.specs.Text.{cell_named, cert_line, cert_of, given_line, given_lines, givens_seen, line_named, lines_of, tree_lines};
 
@@ -12,8 +12,8 @@ use crate::words::{first_line, is_word, number_in, three_words};
 use picture::Axis;
 use std::alloc::Global;
 
-// The line that two words name.
-fn line_named(first: &[u8], second: &[u8]) -> Option<LineNumber>
+/// The line that two words name.
+pub fn line_named(first: &[u8], second: &[u8]) -> Option<LineNumber>
     ensures value { result ≡ line_named first.now second.now }
     ensures short { IfSome result (λ line. IsShort line.number) }
 {
@@ -26,8 +26,8 @@ fn line_named(first: &[u8], second: &[u8]) -> Option<LineNumber>
     Some(LineNumber { axis, number })
 }
 
-// The cell that two words name.
-fn cell_named(first: &[u8], second: &[u8]) -> Option<CellNumber>
+/// The cell that two words name.
+pub fn cell_named(first: &[u8], second: &[u8]) -> Option<CellNumber>
     ensures value { result ≡ cell_named first.now second.now }
     ensures short { IfSome result (λ cell. IsShort cell.row × IsShort cell.col) }
 {
@@ -74,8 +74,8 @@ fn given_in(line: &[u8]) -> Option<CellNumber>
 const SECOND_LINE: usize = 2;
 
 #[tactic(auto, using(crate::proofs::ReadLemmas::given_reading))]
-// The givens that a text begins with, and the text below them.
-fn read_givens(alloc: Global, text: &[u8]) -> Result<(Vec<CellNumber>, &[u8]), CertFault>
+/// The givens that a text begins with, below a first line that is not passed, and the text below them.
+pub fn read_givens(alloc: Global, text: &[u8]) -> Result<(Vec<CellNumber>, &[u8]), CertFault>
     requires few { SECOND_LINE + length text.now < 2 ^ 64 }
     ensures value { Gives CertFault.Memory givens_seen result
         (given_lines 2 0 (lines_of text.now)) }
@@ -126,11 +126,12 @@ fn read_lines(alloc: Global, text: &[u8], first: usize) -> Result<Vec<CertLine>,
 
 /// Reads a certificate.
 ///
-/// Lines end with a line feed, which the last may lack. The first is `nonocert 1` or `nonocert 2`, else the fault is
-/// `NotCert` at line 1. In version 2 lines `given R C` may follow, each behind the one before in the order of rows. Each
-/// further line is `line r N`, `line c N`, `split R C`, `dead r N`, `dead c N` or `done`, with single spaces and numbers of
-/// one to three digits without leading zeros; `docs/FORMATS.md` says what they mean. Any other line is `BadLine`. Whether a
-/// picture has the lines and cells is not looked at. Want of memory is answered where it comes, before any later fault.
+/// Lines end with a line feed, which the last may lack. The first is `nonocert 1` or `nonocert 2`, else the error is
+/// `NotCert` at line 1. In version 2 lines `given R C` may follow, each after the one before in the order of rows. Each
+/// further line is `line r N`, `line c N`, `split R C`, `dead r N`, `dead c N` or `done`, with single spaces and
+/// numbers of one to three digits without leading zeros; `docs/FORMATS.md` says what they mean. Any other line is
+/// `BadLine`. Whether a picture has the lines and cells is not looked at. Out of memory is answered where it comes,
+/// before any later error.
 pub fn read_cert(alloc: Global, bytes: &[u8]) -> Result<Cert, CertFault>
     ensures { Gives CertFault.Memory (λ cert. cert) result (cert_of bytes.now) }
 {

@@ -27,7 +27,7 @@ pub struct CellNumber {
 pub enum CertLine {
     /// What the row or column forces is excluded, and the branch goes on.
     Line(LineNumber),
-    /// A branch for each colour left in the cell, by rising number, in which the cell has that colour alone.
+    /// A branch for each colour left in the cell, in ascending order, in which the cell has that colour alone.
     Split(CellNumber),
     /// No list of colours fits the row or column, and the branch ends.
     Dead(LineNumber),

@@ -6,8 +6,8 @@ ghost use Rattle.cert_text.specs.Text.{IsCut, IsFirstLine, is_word, number_of, t
 use picture::{short_number_in, split_first};
 
 #[tactic(auto, using(crate::proofs::WordLemmas::first_lines))]
-// The first line, and the text behind it.
-pub(crate) fn first_line(text: &[u8]) -> Option<(&[u8], &[u8])>
+/// The first line, and the text after it.
+pub fn first_line(text: &[u8]) -> Option<(&[u8], &[u8])>
     ensures { IsFirstLine text.now result }
 {
     let (piece, behind) = split_first(text, b'\n');
@@ -18,15 +18,15 @@ pub(crate) fn first_line(text: &[u8]) -> Option<(&[u8], &[u8])>
     }
 }
 
-// Whether bytes are a word.
-pub(crate) fn is_word(bytes: &[u8], word: &[u8]) -> bool
+/// Whether bytes are a word.
+pub fn is_word(bytes: &[u8], word: &[u8]) -> bool
     ensures { result ≡ is_word bytes.now word.now }
 {
     bytes == word
 }
 
-// The first word, and what stands behind the space behind it.
-fn cut_word(bytes: &[u8]) -> Option<(&[u8], &[u8])>
+/// The first word, and what follows the space after it.
+pub fn cut_word(bytes: &[u8]) -> Option<(&[u8], &[u8])>
     ensures { IsCut bytes.now result }
 {
     let (word, behind) = split_first(bytes, b' ');

@@ -2,8 +2,8 @@
 
 ghost use Rattle.std.specs.Prelude.{◌≡◌, OnOk, OnErr};
 ghost use Rattle.std.specs.Io.KnownBytes.{Appends};
-ghost use Rattle.picture.specs.Writing.{AppendsFront};
-ghost use Rattle.cert_text.specs.Writing.{axis_text, cell_text, cert_text, givens_text, line_text, lines_text, named_text, version_text};
+ghost use Rattle.picture.specs.Writers.{AppendsFront};
+ghost use Rattle.cert_text.specs.WrittenCert.{axis_text, cell_text, cert_text, givens_text, line_text, lines_text, named_text, version_text};
 
 use crate::cert::Cert;
 use crate::tree_line::{CellNumber, CertLine, LineNumber};
@@ -20,9 +20,9 @@ fn axis_word(axis: Axis) -> &'static [u8]
     }
 }
 
-#[tactic(auto, using(picture::specs::SendingLaws::sending))]
-// Writes a line that names a line.
-fn send_named<W: Write>(word: &[u8], line: LineNumber, writer: &mut W) -> Result<(), WriteFault>
+#[tactic(auto, using(picture::proofs::SendingLaws::sending))]
+/// Writes a line that names a line, or after an error a prefix of it.
+pub fn send_named<W: Write>(word: &[u8], line: LineNumber, writer: &mut W) -> Result<(), WriteFault>
     ensures ok { OnOk result
         (Appends (W.contents writer.old) (W.contents writer.new) (named_text word.now line)) }
     ensures err { OnErr result
@@ -33,7 +33,7 @@ fn send_named<W: Write>(word: &[u8], line: LineNumber, writer: &mut W) -> Result
     send_number(line.number, b'\n', writer)
 }
 
-#[tactic(auto, using(picture::specs::SendingLaws::sending))]
+#[tactic(auto, using(picture::proofs::SendingLaws::sending))]
 // Writes a line that names a cell.
 fn send_cell<W: Write>(word: &[u8], cell: CellNumber, writer: &mut W) -> Result<(), WriteFault>
     ensures ok { OnOk result
@@ -61,9 +61,9 @@ fn send_line<W: Write>(line: CertLine, writer: &mut W) -> Result<(), WriteFault>
     }
 }
 
-#[tactic(auto, using(picture::specs::SendingLaws::pieces))]
-// Writes the givens.
-fn send_givens<W: Write>(givens: &[CellNumber], writer: &mut W) -> Result<(), WriteFault>
+#[tactic(auto, using(picture::proofs::SendingLaws::pieces))]
+/// Writes the lines of givens, or after an error a prefix of them.
+pub fn send_givens<W: Write>(givens: &[CellNumber], writer: &mut W) -> Result<(), WriteFault>
     ensures ok { OnOk result
         (Appends (W.contents writer.old) (W.contents writer.new) (givens_text givens.now)) }
     ensures err { OnErr result
@@ -75,7 +75,7 @@ fn send_givens<W: Write>(givens: &[CellNumber], writer: &mut W) -> Result<(), Wr
     Ok(())
 }
 
-#[tactic(auto, using(picture::specs::SendingLaws::pieces))]
+#[tactic(auto, using(picture::proofs::SendingLaws::pieces))]
 // Writes the lines below the givens.
 fn send_lines<W: Write>(lines: &[CertLine], writer: &mut W) -> Result<(), WriteFault>
     ensures ok { OnOk result
@@ -100,9 +100,9 @@ fn version_word(version: u8) -> &'static [u8]
     }
 }
 
-#[tactic(auto, using(picture::specs::SendingLaws::sending))]
-/// Writes a certificate as a text, each line with a line feed: the version, the givens and the lines. `read_cert` reads it as
-/// the same certificate. Nothing is kept in memory, and after a fault a front of the text is written.
+#[tactic(auto, using(picture::proofs::SendingLaws::sending))]
+/// Writes a certificate as a text, each line with a line feed: the version, the givens and the lines. `read_cert` reads
+/// it as the same certificate. Nothing is kept in memory, and after an error a prefix of the text is written.
 pub fn write_cert<W: Write>(cert: &Cert, writer: &mut W) -> Result<(), WriteFault>
     ensures ok { OnOk result
         (Appends (W.contents writer.old) (W.contents writer.new) (cert_text cert.now)) }

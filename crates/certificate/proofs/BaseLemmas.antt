@@ -1,18 +1,18 @@
 -- The root of a certificate, and the base of its givens.
 use Rattle.std.proofs.Common.{◌≡◌, ℕ, ◌<◌, List, [], length, replicate, get_or, ap, ◌∙◌, arith, inl, inr}
 use Rattle.std.proofs.lemmas.List.{get_or-replicate}
-use Rattle.picture.specs.Rows.{width_of, row_at, cell_at}
+use Rattle.picture.specs.Rows.{width_of, row_at, cell_at, Rows}
 use Rattle.line_settle.specs.FactSets.{Leaves}
-use Rattle.line_settle.specs.GridLaws.{all_left, full_shape}
-use Rattle.picture.specs.BitLaws.{bit_below}
+use Rattle.line_settle.proofs.GridLaws.{all_left, full_shape}
+use Rattle.picture.proofs.BitLaws.{bit_below}
 use Rattle.cert_check.specs.Puzzle.{blank_for}
 use Rattle.cert_check.proofs.BaseLemmas.{given_left, givens_shape, left_or_given, open_stays}
-use Rattle.certificate.specs.Making.{BasesAreOne}
+use Rattle.certificate.specs.MadeCert.{BasesAreOne}
 
-blank_row : (picture : List (List ℕ)) (row : ℕ) → row < length picture → row_at (blank_for picture) row ≡ replicate (width_of picture) 65535
+blank_row : (picture : Rows) (row : ℕ) → row < length picture → row_at (blank_for picture) row ≡ replicate (width_of picture) 65535
 blank_row picture row l = get_or-replicate (length picture) row (replicate (width_of picture) 65535) [] l
 
-blank_left : (picture : List (List ℕ)) (row col k : ℕ) → row < length picture → col < width_of picture → Leaves (blank_for picture) row col k → k < 16
+blank_left : (picture : Rows) (row col k : ℕ) → row < length picture → col < width_of picture → Leaves (blank_for picture) row col k → k < 16
 blank_left picture row col k h w l =
     let e : cell_at (blank_for picture) row col ≡ 65535 = ap (λ (r : List ℕ). get_or r col 0) (blank_row picture row h) ∙ get_or-replicate (width_of picture) col 65535 0 w in
     bit_below 65535 16 k (omega arith) (rw e at l)

@@ -1,23 +1,24 @@
--- The lines of a tree that a search writes are those of a certificate without fault.
+-- The lines of a tree that a search writes are those of a certificate without error.
 use Rattle.std.proofs.Common.{◌≡◌, ℕ, suc, ◌+◌, ◌-◌, ◌<◌, ◌≤◌, List, [], ◌∷◌, ◌++◌, true, None, Some, length, eqb, eqb-true, refl, sym, ap, ◌∙◌, arith, inr}
 use Rattle.std.specs.Int.{bit_at}
 use Rattle.std.specs.List.{All, range_with_len}
 use Rattle.std.proofs.lemmas.List.Elements.{filter_passes}
+use Rattle.line_settle.specs.Masks.{Masks}
 use Rattle.picture.specs.declared.line_id.Axis.{Axis}
 use Rattle.picture.specs.declared.line_id.Axis.TheVariants.{Across, Down}
-use Rattle.picture.specs.BitLaws.{bit_is_set}
+use Rattle.picture.proofs.BitLaws.{bit_is_set}
 use Rattle.picture.specs.Picture.{IsPicture}
-use Rattle.picture.specs.Rows.{width_of, cell_at, line_of, lines_along}
+use Rattle.picture.specs.Rows.{width_of, cell_at, line_of, lines_along, Rows}
 use Rattle.clues.specs.declared.block.Block.{Block}
 use Rattle.clues.specs.ClueBook.{Clues, clue_at, clues_of}
 use Rattle.clues.specs.Laws.{CluesAreOfLines}
 use Rattle.line_settle.specs.declared.line_engine.Outcome.{Outcome}
 use Rattle.line_settle.specs.FactSets.{IsWithin, SameShape}
 use Rattle.line_settle.specs.Laws.{ForcingClosesALine, OneLineDecides}
-use Rattle.line_settle.specs.GridLaws.{shape_refl, shape_trans}
-use Rattle.line_settle.specs.Narrowing.{Narrows}
-use Rattle.fixpoint.specs.Closing.{AreClosable}
-use Rattle.fixpoint.specs.ClosingLaws.{within_trans}
+use Rattle.line_settle.proofs.GridLaws.{shape_refl, shape_trans}
+use Rattle.line_settle.specs.NarrowedLine.{Narrows}
+use Rattle.fixpoint.specs.ClosedFacts.{AreClosable}
+use Rattle.fixpoint.proofs.ClosingLaws.{within_trans}
 use Rattle.cert_text.specs.declared.tree_line.CellNumber.{CellNumber}
 use Rattle.cert_text.specs.declared.tree_line.LineNumber.{LineNumber}
 use Rattle.cert_text.specs.declared.tree_line.CertLine.{CertLine}
@@ -27,22 +28,23 @@ use Rattle.second_search.proofs.FindLemmas.{held_within}
 use Rattle.line_settle.specs.Branches.{colours_of, held}
 use Rattle.cert_text.specs.Cert.{AreWritable, IsWritable}
 use Rattle.cert_check.specs.FirstFault.{FirstFault, Leads}
-use Rattle.certificate.specs.Making.{EachExcludes, Excludes, WritesTree}
+use Rattle.certificate.specs.MadeCert.{EachExcludes, Excludes, WritesTree}
 use Rattle.cert_check.specs.Puzzle.{HasCellNumber, HasLineNumber, line_id}
 use Rattle.cert_check.specs.Walk.{CanCheck}
 use Rattle.cert_check.proofs.BaseLemmas.{left_inside}
 
 -- ---- what waits excludes no less than the facts at the root
 
-abbrev EachWithin : List (List ℕ) → List (List (List ℕ)) → Type 0
+abbrev EachWithin : Masks → List (List (List ℕ)) → Type 0
 EachWithin start [] = Unit {0}
 EachWithin start (facts ∷ others) = IsWithin start facts × EachWithin start others
 
-both_within : (start : List (List ℕ)) (xs ys : List (List (List ℕ))) → EachWithin start xs → EachWithin start ys → EachWithin start (xs ++ ys)
+both_within : (start : Masks) (xs ys : List (List (List ℕ))) → EachWithin start xs → EachWithin start ys → EachWithin start (xs ++ ys)
 both_within start [] ys p q = q
 both_within start (x ∷ xs) ys p q = (p.0, both_within start xs ys p.1 q)
 
-each_held : (start facts : List (List ℕ)) (row col : ℕ) (colours : List ℕ) → IsWithin start facts → All (λ k. eqb (bit_at (cell_at facts row col) k) 1 ≡ true) colours → EachWithin start (held facts row col colours)
+each_held : (start facts : Masks) (row col : ℕ) (colours : List ℕ) → IsWithin start facts → All (λ k. eqb (bit_at (cell_at facts row col) k) 1 ≡ true) colours
+    → EachWithin start (held facts row col colours)
 each_held start facts row col [] w a = tt
 each_held start facts row col (k ∷ ks) w a =
     let left = bit_is_set (cell_at facts row col) k (eqb-true (bit_at (cell_at facts row col) k) 1 (a 0 0 (omega arith))) in
@@ -53,7 +55,7 @@ colours_are_left : (mask : ℕ) → All (λ k. eqb (bit_at mask k) 1 ≡ true) (
 unfolding colours_of
 colours_are_left mask = filter_passes (λ k. eqb (bit_at mask k) 1) (range_with_len 0 16)
 
-led_within : ForcingClosesALine → (picture start facts : List (List ℕ)) (line : CertLine) (next : List (List (List ℕ))) → Leads picture facts line next → IsWithin start facts → EachWithin start next
+led_within : ForcingClosesALine → (picture : Rows) (start facts : Masks) (line : CertLine) (next : List (List (List ℕ))) → Leads picture facts line next → IsWithin start facts → EachWithin start next
 led_within law picture start facts (Line number) next l w =
     let forced = l.1.1.0 in
     rw l.1.1.1 (within_trans start facts l.1.0 w (law.grows _ _ _ _ _ forced.1), tt)
@@ -69,55 +71,60 @@ led_within law picture start facts Done next l w = rw l.1 tt
 narrowed_masks : OneLineDecides → (clue : List Block) (left one other : List ℕ) (first second : Outcome) → Narrows clue left first one → Narrows clue left second other → one ≡ other
 narrowed_masks law clue left one other first second n m = (law clue left one other first second n m).0
 
-line_number : (picture facts : List (List ℕ)) (number : LineNumber) → SameShape picture facts → HasLineNumber facts number → HasLineNumber picture number
+line_number : (picture : Rows) (facts : Masks) (number : LineNumber) → SameShape picture facts → HasLineNumber facts number → HasLineNumber picture number
 line_number picture facts number s h = by number.axis h
   where
     by : (axis : Axis) → (0 < number.number) × (number.number ≤ lines_along axis facts) → (0 < number.number) × (number.number ≤ lines_along axis picture)
     by Across q = (q.0, (let e = s.rows in omega arith))
     by Down q = (q.0, (let e = s.each 0 in omega arith))
 
-few_lines : (axis : Axis) (picture : List (List ℕ)) → IsPicture picture → lines_along axis picture ≤ 120
+few_lines : (axis : Axis) (picture : Rows) → IsPicture picture → lines_along axis picture ≤ 120
 few_lines Across picture is = is.rows_fit
 few_lines Down picture is = is.columns_fit
 
-cell_inside : (picture facts : List (List ℕ)) (cell : CellNumber) → SameShape picture facts → HasCellNumber facts cell → HasCellNumber picture cell
+cell_inside : (picture : Rows) (facts : Masks) (cell : CellNumber) → SameShape picture facts → HasCellNumber facts cell → HasCellNumber picture cell
 cell_inside picture facts cell s h =
     let columns = s.each 0 in
     ((let a : 0 < cell.row = h.0 in a), (let a : cell.row ≤ length picture = omega arith in a), (let a : 0 < cell.col = h.2 in a), (let a : cell.col ≤ width_of picture = omega arith in a))
 
-leads : (picture facts : List (List ℕ)) (line : CertLine) (next : List (List (List ℕ))) → SameShape picture facts → Stands (clues_of picture) picture facts line next → Leads picture facts line next
+leads : (picture : Rows) (facts : Masks) (line : CertLine) (next : List (List (List ℕ))) → SameShape picture facts → Stands (clues_of picture) picture facts line next → Leads picture facts line next
 leads picture facts (Line number) next s h = (line_number picture facts number s h.0, (h.1.0, ((h.1.1.0.outcome, h.1.1.0.gains), h.1.1.1)))
 leads picture facts (Split cell) next s h = (cell_inside picture facts cell s h.0, h.1.0)
 leads picture facts (Dead number) next s h = (line_number picture facts number s h.0, h.1.0, h.1.1)
 leads picture facts Done next s h = h
 
-writable : (picture facts : List (List ℕ)) (line : CertLine) (next : List (List (List ℕ))) → IsPicture picture → SameShape picture facts → Stands (clues_of picture) picture facts line next → IsWritable line
-writable picture facts (Line number) next is s h = let q = line_number picture facts number s h.0 in let few = few_lines number.axis picture is in (let l : number.number < 1000 = omega (arith, q.1, few) in l)
+writable : (picture : Rows) (facts : Masks) (line : CertLine) (next : List (List (List ℕ))) → IsPicture picture → SameShape picture facts → Stands (clues_of picture) picture facts line next
+    → IsWritable line
+writable picture facts (Line number) next is s h = let q = line_number picture facts number s h.0 in let few = few_lines number.axis picture is in
+    (let l : number.number < 1000 = omega (arith, q.1, few) in l)
 writable picture facts (Split cell) next is s h =
     let q = cell_inside picture facts cell s h.0 in
     let r = is.rows_fit in
     let c = is.columns_fit in
     ((let l : cell.row < 1000 = omega (arith, q.1, r) in l), (let l : cell.col < 1000 = omega (arith, q.3, c) in l))
-writable picture facts (Dead number) next is s h = let q = line_number picture facts number s h.0 in let few = few_lines number.axis picture is in (let l : number.number < 1000 = omega (arith, q.1, few) in l)
+writable picture facts (Dead number) next is s h = let q = line_number picture facts number s h.0 in let few = few_lines number.axis picture is in
+    (let l : number.number < 1000 = omega (arith, q.1, few) in l)
 writable picture facts Done next is s h = tt
 
-excludes : OneLineDecides → (picture facts : List (List ℕ)) (line : CertLine) (next : List (List (List ℕ))) → Stands (clues_of picture) picture facts line next → Excludes picture facts line
+excludes : OneLineDecides → (picture : Rows) (facts : Masks) (line : CertLine) (next : List (List (List ℕ))) → Stands (clues_of picture) picture facts line next → Excludes picture facts line
 excludes law picture facts (Line number) next h = λ gained forced same.
     let mine = h.1.1.0 in
-    mine.more (ap (λ (fs : List (List ℕ)). line_of fs (line_id number)) (sym same) ∙ narrowed_masks law (clue_at (clues_of picture) (line_id number)) (line_of facts (line_id number)) (line_of gained (line_id number)) (line_of h.1.0 (line_id number)) forced.0 mine.outcome forced.1.narrows mine.gains.narrows)
+    mine.more (ap (λ (fs : List (List ℕ)). line_of fs (line_id number)) (sym same) ∙ narrowed_masks law (clue_at (clues_of picture) (line_id number)) (line_of facts (line_id number))
+    (line_of gained (line_id number)) (line_of h.1.0 (line_id number)) forced.0 mine.outcome forced.1.narrows mine.gains.narrows)
 excludes law picture facts (Split cell) next h = h.1.1
 excludes law picture facts (Dead number) next h = tt
 excludes law picture facts Done next h = tt
 
-record IsWhole (picture : List (List ℕ)) (waits : List (List (List ℕ))) (lines : List CertLine) : Type 0 where
+record IsWhole (picture : Rows) (waits : List (List (List ℕ))) (lines : List CertLine) : Type 0 where
   writes : AreWritable lines
   goes : (n : ℕ) → FirstFault picture waits n lines None
   each : EachExcludes picture waits lines
 
-no_cons : (facts : List (List ℕ)) (others : List (List (List ℕ))) → facts ∷ others ≡ [] → ⊥
+no_cons : (facts : Masks) (others : List (List (List ℕ))) → facts ∷ others ≡ [] → ⊥
 no_cons facts others e = let n : length (facts ∷ others) ≡ 0 = ap length e in absurd (omega arith)
 
-whole : ForcingClosesALine → OneLineDecides → (picture start : List (List ℕ)) → IsPicture picture → SameShape picture start → (lines : List CertLine) (waits : List (List (List ℕ))) → EachWithin start waits → Walks (clues_of picture) picture lines waits [] → IsWhole picture waits lines
+whole : ForcingClosesALine → OneLineDecides → (picture : Rows) (start : Masks) → IsPicture picture → SameShape picture start → (lines : List CertLine) (waits : List (List (List ℕ)))
+    → EachWithin start waits → Walks (clues_of picture) picture lines waits [] → IsWhole picture waits lines
 whole law once picture start is s [] [] w h = record { writes = tt; goes = λ n. refl; each = tt }
 whole law once picture start is s [] (facts ∷ others) w h = absurd (no_cons facts others h)
 whole law once picture start is s (line ∷ lines) [] w h = absurd h
@@ -133,16 +140,17 @@ whole law once picture start is s (line ∷ lines) (facts ∷ others) w h =
       each = (excludes once picture facts line next stands, (next, (lead, rest.each)));
     }
 
-pub whole_tree : ForcingClosesALine → OneLineDecides → (picture start : List (List ℕ)) (clues : Clues) (longest : ℕ) (lines : List CertLine) → CanCheck picture clues longest → SameShape picture start → Walks clues picture lines (start ∷ []) [] → WritesTree picture start (Some lines)
+pub whole_tree : ForcingClosesALine → OneLineDecides → (picture : Rows) (start : Masks) (clues : Clues) (longest : ℕ) (lines : List CertLine) → CanCheck picture clues longest → SameShape picture start
+    → Walks clues picture lines (start ∷ []) [] → WritesTree picture start (Some lines)
 whole_tree law once picture start clues longest lines can s h =
     let w = whole law once picture start can.is_picture s lines (start ∷ []) (record { same_shape = shape_refl start; leaves = λ row col k l. l }, tt) (rw can.clues_are at h) in
     (w.writes, w.goes, w.each)
 
-pub other_tree : (picture start other : List (List ℕ)) (clues : Clues) (longest : ℕ) → CanCheck picture clues longest → IsOtherIn clues picture start other → WritesTree picture start None
+pub other_tree : (picture : Rows) (start : Masks) (other : Rows) (clues : Clues) (longest : ℕ) → CanCheck picture clues longest → IsOtherIn clues picture start other → WritesTree picture start None
 other_tree picture start other clues longest can h =
     (other, (rw can.clues_are at h.0, h.1))
 
-pub can_close : CluesAreOfLines → (picture start : List (List ℕ)) (clues : Clues) (longest : ℕ) → CanCheck picture clues longest → SameShape picture start → AreClosable clues longest start
+pub can_close : CluesAreOfLines → (picture : Rows) (start : Masks) (clues : Clues) (longest : ℕ) → CanCheck picture clues longest → SameShape picture start → AreClosable clues longest start
 can_close law picture start clues longest can s =
     let rows : length clues.rows ≡ length picture = ap (λ (c : Clues). length c.rows) can.clues_are ∙ law.sizes picture Across in
     let columns : length clues.columns ≡ width_of picture = ap (λ (c : Clues). length c.columns) can.clues_are ∙ law.sizes picture Down in

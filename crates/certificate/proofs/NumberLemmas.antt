@@ -4,10 +4,10 @@ use Rattle.std.proofs.lemmas.Bool.{cases_lt}
 use Rattle.std.proofs.lemmas.List.{append-nil}
 use Rattle.picture.specs.CellSet.{HasCell}
 use Rattle.picture.specs.Document.{AreInside}
-use Rattle.picture.specs.Rows.{width_of}
+use Rattle.picture.specs.Rows.{width_of, Rows}
 use Rattle.cert_text.specs.declared.tree_line.CellNumber.{CellNumber}
 use Rattle.cert_text.specs.Cert.{AreOrdered, IsShort, rank}
-use Rattle.certificate.specs.Making.{NamesGivens, NamesUpTo}
+use Rattle.certificate.specs.MadeCert.{NamesGivens, NamesUpTo}
 use Rattle.cert_check.specs.Puzzle.{HasCellNumber, HasCellNumbers, IsAmong, numbered}
 
 less_ordered : (a b : ℕ) (cells : List CellNumber) → a ≤ b → AreOrdered b cells → AreOrdered a cells
@@ -48,7 +48,8 @@ none_named givens = record {
 }
 
 -- a given more
-pub more_named : (givens : List ℕ) (row col : ℕ) (cells new : List CellNumber) → row < 120 → col < 120 → HasCell givens row col → new ≡ cells ++ (numbered row col ∷ []) → NamesUpTo givens row col cells → NamesUpTo givens row (col + 1) new
+pub more_named : (givens : List ℕ) (row col : ℕ) (cells new : List CellNumber) → row < 120 → col < 120 → HasCell givens row col → new ≡ cells ++ (numbered row col ∷ [])
+    → NamesUpTo givens row col cells → NamesUpTo givens row (col + 1) new
 more_named givens row col cells new h w has e n =
     let P : List CellNumber → Type 0 = NamesUpTo givens row (col + 1) in
     let cell = numbered row col in
@@ -59,7 +60,8 @@ more_named givens row col cells new h w has e n =
           let short_row : IsShort (row + 1) = omega arith in
           let short_col : IsShort (col + 1) = omega arith in
           let behind : (row + 1) * 1000 + (col + 1) < (row + 1) * 1000 + (col + 1) + 1 = omega arith in
-          subst Q (sym (append_assoc cells (cell ∷ []) more)) (n.ordered (cell ∷ more) (short_row, short_col, behind, subst R (let q : (row + 1) * 1000 + (col + 1 + 1) ≡ (row + 1) * 1000 + (col + 1) + 1 = omega arith in q) o));
+          subst Q (sym (append_assoc cells (cell ∷ []) more))
+          (n.ordered (cell ∷ more) (short_row, short_col, behind, subst R (let q : (row + 1) * 1000 + (col + 1 + 1) ≡ (row + 1) * 1000 + (col + 1) + 1 = omega arith in q) o));
       named = λ r c. (
         (λ h. elim (among_parts (numbered r c) cell cells h) [
           | inl m ↦ let k = (n.named r c).0 m in (k.0, elim k.1 [ inl l ↦ inl l | inr p ↦ inr (p.0, (let l = p.1 in let q : c < col + 1 = omega arith in q)) ])
@@ -107,7 +109,8 @@ same_named givens row col cells none n = record {
 }
 
 -- a row more
-pub row_named : (picture : List (List ℕ)) (givens : List ℕ) (row width : ℕ) (cells : List CellNumber) → AreInside givens picture → width ≡ width_of picture → width ≤ 120 → NamesUpTo givens row width cells → NamesUpTo givens (row + 1) 0 cells
+pub row_named : (picture : Rows) (givens : List ℕ) (row width : ℕ) (cells : List CellNumber) → AreInside givens picture → width ≡ width_of picture → width ≤ 120 → NamesUpTo givens row width cells
+    → NamesUpTo givens (row + 1) 0 cells
 row_named picture givens row width cells inside wide few n = record {
   ordered = λ more o. n.ordered more (less_ordered ((row + 1) * 1000 + (width + 1)) ((row + 1 + 1) * 1000 + (0 + 1)) more (omega arith) o);
   named = λ r c. (
@@ -126,11 +129,12 @@ row_named picture givens row width cells inside wide few n = record {
   real = n.real;
 }
 
-each_inside : (picture : List (List ℕ)) (cells : List CellNumber) → ((cell : CellNumber) → IsAmong cell cells → HasCellNumber picture cell) → HasCellNumbers picture cells
+each_inside : (picture : Rows) (cells : List CellNumber) → ((cell : CellNumber) → IsAmong cell cells → HasCellNumber picture cell) → HasCellNumbers picture cells
 each_inside picture [] h = tt
 each_inside picture (cell ∷ cells) h = (h cell (inl refl), each_inside picture cells (λ c m. h c (inr m)))
 
-pub all_named : (picture : List (List ℕ)) (givens : List ℕ) (height : ℕ) (cells : List CellNumber) → AreInside givens picture → height ≡ length picture → NamesUpTo givens height 0 cells → NamesGivens picture givens cells
+pub all_named : (picture : Rows) (givens : List ℕ) (height : ℕ) (cells : List CellNumber) → AreInside givens picture → height ≡ length picture → NamesUpTo givens height 0 cells
+    → NamesGivens picture givens cells
 all_named picture givens height cells inside tall n = record {
   ordered = subst (AreOrdered 0) (append-nil cells) (n.ordered [] tt);
   inside = each_inside picture cells (λ cell m.
@@ -139,7 +143,12 @@ all_named picture givens height cells inside tall n = record {
       let i = inside p.0 p.1.0 k.0 in
       let r = i.0 in
       let c = i.1 in
-      rw p.1.1 ((let q : 0 < p.0 + 1 = omega arith in q), (let q : p.0 + 1 ≤ length picture = omega arith in q), (let q : 0 < p.1.0 + 1 = omega arith in q), (let q : p.1.0 + 1 ≤ width_of picture = omega arith in q)));
+      rw p.1.1 (
+        (let q : 0 < p.0 + 1 = omega arith in q),
+        (let q : p.0 + 1 ≤ length picture = omega arith in q),
+        (let q : 0 < p.1.0 + 1 = omega arith in q),
+        (let q : p.1.0 + 1 ≤ width_of picture = omega arith in q),
+      ));
   named = λ r c. (
     (λ h. (n.named r c).1 (h, inl (let i = (inside r c h).0 in let q : r < height = omega arith in q))),
     (λ m. ((n.named r c).0 m).0),

@@ -1,4 +1,4 @@
-pub mod Making
+pub mod MadeCert
 pub use Rattle.cert_check.specs.FirstFault
 pub use Rattle.cert_check.specs.Puzzle
 pub use Rattle.cert_check.specs.Tree

@@ -1,6 +1,6 @@
 //! Laws of the definitions in `specs/`. Each function does nothing, and its contract is the law.
 
-ghost use Rattle.certificate.specs.Making.{BasesAreOne};
+ghost use Rattle.certificate.specs.MadeCert.{BasesAreOne};
 
 pub use cert_text::laws::round_trip;
 

@@ -4,7 +4,7 @@ ghost use Rattle.std.specs.Prelude.{◌≡◌, ◌≤◌, ◌<◌, ◌↔◌, []
 ghost use Rattle.picture.specs.Document.{AreInside};
 ghost use Rattle.picture.specs.Rows.{width_of};
 ghost use Rattle.cert_text.specs.Cert.{AreOrdered, AreWritable, IsCert};
-ghost use Rattle.certificate.specs.Making.{HasOther, Makes, NamesGivens, NamesUpTo, WritesTree, lines_seen};
+ghost use Rattle.certificate.specs.MadeCert.{HasOther, Makes, NamesGivens, NamesUpTo, WritesTree, lines_seen};
 ghost use Rattle.cert_check.specs.Walk.{CanCheck};
 ghost use Rattle.line_settle.specs.FactSets.{SameShape};
 ghost use Rattle.second_search.specs.Parts.{IsScene};
@@ -51,7 +51,7 @@ fn write_tree<E: LineEngine>(
 }
 
 #[tactic(auto, using(crate::proofs::NumberLemmas::naming))]
-// Puts the numbers of the given cells of a row behind those of the rows before it.
+// Puts the numbers of the given cells of a row after those of the rows before it.
 fn put_row(
     cells: &mut Vec<CellNumber>,
     givens: &CellSet,

@@ -5,7 +5,7 @@ use Rattle.program_options.specs.declared.fault.ProgramFault.TheVariants as faul
 use Rattle.command_line.specs.declared.words.Task.{Task}
 use Rattle.command_line.specs.declared.words.Task.TheVariants.{Check, Clues, Help, Work}
 use Rattle.program_options.specs.Faults.{status_of}
-use Rattle.program.specs.Ending.{status_after}
+use Rattle.program.specs.Endings.{status_after}
 use Rattle.program.specs.Files.{Held, Names}
 use Rattle.program.specs.Run.{AnswersAll, IsRefused}
 use Rattle.program.specs.Work.{CarriesOut}
@@ -27,7 +27,7 @@ fails (fault.Cert f) e = absurd cc
 fails fault.Memory e = absurd cc
 fails fault.TooLong e = absurd cc
 
--- with status 0 there was no fault
+-- with status 0 there was no error
 proved : (held : List ℕ → Held) (before after : World) (task : Task) (r : Result (Unit {0}) ProgramFault) → CarriesOut held before after task r → status_after r ≡ 0 → IsProved held task
 proved held before after Clues r c e = tt
 proved held before after (Work path options) r c e = tt
@@ -38,7 +38,8 @@ proved held before after (Check path cert background) (Ok done) (inr (inl half))
 proved held before after (Check path cert background) (Ok done) (inr (inr checked)) e =
     (checked.file, (checked.cert, (checked.content, (checked.cert_content, checked.unique))))
 
-opened : (held : List ℕ → Held) (before after : World) (task : Task) (r : Result (Unit {0}) ProgramFault) → CarriesOut held before after task r → (count : ℕ) × Names before.opened after.opened (take count (files_of task))
+opened : (held : List ℕ → Held) (before after : World) (task : Task) (r : Result (Unit {0}) ProgramFault) → CarriesOut held before after task r
+    → (count : ℕ) × Names before.opened after.opened (take count (files_of task))
 opened held before after Clues r c = (0, c.0)
 opened held before after (Work path options) r (inl stopped) = (1, stopped.only.names)
 opened held before after (Work path options) r (inr worked) = (1, worked.names)
@@ -50,13 +51,15 @@ opened held before after (Help text) r c = (0, c.names)
 refused : (f : ProgramFault) (before after : World) (r : Result (Unit {0}) ProgramFault) → IsRefused f before after r → status_after r ≡ 0 → ⊥
 refused f before after r c e = fails f (ap status_after (sym c.is) ∙ e)
 
-comes_to_after : (arguments : List (List ℕ)) (held : List ℕ → Held) (before after : World) (r : Result (Unit {0}) ProgramFault) → AnswersAll arguments held before after r → Opens arguments held before.opened after.opened (status_after r)
+comes_to_after : (arguments : List (List ℕ)) (held : List ℕ → Held) (before after : World) (r : Result (Unit {0}) ProgramFault) → AnswersAll arguments held before after r
+    → Opens arguments held before.opened after.opened (status_after r)
 comes_to_after arguments held before after r (inl short) = inl (short.only.names, refused fault.Memory before after r short)
 comes_to_after arguments held before after r (inr (inl (f, (asks, c)))) = inl (c.only.names, refused f before after r c)
 comes_to_after arguments held before after r (inr (inr (task, (asks, c)))) =
     let files = opened held before after task r c in
     inr (task, (asks, (files.0, (files.1, proved held before after task r c))))
 
-pub comes_to : (arguments : List (List ℕ)) (held : List ℕ → Held) (before after : World) (r : Result (Unit {0}) ProgramFault) (status : ℕ) → status ≡ status_after r → AnswersAll arguments held before after r → Opens arguments held before.opened after.opened status
+pub comes_to : (arguments : List (List ℕ)) (held : List ℕ → Held) (before after : World) (r : Result (Unit {0}) ProgramFault) (status : ℕ) → status ≡ status_after r
+    → AnswersAll arguments held before after r → Opens arguments held before.opened after.opened status
 comes_to arguments held before after r status is c =
     subst (λ (n : ℕ). Opens arguments held before.opened after.opened n) (sym is) (comes_to_after arguments held before after r c)

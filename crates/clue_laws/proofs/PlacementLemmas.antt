@@ -142,7 +142,8 @@ first_run line from p ps s =
           (drop-drop gap from line ∙ (ap (λ (n : ℕ). drop n line) there ∙ (coloured ∙ ap (λ (cells : List ℕ). replicate len p.block.colour ++ cells) (drop-drop len p.start line))));
       has_cells = here.has_cells;
       has_colour = here.has_colour;
-      has_ended = has_ended p.block.colour (drop (end_of p) line) (λ e. ends_there line from p ps s (read_at line (end_of p) (end_of p) (omega arith) ∙ (ap (λ (i : ℕ). get_or (drop (end_of p) line) i 0) (let z : end_of p - end_of p ≡ 0 = omega arith in z) ∙ e)));
+      has_ended = has_ended p.block.colour (drop (end_of p) line) (λ e. ends_there line from p ps s
+          (read_at line (end_of p) (end_of p) (omega arith) ∙ (ap (λ (i : ℕ). get_or (drop (end_of p) line) i 0) (let z : end_of p - end_of p ≡ 0 = omega arith in z) ∙ e)));
     }
 
 are_runs : (line : List ℕ) (from : ℕ) (ps : List Placed) → StandFrom line from ps → AreRuns (drop from line) (map (λ p. p.block) ps)
@@ -182,7 +183,8 @@ no_blocks line from all = record {
 }
 
 -- the first run, and those after it
-first_placed : (line : List ℕ) (from : ℕ) (run : Block) (runs : List Block) (rest : List ℕ) → (first : IsFirstRun (drop from line) run rest) → drop (from + first.gap + run.len) line ≡ rest → drop (from + first.gap) line ≡ replicate run.len run.colour ++ rest → PlacedFrom line (from + first.gap + run.len) runs → PlacedFrom line from (run ∷ runs)
+first_placed : (line : List ℕ) (from : ℕ) (run : Block) (runs : List Block) (rest : List ℕ) → (first : IsFirstRun (drop from line) run rest) → drop (from + first.gap + run.len) line ≡ rest
+    → drop (from + first.gap) line ≡ replicate run.len run.colour ++ rest → PlacedFrom line (from + first.gap + run.len) runs → PlacedFrom line from (run ∷ runs)
 first_placed line from run runs rest first at_end at_start others =
     let p : Placed = record { start = from + first.gap; block = run } in
     let ps = others.placed in
@@ -232,7 +234,8 @@ first_placed line from run runs rest first at_end at_start others =
 
       covered : (cell : ℕ) → from ≤ cell → get_or line cell 0 ≢ 0 → Any (Covers cell) (record { start = from + first.gap; block = run } ∷ others.placed)
       covered cell past coloured = elim (cases_lt cell (from + first.gap)) [
-        | inl lt ↦ absurd (coloured (read_past line from cell (replicate first.gap 0 ++ (replicate run.len run.colour ++ rest)) first.cells past ∙ in_replicate first.gap 0 (replicate run.len run.colour ++ rest) (cell - from) (omega (arith, lt))))
+        | inl lt ↦ absurd (coloured (read_past line from cell (replicate first.gap 0 ++ (replicate run.len run.colour ++ rest)) first.cells past
+            ∙ in_replicate first.gap 0 (replicate run.len run.colour ++ rest) (cell - from) (omega (arith, lt))))
         | inr ge ↦ elim (cases_lt cell (from + first.gap + run.len)) [
           | inl below ↦ (0, record { start = from + first.gap; block = run }, omega arith, refl, record { from = ge; below = below })
           | inr beyond ↦ later cell (others.stand.covered cell beyond coloured)

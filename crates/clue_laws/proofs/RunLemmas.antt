@@ -3,7 +3,7 @@ use Rattle.std.proofs.Common.{◌≡◌, ◌≢◌, ℕ, zero, suc, ◌<◌, Lis
 use Rattle.std.proofs.lemmas.Bool.{cases_eq, eq-eqb, ne_eqb}
 use Rattle.clues.specs.declared.block.Block.{Block}
 use Rattle.clues.specs.Clue.{block, longer, joined, clue_of, blocks_of}
-use Rattle.clues.specs.RunLaws.{blocks_of-coloured, clue_of-run, clue_of-last_run}
+use Rattle.clues.proofs.RunLaws.{blocks_of-coloured, clue_of-run, clue_of-last_run}
 use Rattle.clue_laws.specs.Runs.{AreRuns, CluesAreMaximalRuns, HasEnded, IsFirstRun}
 
 -- ---- runs are the clue

@@ -4,17 +4,18 @@ use Rattle.std.specs.List.{insert, remove, swap}
 use Rattle.std.proofs.lemmas.Bool.{cases_lt, cases_eq}
 use Rattle.std.proofs.lemmas.Bool.Decides.{nat_tests}
 use Rattle.std.proofs.lemmas.List.{length-map, length-replicate, get_or-map, map-set, set-get_or}
-use Rattle.std.proofs.lemmas.List.Edits.{length-insert, get_or-insert_below, get_or-insert_at, get_or-insert_above, length-remove, get_or-remove_below, get_or-remove_above, swap_is, length-swap, swapped_from_swap}
+use Rattle.std.proofs.lemmas.List.Edits.{length-insert, get_or-insert_below, get_or-insert_at, get_or-insert_above, length-remove, get_or-remove_below, get_or-remove_above, swap_is, length-swap}
+use Rattle.std.proofs.lemmas.List.Edits.{swapped_from_swap}
 use Rattle.picture.specs.declared.line_id.Axis.{Axis}
 use Rattle.picture.specs.declared.line_id.Axis.TheVariants.{Across, Down}
 use Rattle.picture.specs.Picture.{IsPicture}
-use Rattle.picture.specs.Rows.{width_of, line_along, line_of, lines_along, lines_swapped, with_line, without_line}
+use Rattle.picture.specs.Rows.{width_of, line_along, line_of, lines_along, lines_swapped, with_line, without_line, Rows}
 use Rattle.clues.specs.declared.places.Places.{Places}
 use Rattle.clues.specs.declared.places.Places.TheVariants.{Kept, Inserted, Deleted, Swapped}
 use Rattle.clues.specs.Places.{exchanged, new_place, count_after, AreAmong, IsNewAt, ChangesLength}
 use Rattle.picture.specs.LineSet.{Lines, no_names}
 use Rattle.clues.specs.Change.{AreMoves, Changes, FollowsSwap, HasSize, IsTouched, IsOldLine, Follows, line_at, lines_before, lines_after, image_of, moved_along, still}
-use Rattle.picture.specs.Crossing.{crossing}
+use Rattle.picture.specs.CrossingLines.{crossing}
 use Rattle.clues.proofs.MovedLines.{origin_of-image}
 use Rattle.clues.proofs.ChangedLines.{length-line_along}
 
@@ -69,7 +70,8 @@ get_or-swap xs first second at d in_first in_second =
     ]
 
 -- an item is found at its new place
-pub get_or-edited : {X : Type 0} (places : Places) (new d : X) (xs : List X) (from to : ℕ) → AreAmong places (length xs) → from < length xs → new_place places from ≡ Some to → get_or (edited places new xs) to d ≡ get_or xs from d
+pub get_or-edited : {X : Type 0} (places : Places) (new d : X) (xs : List X) (from to : ℕ) → AreAmong places (length xs) → from < length xs → new_place places from ≡ Some to
+    → get_or (edited places new xs) to d ≡ get_or xs from d
 get_or-edited Kept new d xs from to among within e = let same : to ≡ from = cc e in rw same refl
 get_or-edited (Inserted place) new d xs from to among within e =
     elim (cases_lt from place) [
@@ -112,19 +114,21 @@ origin (Swapped first second) count at among within old =
     (exchanged first second at, exchanged-within first second count at among.0 among.1 within, ap Some (exchanged-exchanged first second at))
 
 -- a picture whose lines along an axis have moved, with background at a new place
-abbrev pub edited_picture : Axis → Places → List (List ℕ) → List (List ℕ)
+abbrev pub edited_picture : Axis → Places → Rows → Rows
 edited_picture Across places picture = edited places (replicate (width_of picture) 0) picture
 edited_picture Down places picture = map (edited places 0) picture
 
 -- a column is the same where each row has the same cell there
-same_column : (f : List ℕ → List ℕ) (to from width : ℕ) → ((row : List ℕ) → length row ≡ width → get_or (f row) to 0 ≡ get_or row from 0) → (rows : List (List ℕ)) → ((i : ℕ) → i < length rows → length (get_or rows i []) ≡ width) → map (λ row. get_or row to 0) (map f rows) ≡ map (λ row. get_or row from 0) rows
+same_column : (f : List ℕ → List ℕ) (to from width : ℕ) → ((row : List ℕ) → length row ≡ width → get_or (f row) to 0 ≡ get_or row from 0) → (rows : Rows)
+    → ((i : ℕ) → i < length rows → length (get_or rows i []) ≡ width) → map (λ row. get_or row to 0) (map f rows) ≡ map (λ row. get_or row from 0) rows
 same_column f to from width same [] equal = refl
 same_column f to from width same (row ∷ rows) equal =
     ap (λ x. x ∷ map (λ r. get_or r to 0) (map f rows)) (same row (equal 0 (omega arith)))
     ∙ ap (λ xs. get_or row from 0 ∷ xs) (same_column f to from width same rows (λ i h. equal (suc i) (omega (arith, h))))
 
 -- the line at a new place is the one from the old place
-pub moved_line : (axis : Axis) (places : Places) (picture : List (List ℕ)) (from to : ℕ) → IsPicture picture → AreAmong places (lines_along axis picture) → from < lines_along axis picture → new_place places from ≡ Some to → line_along axis to (edited_picture axis places picture) ≡ line_along axis from picture
+pub moved_line : (axis : Axis) (places : Places) (picture : Rows) (from to : ℕ) → IsPicture picture → AreAmong places (lines_along axis picture) → from < lines_along axis picture
+    → new_place places from ≡ Some to → line_along axis to (edited_picture axis places picture) ≡ line_along axis from picture
 moved_line Across places picture from to is among within e = get_or-edited places (replicate (width_of picture) 0) [] picture from to among within e
 moved_line Down places picture from to is among within e =
     same_column (edited places 0) to from (width_of picture)
@@ -145,7 +149,8 @@ get_or-edited_new (Deleted place) new d xs at among n = absurd n
 get_or-edited_new (Swapped first second) new d xs at among n = absurd n
 
 -- how many lines there are along both axes
-pub first_row : (places : Places) (picture : List (List ℕ)) → IsPicture picture → AreAmong places (length picture) → 0 < count_after places (length picture) → length (get_or (edited places (replicate (width_of picture) 0) picture) 0 []) ≡ width_of picture
+pub first_row : (places : Places) (picture : Rows) → IsPicture picture → AreAmong places (length picture) → 0 < count_after places (length picture)
+    → length (get_or (edited places (replicate (width_of picture) 0) picture) 0 []) ≡ width_of picture
 first_row places picture is among some =
     elim (new_or_old places 0) [
       | inl n ↦ ap length (get_or-edited_new places (replicate (width_of picture) 0) [] picture 0 among n) ∙ length-replicate (width_of picture) 0
@@ -154,7 +159,8 @@ first_row places picture is among some =
           ap length (get_or-edited places (replicate (width_of picture) 0) [] picture from.0 0 among from.1 from.2) ∙ is.rectangular from.0 from.1
     ]
 
-pub edited-sizes : (axis : Axis) (places : Places) (height width : ℕ) (picture : List (List ℕ)) → HasSize height width picture → AreAmong places (lines_before axis (still height width)) → 0 < lines_after axis (moved_along axis places height width) → (along : Axis) → lines_along along (edited_picture axis places picture) ≡ lines_after along (moved_along axis places height width)
+pub edited-sizes : (axis : Axis) (places : Places) (height width : ℕ) (picture : Rows) → HasSize height width picture → AreAmong places (lines_before axis (still height width))
+    → 0 < lines_after axis (moved_along axis places height width) → (along : Axis) → lines_along along (edited_picture axis places picture) ≡ lines_after along (moved_along axis places height width)
 edited-sizes Across places height width picture has among some Across =
     rw (← has.row_count) (length-edited places (replicate (width_of picture) 0) picture (rw has.row_count among))
 edited-sizes Across places height width picture has among some Down =
@@ -185,18 +191,24 @@ map-swap f xs first second d in_first in_second =
     ∙ (ap (λ y. set (set (map f xs) first (get_or (map f xs) second 0)) second y) (sym (get_or-map f xs first d 0 in_first))
     ∙ swap_is (map f xs) first second 0 (omega (arith, length-map xs f)) (omega (arith, length-map xs f))))))
 
-crossing_swapped : (axis : Axis) (first second : ℕ) (picture : List (List ℕ)) (at : ℕ) → first < lines_along axis picture → second < lines_along axis picture → at < lines_along (crossing axis) picture → line_along (crossing axis) at (edited_picture axis (Swapped first second) picture) ≡ swap (line_along (crossing axis) at picture) first second
+crossing_swapped : (axis : Axis) (first second : ℕ) (picture : Rows) (at : ℕ) → first < lines_along axis picture → second < lines_along axis picture → at < lines_along (crossing axis) picture
+    → line_along (crossing axis) at (edited_picture axis (Swapped first second) picture) ≡ swap (line_along (crossing axis) at picture) first second
 crossing_swapped Across first second picture at in_first in_second within = map-swap (λ row. get_or row at 0) picture first second [] in_first in_second
 crossing_swapped Down first second picture at in_first in_second within = get_or-map (λ row. swap row first second) picture at [] [] within
 
 -- it stays where both cells are the same, and only there
-crossing_line : (axis : Axis) (first second : ℕ) (picture : List (List ℕ)) (at : ℕ) → IsPicture picture → first < lines_along axis picture → second < lines_along axis picture → at < lines_along (crossing axis) picture → get_or (line_along (crossing axis) at picture) first 0 ≡ get_or (line_along (crossing axis) at picture) second 0 → line_along (crossing axis) at (edited_picture axis (Swapped first second) picture) ≡ line_along (crossing axis) at picture
+crossing_line : (axis : Axis) (first second : ℕ) (picture : Rows) (at : ℕ) → IsPicture picture → first < lines_along axis picture → second < lines_along axis picture
+    → at < lines_along (crossing axis) picture → get_or (line_along (crossing axis) at picture) first 0 ≡ get_or (line_along (crossing axis) at picture) second 0
+    → line_along (crossing axis) at (edited_picture axis (Swapped first second) picture) ≡ line_along (crossing axis) at picture
 crossing_line axis first second picture at is in_first in_second within same =
-    let long : length (line_along (crossing axis) at picture) ≡ lines_along axis picture = length-line_along (crossing axis) at picture is within ∙ ap (λ along. lines_along along picture) (crossing-crossing axis) in
+    let long : length (line_along (crossing axis) at picture) ≡ lines_along axis picture = length-line_along (crossing axis) at picture is within
+    ∙ ap (λ along. lines_along along picture) (crossing-crossing axis) in
     crossing_swapped axis first second picture at in_first in_second within
     ∙ swap-same (line_along (crossing axis) at picture) first second 0 (rw long in_first) (rw long in_second) same
 
-crossing_alike : (axis : Axis) (first second : ℕ) (picture : List (List ℕ)) (at : ℕ) → IsPicture picture → first < lines_along axis picture → second < lines_along axis picture → at < lines_along (crossing axis) picture → line_along (crossing axis) at (edited_picture axis (Swapped first second) picture) ≡ line_along (crossing axis) at picture → get_or (line_along (crossing axis) at picture) first 0 ≡ get_or (line_along (crossing axis) at picture) second 0
+crossing_alike : (axis : Axis) (first second : ℕ) (picture : Rows) (at : ℕ) → IsPicture picture → first < lines_along axis picture → second < lines_along axis picture
+    → at < lines_along (crossing axis) picture → line_along (crossing axis) at (edited_picture axis (Swapped first second) picture) ≡ line_along (crossing axis) at picture
+    → get_or (line_along (crossing axis) at picture) first 0 ≡ get_or (line_along (crossing axis) at picture) second 0
 crossing_alike axis first second picture at is in_first in_second within same =
     let line = line_along (crossing axis) at picture in
     let long : length line ≡ lines_along axis picture = length-line_along (crossing axis) at picture is within ∙ ap (λ along. lines_along along picture) (crossing-crossing axis) in
@@ -205,11 +217,12 @@ crossing_alike axis first second picture at is in_first in_second within same =
     sym moved ∙ ap (λ cells. get_or cells second 0) (sym (crossing_swapped axis first second picture at in_first in_second within) ∙ same)
 
 -- lines that are still there
-pub lines_along-size : (axis : Axis) (height width : ℕ) (picture : List (List ℕ)) → HasSize height width picture → lines_along axis picture ≡ lines_before axis (still height width)
+pub lines_along-size : (axis : Axis) (height width : ℕ) (picture : Rows) → HasSize height width picture → lines_along axis picture ≡ lines_before axis (still height width)
 lines_along-size Across height width picture has = has.row_count
 lines_along-size Down height width picture has = has.column_count
 
-pub image_of-along : (axis : Axis) (places : Places) (height width from to : ℕ) → new_place places from ≡ Some to → image_of (moved_along axis places height width) (line_at axis from) ≡ Some (line_at axis to)
+pub image_of-along : (axis : Axis) (places : Places) (height width from to : ℕ) → new_place places from ≡ Some to
+    → image_of (moved_along axis places height width) (line_at axis from) ≡ Some (line_at axis to)
 image_of-along Across places height width from to e = ap (option_map (line_at Across)) e
 image_of-along Down places height width from to e = ap (option_map (line_at Down)) e
 
@@ -217,21 +230,26 @@ image_of-crossing : (axis : Axis) (places : Places) (height width at : ℕ) → 
 image_of-crossing Across places height width at = refl
 image_of-crossing Down places height width at = refl
 
-old_line : (axis : Axis) (places : Places) (height width : ℕ) (picture : List (List ℕ)) (at : ℕ) → HasSize height width picture → AreAmong places (lines_before axis (still height width)) → at < count_after places (lines_before axis (still height width)) → (IsNewAt places at → ⊥) → IsOldLine (moved_along axis places height width) picture (edited_picture axis places picture) (line_at axis at)
+old_line : (axis : Axis) (places : Places) (height width : ℕ) (picture : Rows) (at : ℕ) → HasSize height width picture → AreAmong places (lines_before axis (still height width))
+    → at < count_after places (lines_before axis (still height width)) → (IsNewAt places at → ⊥)
+    → IsOldLine (moved_along axis places height width) picture (edited_picture axis places picture) (line_at axis at)
 old_line axis places height width picture at has among within old =
     let count = lines_along-size axis height width picture has in
     let from = origin places (lines_before axis (still height width)) at among within old in
     let inside : from.0 < lines_along axis picture = rw count from.1 in
     (line_at axis from.0, inside, image_of-along axis places height width from.0 at from.2, moved_line axis places picture from.0 at has.is_picture (rw count among) inside from.2)
 
-pub lines_before-along : (axis : Axis) (places : Places) (height width : ℕ) (picture : List (List ℕ)) → HasSize height width picture → (along : Axis) → lines_along along picture ≡ lines_before along (moved_along axis places height width)
+pub lines_before-along : (axis : Axis) (places : Places) (height width : ℕ) (picture : Rows) → HasSize height width picture → (along : Axis)
+    → lines_along along picture ≡ lines_before along (moved_along axis places height width)
 lines_before-along Across places height width picture has Across = has.row_count
 lines_before-along Across places height width picture has Down = has.column_count
 lines_before-along Down places height width picture has Across = has.row_count
 lines_before-along Down places height width picture has Down = has.column_count
 
 -- a crossing line is its own image, and no other line's
-crossing_is_same : (axis : Axis) (first second height width : ℕ) (picture : List (List ℕ)) (at : ℕ) → IsOldLine (moved_along axis (Swapped first second) height width) picture (edited_picture axis (Swapped first second) picture) (line_at (crossing axis) at) → line_along (crossing axis) at (edited_picture axis (Swapped first second) picture) ≡ line_along (crossing axis) at picture
+crossing_is_same : (axis : Axis) (first second height width : ℕ) (picture : Rows) (at : ℕ)
+    → IsOldLine (moved_along axis (Swapped first second) height width) picture (edited_picture axis (Swapped first second) picture) (line_at (crossing axis) at)
+    → line_along (crossing axis) at (edited_picture axis (Swapped first second) picture) ≡ line_along (crossing axis) at picture
 crossing_is_same axis first second height width picture at is =
     let moves = moved_along axis (Swapped first second) height width in
     let line = line_at (crossing axis) at in
@@ -239,13 +257,17 @@ crossing_is_same axis first second height width picture at is =
     is.3 ∙ ap (line_of picture) same
 
 -- an insertion or a deletion
-untouched_line : (axis along : Axis) (places : Places) (height width : ℕ) (marked : Lines) (picture : List (List ℕ)) (at : ℕ) → ChangesLength places → HasSize height width picture → AreAmong places (lines_before axis (still height width)) → at < lines_after along (moved_along axis places height width) → (IsTouched (record { moves = moved_along axis places height width; marked = marked }) (line_at along at) → ⊥) → IsOldLine (moved_along axis places height width) picture (edited_picture axis places picture) (line_at along at)
+untouched_line : (axis along : Axis) (places : Places) (height width : ℕ) (marked : Lines) (picture : Rows) (at : ℕ) → ChangesLength places → HasSize height width picture
+    → AreAmong places (lines_before axis (still height width)) → at < lines_after along (moved_along axis places height width)
+    → (IsTouched (record { moves = moved_along axis places height width; marked = marked }) (line_at along at) → ⊥)
+    → IsOldLine (moved_along axis places height width) picture (edited_picture axis places picture) (line_at along at)
 untouched_line Across Across places height width marked picture at changes has among within untouched = old_line Across places height width picture at has among within (λ n. untouched (inl n))
 untouched_line Across Down places height width marked picture at changes has among within untouched = absurd (untouched (inr (inl changes)))
 untouched_line Down Across places height width marked picture at changes has among within untouched = absurd (untouched (inr (inl changes)))
 untouched_line Down Down places height width marked picture at changes has among within untouched = old_line Down places height width picture at has among within (λ n. untouched (inl n))
 
-follows : (axis : Axis) (places : Places) (height width : ℕ) (marked : Lines) (picture : List (List ℕ)) → ChangesLength places → HasSize height width picture → AreMoves (moved_along axis places height width) → AreAmong places (lines_before axis (still height width)) → Follows (record { moves = moved_along axis places height width; marked = marked }) picture (edited_picture axis places picture)
+follows : (axis : Axis) (places : Places) (height width : ℕ) (marked : Lines) (picture : Rows) → ChangesLength places → HasSize height width picture → AreMoves (moved_along axis places height width)
+    → AreAmong places (lines_before axis (still height width)) → Follows (record { moves = moved_along axis places height width; marked = marked }) picture (edited_picture axis places picture)
 follows axis places height width marked picture changes has moves among =
     let sizes = edited-sizes axis places height width picture has among (moves.some_after axis) in
     record {
@@ -253,32 +275,50 @@ follows axis places height width marked picture changes has moves among =
       untouched = λ line within untouched. untouched_line axis line.axis places height width marked picture line.at changes has among (rw sizes at within) untouched;
     }
 
-follows_insert : (axis : Axis) (at height width : ℕ) (marked : Lines) (picture : List (List ℕ)) → HasSize height width picture → AreMoves (moved_along axis (Inserted at) height width) → Follows (record { moves = moved_along axis (Inserted at) height width; marked = marked }) picture (with_line axis at picture)
+follows_insert : (axis : Axis) (at height width : ℕ) (marked : Lines) (picture : Rows) → HasSize height width picture → AreMoves (moved_along axis (Inserted at) height width)
+    → Follows (record { moves = moved_along axis (Inserted at) height width; marked = marked }) picture (with_line axis at picture)
 follows_insert Across at height width marked picture has moves = follows Across (Inserted at) height width marked picture tt has moves (moves.among Across)
 follows_insert Down at height width marked picture has moves = follows Down (Inserted at) height width marked picture tt has moves (moves.among Down)
 
-follows_delete : (axis : Axis) (at height width : ℕ) (marked : Lines) (picture : List (List ℕ)) → HasSize height width picture → AreMoves (moved_along axis (Deleted at) height width) → Follows (record { moves = moved_along axis (Deleted at) height width; marked = marked }) picture (without_line axis at picture)
+follows_delete : (axis : Axis) (at height width : ℕ) (marked : Lines) (picture : Rows) → HasSize height width picture → AreMoves (moved_along axis (Deleted at) height width)
+    → Follows (record { moves = moved_along axis (Deleted at) height width; marked = marked }) picture (without_line axis at picture)
 follows_delete Across at height width marked picture has moves = follows Across (Deleted at) height width marked picture tt has moves (moves.among Across)
 follows_delete Down at height width marked picture has moves = follows Down (Deleted at) height width marked picture tt has moves (moves.among Down)
 
 -- an exchange
-swapped_line : (axis along : Axis) (first second height width : ℕ) (picture : List (List ℕ)) (at : ℕ) → HasSize height width picture → AreAmong (Swapped first second) (lines_before axis (still height width)) → at < lines_after along (moved_along axis (Swapped first second) height width) → (along ≡ crossing axis → get_or (line_along along at picture) first 0 ≡ get_or (line_along along at picture) second 0) → IsOldLine (moved_along axis (Swapped first second) height width) picture (edited_picture axis (Swapped first second) picture) (line_at along at)
+swapped_line : (axis along : Axis) (first second height width : ℕ) (picture : Rows) (at : ℕ) → HasSize height width picture → AreAmong (Swapped first second) (lines_before axis (still height width))
+    → at < lines_after along (moved_along axis (Swapped first second) height width) → (along ≡ crossing axis → get_or (line_along along at picture) first 0
+    ≡ get_or (line_along along at picture) second 0) → IsOldLine (moved_along axis (Swapped first second) height width) picture (edited_picture axis (Swapped first second) picture) (line_at along at)
 swapped_line Across Across first second height width picture at has among within same = old_line Across (Swapped first second) height width picture at has among within (λ n. n)
-swapped_line Across Down first second height width picture at has among within same =
-    (line_at Down at, rw has.column_count within, refl, crossing_line Across first second picture at has.is_picture (rw has.row_count among.0) (rw has.row_count among.1) (rw has.column_count within) (same refl))
-swapped_line Down Across first second height width picture at has among within same =
-    (line_at Across at, rw has.row_count within, refl, crossing_line Down first second picture at has.is_picture (rw has.column_count among.0) (rw has.column_count among.1) (rw has.row_count within) (same refl))
+swapped_line Across Down first second height width picture at has among within same = (
+  line_at Down at,
+  rw has.column_count within,
+  refl,
+  crossing_line Across first second picture at has.is_picture (rw has.row_count among.0) (rw has.row_count among.1) (rw has.column_count within) (same refl),
+)
+swapped_line Down Across first second height width picture at has among within same = (
+  line_at Across at,
+  rw has.row_count within,
+  refl,
+  crossing_line Down first second picture at has.is_picture (rw has.column_count among.0) (rw has.column_count among.1) (rw has.row_count within) (same refl),
+)
 swapped_line Down Down first second height width picture at has among within same = old_line Down (Swapped first second) height width picture at has among within (λ n. n)
 
-alike_line : (axis along : Axis) (first second height width : ℕ) (picture : List (List ℕ)) (at : ℕ) → HasSize height width picture → AreAmong (Swapped first second) (lines_before axis (still height width)) → at < lines_after along (moved_along axis (Swapped first second) height width) → along ≡ crossing axis → IsOldLine (moved_along axis (Swapped first second) height width) picture (edited_picture axis (Swapped first second) picture) (line_at along at) → get_or (line_along along at picture) first 0 ≡ get_or (line_along along at picture) second 0
+alike_line : (axis along : Axis) (first second height width : ℕ) (picture : Rows) (at : ℕ) → HasSize height width picture → AreAmong (Swapped first second) (lines_before axis (still height width))
+    → at < lines_after along (moved_along axis (Swapped first second) height width) → along ≡ crossing axis → IsOldLine (moved_along axis (Swapped first second) height width) picture
+    (edited_picture axis (Swapped first second) picture) (line_at along at) → get_or (line_along along at picture) first 0 ≡ get_or (line_along along at picture) second 0
 alike_line Across Across first second height width picture at has among within crosses is = absurd (cc crosses)
 alike_line Across Down first second height width picture at has among within crosses is =
-    crossing_alike Across first second picture at has.is_picture (rw has.row_count among.0) (rw has.row_count among.1) (rw has.column_count within) (crossing_is_same Across first second height width picture at is)
+    crossing_alike Across first second picture at has.is_picture (rw has.row_count among.0) (rw has.row_count among.1) (rw has.column_count within)
+    (crossing_is_same Across first second height width picture at is)
 alike_line Down Across first second height width picture at has among within crosses is =
-    crossing_alike Down first second picture at has.is_picture (rw has.column_count among.0) (rw has.column_count among.1) (rw has.row_count within) (crossing_is_same Down first second height width picture at is)
+    crossing_alike Down first second picture at has.is_picture (rw has.column_count among.0) (rw has.column_count among.1) (rw has.row_count within)
+    (crossing_is_same Down first second height width picture at is)
 alike_line Down Down first second height width picture at has among within crosses is = absurd (cc crosses)
 
-swapped_lines : (axis : Axis) (first second height width : ℕ) (picture : List (List ℕ)) → HasSize height width picture → AreMoves (moved_along axis (Swapped first second) height width) → AreAmong (Swapped first second) (lines_before axis (still height width)) → FollowsSwap axis first second (moved_along axis (Swapped first second) height width) picture (edited_picture axis (Swapped first second) picture)
+swapped_lines : (axis : Axis) (first second height width : ℕ) (picture : Rows) → HasSize height width picture → AreMoves (moved_along axis (Swapped first second) height width)
+    → AreAmong (Swapped first second) (lines_before axis (still height width))
+    → FollowsSwap axis first second (moved_along axis (Swapped first second) height width) picture (edited_picture axis (Swapped first second) picture)
 swapped_lines axis first second height width picture has moves among =
     let sizes = edited-sizes axis (Swapped first second) height width picture has among (moves.some_after axis) in
     record {
@@ -287,18 +327,22 @@ swapped_lines axis first second height width picture has moves among =
       only = λ line within is crosses. alike_line axis line.axis first second height width picture line.at has among (rw sizes at within) crosses is;
     }
 
-follows_swap : (axis : Axis) (first second height width : ℕ) (picture : List (List ℕ)) → HasSize height width picture → AreMoves (moved_along axis (Swapped first second) height width) → FollowsSwap axis first second (moved_along axis (Swapped first second) height width) picture (lines_swapped axis first second picture)
+follows_swap : (axis : Axis) (first second height width : ℕ) (picture : Rows) → HasSize height width picture → AreMoves (moved_along axis (Swapped first second) height width)
+    → FollowsSwap axis first second (moved_along axis (Swapped first second) height width) picture (lines_swapped axis first second picture)
 follows_swap Across first second height width picture has moves = swapped_lines Across first second height width picture has moves (moves.among Across)
 follows_swap Down first second height width picture has moves = swapped_lines Down first second height width picture has moves (moves.among Down)
 
 -- the pictures that the changes of lines follow
-pub inserts : (change : Changes) (axis : Axis) (at height width : ℕ) → change ≡ record { moves = moved_along axis (Inserted at) height width; marked = no_names } → AreMoves change.moves → (picture : List (List ℕ)) → HasSize height width picture → Follows change picture (with_line axis at picture)
+pub inserts : (change : Changes) (axis : Axis) (at height width : ℕ) → change ≡ record { moves = moved_along axis (Inserted at) height width; marked = no_names } → AreMoves change.moves
+    → (picture : Rows) → HasSize height width picture → Follows change picture (with_line axis at picture)
 inserts change axis at height width is moves = λ picture has. rw is (follows_insert axis at height width no_names picture has (rw is at moves))
 
-pub deletes : (change : Changes) (axis : Axis) (at height width : ℕ) → change ≡ record { moves = moved_along axis (Deleted at) height width; marked = no_names } → AreMoves change.moves → (picture : List (List ℕ)) → HasSize height width picture → Follows change picture (without_line axis at picture)
+pub deletes : (change : Changes) (axis : Axis) (at height width : ℕ) → change ≡ record { moves = moved_along axis (Deleted at) height width; marked = no_names } → AreMoves change.moves
+    → (picture : Rows) → HasSize height width picture → Follows change picture (without_line axis at picture)
 deletes change axis at height width is moves = λ picture has. rw is (follows_delete axis at height width no_names picture has (rw is at moves))
 
-pub swaps : (change : Changes) (axis : Axis) (first second height width : ℕ) → change ≡ record { moves = moved_along axis (Swapped first second) height width; marked = no_names } → AreMoves change.moves → (picture : List (List ℕ)) → HasSize height width picture → FollowsSwap axis first second change.moves picture (lines_swapped axis first second picture)
+pub swaps : (change : Changes) (axis : Axis) (first second height width : ℕ) → change ≡ record { moves = moved_along axis (Swapped first second) height width; marked = no_names }
+    → AreMoves change.moves → (picture : Rows) → HasSize height width picture → FollowsSwap axis first second change.moves picture (lines_swapped axis first second picture)
 swaps change axis first second height width is moves = λ picture has. rw is (follows_swap axis first second height width picture has (rw is at moves))
 
 pub ruleset following = (inserts, deletes, swaps)

@@ -8,11 +8,11 @@ use Rattle.picture.specs.declared.line_id.Axis.{Axis}
 use Rattle.picture.specs.declared.line_id.Axis.TheVariants.{Across, Down}
 use Rattle.picture.specs.declared.line_id.LineId.{LineId}
 use Rattle.picture.specs.Picture.{IsPicture}
-use Rattle.picture.specs.Rows.{lines_along, row_at, width_of, with_cell, with_line, without_line}
+use Rattle.picture.specs.Rows.{lines_along, row_at, width_of, with_cell, with_line, without_line, Rows}
 use Rattle.clues.specs.ClueBook.{Clues, HasClue, clue_at, clues_along}
 use Rattle.clues.specs.Change.{AreMoves, Changes, IsTouched, Moves, back, image_of, line_at, lines_after, lines_before, origin_of, places_along}
 use Rattle.clues.specs.Laws.{BooksAreTheirClues, CluesAreOfLines, ImagesAreLines, InsertedLinesAgree, IsAtPlace, MovesGoBack, UntouchedCluesStand}
-use Rattle.clues.specs.BookLaws.{clue_at-clues_of, length_along-clues_of}
+use Rattle.clues.proofs.BookLaws.{clue_at-clues_of, length_along-clues_of}
 use Rattle.clues.proofs.MovedLines.{can_refresh, clues_stand, new_place-among, origin_of-image}
 use Rattle.clues.proofs.RefreshedClues.{no_origin_touched}
 use Rattle.clues.proofs.ChangedLines.{image_of-origin, image_of-parts}
@@ -25,7 +25,8 @@ pub standing : UntouchedCluesStand
 standing = record { can_refresh = can_refresh; stand = clues_stand }
 
 -- both axes of a clue book
-same_along : (axis : Axis) (one other : Clues) → length (clues_along axis one) ≡ length (clues_along axis other) → ((line : LineId) → HasClue one line → clue_at one line ≡ clue_at other line) → clues_along axis one ≡ clues_along axis other
+same_along : (axis : Axis) (one other : Clues) → length (clues_along axis one) ≡ length (clues_along axis other) → ((line : LineId) → HasClue one line → clue_at one line ≡ clue_at other line)
+    → clues_along axis one ≡ clues_along axis other
 same_along axis one other size same = ext_get_or [] (clues_along axis one) (clues_along axis other) size (λ at h. same (line_at axis at) h)
 
 pub same_books : BooksAreTheirClues
@@ -40,7 +41,8 @@ image_inside moves are line to within e =
     let parts = image_of-parts moves line to e in
     new_place-among (places_along to.axis moves) (lines_before to.axis moves) line.at to.at (are.among to.axis) (rw (← parts.0) within) parts.1
 
-untouched_from : (change : Changes) → AreMoves change.moves → (line : LineId) (from : Option LineId) → origin_of change.moves line ≡ from → line.at < lines_after line.axis change.moves → (IsTouched change line → ⊥) → (from : LineId) × (from.at < lines_before from.axis change.moves) × (image_of change.moves from ≡ Some line)
+untouched_from : (change : Changes) → AreMoves change.moves → (line : LineId) (from : Option LineId) → origin_of change.moves line ≡ from → line.at < lines_after line.axis change.moves
+    → (IsTouched change line → ⊥) → (from : LineId) × (from.at < lines_before from.axis change.moves) × (image_of change.moves from ≡ Some line)
 untouched_from change are line None e within untouched = absurd (untouched (no_origin_touched change line e))
 untouched_from change are line (Some from) e within untouched = (from, origin_within change.moves line from are within e, image_of-origin change.moves line from e)
 
@@ -70,18 +72,18 @@ remove-insert (x ∷ xs) zero y within = refl
 remove-insert [] (suc i) y within = absurd (omega (arith, within))
 remove-insert (x ∷ xs) (suc i) y within = ap (λ zs. x ∷ zs) (remove-insert xs i y (omega (arith, within)))
 
-each_again : (width at : ℕ) (rows : List (List ℕ)) → ((i : ℕ) → i < length rows → length (get_or rows i []) ≡ width) → at ≤ width → map (λ row. remove row at) (map (λ row. insert row at 0) rows) ≡ rows
+each_again : (width at : ℕ) (rows : Rows) → ((i : ℕ) → i < length rows → length (get_or rows i []) ≡ width) → at ≤ width → map (λ row. remove row at) (map (λ row. insert row at 0) rows) ≡ rows
 each_again width at [] wide within = refl
 each_again width at (row ∷ rows) wide within =
     let first = wide 0 (omega arith) in
     ap (λ r. r ∷ map (λ row. remove row at) (map (λ row. insert row at 0) rows)) (remove-insert row at 0 (omega (arith, first)))
     ∙ ap (λ rest. row ∷ rest) (each_again width at rows (λ i h. wide (suc i) (omega (arith, h))) within)
 
-deleted_again : (axis : Axis) (at : ℕ) (picture : List (List ℕ)) → IsPicture picture → at ≤ lines_along axis picture → without_line axis at (with_line axis at picture) ≡ picture
+deleted_again : (axis : Axis) (at : ℕ) (picture : Rows) → IsPicture picture → at ≤ lines_along axis picture → without_line axis at (with_line axis at picture) ≡ picture
 deleted_again Across at picture is within = remove-insert picture at (replicate (width_of picture) 0) within
 deleted_again Down at picture is within = each_again (width_of picture) at picture is.rectangular within
 
-inserted_there : (axis : Axis) (at : ℕ) (picture : List (List ℕ)) → IsPicture picture → at ≤ lines_along axis picture → at < lines_along axis (with_line axis at picture)
+inserted_there : (axis : Axis) (at : ℕ) (picture : Rows) → IsPicture picture → at ≤ lines_along axis picture → at < lines_along axis (with_line axis at picture)
 inserted_there Across at picture is within = omega (arith, length-insert picture at (replicate (width_of picture) 0) within)
 inserted_there Down at picture is within =
     let first = get_or-map (λ row. insert row at 0) picture 0 [] [] is.has_row in
@@ -91,7 +93,7 @@ inserted_there Down at picture is within =
 remove-set : {X : Type 0} (xs : List X) (i : ℕ) (y : X) → remove (set xs i y) i ≡ remove xs i
 remove-set xs i y = ap (λ front. front ++ drop (suc i) (set xs i y)) (take-set xs i y) ∙ ap (λ rest. take i xs ++ rest) (drop-set-lt (suc i) xs i y (omega arith))
 
-map-set_same : (f : List ℕ → List ℕ) (rows : List (List ℕ)) (i : ℕ) (row : List ℕ) → f row ≡ f (get_or rows i []) → map f (set rows i row) ≡ map f rows
+map-set_same : (f : List ℕ → List ℕ) (rows : Rows) (i : ℕ) (row : List ℕ) → f row ≡ f (get_or rows i []) → map f (set rows i row) ≡ map f rows
 map-set_same f rows i row same =
     elim (cases_lt i (length rows)) [
       | inr past ↦ ap (map f) (set_past rows i row past)
@@ -100,11 +102,11 @@ map-set_same f rows i row same =
           ∙ (ap (λ r. set (map f rows) i r) (same ∙ sym (get_or-map f rows i [] [] within)) ∙ set-get_or (map f rows) i [])
     ]
 
-still_off : (axis : Axis) (at : ℕ) (picture : List (List ℕ)) (row column colour : ℕ) → IsAtPlace axis at row column → without_line axis at (with_cell picture row column colour) ≡ without_line axis at picture
+still_off : (axis : Axis) (at : ℕ) (picture : Rows) (row column colour : ℕ) → IsAtPlace axis at row column → without_line axis at (with_cell picture row column colour) ≡ without_line axis at picture
 still_off Across at picture row column colour on = rw (← on) (remove-set picture row (set (row_at picture row) column colour))
 still_off Down at picture row column colour on = rw (← on) (map-set_same (λ r. remove r column) picture row (set (row_at picture row) column colour) (remove-set (row_at picture row) column colour))
 
-width_of-with_cell : (picture : List (List ℕ)) (row column colour : ℕ) → 0 < length picture → width_of (with_cell picture row column colour) ≡ width_of picture
+width_of-with_cell : (picture : Rows) (row column colour : ℕ) → 0 < length picture → width_of (with_cell picture row column colour) ≡ width_of picture
 width_of-with_cell picture row column colour some =
     elim (cases_eq 0 row) [
       | inr other ↦ ap length (get_or-set_other picture row 0 (set (row_at picture row) column colour) [] other)
@@ -112,7 +114,7 @@ width_of-with_cell picture row column colour some =
           rw (← first) (ap length (get_or-set_same picture 0 (set (row_at picture 0) column colour) [] some) ∙ length-set (row_at picture 0) column colour)
     ]
 
-lines_along-with_cell : (axis : Axis) (picture : List (List ℕ)) (row column colour : ℕ) → 0 < length picture → lines_along axis (with_cell picture row column colour) ≡ lines_along axis picture
+lines_along-with_cell : (axis : Axis) (picture : Rows) (row column colour : ℕ) → 0 < length picture → lines_along axis (with_cell picture row column colour) ≡ lines_along axis picture
 lines_along-with_cell Across picture row column colour some = length-set picture row (set (row_at picture row) column colour)
 lines_along-with_cell Down picture row column colour some = width_of-with_cell picture row column colour some
 

@@ -7,3 +7,6 @@ pub mod MovedLines
 pub mod RefreshedClues
 pub mod Runs
 pub mod TouchedLines
+pub mod BookLaws
+pub mod RunLaws
+pub mod SolutionLaws

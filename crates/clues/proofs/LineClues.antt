@@ -3,29 +3,31 @@ use Rattle.std.proofs.Common.{◌≡◌, ℕ, ◌+◌, ◌<◌, List, [], ◌∷
 use Rattle.std.proofs.lemmas.List.{take_more}
 use Rattle.std.proofs.lemmas.List.FromFn.{map-range_with_len_more}
 use Rattle.picture.specs.declared.line_id.Axis.{Axis}
-use Rattle.picture.specs.Rows.{line_along}
+use Rattle.picture.specs.Rows.{line_along, Rows}
 use Rattle.clues.specs.declared.block.Block.{Block}
 use Rattle.clues.specs.Clue.{clue_of}
 use Rattle.clues.specs.ClueBook.{first_clues}
-use Rattle.clues.specs.BookLaws.{length-first_clues, get_or-first_clues}
+use Rattle.clues.proofs.BookLaws.{length-first_clues, get_or-first_clues}
 
-pub first_clues-none : (axis : Axis) (picture : List (List ℕ)) → first_clues axis picture 0 ≡ []
+pub first_clues-none : (axis : Axis) (picture : Rows) → first_clues axis picture 0 ≡ []
 unfolding first_clues
 first_clues-none axis picture = refl
 
-pub first_clues-more : (axis : Axis) (picture : List (List ℕ)) (n : ℕ) → first_clues axis picture (n + 1) ≡ first_clues axis picture n ++ clue_of (line_along axis n picture) ∷ []
+pub first_clues-more : (axis : Axis) (picture : Rows) (n : ℕ) → first_clues axis picture (n + 1) ≡ first_clues axis picture n ++ clue_of (line_along axis n picture) ∷ []
 unfolding first_clues
 first_clues-more axis picture n = map-range_with_len_more (λ at. clue_of (line_along axis at picture)) 0 n n (zero-add n)
 
 -- a list of clues that is that of the lines so far, and one that goes on with the clue of the next line
-pub first_clues-take : (axis : Axis) (picture : List (List ℕ)) (clues : List (List Block)) (at : ℕ) (clue : List Block) → at < length clues → clue ≡ get_or clues at clue → clue_of (line_along axis at picture) ≡ clue → first_clues axis picture at ≡ take at clues → first_clues axis picture (at + 1) ≡ take (at + 1) clues
+pub first_clues-take : (axis : Axis) (picture : Rows) (clues : List (List Block)) (at : ℕ) (clue : List Block) → at < length clues → clue ≡ get_or clues at clue
+    → clue_of (line_along axis at picture) ≡ clue → first_clues axis picture at ≡ take at clues → first_clues axis picture (at + 1) ≡ take (at + 1) clues
 first_clues-take axis picture clues at clue within read same before =
     first_clues-more axis picture at
     ∙ (ap (λ c. first_clues axis picture at ++ c ∷ []) (same ∙ read)
     ∙ (ap (λ cs. cs ++ get_or clues at clue ∷ []) before ∙ sym (take_more clues at clue within)))
 
 -- a clue that is not that of its line
-pub first_clues-differ : (axis : Axis) (picture : List (List ℕ)) (clues : List (List Block)) (n at : ℕ) (clue : List Block) → at < n → clue ≡ get_or clues at clue → clue_of (line_along axis at picture) ≢ clue → first_clues axis picture n ≢ clues
+pub first_clues-differ : (axis : Axis) (picture : Rows) (clues : List (List Block)) (n at : ℕ) (clue : List Block) → at < n → clue ≡ get_or clues at clue → clue_of (line_along axis at picture) ≢ clue
+    → first_clues axis picture n ≢ clues
 first_clues-differ axis picture clues n at clue within read differs e =
     differs (sym (get_or-first_clues axis picture n at clue within) ∙ (ap (λ cs. get_or cs at clue) e ∙ sym read))
 

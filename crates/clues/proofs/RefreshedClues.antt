@@ -8,15 +8,15 @@ use Rattle.picture.specs.declared.line_id.Axis.{Axis}
 use Rattle.picture.specs.declared.line_id.Axis.TheVariants.{Across, Down}
 use Rattle.picture.specs.declared.line_id.LineId.{LineId}
 use Rattle.picture.specs.LineSet.{mask_along}
-use Rattle.picture.specs.Rows.{HasLine, lines_along}
+use Rattle.picture.specs.Rows.{HasLine, lines_along, Rows}
 use Rattle.clues.specs.declared.block.Block.{Block}
 use Rattle.clues.specs.declared.places.Places.{Places}
 use Rattle.clues.specs.declared.places.Places.TheVariants.{Kept, Inserted, Deleted, Swapped}
 use Rattle.clues.specs.ClueBook.{Clues, HasClue, clue_at, clues_along, clues_from, clues_of, first_clues}
 use Rattle.clues.specs.Change.{CanRefresh, Changes, CountsClues, EachAlong, IsNewClue, IsOldClue, IsTouched, KeepsClues, line_at, origin_of, places_along}
-use Rattle.picture.specs.Crossing.{crossing}
+use Rattle.picture.specs.CrossingLines.{crossing}
 use Rattle.clues.specs.Places.{old_place, IsNewAt, ChangesLength}
-use Rattle.clues.specs.BookLaws.{clue_at-clues_of, has_clue-clues_of, length_along-clues_of}
+use Rattle.clues.proofs.BookLaws.{clue_at-clues_of, has_clue-clues_of, length_along-clues_of}
 use Rattle.clues.proofs.EditedPictures.{new_or_old}
 use Rattle.clues.proofs.MovedLines.{origin_of-image}
 
@@ -27,7 +27,8 @@ new_place_touched (Inserted place) at e = grind (arith, nat_tests)
 new_place_touched (Deleted place) at e = absurd (cc e)
 new_place_touched (Swapped first second) at e = absurd (cc e)
 
-none_touched : (change : Changes) (line : LineId) (from : Option ℕ) → old_place (places_along line.axis change.moves) line.at ≡ from → option_map (line_at line.axis) from ≡ None → IsTouched change line
+none_touched : (change : Changes) (line : LineId) (from : Option ℕ) → old_place (places_along line.axis change.moves) line.at ≡ from → option_map (line_at line.axis) from ≡ None
+    → IsTouched change line
 none_touched change line None place e = inl (new_place_touched (places_along line.axis change.moves) line.at place)
 none_touched change line (Some from) place e = absurd (cc e)
 
@@ -60,7 +61,8 @@ touched_or_not change line =
     ]
 
 -- the line that an untouched line was has a clue, which is copied
-pub can_copy : (clues : Clues) (picture : List (List ℕ)) (change : Changes) (line old : LineId) → CanRefresh clues picture change → HasLine picture line → (IsTouched change line → ⊥) → origin_of change.moves line ≡ Some old → HasClue clues old
+pub can_copy : (clues : Clues) (picture : Rows) (change : Changes) (line old : LineId) → CanRefresh clues picture change → HasLine picture line → (IsTouched change line → ⊥)
+    → origin_of change.moves line ≡ Some old → HasClue clues old
 can_copy clues picture change line old can has untouched e =
     let is = can.untouched line has untouched in
     let same : is.0 ≡ old = cc (origin_of-image change.moves is.0 line is.2, e) in
@@ -72,7 +74,8 @@ is_old_clue clues change line old clue e is = λ untouched from image.
     rw same is
 
 -- one clue more along an axis
-each_more : (axis : Axis) (clues : List (List Block)) (clue : List Block) (at : ℕ) (P : LineId → List Block → Type 0) → length clues ≡ at → EachAlong axis clues P → P (line_at axis at) clue → EachAlong axis (clues ++ clue ∷ []) P
+each_more : (axis : Axis) (clues : List (List Block)) (clue : List Block) (at : ℕ) (P : LineId → List Block → Type 0) → length clues ≡ at → EachAlong axis clues P → P (line_at axis at) clue
+    → EachAlong axis (clues ++ clue ∷ []) P
 each_more axis clues clue at P count each more = λ k h.
     elim (cases_lt k (length clues)) [
       | inl below ↦ let Q : List Block → Type 0 = λ c. P (line_at axis k) c in subst Q (sym (get_or-append clues (clue ∷ []) [] k below)) (each k below)
@@ -86,32 +89,39 @@ each_more axis clues clue at P count each more = λ k h.
 pub old_clues_none : (axis : Axis) (change : Changes) (clues : Clues) → EachAlong axis [] (IsOldClue change clues)
 old_clues_none axis change clues = λ k h. absurd (omega arith)
 
-pub old_clues_more : (axis : Axis) (change : Changes) (old : Clues) (clues : List (List Block)) (clue : List Block) (at : ℕ) → length clues ≡ at → EachAlong axis clues (IsOldClue change old) → IsOldClue change old (line_at axis at) clue → EachAlong axis (clues ++ clue ∷ []) (IsOldClue change old)
+pub old_clues_more : (axis : Axis) (change : Changes) (old : Clues) (clues : List (List Block)) (clue : List Block) (at : ℕ) → length clues ≡ at → EachAlong axis clues (IsOldClue change old)
+    → IsOldClue change old (line_at axis at) clue → EachAlong axis (clues ++ clue ∷ []) (IsOldClue change old)
 old_clues_more axis change old clues clue at count each more = each_more axis clues clue at (IsOldClue change old) count each more
 
-pub new_clues_none : (axis : Axis) (change : Changes) (picture : List (List ℕ)) → EachAlong axis [] (IsNewClue change picture)
+pub new_clues_none : (axis : Axis) (change : Changes) (picture : Rows) → EachAlong axis [] (IsNewClue change picture)
 new_clues_none axis change picture = λ k h. absurd (omega arith)
 
-pub new_clues_more : (axis : Axis) (change : Changes) (picture : List (List ℕ)) (clues : List (List Block)) (clue : List Block) (at : ℕ) → length clues ≡ at → EachAlong axis clues (IsNewClue change picture) → IsNewClue change picture (line_at axis at) clue → EachAlong axis (clues ++ clue ∷ []) (IsNewClue change picture)
+pub new_clues_more : (axis : Axis) (change : Changes) (picture : Rows) (clues : List (List Block)) (clue : List Block) (at : ℕ) → length clues ≡ at → EachAlong axis clues (IsNewClue change picture)
+    → IsNewClue change picture (line_at axis at) clue → EachAlong axis (clues ++ clue ∷ []) (IsNewClue change picture)
 new_clues_more axis change picture clues clue at count each more = each_more axis clues clue at (IsNewClue change picture) count each more
 
 -- both axes together
-of_both : (rows columns : List (List Block)) (P : LineId → List Block → Type 0) → EachAlong Across rows P → EachAlong Down columns P → (axis : Axis) → EachAlong axis (clues_along axis (clues_from rows columns)) P
+of_both : (rows columns : List (List Block)) (P : LineId → List Block → Type 0) → EachAlong Across rows P → EachAlong Down columns P → (axis : Axis)
+    → EachAlong axis (clues_along axis (clues_from rows columns)) P
 of_both rows columns P across down Across = across
 of_both rows columns P across down Down = down
 
-pub keeps_clues : (change : Changes) (old : Clues) (rows columns : List (List Block)) → EachAlong Across rows (IsOldClue change old) → EachAlong Down columns (IsOldClue change old) → KeepsClues change old (clues_from rows columns)
+pub keeps_clues : (change : Changes) (old : Clues) (rows columns : List (List Block)) → EachAlong Across rows (IsOldClue change old) → EachAlong Down columns (IsOldClue change old)
+    → KeepsClues change old (clues_from rows columns)
 keeps_clues change old rows columns across down = λ line has. of_both rows columns (IsOldClue change old) across down line.axis line.at has
 
-pub counts_clues : (change : Changes) (picture : List (List ℕ)) (rows columns : List (List Block)) → EachAlong Across rows (IsNewClue change picture) → EachAlong Down columns (IsNewClue change picture) → CountsClues change picture (clues_from rows columns)
+pub counts_clues : (change : Changes) (picture : Rows) (rows columns : List (List Block)) → EachAlong Across rows (IsNewClue change picture) → EachAlong Down columns (IsNewClue change picture)
+    → CountsClues change picture (clues_from rows columns)
 counts_clues change picture rows columns across down = λ line has. of_both rows columns (IsNewClue change picture) across down line.axis line.at has
 
-pub both_sizes : (picture : List (List ℕ)) (rows columns : List (List Block)) → length rows ≡ lines_along Across picture → length columns ≡ lines_along Down picture → (axis : Axis) → length (clues_along axis (clues_from rows columns)) ≡ lines_along axis picture
+pub both_sizes : (picture : Rows) (rows columns : List (List Block)) → length rows ≡ lines_along Across picture → length columns ≡ lines_along Down picture → (axis : Axis)
+    → length (clues_along axis (clues_from rows columns)) ≡ lines_along axis picture
 both_sizes picture rows columns across down Across = across
 both_sizes picture rows columns across down Down = down
 
 -- where the clues that are copied are the picture's, the book is
-same_clue : (old new : Clues) (picture : List (List ℕ)) (change : Changes) (line : LineId) → CanRefresh old picture change → KeepsClues change old (clues_of picture) → KeepsClues change old new → CountsClues change picture new → HasLine picture line → HasClue new line → clue_at new line ≡ clue_at (clues_of picture) line
+same_clue : (old new : Clues) (picture : Rows) (change : Changes) (line : LineId) → CanRefresh old picture change → KeepsClues change old (clues_of picture) → KeepsClues change old new
+    → CountsClues change picture new → HasLine picture line → HasClue new line → clue_at new line ≡ clue_at (clues_of picture) line
 same_clue old new picture change line can stand copied counted has has_clue =
     let of_picture = has_clue-clues_of picture line has in
     elim (touched_or_not change line) [
@@ -121,12 +131,15 @@ same_clue old new picture change line can stand copied counted has has_clue =
           copied line has_clue untouched from.0 from.2 ∙ sym (stand line of_picture untouched from.0 from.2)
     ]
 
-same_along : (axis : Axis) (old new : Clues) (picture : List (List ℕ)) (change : Changes) → CanRefresh old picture change → KeepsClues change old (clues_of picture) → KeepsClues change old new → CountsClues change picture new → length (clues_along axis new) ≡ lines_along axis picture → clues_along axis new ≡ clues_along axis (clues_of picture)
+same_along : (axis : Axis) (old new : Clues) (picture : Rows) (change : Changes) → CanRefresh old picture change → KeepsClues change old (clues_of picture) → KeepsClues change old new
+    → CountsClues change picture new → length (clues_along axis new) ≡ lines_along axis picture → clues_along axis new ≡ clues_along axis (clues_of picture)
 same_along axis old new picture change can stand copied counted size =
     ext_get_or [] (clues_along axis new) (clues_along axis (clues_of picture)) (size ∙ sym (length_along-clues_of axis picture))
     (λ at h. same_clue old new picture change (line_at axis at) can stand copied counted (rw (← size) h) h)
 
-pub refreshed_book : (old : Clues) (picture : List (List ℕ)) (change : Changes) (rows columns : List (List Block)) → CanRefresh old picture change → length rows ≡ lines_along Across picture → length columns ≡ lines_along Down picture → EachAlong Across rows (IsOldClue change old) → EachAlong Down columns (IsOldClue change old) → EachAlong Across rows (IsNewClue change picture) → EachAlong Down columns (IsNewClue change picture) → KeepsClues change old (clues_of picture) → clues_from rows columns ≡ clues_of picture
+pub refreshed_book : (old : Clues) (picture : Rows) (change : Changes) (rows columns : List (List Block)) → CanRefresh old picture change → length rows ≡ lines_along Across picture
+    → length columns ≡ lines_along Down picture → EachAlong Across rows (IsOldClue change old) → EachAlong Down columns (IsOldClue change old) → EachAlong Across rows (IsNewClue change picture)
+    → EachAlong Down columns (IsNewClue change picture) → KeepsClues change old (clues_of picture) → clues_from rows columns ≡ clues_of picture
 refreshed_book old picture change rows columns can row_count column_count old_rows old_columns new_rows new_columns stand =
     let copied = keeps_clues change old rows columns old_rows old_columns in
     let counted = counts_clues change picture rows columns new_rows new_columns in

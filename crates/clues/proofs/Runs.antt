@@ -5,9 +5,9 @@ use Rattle.std.proofs.lemmas.List.{append-nil, take_more_set}
 use Rattle.std.proofs.lemmas.List.Elements.{All-nil, All-cons, All-head, All-tail}
 use Rattle.clues.specs.declared.block.Block.{Block}
 use Rattle.clues.specs.Clue.{block, longer, joined, clue_of, blocks_of, IsBlock, IsClue}
-use Rattle.clues.specs.RunLaws.{blocks_of-coloured, clue_of-run, clue_of-last_run, replicate-more, last_run-matches}
+use Rattle.clues.proofs.RunLaws.{blocks_of-coloured, clue_of-run, clue_of-last_run, replicate-more, last_run-matches}
 
--- the same behind the blocks before
+-- the same after the blocks before
 pub blocks-run : (before : List Block) (n x y : ℕ) (rest : List ℕ) → (x ≢ 0 → 0 < n) → y ≢ x → (before ++ blocks_of n x) ++ clue_of (y ∷ rest) ≡ before ++ clue_of (replicate n x ++ y ∷ rest)
 blocks-run before n x y rest some apart = append_assoc before (blocks_of n x) (clue_of (y ∷ rest)) ∙ ap (λ blocks. before ++ blocks) (sym (clue_of-run n x y rest some apart))
 
@@ -34,7 +34,7 @@ clue_of-clue [] small = All-nil IsBlock
 clue_of-clue (zero ∷ rest) small = clue_of-clue rest (λ i. small (suc i))
 clue_of-clue (suc x ∷ rest) small = joined-clue x rest (clue_of rest) (small 0) (clue_of-clue rest (λ i. small (suc i)))
 
--- a block that is put behind those before it
+-- a block that is put after those before it
 pub block-put : (blocks : List Block) (count : ℕ) (run : Block) → count < length blocks → run.colour ≢ 0 → take (count + 1) (set blocks count run) ≡ take count blocks ++ blocks_of run.len run.colour
 block-put blocks count run lt coloured = take_more_set blocks count run lt ∙ ap (λ (last : List Block). take count blocks ++ last) (sym (one run coloured)) where
   one : (run : Block) → run.colour ≢ 0 → blocks_of run.len run.colour ≡ run ∷ []

@@ -1,6 +1,7 @@
 -- Lines that are touched, one after another.
-use Rattle.std.proofs.Common.{◌≡◌, ℕ, ◌<◌, inl, inr, Some, List, arith}
+use Rattle.std.proofs.Common.{◌≡◌, ℕ, ◌<◌, inl, inr, Some, arith}
 use Rattle.std.proofs.lemmas.Bool.Decides.{nat_tests}
+use Rattle.picture.specs.Rows.{Rows}
 use Rattle.picture.specs.declared.line_id.LineId.{LineId}
 use Rattle.picture.specs.LineSet.{Lines, PutsName}
 use Rattle.clues.specs.declared.places.Places.{Places}
@@ -24,7 +25,8 @@ origin_within moves line from are within e =
     rw parts.0 (old_place-among (places_along line.axis moves) (lines_before line.axis moves) line.at from.at (are.among line.axis) within back)
 
 -- more lines are touched
-pub follows_more : (moves : Moves) (marked more : Lines) (line : LineId) → PutsName marked more line → (old new : List (List ℕ)) → Follows (record { moves = moves; marked = marked }) old new → Follows (record { moves = moves; marked = more }) old new
+pub follows_more : (moves : Moves) (marked more : Lines) (line : LineId) → PutsName marked more line → (old new : Rows) → Follows (record { moves = moves; marked = marked }) old new
+    → Follows (record { moves = moves; marked = more }) old new
 follows_more moves marked more line puts old new follows = record {
   sizes = follows.sizes;
   untouched = λ other has untouched.

@@ -1,13 +1,14 @@
 -- What an edit changes: which line of the new picture is which line of the old one, and which lines have other cells.
-use Rattle.std.specs.Prelude.{◌≡◌, ℕ, ◌<◌, ◌≤◌, ◌⊎◌, List, [], length, slice_index, slice_index_or, Option, Some, option_map}
+use Rattle.std.specs.Prelude.{◌≡◌, ℕ, ◌<◌, ◌≤◌, ◌⊎◌, List, [], length, slice_index, slice_index_or, Option, Some}
+use Rattle.std.specs.Prelude.{option_map}
 use Rattle.picture.specs.declared.line_id.Axis.{Axis}
 use Rattle.picture.specs.declared.line_id.Axis.TheVariants.{Across, Down}
 use Rattle.picture.specs.declared.line_id.LineId.{LineId}
 use Rattle.picture.specs.declared.picture.TheConstants.{MAX_SIDE}
-use Rattle.picture.specs.Crossing.{crossing}
+use Rattle.picture.specs.CrossingLines.{crossing}
 use Rattle.picture.specs.LineSet.{Lines, HasName}
 use Rattle.picture.specs.Picture.{IsPicture}
-use Rattle.picture.specs.Rows.{lines_along, line_of, line_deleted, width_of, HasLine}
+use Rattle.picture.specs.Rows.{lines_along, line_of, line_deleted, width_of, HasLine, Rows}
 use Rattle.clues.specs.declared.places.Places.{Places}
 use Rattle.clues.specs.declared.places.Places.TheVariants.{Kept}
 use Rattle.clues.specs.Places.{new_place, old_place, reversed, count_after, AreAmong, IsNewAt, ChangesLength}
@@ -94,56 +95,59 @@ pub record IsSize (height width : ℕ) : Type 0 where
   pub columns_fit : width ≤ MAX_SIDE
 
 -- a picture of this size
-pub record HasSize (height width : ℕ) (picture : List (List ℕ)) : Type 0 where
+pub record HasSize (height width : ℕ) (picture : Rows) : Type 0 where
   pub is_picture : IsPicture picture
   pub row_count : length picture ≡ height
   pub column_count : width_of picture ≡ width
 
 -- two pictures have the sizes before and after
-pub record HaveSizes (moves : Moves) (old new : List (List ℕ)) : Type 0 where
+pub record HaveSizes (moves : Moves) (old new : Rows) : Type 0 where
   pub before : (axis : Axis) → lines_along axis old ≡ lines_before axis moves
   pub after : (axis : Axis) → lines_along axis new ≡ lines_after axis moves
 
 -- the line of the new picture has the cells of the old line that it is
-abbrev pub IsOldLine : Moves → List (List ℕ) → List (List ℕ) → LineId → Type 0
+abbrev pub IsOldLine : Moves → Rows → Rows → LineId → Type 0
 IsOldLine moves old new line =
     (from : LineId) × HasLine old from × (image_of moves from ≡ Some line) × (line_of new line ≡ line_of old from)
 
--- the new picture has the sizes that the change gives, and untouched lines have the cells of the old lines that they are
-pub record Follows (change : Changes) (old new : List (List ℕ)) : Type 0 where
+-- the new picture has the sizes that the change gives, and
+-- untouched lines have the cells of the old lines that they are
+pub record Follows (change : Changes) (old new : Rows) : Type 0 where
   pub sizes : (axis : Axis) → lines_along axis new ≡ lines_after axis change.moves
   pub untouched : (line : LineId) → HasLine new line → (IsTouched change line → ⊥) → IsOldLine change.moves old new line
 
 -- no line is touched that has the cells of the old line that it is
-abbrev pub TouchesChanged : Changes → List (List ℕ) → List (List ℕ) → Type 0
+abbrev pub TouchesChanged : Changes → Rows → Rows → Type 0
 TouchesChanged change old new =
     (line : LineId) → HasLine new line → IsTouched change line → IsOldLine change.moves old new line → ⊥
 
 -- The change from one picture to another: it has their sizes, and exactly those lines are touched that were not there,
 -- or have other cells than the old lines that they are.
-pub record IsChangeOf (change : Changes) (old new : List (List ℕ)) : Type 0 where
+pub record IsChangeOf (change : Changes) (old new : Rows) : Type 0 where
   pub sizes : HaveSizes change.moves old new
   pub follows : Follows change old new
   pub touched : TouchesChanged change old new
 
 -- the new picture without the line is the old one
-pub record AgreesOff (line : LineId) (old new : List (List ℕ)) : Type 0 where
+pub record AgreesOff (line : LineId) (old new : Rows) : Type 0 where
   pub has_line : HasLine new line
   pub off_line : line_deleted new line ≡ old
 
 -- a line that crosses lines of an axis has the same cell in two of them
-abbrev pub CrossesAlike : Axis → ℕ → ℕ → List (List ℕ) → LineId → Type 0
+abbrev pub CrossesAlike : Axis → ℕ → ℕ → Rows → LineId → Type 0
 CrossesAlike axis first second picture line =
     line.axis ≡ crossing axis → slice_index (line_of picture line) first ≡ slice_index (line_of picture line) second
 
--- after an exchange exactly those lines have the cells of the old lines that they are which cross the two in the same cells, or don't cross them
-pub record FollowsSwap (axis : Axis) (first second : ℕ) (moves : Moves) (old new : List (List ℕ)) : Type 0 where
+-- after an exchange exactly those lines have the cells of the old lines
+-- that they are which cross the two in the same cells, or don't cross them
+pub record FollowsSwap (axis : Axis) (first second : ℕ) (moves : Moves) (old new : Rows) : Type 0 where
   pub sizes : HaveSizes moves old new
-  pub alike : (line : LineId) → HasLine new line → CrossesAlike axis first second old line → IsOldLine moves old new line
+  pub alike : (line : LineId) → HasLine new line → CrossesAlike axis first second old line
+      → IsOldLine moves old new line
   pub only : (line : LineId) → HasLine new line → IsOldLine moves old new line → CrossesAlike axis first second old line
 
 -- where no line moves, exactly those lines are the old ones that have the same cells as before
-pub record FollowsCells (moves : Moves) (old new : List (List ℕ)) : Type 0 where
+pub record FollowsCells (moves : Moves) (old new : Rows) : Type 0 where
   pub sizes : HaveSizes moves old new
   pub same : (line : LineId) → HasLine new line → line_of new line ≡ line_of old line → IsOldLine moves old new line
   pub only : (line : LineId) → HasLine new line → IsOldLine moves old new line → line_of new line ≡ line_of old line
@@ -153,9 +157,10 @@ abbrev pub HasOldClue : Moves → Clues → LineId → Type 0
 HasOldClue moves clues line = (from : LineId) × HasClue clues from × (image_of moves from ≡ Some line)
 
 -- the picture has the sizes that the change gives, and the old lines that untouched lines are have clues
-pub record CanRefresh (clues : Clues) (picture : List (List ℕ)) (change : Changes) : Type 0 where
+pub record CanRefresh (clues : Clues) (picture : Rows) (change : Changes) : Type 0 where
   pub sizes : (axis : Axis) → lines_along axis picture ≡ lines_after axis change.moves
-  pub untouched : (line : LineId) → HasLine picture line → (IsTouched change line → ⊥) → HasOldClue change.moves clues line
+  pub untouched : (line : LineId) → HasLine picture line → (IsTouched change line → ⊥)
+      → HasOldClue change.moves clues line
 
 -- where the line is untouched, the clue is that of the old line that it is
 abbrev pub IsOldClue : Changes → Clues → LineId → List Block → Type 0
@@ -163,7 +168,7 @@ IsOldClue change clues line clue =
     (IsTouched change line → ⊥) → (from : LineId) → image_of change.moves from ≡ Some line → clue ≡ clue_at clues from
 
 -- where the line is touched, the clue is that of its cells
-abbrev pub IsNewClue : Changes → List (List ℕ) → LineId → List Block → Type 0
+abbrev pub IsNewClue : Changes → Rows → LineId → List Block → Type 0
 IsNewClue change picture line clue = IsTouched change line → clue ≡ clue_of (line_of picture line)
 
 -- each untouched line has the clue that the old line which it is had before
@@ -171,7 +176,7 @@ abbrev pub KeepsClues : Changes → Clues → Clues → Type 0
 KeepsClues change old new = (line : LineId) → HasClue new line → IsOldClue change old line (clue_at new line)
 
 -- each touched line has the clue of its cells
-abbrev pub CountsClues : Changes → List (List ℕ) → Clues → Type 0
+abbrev pub CountsClues : Changes → Rows → Clues → Type 0
 CountsClues change picture new = (line : LineId) → HasClue new line → IsNewClue change picture line (clue_at new line)
 
 -- something holds of each line along an axis and its clue

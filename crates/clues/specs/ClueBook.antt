@@ -5,7 +5,7 @@ use Rattle.picture.specs.declared.line_id.Axis.{Axis}
 use Rattle.picture.specs.declared.line_id.Axis.TheVariants.{Across, Down}
 use Rattle.picture.specs.declared.line_id.LineId.{LineId}
 use Rattle.picture.specs.declared.picture.TheConstants.{MAX_SIDE}
-use Rattle.picture.specs.Rows.{line_along, lines_along}
+use Rattle.picture.specs.Rows.{line_along, lines_along, Rows}
 use Rattle.clues.specs.declared.block.Block.{Block}
 use Rattle.clues.specs.Clue.{clue_of}
 
@@ -30,13 +30,14 @@ abbrev pub HasClue : Clues → LineId → Type 0
 HasClue clues line = line.at < length (clues_along line.axis clues)
 
 -- the clues of the first n lines along an axis
-unfoldable pub first_clues : Axis → List (List ℕ) → ℕ → List (List Block)
+unfoldable pub first_clues : Axis → Rows → ℕ → List (List Block)
 first_clues axis picture n = map (λ at. clue_of (line_along axis at picture)) (range_with_len 0 n)
 
 -- the clues of a picture
-abbrev pub clues_of : List (List ℕ) → Clues
+abbrev pub clues_of : Rows → Clues
 clues_of picture =
-    clues_from (first_clues Across picture (lines_along Across picture)) (first_clues Down picture (lines_along Down picture))
+    clues_from (first_clues Across picture (lines_along Across picture))
+    (first_clues Down picture (lines_along Down picture))
 
 -- what the clues in a clue book are: of 1 to 120 rows and columns
 pub record IsBook (clues : Clues) : Type 0 where

@@ -1,10 +1,10 @@
 -- Laws of clue books and of what an edit changes.
-use Rattle.std.specs.Prelude.{◌≡◌, ℕ, ◌<◌, ◌≤◌, List, length, Some}
+use Rattle.std.specs.Prelude.{◌≡◌, ℕ, ◌<◌, ◌≤◌, length, Some}
 use Rattle.picture.specs.declared.line_id.Axis.{Axis}
 use Rattle.picture.specs.declared.line_id.Axis.TheVariants.{Across, Down}
 use Rattle.picture.specs.declared.line_id.LineId.{LineId}
 use Rattle.picture.specs.Picture.{IsPicture}
-use Rattle.picture.specs.Rows.{HasLine, line_inserted, line_of, lines_along, with_cell}
+use Rattle.picture.specs.Rows.{HasLine, line_inserted, line_of, lines_along, with_cell, Rows}
 use Rattle.clues.specs.Clue.{clue_of}
 use Rattle.clues.specs.ClueBook.{Clues, HasClue, clue_at, clues_along, clues_of}
 use Rattle.clues.specs.Change.{AgreesOff, AreMoves, CanRefresh, Changes, Follows, IsTouched, KeepsClues, Moves}
@@ -12,8 +12,9 @@ use Rattle.clues.specs.Change.{back, image_of, lines_after, lines_before}
 
 -- the clues of a picture are one for each line, that of its cells
 pub record CluesAreOfLines : Type 0 where
-  pub sizes : (picture : List (List ℕ)) (axis : Axis) → length (clues_along axis (clues_of picture)) ≡ lines_along axis picture
-  pub clues : (picture : List (List ℕ)) (line : LineId) → HasLine picture line → clue_at (clues_of picture) line ≡ clue_of (line_of picture line)
+  pub sizes : (picture : Rows) (axis : Axis) → length (clues_along axis (clues_of picture)) ≡ lines_along axis picture
+  pub clues : (picture : Rows) (line : LineId) → HasLine picture line
+      → clue_at (clues_of picture) line ≡ clue_of (line_of picture line)
 
 -- clue books of one size with the same clue for each line are one
 abbrev pub BooksAreTheirClues : Type 0
@@ -23,22 +24,31 @@ BooksAreTheirClues =
     → ((line : LineId) → HasClue one line → clue_at one line ≡ clue_at other line)
     → one ≡ other
 
--- No two lines have one image, an image lies among the new lines along the same axis, and each untouched line is an image.
+-- No two lines have one image, an image lies among the new lines
+-- along the same axis, and each untouched line is an image.
 pub record ImagesAreLines : Type 0 where
-  pub one_to_one : (moves : Moves) (one other to : LineId) → image_of moves one ≡ Some to → image_of moves other ≡ Some to → one ≡ other
+  pub one_to_one : (moves : Moves) (one other to : LineId) → image_of moves one ≡ Some to
+      → image_of moves other ≡ Some to → one ≡ other
   pub same_axis : (moves : Moves) (line to : LineId) → image_of moves line ≡ Some to → to.axis ≡ line.axis
-  pub inside : (moves : Moves) → AreMoves moves → (line to : LineId) → line.at < lines_before line.axis moves → image_of moves line ≡ Some to → to.at < lines_after to.axis moves
-  pub untouched : (change : Changes) → AreMoves change.moves → (line : LineId) → line.at < lines_after line.axis change.moves → (IsTouched change line → ⊥) → (from : LineId) × (from.at < lines_before from.axis change.moves) × (image_of change.moves from ≡ Some line)
+  pub inside : (moves : Moves) → AreMoves moves → (line to : LineId) → line.at < lines_before line.axis moves
+      → image_of moves line ≡ Some to → to.at < lines_after to.axis moves
+  pub untouched : (change : Changes) → AreMoves change.moves → (line : LineId)
+      → line.at < lines_after line.axis change.moves → (IsTouched change line → ⊥)
+      → (from : LineId) × (from.at < lines_before from.axis change.moves) × (image_of change.moves from ≡ Some line)
 
 -- what moves the lines back takes each image to its line, and nothing else
 pub record MovesGoBack : Type 0 where
-  pub back_to_line : (moves : Moves) (line to : LineId) → image_of moves line ≡ Some to → image_of (back moves) to ≡ Some line
-  pub back_from_line : (moves : Moves) (line to : LineId) → image_of (back moves) to ≡ Some line → image_of moves line ≡ Some to
+  pub back_to_line : (moves : Moves) (line to : LineId) → image_of moves line ≡ Some to
+      → image_of (back moves) to ≡ Some line
+  pub back_from_line : (moves : Moves) (line to : LineId) → image_of (back moves) to ≡ Some line
+      → image_of moves line ≡ Some to
 
--- where each untouched line has the cells of the old line that it is, the old picture's clue book can be refreshed, and what it copies stands
+-- where each untouched line has the cells of the old line that it is, the
+-- old picture's clue book can be refreshed, and what it copies stands
 pub record UntouchedCluesStand : Type 0 where
-  pub can_refresh : (change : Changes) (old new : List (List ℕ)) → Follows change old new → CanRefresh (clues_of old) new change
-  pub stand : (change : Changes) (old new : List (List ℕ)) → Follows change old new → KeepsClues change (clues_of old) (clues_of new)
+  pub can_refresh : (change : Changes) (old new : Rows) → Follows change old new → CanRefresh (clues_of old) new change
+  pub stand : (change : Changes) (old new : Rows) → Follows change old new
+      → KeepsClues change (clues_of old) (clues_of new)
 
 -- a cell lies on a line
 abbrev pub IsAtPlace : Axis → ℕ → ℕ → ℕ → Type 0
@@ -51,5 +61,7 @@ IsOnLine line row column = IsAtPlace line.axis line.at row column
 -- A picture with a line inserted agrees with the old one off that line, and so it does after any of the line's cells
 -- was set.
 pub record InsertedLinesAgree : Type 0 where
-  pub inserted : (picture : List (List ℕ)) (line : LineId) → IsPicture picture → line.at ≤ lines_along line.axis picture → AgreesOff line picture (line_inserted picture line)
-  pub cell_set : (old new : List (List ℕ)) (line : LineId) (row column colour : ℕ) → IsPicture new → IsOnLine line row column → AgreesOff line old new → AgreesOff line old (with_cell new row column colour)
+  pub inserted : (picture : Rows) (line : LineId) → IsPicture picture → line.at ≤ lines_along line.axis picture
+      → AgreesOff line picture (line_inserted picture line)
+  pub cell_set : (old new : Rows) (line : LineId) (row column colour : ℕ) → IsPicture new → IsOnLine line row column
+      → AgreesOff line old new → AgreesOff line old (with_cell new row column colour)

@@ -4,6 +4,3 @@ pub mod ClueBook
 pub mod Laws
 pub mod Places
 pub mod Solution
-pub mod SolutionLaws
-pub mod RunLaws
-pub mod BookLaws

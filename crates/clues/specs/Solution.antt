@@ -1,12 +1,12 @@
 -- Solutions of a puzzle, which is clues, the cells that are given, and a picture with the colours that the givens have.
-use Rattle.std.specs.Prelude.{◌≡◌, ℕ, List, length}
+use Rattle.std.specs.Prelude.{◌≡◌, ℕ, length}
 use Rattle.picture.specs.Picture.{IsPicture}
-use Rattle.picture.specs.Rows.{cell_at, row_at}
+use Rattle.picture.specs.Rows.{cell_at, row_at, Rows}
 use Rattle.clues.specs.ClueBook.{Clues, clues_of}
 
--- A solution: a picture of the size of the known one that has the clues, and in each given the known picture's colour. Where the
--- known picture has the clues it is a solution itself.
-pub record Solves (clues : Clues) (Given : ℕ → ℕ → Type 0) (picture other : List (List ℕ)) : Type 0 where
+-- A solution: a picture of the size of the known one that has the clues, and in each given
+-- the known picture's colour. Where the known picture has the clues it is a solution itself.
+pub record Solves (clues : Clues) (Given : ℕ → ℕ → Type 0) (picture other : Rows) : Type 0 where
   pub is_picture : IsPicture other
   pub rows : length other ≡ length picture
   pub columns : (row : ℕ) → length (row_at other row) ≡ length (row_at picture row)
@@ -14,10 +14,10 @@ pub record Solves (clues : Clues) (Given : ℕ → ℕ → Type 0) (picture othe
   pub keeps_givens : (row col : ℕ) → Given row col → cell_at other row col ≡ cell_at picture row col
 
 -- another picture: a solution that is not the known picture
-pub record IsOther (clues : Clues) (Given : ℕ → ℕ → Type 0) (picture other : List (List ℕ)) : Type 0 where
+pub record IsOther (clues : Clues) (Given : ℕ → ℕ → Type 0) (picture other : Rows) : Type 0 where
   pub solves : Solves clues Given picture other
   pub differs : other ≡ picture → ⊥
 
 -- the known picture is the only solution there can be
-abbrev pub IsOnlySolution : Clues → (ℕ → ℕ → Type 0) → List (List ℕ) → Type 0
-IsOnlySolution clues Given picture = (other : List (List ℕ)) → Solves clues Given picture other → other ≡ picture
+abbrev pub IsOnlySolution : Clues → (ℕ → ℕ → Type 0) → Rows → Type 0
+IsOnlySolution clues Given picture = (other : Rows) → Solves clues Given picture other → other ≡ picture

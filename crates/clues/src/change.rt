@@ -8,7 +8,7 @@ ghost use Rattle.picture.specs.Rows.{line_deleted, line_inserted, lines_swapped}
 ghost use Rattle.clues.specs.Change.{AgreesOff, AreMoves, Follows, FollowsCells, FollowsSwap, HasSize, HaveSizes};
 ghost use Rattle.clues.specs.Change.{IsChangeOf, IsSize, IsTouched, Stays, TouchesChanged};
 ghost use Rattle.clues.specs.Change.{image_of, lines_after, lines_before, moved_along, origin_of};
-ghost use Rattle.picture.specs.Crossing.{crossing};
+ghost use Rattle.picture.specs.CrossingLines.{crossing};
 ghost use Rattle.clues.specs.Change.{places_along, still};
 
 use crate::places::Places;

@@ -31,7 +31,7 @@ pub(crate) fn is_clue_of(clue: &Clue, line: LineView<'_>) -> bool
     rest.is_empty()
 }
 
-/// The blocks behind a run that has ended, where it stands first among them. A run of background needs no block.
+/// The blocks after a run that has ended, where it stands first among them. A run of background needs no block.
 pub fn without_run(blocks: &[Block], run: Block) -> Option<&[Block]>
     ensures some { IfSome result (λ rest. blocks.now ≡ blocks_of run.len run.colour ++ rest.now) }
     ensures none { IfNone result

@@ -12,7 +12,7 @@ pub enum Places {
     Kept,
     /// A new line stands at this place, and those from there on move up by one.
     Inserted(u8),
-    /// The line at this place is gone, and those behind it move down by one.
+    /// The line at this place is gone, and those after it move down by one.
     Deleted(u8),
     /// The lines at these places are exchanged.
     Swapped(u8, u8),

@@ -27,7 +27,8 @@ abbrev bare : App
 bare = record { top = top_shape; subs = [] }
 
 -- the program's command with its two subcommands
-pub command_made : {E : Type 0} (top work first check : Command) (r : Result Command E) → app_of top ≡ bare → AddsSubcommand top work first → IfOk r (AddsSubcommand first check) → IsLocal work → IsLocal check → shape_of check ≡ check_shape
+pub command_made : {E : Type 0} (top work first check : Command) (r : Result Command E) → app_of top ≡ bare → AddsSubcommand top work first → IfOk r (AddsSubcommand first check) → IsLocal work
+    → IsLocal check → shape_of check ≡ check_shape
     → (formats : ValueParser) × (AreFormats formats × (shape_of work ≡ work_shape formats)) → IfOk r (λ c. (formats : ValueParser) × (AreFormats formats × (app_of c ≡ program_app formats)))
 command_made top work first check (Err e) t a h l m s f = h
 command_made top work first check (Ok c) t a h l m s f =

@@ -1,10 +1,12 @@
--- Words that have no fault name one of the program's subcommands.
+-- Words that have no error name one of the program's subcommands.
 use Rattle.std.proofs.Common.{◌≡◌, ◌&&◌, ◌||◌, ℕ, Bool, cond, true, false, not, List, [], ◌∷◌, Option, None, Some, option_map, is_some, fold, codes, bytes_eq, refl, sym, ap, ◌∙◌, inl, inr, true≢false}
 use Rattle.std.specs.List.{list_any}
 use Rattle.std.proofs.lemmas.Slice.Eq.{bytes_eq-Decides}
 use Rattle.clap.specs.Lexer.{long_of, short_of}
 use Rattle.clap.specs.Facts.{explicit_source}
-use Rattle.clap.specs.Walk.{Held, Names, Outcome, Row, Rule, Step, Text, Waiting, Walk, done, waits, plain, refused, idle, option, positional, next, trailing, subcommand, value, after_flag, after_step, answers_to, arg_by_index, arg_by_long, bundle, finished, long_met, long_or_other, nothing_held, plain_word, settled, short_or_plain, subcommand_met, subcommand_or_other, to_positional, walk, walk_from, walked, walked_from, word_met}
+use Rattle.clap.specs.Walk.{Held, Names, Outcome, Row, Rule, Step, Text, Waiting, Walk, done, waits, plain, refused, idle, option, positional, next, trailing, subcommand, value, after_flag}
+use Rattle.clap.specs.Walk.{after_step, answers_to, arg_by_index, arg_by_long, bundle, finished, long_met, long_or_other, nothing_held, plain_word, settled, short_or_plain, subcommand_met}
+use Rattle.clap.specs.Walk.{subcommand_or_other, to_positional, walk, walk_from, walked, walked_from, word_met}
 use Rattle.clap.specs.Simple.{Shape, built, built_leaf, entered, help_shape, inherited, label_of, marked_built, names_of, rows_at, with_leaf_noted}
 use Rattle.clap.specs.Takes.{is_given}
 use Rattle.clap.specs.Kinds.{Kinds, check_kinds, or_else}
@@ -33,7 +35,7 @@ next_none : (a b : Kinds) → or_else a b ≡ [] → b ≡ []
 next_none [] b e = e
 next_none (k ∷ ks) b e = absurd (some_kind k ks e)
 
--- ---- a word that has no fault does not enter `help`
+-- ---- a word that has no error does not enter `help`
 
 abbrev is_help : Option (Text × List Text) → Bool
 is_help None = false
@@ -76,7 +78,7 @@ either_stays : (b : Bool) (x y : Held × Step) → enters_help x.1 ≡ false →
 either_stays true x y e f = e
 either_stays false x y e f = f
 
--- where `help` is not disabled, the word that names it has a fault
+-- where `help` is not disabled, the word that names it has an error
 not_named : (b d : Bool) (k : ErrorKind) (ks : Kinds) → d ≡ false → cond (b && not d) (k ∷ ks) [] ≡ [] → b ≡ false
 not_named false d k ks on e = refl
 not_named true true k ks on e = absurd (true≢false on)
@@ -88,7 +90,8 @@ other_stays s (Some name) waiting position word h on e = not_named (bytes_eq nam
 other_stays s None waiting position word h on e =
     either_stays (bytes_eq word (45 ∷ 45 ∷ [])) (h, trailing position) (long_or_other s.rules waiting word (long_of word) h) refl (long_stays s.rules waiting word (long_of word) h)
 
-met_stays : (s : Shape) (names : Names) (is_trailing : Bool) (waiting : Waiting) (position : ℕ) (word : Text) (h : Held) → s.disable_help_subcommand ≡ false → word_fault s names is_trailing waiting word h ≡ []
+met_stays : (s : Shape) (names : Names) (is_trailing : Bool) (waiting : Waiting) (position : ℕ) (word : Text) (h : Held) → s.disable_help_subcommand ≡ false
+    → word_fault s names is_trailing waiting word h ≡ []
     → enters_help (word_met s.rules names is_trailing waiting position word h).1 ≡ false
 met_stays s names true waiting position word h on e = refl
 met_stays s names false waiting position word h on e = other_stays s (subcommand_met names waiting word) waiting position word h on e
@@ -111,7 +114,7 @@ walk_stays s names w (word ∷ rest) on n e =
     let later = walk_fault s names (walked s.rules names w word) rest in
     walk_stays s names (walked s.rules names w word) rest on (turn_stays s names w.stopped w word (step_fault s w.position met.0 met.1) on n n (first_none turn later e)) (next_none turn later e)
 
--- ---- a level that has no fault
+-- ---- a level that has no error
 
 wanted : (help name argument : Bool) → check_kinds help name argument ≡ [] → name ≡ false
 wanted true name argument e = absurd (some_kind DisplayHelpOnMissingArgumentOrSubcommand [] e)
@@ -125,7 +128,8 @@ has_one s rows false wants e =
     let argument = not (s.subcommand_negates_reqs && false) && list_any (λ (a : Rule). a.required && not (is_given a.id rows)) s.rules in
     absurd (true≢false (sym wants ∙ wanted help s.subcommand_required argument e))
 
-level_parts : (s : Shape) (names : Names) (h : Held) (words : List Text) (has : Bool) (below : Kinds) → s.disable_help_subcommand ≡ false → s.subcommand_required ≡ true → level_fault s names h words has below ≡ []
+level_parts : (s : Shape) (names : Names) (h : Held) (words : List Text) (has : Bool) (below : Kinds) → s.disable_help_subcommand ≡ false → s.subcommand_required ≡ true
+    → level_fault s names h words has below ≡ []
     → (is_help (walk s.rules names h words).stopped ≡ false) × (has ≡ true)
 level_parts s names h words has below on wants e =
     let end = (walk s.rules names h words).held in
@@ -162,7 +166,8 @@ pick false true z a b c words work check n has = inr check
 pick false false true a b c words work check n has = absurd (true≢false n)
 pick false false false a b c words work check n has = absurd (true≢false (sym has))
 
-entered_named : (formats : ValueParser) (stop : Option (Text × List Text)) → is_help stop ≡ false → is_some (entered (built (program_app formats)) stop) ≡ true → IsNamed (entered (built (program_app formats)) stop)
+entered_named : (formats : ValueParser) (stop : Option (Text × List Text)) → is_help stop ≡ false → is_some (entered (built (program_app formats)) stop) ≡ true
+    → IsNamed (entered (built (program_app formats)) stop)
 entered_named formats None n has = absurd (true≢false (sym has))
 entered_named formats (Some p) n has =
     let work = built_leaf (inherited top_noted (work_shape formats)) in

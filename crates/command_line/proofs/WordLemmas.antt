@@ -1,11 +1,13 @@
 -- The words of the command line, as the parser's contract has them.
-use Rattle.std.proofs.Common.{◌≡◌, ◌≢◌, ◌⊎◌, ◌↔◌, ◌≤◌, ℕ, Bool, List, [], ◌∷◌, length, codes, Option, None, Some, Result, Ok, Err, IsTrue, option_map, true, false, true≢false, refl, sym, ap, subst, ◌∙◌, arith, inl, inr, ⊎_elim}
+use Rattle.std.proofs.Common.{◌≡◌, ◌≢◌, ◌⊎◌, ◌↔◌, ◌≤◌, ℕ, Bool, List, [], ◌∷◌, length, codes, Option, None, Some, Result, Ok, Err, IsTrue, option_map, true, false, true≢false, refl, sym, ap, subst}
+use Rattle.std.proofs.Common.{◌∙◌, arith, inl, inr, ⊎_elim}
 use Rattle.std.specs.Str.Parse.{ParsesUnsigned}
 use Rattle.clap.specs.declared.builder.value_parser.ValueParser.{ValueParser}
 use Rattle.clap.specs.declared.error.Error.{Error}
 use Rattle.clap.specs.declared.error.kind.ErrorKind.{ErrorKind}
 use Rattle.clap.specs.declared.error.kind.ErrorKind.TheVariants as kind
-use Rattle.clap.specs.Words.{App, HasKind, IsAmong, Kinds, ReadsOne, Row, Text, fault_of, first_of, first_value, kind_of, one_text, rows_of, subcommand_name_of, subcommand_of, subcommand_rows_of, takes}
+use Rattle.clap.specs.Words.{App, HasKind, IsAmong, Kinds, ReadsOne, Row, Text, fault_of, first_of, first_value, kind_of, one_text, rows_of, subcommand_name_of, subcommand_of, subcommand_rows_of}
+use Rattle.clap.specs.Words.{takes}
 use Rattle.clap.specs.declared.parser.matches.ArgMatches.{ArgMatches}
 use Rattle.clap.specs.declared.parser.matches.Found.{Found}
 use Rattle.clap.proofs.WalkLemmas.{first_value-rows, one_text-rows}
@@ -66,13 +68,15 @@ some_text a b e = cc
 some_rows : (a b : List Row) → Some a ≡ Some b → a ≡ b
 some_rows a b e = cc
 
-pub asked_work : (entered : Option (Text × List Row)) (rows : List Row) (r : Result Task ProgramFault) → option_map (λ p. p.0) entered ≡ Some (codes "work") → option_map (λ p. p.1) entered ≡ Some rows → IsWork (given_in rows) r → IsAsked entered r
+pub asked_work : (entered : Option (Text × List Row)) (rows : List Row) (r : Result Task ProgramFault) → option_map (λ p. p.0) entered ≡ Some (codes "work") → option_map (λ p. p.1) entered ≡ Some rows
+    → IsWork (given_in rows) r → IsAsked entered r
 asked_work entered rows r name is asked = record {
   work = λ there e. subst (λ (x : List Row). IsWork (given_in x) r) (some_rows rows there (sym is ∙ ap rows_in e)) asked;
   check = λ there e. absurd (not_check (some_text (codes "check") (codes "work") (sym (ap name_in e) ∙ name)));
 }
 
-pub asked_check : (entered : Option (Text × List Row)) (rows : List Row) (r : Result Task ProgramFault) → option_map (λ p. p.0) entered ≡ Some (codes "check") → option_map (λ p. p.1) entered ≡ Some rows → IsCheck (given_in rows) r → IsAsked entered r
+pub asked_check : (entered : Option (Text × List Row)) (rows : List Row) (r : Result Task ProgramFault) → option_map (λ p. p.0) entered ≡ Some (codes "check")
+    → option_map (λ p. p.1) entered ≡ Some rows → IsCheck (given_in rows) r → IsAsked entered r
 asked_check entered rows r name is asked = record {
   work = λ there e. absurd (not_check (some_text (codes "check") (codes "work") (sym name ∙ ap name_in e)));
   check = λ there e. subst (λ (x : List Row). IsCheck (given_in x) r) (some_rows rows there (sym is ∙ ap rows_in e)) asked;
@@ -81,7 +85,8 @@ asked_check entered rows r name is asked = record {
 -- ---- the history
 
 -- a number that a text reads as, where the text writes that number
-pub depth_read : {E : Type 0} (n : ℕ) (text : Text) (found : Option ℕ) (gives : List ℕ → Result ℕ E → Type 0) → ((t : List ℕ) (r : Result ℕ E) → gives t r → ParsesUnsigned 16 10 t r) → n ≤ 1000 → Spells text n → ReadsOne gives text found → found ≡ Some n
+pub depth_read : {E : Type 0} (n : ℕ) (text : Text) (found : Option ℕ) (gives : List ℕ → Result ℕ E → Type 0) → ((t : List ℕ) (r : Result ℕ E) → gives t r → ParsesUnsigned 16 10 t r) → n ≤ 1000
+    → Spells text n → ReadsOne gives text found → found ≡ Some n
 depth_read {E} n text (Some m) gives parses few spells reads = ap Some ((parses text (Ok m) reads).1 ∙ spells.value)
 depth_read {E} n text None gives parses few spells reads =
     let value = spells.value in
@@ -152,24 +157,29 @@ memory_or k (Err fault.Write) u = inl (memory_is fault.Write u)
 
 -- ---- the task
 
-untaken_by : (kinds : Kinds) (app : App) (words : List Text) (k : ErrorKind) (r : Result Task ProgramFault) → (takes app words ≡ true → ⊥) → IsAmong k kinds → IsUntaken k r → IsTaskBy kinds app words r
+untaken_by : (kinds : Kinds) (app : App) (words : List Text) (k : ErrorKind) (r : Result Task ProgramFault) → (takes app words ≡ true → ⊥) → IsAmong k kinds → IsUntaken k r
+    → IsTaskBy kinds app words r
 untaken_by [] app words k r refused among u = absurd among
 untaken_by (first ∷ more) app words k r refused among u = (refused, (k, (among, u)))
 
-untaken_as : (kinds : Kinds) (app : App) (words : List Text) (e : Error) (r : Result Task ProgramFault) → HasKind kinds e → (takes app words ≡ true → kind_of e ≡ kind.OutOfMemory) → IsUntaken (kind_of e) r
+untaken_as : (kinds : Kinds) (app : App) (words : List Text) (e : Error) (r : Result Task ProgramFault) → HasKind kinds e → (takes app words ≡ true → kind_of e ≡ kind.OutOfMemory)
+    → IsUntaken (kind_of e) r
     → (r ≡ Err fault.Memory) ⊎ IsTaskBy kinds app words r
 untaken_as kinds app words e r has passes u =
     let among : (kind_of e ≡ kind.OutOfMemory → ⊥) → IsAmong (kind_of e) kinds = λ other. ⊎_elim (λ memory. absurd (other memory)) (λ one. one) has in
     ⊎_elim (λ memory. inl memory) (λ other. inr (untaken_by kinds app words (kind_of e) r (λ t. other (passes t)) (among other) u)) (memory_or (kind_of e) r u)
 
-pub not_taken : (words : List Text) (e : Error) (r : Result Task ProgramFault) → (formats : ValueParser) × (AreFormats formats × ParsesAs formats words (Err e)) → IsUntaken (kind_of e) r → IsTaskOf words r
+pub not_taken : (words : List Text) (e : Error) (r : Result Task ProgramFault) → (formats : ValueParser) × (AreFormats formats × ParsesAs formats words (Err e)) → IsUntaken (kind_of e) r
+    → IsTaskOf words r
 not_taken words e r p u = ⊎_elim (λ memory. inl memory) (λ told. inr (p.0, (p.1.0, told))) (untaken_as (fault_of (program_app p.0) words) (program_app p.0) words e r p.1.1.0 p.1.1.1 u)
 
-taken_by : (kinds : Kinds) (app : App) (words : List Text) (r : Result Task ProgramFault) → kinds ≡ [] → IsNamed (subcommand_of app words) → IsAsked (subcommand_of app words) r → IsTaskBy kinds app words r
+taken_by : (kinds : Kinds) (app : App) (words : List Text) (r : Result Task ProgramFault) → kinds ≡ [] → IsNamed (subcommand_of app words) → IsAsked (subcommand_of app words) r
+    → IsTaskBy kinds app words r
 taken_by [] app words r none named asked = (named, asked)
 taken_by (first ∷ more) app words r none named asked = absurd (some_kind first more none)
 
-pub taken : (words : List Text) (m : ArgMatches) (r : Result Task ProgramFault) → (formats : ValueParser) × (AreFormats formats × ParsesAs formats words (Ok m)) → IsAsked (subcommand_rows_of m) r → IsTaskOf words r
+pub taken : (words : List Text) (m : ArgMatches) (r : Result Task ProgramFault) → (formats : ValueParser) × (AreFormats formats × ParsesAs formats words (Ok m)) → IsAsked (subcommand_rows_of m) r
+    → IsTaskOf words r
 taken words m r p asked =
     let fine = p.1.1.0 in
     let there = subst (λ (x : Option (Text × List Row)). IsAsked x r) p.1.1.1 asked in

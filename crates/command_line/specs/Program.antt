@@ -1,6 +1,7 @@
 -- The program's command line, as the parser of words sees it.
 use Rattle.std.specs.Prelude.{◌≡◌, true, false, pos, List, [], ◌∷◌, codes, map, Some, Result, Ok, Err}
-use Rattle.clap.specs.Words.{App, HasKind, Rule, Shape, Text, fault_of, kind_of, new_rule, subcommand_of, subcommand_rows_of, takes}
+use Rattle.clap.specs.Words.{App, HasKind, Rule, Shape, Text, fault_of, kind_of, new_rule, subcommand_of}
+use Rattle.clap.specs.Words.{subcommand_rows_of, takes}
 use Rattle.clap.specs.Simple.{new_shape}
 use Rattle.clap.specs.declared.builder.command.Command.{Command}
 use Rattle.clap.specs.declared.builder.command.Command.TheViews.{out-Command}
@@ -50,7 +51,8 @@ abbrev pub opening_shape : ValueParser → Shape
 opening_shape formats = record (new_shape (codes "work")) { rules = file_rule ∷ format_rule formats ∷ [] }
 
 abbrev pub work_shape : ValueParser → Shape
-work_shape formats = record (new_shape (codes "work")) { rules = file_rule ∷ format_rule formats ∷ background_rule ∷ history_rule ∷ [] }
+work_shape formats =
+    record (new_shape (codes "work")) { rules = file_rule ∷ format_rule formats ∷ background_rule ∷ history_rule ∷ [] }
 
 abbrev pub check_shape : Shape
 check_shape = record (new_shape (codes "check")) { rules = file_rule ∷ cert_rule ∷ background_rule ∷ [] }
@@ -65,7 +67,8 @@ top_shape = record (new_shape (codes "nonobench")) {
 }
 
 abbrev pub program_app : ValueParser → App
-program_app formats = record { top = record top_shape { is_leaf = false }; subs = work_shape formats ∷ check_shape ∷ [] }
+program_app formats =
+    record { top = record top_shape { is_leaf = false }; subs = work_shape formats ∷ check_shape ∷ [] }
 
 -- the formats that a file can have
 abbrev pub AreFormats : ValueParser → Type 0
@@ -76,8 +79,11 @@ AreFormats _ = ⊥
 abbrev pub IsLocal : Command → Type 0
 IsLocal c = (out-Command c).has_globals ≡ false
 
--- What a parse of the program's words comes to: they have no fault, and the parse has the name and the rows of the subcommand that
--- they name; or its error is of a kind of their fault, or memory ran out, which it did where the definition takes them.
+-- What a parse of the program's words comes to: they have no error, and the parse has the name and the rows of the
+-- subcommand that they name; or its error is of a kind of their error, or memory ran out, which it did where the
+-- definition takes them.
 abbrev pub ParsesAs : ValueParser → List Text → Result ArgMatches Error → Type 0
-ParsesAs formats words (Ok m) = (fault_of (program_app formats) words ≡ []) × (subcommand_rows_of m ≡ subcommand_of (program_app formats) words)
-ParsesAs formats words (Err e) = HasKind (fault_of (program_app formats) words) e × (takes (program_app formats) words ≡ true → kind_of e ≡ OutOfMemory)
+ParsesAs formats words (Ok m) =
+    (fault_of (program_app formats) words ≡ []) × (subcommand_rows_of m ≡ subcommand_of (program_app formats) words)
+ParsesAs formats words (Err e) = HasKind (fault_of (program_app formats) words) e
+    × (takes (program_app formats) words ≡ true → kind_of e ≡ OutOfMemory)

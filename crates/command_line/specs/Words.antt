@@ -1,7 +1,9 @@
 -- What the words ask for, by the values that the parser of words found.
-use Rattle.std.specs.Prelude.{◌≡◌, ◌⊎◌, ℕ, ◌<◌, ◌≤◌, ◌↔◌, Bool, true, false, List, [], ◌∷◌, codes, unwrap_or, Option, None, Some, Result, Ok, Err, refl}
+use Rattle.std.specs.Prelude.{◌≡◌, ◌⊎◌, ℕ, ◌<◌, ◌≤◌, ◌↔◌, Bool, true, false, List, [], ◌∷◌, codes, unwrap_or, Option}
+use Rattle.std.specs.Prelude.{None, Some, Result, Ok, Err, refl}
 use Rattle.std.specs.Str.Parse.{IsNumeral, digits_value, without_leading_plus}
-use Rattle.clap.specs.Words.{App, IsAmong, Kinds, Row, Text, fault_of, first_of, first_value, one_of, one_text, subcommand_of, takes}
+use Rattle.clap.specs.Words.{App, IsAmong, Kinds, Row, Text, fault_of, first_of, first_value, one_of, one_text}
+use Rattle.clap.specs.Words.{subcommand_of, takes}
 use Rattle.clap.specs.declared.builder.value_parser.ValueParser.{ValueParser}
 use Rattle.clap.specs.declared.error.kind.ErrorKind.{ErrorKind}
 use Rattle.clap.specs.declared.error.kind.ErrorKind.TheVariants.{DisplayHelp, DisplayVersion, OutOfMemory}
@@ -57,7 +59,7 @@ abbrev pub background_named : Option Rgb → Result (Option Rgb) ProgramFault
 background_named None = Err fault.Background
 background_named (Some rgb) = Ok (Some rgb)
 
--- the background that is asked for: none, the colour that the text names, or the fault of a text that names none
+-- the background that is asked for: none, the colour that the text names, or the error of a text that names none
 abbrev pub background_asked : Option Text → Result (Option Rgb) ProgramFault
 background_asked None = Ok None
 background_asked (Some text) = background_named (background_of text)
@@ -67,7 +69,8 @@ pub record Spells (text : Text) (n : ℕ) : Type 0 where
   pub numeral : IsNumeral 10 (without_leading_plus text)
   pub value : digits_value 10 (without_leading_plus text) ≡ n
 
--- The format and the background are those of the words; so is the history, where its text writes a number from 1 to 1,000.
+-- The format and the background are those of the words; so is
+-- the history, where its text writes a number from 1 to 1,000.
 pub record AreOptions (g : Given) (options : Options) : Type 0 where
   pub format : (options.non ≡ true) ↔ (g.format ≡ Some (codes "non"))
   pub background : background_asked g.background ≡ Ok options.background
@@ -81,7 +84,8 @@ path_of path = unwrap_or path []
 abbrev pub IsRefused : Given → ProgramFault → Type 0
 IsRefused g e =
     (background_asked g.background ≡ Err e)
-    ⊎ ((e ≡ fault.BackgroundOfNon) × ((g.format ≡ Some (codes "non")) × ((rgb : Rgb) × (background_asked g.background ≡ Ok (Some rgb)))))
+    ⊎ ((e ≡ fault.BackgroundOfNon)
+    × ((g.format ≡ Some (codes "non")) × ((rgb : Rgb) × (background_asked g.background ≡ Ok (Some rgb)))))
 
 -- a session with this file and these options
 abbrev pub IsWork : Given → Result Task ProgramFault → Type 0
@@ -91,7 +95,8 @@ IsWork g (Err e) = IsRefused g e
 
 -- a check with these two files and this background
 abbrev pub IsCheck : Given → Result Task ProgramFault → Type 0
-IsCheck g (Ok (Check file cert background)) = (file.now ≡ path_of g.file) × ((cert.now ≡ path_of g.cert) × (background_asked g.background ≡ Ok background))
+IsCheck g (Ok (Check file cert background)) =
+    (file.now ≡ path_of g.file) × ((cert.now ≡ path_of g.cert) × (background_asked g.background ≡ Ok background))
 IsCheck g (Ok _) = ⊥
 IsCheck g (Err e) = background_asked g.background ≡ Err e
 
@@ -122,15 +127,17 @@ IsUntaken kind (Err e) = e ≡ fault.Memory
 
 -- ---- words
 
--- What words come to, by the kinds of fault that they have. With none they name one of the two subcommands, and the task is what
--- it asks for. Else the definition does not take them, and what comes of them is by one of the kinds.
+-- What words come to, by the kinds of error that they have. With none they name one of the two subcommands, and the
+-- task is what it asks for. Else the definition does not take them, and what comes of them is by one of the kinds.
 abbrev pub IsTaskBy : Kinds → App → List Text → Result Task ProgramFault → Type 0
 IsTaskBy [] app words r = IsNamed (subcommand_of app words) × IsAsked (subcommand_of app words) r
-IsTaskBy (first ∷ more) app words r = (takes app words ≡ true → ⊥) × ((kind : ErrorKind) × (IsAmong kind (first ∷ more) × IsUntaken kind r))
+IsTaskBy (first ∷ more) app words r =
+    (takes app words ≡ true → ⊥) × ((kind : ErrorKind) × (IsAmong kind (first ∷ more) × IsUntaken kind r))
 
 -- What words ask for: memory ran out; or it is as the definition of the program's command line reads them.
 abbrev pub IsTaskOf : List Text → Result Task ProgramFault → Type 0
-IsTaskOf words r = (r ≡ Err fault.Memory) ⊎ ((formats : ValueParser) × (AreFormats formats × IsTaskBy (fault_of (program_app formats) words) (program_app formats) words r))
+IsTaskOf words r = (r ≡ Err fault.Memory) ⊎ ((formats : ValueParser)
+    × (AreFormats formats × IsTaskBy (fault_of (program_app formats) words) (program_app formats) words r))
 
 -- ---- worked by hand
 

@@ -12,7 +12,7 @@ use std::alloc::{AllocError, Global};
 // What a file can be.
 static FORMATS: [&str; 2] = ["ppm", "non"];
 
-// What the parser makes of the words behind the program's own name.
+// What the parser makes of the words after the program's own name.
 pub(crate) fn parsed<'a>(
     alloc: Global,
     words: &'a [&str],
@@ -58,7 +58,7 @@ fn work_command<'a>(alloc: Global) -> Result<Command<'a>, AllocError>
     opening(alloc)?.arg(background(alloc))?.arg(history(alloc))
 }
 
-// The session's file and its format.
+// The command `work` with the session's file and its format.
 fn opening<'a>(alloc: Global) -> Result<Command<'a>, AllocError>
     ensures shape { IfOk result (λ c. (formats : _)
         × (AreFormats formats × (shape_of c ≡ opening_shape formats))) }
@@ -67,7 +67,7 @@ fn opening<'a>(alloc: Global) -> Result<Command<'a>, AllocError>
     file_command(alloc)?.arg(format(alloc))
 }
 
-// The session's file.
+// The command `work` with the session's file.
 fn file_command<'a>(alloc: Global) -> Result<Command<'a>, AllocError>
     ensures shape { IfOk result (λ c. shape_of c ≡ file_shape) }
     ensures local { IfOk result IsLocal }

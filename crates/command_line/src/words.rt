@@ -37,11 +37,10 @@ pub enum Task<'a> {
 // How many edits can be undone where no number is given.
 const DEPTH: u16 = 100;
 
-/// Reads the words behind the program's own name. Without a word the clues are asked for.
+/// Reads the words after the program's own name. Without a word the clues are asked for.
 ///
-/// File, certificate, format, background and history are those of the words, as the parser reads
-/// them. Help and version are a task. The faults are `Words`, which carries the parser's text, `Background`, `BackgroundOfNon`
-/// and `Memory`.
+/// File, certificate, format, background and history are those of the words, as the parser reads them. Help and version
+/// are a task. The errors are `Words`, which carries the parser's text, `Background`, `BackgroundOfNon` and `Memory`.
 pub fn read_words<'a>(alloc: Global, words: &'a [&str]) -> Result<Task<'a>, ProgramFault>
     ensures none { words.entry.now ≡ [] → result ≡ Ok Clues }
     ensures lawful { IfOk result IsLawfulTask }

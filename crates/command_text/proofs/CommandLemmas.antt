@@ -1,6 +1,6 @@
 -- A first word in the table of what is asked, and one that is not there.
 use Rattle.std.proofs.Common.{◌≡◌, ℕ, List, Option, None, Some, Result, refl}
-use Rattle.picture.specs.Reading.{Reads}
+use Rattle.picture.specs.Readers.{Reads}
 use Rattle.command_text.specs.declared.command.Command.{Command}
 use Rattle.command_text.specs.declared.fault.CommandFault.{CommandFault}
 use Rattle.command_text.specs.Parse.{IsAsking, as_command, command_by, edit_at}

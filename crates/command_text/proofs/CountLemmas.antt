@@ -21,7 +21,7 @@ module _ (all left : List (List ℕ)) (i count : ℕ) (so_far : length all ≡ l
   pub all_counted : left ≡ [] → count ≤ i → i ≤ count → counted count all ≡ Ok all
   all_counted none le ge = ap by_test (eq-eqb (length all) count (omega (arith, so_far, ap length none, le, ge)))
 
-  -- and they go on behind it
+  -- and they go on after it
   pub too_many : (word : List ℕ) (words : List (List ℕ)) → left ≡ word ∷ words → count ≤ i → i ≤ count → counted count all ≡ Err WordCount
   too_many word words some le ge = ap by_test (ne_eqb (length all) count (λ same. absurd (omega (arith, so_far, ap length some, le, ge, same))))
 

@@ -1,5 +1,6 @@
 -- The lines of bytes, cut piece by piece.
-use Rattle.std.proofs.Common.{◌≡◌, ℕ, zero, suc, ◌+◌, ◌-◌, ◌<◌, ◌≤◌, Bool, true, false, cond, not, ◌&&◌, List, [], ◌∷◌, ◌++◌, length, get_or, length-take-le, min, take, drop, slice_index, ◌==◌, nat_lt, Err, Option, Some, None, is_some, unwrap_or, refl, sym, ap, ◌∙◌, append_assoc, append-nil, arith}
+use Rattle.std.proofs.Common.{◌≡◌, ℕ, zero, suc, ◌+◌, ◌-◌, ◌<◌, ◌≤◌, Bool, true, false, cond, not, ◌&&◌, List, [], ◌∷◌, ◌++◌, length, get_or, length-take-le, min, take, drop, slice_index, ◌==◌}
+use Rattle.std.proofs.Common.{nat_lt, Err, Option, Some, None, is_some, unwrap_or, refl, sym, ap, ◌∙◌, append_assoc, append-nil, arith}
 use Rattle.std.specs.Int.{from_bool}
 use Rattle.std.specs.List.{slice_split, position}
 use Rattle.std.specs.Str.Lines.{strip_carriage_return}
@@ -11,11 +12,12 @@ use Rattle.std.proofs.Math.Seq.{take-append-add, drop-drop}
 use Rattle.std.proofs.lemmas.List.Elements.{All-append}
 use Rattle.std.proofs.lemmas.List.Quantifiers.{position-Some}
 use Rattle.std.proofs.lemmas.List.Splits.{length-slice_split, slice_split_at, slice_split_none}
-use Rattle.picture.specs.SplitLaws.{none_before, none_passes, whole_found}
+use Rattle.picture.proofs.SplitLaws.{none_before, none_passes, whole_found}
 use Rattle.std.specs.Io.KnownBytes.{Keeps}
 use Rattle.std.proofs.KnownBytes.{Consumes-kept, Consumes-trans}
 use Rattle.command_text.specs.declared.lines.Lines.{Lines}
-use Rattle.command_text.specs.Lines.{BreaksOff, CutsOne, Drafts, NoFeed, TakesPiece, Waits, all_pieces, ended_lines_of, ended_pieces, has_word, is_feed, lines_of, nothing_has_no_lines, request_by, request_of, steps_left}
+use Rattle.command_text.specs.Lines.{BreaksOff, CutsOne, Drafts, NoFeed, TakesPiece, Waits, all_pieces, ended_lines_of, ended_pieces, has_word, is_feed, lines_of, nothing_has_no_lines, request_by}
+use Rattle.command_text.specs.Lines.{request_of, steps_left}
 use Rattle.command_text.specs.Parse.{command_of, command_of_words}
 use Rattle.command_text.specs.declared.fault.CommandFault.TheVariants.{LongLine}
 use Rattle.command_text.specs.declared.request.Request.TheVariants.{Nothing, Refused}
@@ -42,7 +44,7 @@ two_ended piece (next ∷ pieces) some = refl
 some_piece : (bytes : List ℕ) → 0 < length (slice_split is_feed bytes)
 some_piece bytes = omega (arith, length-slice_split is_feed bytes)
 
--- a line that ends, and the lines behind it
+-- a line that ends, and the lines after it
 pub lines_first : (raw rest : List ℕ) → NoFeed raw → lines_of (raw ++ 10 ∷ rest) ≡ strip_carriage_return raw ∷ lines_of rest
 unfolding lines_of
 lines_first raw rest p = ap all_pieces (slice_split_at is_feed raw 10 rest p refl) ∙ two_pieces raw (slice_split is_feed rest) (some_piece rest)
@@ -154,7 +156,8 @@ drafts_wait had mid have old now new draft more d w = record {
 }
 
 -- what came to the line is no longer than what waited
-piece_steps : (old now new : Lines) (draft more : List ℕ) → steps_left now + length draft ≤ steps_left old → TakesPiece now new draft more false → new.reads ≡ now.reads → steps_left new + length more ≤ steps_left old
+piece_steps : (old now new : Lines) (draft more : List ℕ) → steps_left now + length draft ≤ steps_left old → TakesPiece now new draft more false → new.reads ≡ now.reads
+    → steps_left new + length more ≤ steps_left old
 piece_steps old now new draft more before t r =
     let len : length more ≤ length draft + length now.inbox =
     let whole = ap length t.1.1 in let cut = length-take 202 (draft ++ now.inbox) in let all = length-append draft now.inbox in omega (arith, whole, cut, all) in
@@ -163,7 +166,8 @@ piece_steps old now new draft more before t r =
     omega (arith, before, len, none, same)
 
 -- and all that waited came to the line
-pub drafts_piece : (had have : Option (List ℕ)) (old now new : Lines) (draft more : List ℕ) → Drafts had have old now draft → TakesPiece now new draft more false → new.ended ≡ now.ended → new.reads ≡ now.reads → Drafts had have old new more
+pub drafts_piece : (had have : Option (List ℕ)) (old now new : Lines) (draft more : List ℕ) → Drafts had have old now draft → TakesPiece now new draft more false → new.ended ≡ now.ended
+    → new.reads ≡ now.reads → Drafts had have old new more
 drafts_piece had have old now new draft more d t e r = record {
   came = d.came;
   read = d.read;
@@ -203,7 +207,8 @@ cuts_line had have old now new draft more d t e =
 -- all bytes of the input, where nothing is left
 at_end : (had have : Option (List ℕ)) (old now : Lines) (draft : List ℕ) → (d : Drafts had have old now draft) → now.inbox ≡ [] → (rest : List ℕ) → rest ≡ [] → old.inbox ++ (d.came ++ rest) ≡ d.raw
 at_end had have old now draft d none rest end =
-    sym (append_assoc old.inbox d.came rest) ∙ ap (λ (xs : List ℕ). (old.inbox ++ d.came) ++ xs) end ∙ append-nil (old.inbox ++ d.came) ∙ d.cut ∙ ap (λ (xs : List ℕ). d.raw ++ xs) none ∙ append-nil d.raw
+    sym (append_assoc old.inbox d.came rest) ∙ ap (λ (xs : List ℕ). (old.inbox ++ d.came) ++ xs) end ∙ append-nil (old.inbox ++ d.came) ∙ d.cut ∙ ap (λ (xs : List ℕ). d.raw ++ xs) none
+    ∙ append-nil d.raw
 
 -- the bytes of the line are as many as are kept, up to 202
 some_kept : (draft raw : List ℕ) → draft ≡ take 202 raw → 0 < length draft → 0 < length raw

@@ -6,7 +6,7 @@ use Rattle.std.proofs.lemmas.List.{append-nil, get_or-drop, length-drop, length-
 use Rattle.std.proofs.lemmas.List.Elements.{All-head, All-tail}
 use Rattle.std.proofs.lemmas.List.Quantifiers.{position-Some}
 use Rattle.std.proofs.lemmas.List.Splits.{slice_split-cons_yes}
-use Rattle.picture.specs.SplitLaws.{none_before, none_passes, split_found, split_none}
+use Rattle.picture.proofs.SplitLaws.{none_before, none_passes, split_found, split_none}
 use Rattle.command_text.specs.Words.{has_byte, is_blank, is_no_blank, words_of}
 
 -- blanks that stand first make no word
@@ -24,7 +24,7 @@ none_in_nothing = refl
 pub words_none : (line : List ℕ) → position is_no_blank line ≡ None → words_of line ≡ []
 words_none line e = ap words_of (sym (append-nil line)) ∙ past_blanks line [] (none_passes is_no_blank line e) ∙ none_in_nothing
 
--- ---- behind the blanks
+-- ---- after the blanks
 
 some_byte : (rest : List ℕ) (end : ℕ) → 0 < length rest → is_blank (get_or rest 0 0) ≡ false → is_blank (get_or rest end 0) ≡ true → has_byte (take end rest) ≡ true
 some_byte [] end some other blank = absurd (omega (arith, some))

@@ -1,7 +1,8 @@
--- The names of the faults of a line.
+-- The names of the errors of a line.
 use Rattle.std.specs.Prelude.{ℕ, List, codes}
 use Rattle.command_text.specs.declared.fault.CommandFault.{CommandFault}
-use Rattle.command_text.specs.declared.fault.CommandFault.TheVariants.{LongLine, UnknownWord, WordCount, BadNumber, BadColour}
+use Rattle.command_text.specs.declared.fault.CommandFault.TheVariants.{LongLine, UnknownWord, WordCount, BadNumber}
+use Rattle.command_text.specs.declared.fault.CommandFault.TheVariants.{BadColour}
 
 abbrev pub name_of : CommandFault → List ℕ
 name_of LongLine = codes "LongLine"

@@ -1,5 +1,6 @@
 -- The lines of a session's input, and what each asks for.
-use Rattle.std.specs.Prelude.{◌≡◌, ℕ, ◌+◌, ◌-◌, ◌*◌, ◌<◌, ◌≤◌, Bool, true, false, ◌&&◌, not, List, [], ◌∷◌, ◌++◌, length, take, Option, None, Some, Result, Ok, Err, nat_le, ◌==◌, if◌then◌else◌}
+use Rattle.std.specs.Prelude.{◌≡◌, ℕ, ◌+◌, ◌-◌, ◌*◌, ◌<◌, ◌≤◌, Bool, true, false, ◌&&◌, not, List, [], ◌∷◌, ◌++◌}
+use Rattle.std.specs.Prelude.{length, take, Option, None, Some, Result, Ok, Err, nat_le, ◌==◌, if◌then◌else◌}
 use Rattle.std.proofs.Common.{refl}
 use Rattle.std.specs.List.{All, slice_split}
 use Rattle.std.specs.Str.Lines.{strip_carriage_return}
@@ -17,7 +18,7 @@ use Rattle.command_text.specs.Words.{has_byte, words_of}
 abbrev pub is_feed : ℕ → Bool
 is_feed b = b == 10
 
--- the pieces behind which a line feed stands, each without the carriage return at its end
+-- the pieces after which a line feed stands, each without the carriage return at its end
 abbrev pub ended_pieces : List (List ℕ) → List (List ℕ)
 ended_pieces [] = []
 ended_pieces (piece ∷ []) = []
@@ -53,7 +54,8 @@ has_word (word ∷ words) = true
 
 -- a line of at most 200 bytes without a word asks for nothing
 unfoldable pub request_of : List ℕ → Request
-request_of line = if nat_le (length line) 200 && not (has_word (words_of line)) then request.Nothing else request_by (command_of line)
+request_of line =
+    if nat_le (length line) 200 && not (has_word (words_of line)) then request.Nothing else request_by (command_of line)
 
 -- the command that is asked for, if one is, has a colour and an allowance that are lawful
 abbrev pub AsksBounded : Request → Type 0
@@ -63,19 +65,20 @@ AsksBounded (request.Refused fault) = Unit {0}
 
 -- ---- what a call of the reader leaves
 
--- what may come behind the bytes that were read: nothing, once the end was met
+-- what may come after the bytes that were read: nothing, once the end was met
 abbrev pub MayCome : Lines → List ℕ → Type 0
 MayCome l rest = l.ended ≡ true → rest ≡ []
 
--- The bytes that came in a call. Of those that waited before, the ones that came and whatever may come behind them, the first
--- lines are these, and the others are those of the bytes that wait now and what comes. So it is for lines whose line feed has
--- come, too. A call does not take the end for met unless it was, and
--- behind the end nothing comes.
+-- The bytes that came in a call. Of those that waited before, the ones that came and whatever may come after them, the
+-- first lines are these, and the others are those of the bytes that wait now and what comes. So it is for lines whose
+-- line feed has come, too. A call does not take the end for met unless it was, and after the end nothing comes.
 pub record Cuts (had have : Option (List ℕ)) (old new : Lines) (front : List (List ℕ)) : Type 0 where
   pub came : List ℕ
   pub read : Consumes had have came
-  pub lines : (rest : List ℕ) → MayCome new rest → lines_of (old.inbox ++ (came ++ rest)) ≡ front ++ lines_of (new.inbox ++ rest)
-  pub ended : new.ended ≡ false → (rest : List ℕ) → ended_lines_of (old.inbox ++ (came ++ rest)) ≡ front ++ ended_lines_of (new.inbox ++ rest)
+  pub lines : (rest : List ℕ) → MayCome new rest
+      → lines_of (old.inbox ++ (came ++ rest)) ≡ front ++ lines_of (new.inbox ++ rest)
+  pub ended : new.ended ≡ false → (rest : List ℕ)
+      → ended_lines_of (old.inbox ++ (came ++ rest)) ≡ front ++ ended_lines_of (new.inbox ++ rest)
   pub end : (old.ended ≡ true → IsAtEnd had) → new.ended ≡ true → IsAtEnd have
   pub behind : old.ended ≡ true → (came ≡ []) × (new.ended ≡ true)
 
@@ -123,7 +126,8 @@ pub record Waits (had have : Option (List ℕ)) (old new : Lines) (more : Bool) 
 
 -- The bytes up to a line feed, which is taken too, or all bytes that wait, which have none, come to the line.
 abbrev pub TakesPiece : Lines → Lines → List ℕ → List ℕ → Bool → Type 0
-TakesPiece old new had draft true = (piece : List ℕ) × ((old.inbox ≡ piece ++ 10 ∷ new.inbox) × (NoFeed piece × (draft ≡ take 202 (had ++ piece))))
+TakesPiece old new had draft true =
+    (piece : List ℕ) × ((old.inbox ≡ piece ++ 10 ∷ new.inbox) × (NoFeed piece × (draft ≡ take 202 (had ++ piece))))
 TakesPiece old new had draft false = (new.inbox ≡ []) × (NoFeed old.inbox × (draft ≡ take 202 (had ++ old.inbox)))
 
 -- the bytes of a line so far: they waited or came, none of them is a line feed, and their front is kept

@@ -1,8 +1,9 @@
--- The command of a line, or the first fault.
-use Rattle.std.specs.Prelude.{◌≡◌, ℕ, ◌<◌, IfSome, List, [], ◌∷◌, length, codes, Option, None, Some, Result, Ok, Err, nat_lt, option_map, ◌==◌, if◌then◌else◌}
+-- The command of a line, or the first error.
+use Rattle.std.specs.Prelude.{◌≡◌, ℕ, ◌<◌, IfSome, List, [], ◌∷◌, length, codes, Option, None, Some, Result, Ok, Err}
+use Rattle.std.specs.Prelude.{nat_lt, option_map, ◌==◌, if◌then◌else◌}
 use Rattle.std.specs.Borrow.{Bor}
 use Rattle.std.specs.Option.{ok_or}
-use Rattle.picture.specs.Reading.{Reads, ◌>>=◌}
+use Rattle.picture.specs.Readers.{Reads, ◌>>=◌}
 use Rattle.picture.specs.declared.line_id.Axis.{Axis}
 use Rattle.picture.specs.declared.line_id.Axis.TheVariants.{Across, Down}
 use Rattle.picture.specs.declared.line_id.LineId.{LineId}
@@ -12,19 +13,21 @@ use Rattle.edits.specs.declared.edit.Edit.TheVariants as edit
 use Rattle.command_text.specs.declared.command.Command.{Command}
 use Rattle.command_text.specs.declared.command.Command.TheVariants as command
 use Rattle.command_text.specs.declared.fault.CommandFault.{CommandFault}
-use Rattle.command_text.specs.declared.fault.CommandFault.TheVariants.{LongLine, UnknownWord, WordCount, BadNumber, BadColour}
+use Rattle.command_text.specs.declared.fault.CommandFault.TheVariants.{LongLine, UnknownWord, WordCount, BadNumber}
+use Rattle.command_text.specs.declared.fault.CommandFault.TheVariants.{BadColour}
 use Rattle.command_text.specs.Numbers.{colour_of, number_of, place_of, sample_of}
 use Rattle.command_text.specs.Words.{is_word, words_of}
 
 -- ---- values, word by word from the left
 
--- the next word, and the words behind it
+-- the next word, and the words after it
 abbrev pub word_at : List (List ℕ) → Result (List ℕ × List (List ℕ)) CommandFault
 word_at [] = Err WordCount
 word_at (word ∷ words) = Ok (word, words)
 
--- the value of the next word, and the words behind it
-abbrev pub field_at : {X : Type 0} → (List ℕ → Option X) → CommandFault → List (List ℕ) → Result (X × List (List ℕ)) CommandFault
+-- the value of the next word, and the words after it
+abbrev pub field_at : {X : Type 0} → (List ℕ → Option X) → CommandFault → List (List ℕ)
+    → Result (X × List (List ℕ)) CommandFault
 field_at value fault words = do
   word ← word_at words
   x ← ok_or (value word.0) fault
@@ -57,19 +60,19 @@ rgb_at words = do
   b ← sample_at g.1
   Ok (rgb r.0 g.0 b.0)
 
--- a cell's row and column, and the words behind them
+-- a cell's row and column, and the words after them
 unfoldable pub cell_at : List (List ℕ) → Result ((ℕ × ℕ) × List (List ℕ)) CommandFault
 cell_at words = do
   row ← place_at words
   col ← place_at row.1
   Ok ((row.0, col.0), col.1)
 
--- what stands beside a word in a table
+-- what is beside a word in a table
 abbrev pub named : {X : Type 0} → List ℕ → List (List ℕ × X) → Option X
 named word [] = None
 named word (entry ∷ entries) = if is_word word entry.0 then Some entry.1 else named word entries
 
--- `row` or `column`, and the words behind it
+-- `row` or `column`, and the words after it
 abbrev pub axis_of : List ℕ → Option Axis
 axis_of word = named word ((codes "row", Across) ∷ (codes "column", Down) ∷ [])
 
@@ -80,18 +83,20 @@ axis_at words = field_at axis_of UnknownWord words
 abbrev pub counted : ℕ → List (List ℕ) → Result (List (List ℕ)) CommandFault
 counted count words = if length words == count then Ok words else Err WordCount
 
--- what a table says of a word, by the words behind it
-abbrev pub read_by : {X : Type 0} → Option (List (List ℕ) → Result X CommandFault) → List (List ℕ) → Result X CommandFault
+-- what a table says of a word, by the words after it
+abbrev pub read_by : {X : Type 0} → Option (List (List ℕ) → Result X CommandFault) → List (List ℕ)
+    → Result X CommandFault
 read_by None words = Err UnknownWord
 read_by (Some read) words = read words
 
--- the same, where the next word is the one in the table
-abbrev pub second_by : {X : Type 0} → List (List ℕ × (List (List ℕ) → Result X CommandFault)) → List (List ℕ) → Result X CommandFault
+-- what a table says of the next word, by the words after that
+abbrev pub second_by : {X : Type 0} → List (List ℕ × (List (List ℕ) → Result X CommandFault)) → List (List ℕ)
+    → Result X CommandFault
 second_by table words = do
   word ← word_at words
   read_by (named word.0 table) word.1
 
--- ---- values with nothing behind them
+-- ---- values with nothing after them
 
 unfoldable pub cell_alone_at : List (List ℕ) → Result (ℕ × ℕ) CommandFault
 cell_alone_at words = do
@@ -219,7 +224,8 @@ allow_at words = do
   Ok (command.Allow splits)
 
 abbrev pub write_at : List (List ℕ) → Result Command CommandFault
-write_at words = second_by ((codes "ppm", bare_at command.WritePpm) ∷ (codes "non", bare_at command.WriteNon) ∷ []) words
+write_at words =
+    second_by ((codes "ppm", bare_at command.WritePpm) ∷ (codes "non", bare_at command.WriteNon) ∷ []) words
 
 -- the table of what is shown, asked or taken back
 abbrev pub asking_words : List (List ℕ × (List (List ℕ) → Result Command CommandFault))
@@ -258,7 +264,8 @@ as_command (Ok edit) = Ok (command.Edit edit)
 as_command (Err fault) = Err fault
 
 -- a first word that is in neither table begins no command
-abbrev pub command_by : Option (List (List ℕ) → Result Command CommandFault) → List ℕ → List (List ℕ) → Result Command CommandFault
+abbrev pub command_by : Option (List (List ℕ) → Result Command CommandFault) → List ℕ → List (List ℕ)
+    → Result Command CommandFault
 command_by None word words = as_command (edit_at word words)
 command_by (Some read) word words = read words
 
@@ -269,14 +276,16 @@ abbrev pub command_of_words : List (List ℕ) → Result Command CommandFault
 command_of_words [] = Err UnknownWord
 command_of_words (first ∷ words) = command_at first words
 
--- The command of a line without its end, or the first fault. A line without a word, which a session passes over, is UnknownWord.
+-- The command of a line without its end, or the first error. A line without a word, which a session passes over, is
+-- UnknownWord.
 unfoldable pub command_of : List ℕ → Result Command CommandFault
 command_of line = if nat_lt 200 (length line) then Err LongLine else command_of_words (words_of line)
 
 -- ---- what functions that read words answer
 
 -- what a word asks by the table, none where it is not there
-abbrev pub IsAsking : Option (List (List ℕ) → Result Command CommandFault) → List (List ℕ) → Option (Result Command CommandFault) → Type 0
+abbrev pub IsAsking : Option (List (List ℕ) → Result Command CommandFault) → List (List ℕ)
+    → Option (Result Command CommandFault) → Type 0
 IsAsking None words asked = asked ≡ None
 IsAsking (Some read) words None = ⊥
 IsAsking (Some read) words (Some asked) = Reads (λ c. c) asked (read words)

@@ -1,5 +1,6 @@
 -- The words of a line.
-use Rattle.std.specs.Prelude.{◌≡◌, ℕ, ◌<◌, Bool, not, ◌||◌, ◌==◌, List, [], ◌∷◌, length, filter, Option, None, Some, nat_eq}
+use Rattle.std.specs.Prelude.{◌≡◌, ℕ, ◌<◌, Bool, not, ◌||◌, ◌==◌, List, [], ◌∷◌, length, filter, Option, None, Some}
+use Rattle.std.specs.Prelude.{nat_eq}
 use Rattle.std.proofs.Common.{refl}
 use Rattle.std.specs.Borrow.{Bor}
 use Rattle.std.specs.Cmp.Lexicographic.{pointwise}
@@ -23,7 +24,7 @@ is_word bytes word = pointwise nat_eq bytes word
 
 -- ---- what functions that cut a line answer
 
--- the first word of a line and what stands behind it, if the line has a word
+-- the first word of a line and what follows it, if the line has a word
 abbrev pub IsFirstWord : List ℕ → Option (Bor (List ℕ) × Bor (List ℕ)) → Type 0
 IsFirstWord line None = words_of line ≡ []
 IsFirstWord line (Some x) = (words_of line ≡ x.0.now ∷ words_of x.1.now) × (length x.1.now < length line)

@@ -5,7 +5,7 @@ ghost use Rattle.command_text.specs.Faults.{name_of};
 
 use thiserror::Error;
 
-/// Why a line is no command: the first of these that holds, where the faults of words are looked for from the left.
+/// Why a line is no command: the first of these that holds, where the errors of words are looked for from the left.
 #[derive(Clone, Copy, Debug, PartialEq, Eq, Error)]
 pub enum CommandFault {
     /// The line has more than 200 bytes.
@@ -26,7 +26,7 @@ pub enum CommandFault {
 }
 
 impl CommandFault {
-    /// The fault's name, as the variant is called.
+    /// The error's name, as the variant is called.
     pub fn name(&self) -> &'static str
         ensures { result.now ≡ name_of self.now }
     {

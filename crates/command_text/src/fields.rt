@@ -1,7 +1,7 @@
 //! The values of a command, word by word from the left.
 
 ghost use Rattle.std.specs.Prelude.{◌≡◌, ◌<◌, IfOk, IfSome};
-ghost use Rattle.picture.specs.Reading.{Reads};
+ghost use Rattle.picture.specs.Readers.{Reads};
 ghost use Rattle.command_text.specs.Parse.{allowance_of, axis_at, cell_alone_at, cell_at, colour_at, counted, field_seen, line_at, place_at, rgb_at, sample_at, spot_at, word_at, word_seen};
 ghost use Rattle.command_text.specs.Words.{words_of};
 
@@ -25,14 +25,14 @@ pub(crate) fn counted(rest: &[u8], count: usize) -> Result<&[u8], CommandFault>
     Ok(rest)
 }
 
-// The next word, and what stands behind it.
+// The next word, and what follows it.
 pub(crate) fn read_word(rest: &[u8]) -> Result<(&[u8], &[u8]), CommandFault>
     ensures { Reads word_seen result (word_at (words_of rest.now)) }
 {
     next_word(rest).ok_or(CommandFault::WordCount)
 }
 
-// A place, and what stands behind it.
+// A place, and what follows it.
 pub(crate) fn read_place(rest: &[u8]) -> Result<(u8, &[u8]), CommandFault>
     ensures { Reads field_seen result (place_at (words_of rest.now)) }
 {
@@ -41,7 +41,7 @@ pub(crate) fn read_place(rest: &[u8]) -> Result<(u8, &[u8]), CommandFault>
     Ok((place, behind))
 }
 
-// A sample, and what stands behind it.
+// A sample, and what follows it.
 fn read_sample(rest: &[u8]) -> Result<(u16, &[u8]), CommandFault>
     ensures { Reads field_seen result (sample_at (words_of rest.now)) }
 {
@@ -50,7 +50,7 @@ fn read_sample(rest: &[u8]) -> Result<(u16, &[u8]), CommandFault>
     Ok((sample, behind))
 }
 
-// A colour, and what stands behind it.
+// A colour, and what follows it.
 pub(crate) fn read_colour(rest: &[u8]) -> Result<(u8, &[u8]), CommandFault>
     ensures value { Reads field_seen result (colour_at (words_of rest.now)) }
     ensures small { IfOk result (λ x. x.0 < 16) }
@@ -60,7 +60,7 @@ pub(crate) fn read_colour(rest: &[u8]) -> Result<(u8, &[u8]), CommandFault>
     Ok((colour, behind))
 }
 
-// The axis of rows or that of columns, and what stands behind it.
+// The axis of rows or that of columns, and what follows it.
 pub(crate) fn read_axis(rest: &[u8]) -> Result<(Axis, &[u8]), CommandFault>
     ensures { Reads field_seen result (axis_at (words_of rest.now)) }
 {
@@ -83,7 +83,7 @@ pub(crate) fn read_rgb(rest: &[u8]) -> Result<Rgb, CommandFault>
     Ok(Rgb { r, g, b })
 }
 
-// A row and a column, and what stands behind them.
+// A row and a column, and what follows them.
 #[tactic(auto, unfolding(crate::specs::Parse::cell_at))]
 pub(crate) fn read_cell(rest: &[u8]) -> Result<((u8, u8), &[u8]), CommandFault>
     ensures { Reads field_seen result (cell_at (words_of rest.now)) }
@@ -93,7 +93,7 @@ pub(crate) fn read_cell(rest: &[u8]) -> Result<((u8, u8), &[u8]), CommandFault>
     Ok(((row, col), rest))
 }
 
-// A row and a column with nothing behind them.
+// A row and a column with nothing after them.
 #[tactic(auto, unfolding(crate::specs::Parse::cell_alone_at))]
 pub(crate) fn read_cell_alone(rest: &[u8]) -> Result<(u8, u8), CommandFault>
     ensures { Reads (λ cell. cell) result (cell_alone_at (words_of rest.now)) }
@@ -102,7 +102,7 @@ pub(crate) fn read_cell_alone(rest: &[u8]) -> Result<(u8, u8), CommandFault>
     Ok(cell)
 }
 
-// A cell and a colour with nothing behind them.
+// A cell and a colour with nothing after them.
 #[tactic(auto, unfolding(crate::specs::Parse::spot_at))]
 pub(crate) fn read_spot(rest: &[u8]) -> Result<((u8, u8), u8), CommandFault>
     ensures value { Reads (λ spot. spot) result (spot_at (words_of rest.now)) }
@@ -113,7 +113,7 @@ pub(crate) fn read_spot(rest: &[u8]) -> Result<((u8, u8), u8), CommandFault>
     Ok((cell, colour))
 }
 
-// A line of an axis with nothing behind it.
+// A line of an axis with nothing after it.
 #[tactic(auto, unfolding(crate::specs::Parse::line_at))]
 pub(crate) fn read_line(rest: &[u8]) -> Result<LineId, CommandFault>
     ensures { Reads (λ line. line) result (line_at (words_of rest.now)) }

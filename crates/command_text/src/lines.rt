@@ -100,8 +100,8 @@ impl Lines {
 
     /// What the next line asks for, or None at the end of the input.
     ///
-    /// A line ends with a line feed, and a carriage return before that, or at the end of the last line, is dropped. The last
-    /// line needs no line feed where it has a byte. Of a line of any length at most 202 bytes are kept. A fault
+    /// A line ends with a line feed, and a carriage return before that, or at the end of the last line, is dropped. The
+    /// last line needs no line feed where it has a byte. Of a line of any length at most 202 bytes are kept. An error
     /// comes where a read fails, or one more than 1,048,576 is wanted; the line that was not finished is then lost.
     pub fn next<R: Read>(&mut self, reader: &mut R) -> Result<Option<Request>, ReadFault>
         ensures value { Hands (R.remaining reader.old) (R.remaining reader.new) self.old self.new

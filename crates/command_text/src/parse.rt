@@ -1,7 +1,7 @@
 //! The command of a line.
 
 ghost use Rattle.std.specs.Prelude.{◌≡◌, IfOk, IfSome};
-ghost use Rattle.picture.specs.Reading.{Reads};
+ghost use Rattle.picture.specs.Readers.{Reads};
 ghost use Rattle.command_text.specs.Parse.{IsAsking, IsBounded, allow_at, asking_words, bare_at, command_at, command_of, edit_at, fill_at, named, palette_at, recolour_at, swap_at, why_at, write_at};
 ghost use Rattle.command_text.specs.Words.{words_of};
 
@@ -75,7 +75,7 @@ fn read_palette(rest: &[u8]) -> Result<Edit, CommandFault>
     }
 }
 
-// The edit that a word begins, by what stands behind it.
+// The edit that a word begins, by what follows it.
 fn read_edit(word: &[u8], rest: &[u8]) -> Result<Edit, CommandFault>
     ensures { Reads (λ e. e) result (edit_at word.now (words_of rest.now)) }
 {
@@ -93,7 +93,7 @@ fn read_edit(word: &[u8], rest: &[u8]) -> Result<Edit, CommandFault>
     }
 }
 
-// A command with no word behind it.
+// A command with no word after it.
 fn bare(command: Command, rest: &[u8]) -> Result<Command, CommandFault>
     requires { IsBounded command }
     ensures value { Reads (λ c. c) result (bare_at command (words_of rest.now)) }
@@ -134,7 +134,7 @@ fn read_why(rest: &[u8]) -> Result<Command, CommandFault>
     read_spot(rest).map(|((row, col), colour)| Command::Why { row, col, colour })
 }
 
-// What a word asks, shows or takes back, by what stands behind it. None for any other word.
+// What a word asks, shows or takes back, by what follows it. None for any other word.
 fn read_asking(word: &[u8], rest: &[u8]) -> Option<Result<Command, CommandFault>>
     ensures value { IsAsking (named word.now asking_words) (words_of rest.now) result }
     ensures bounded { IfSome result (λ asked. IfOk asked IsBounded) }
@@ -154,7 +154,7 @@ fn read_asking(word: &[u8], rest: &[u8]) -> Option<Result<Command, CommandFault>
     }
 }
 
-// The command that a word begins, by what stands behind it.
+// The command that a word begins, by what follows it.
 fn read_command(word: &[u8], rest: &[u8]) -> Result<Command, CommandFault>
     ensures value { Reads (λ c. c) result (command_at word.now (words_of rest.now)) }
     ensures bounded { IfOk result IsBounded }
@@ -166,7 +166,7 @@ fn read_command(word: &[u8], rest: &[u8]) -> Result<Command, CommandFault>
 }
 
 #[tactic(auto, unfolding(crate::specs::Parse::command_of))]
-/// Reads the command of a line without its end, or answers the first fault.
+/// Reads the command of a line without its end, or answers the first error.
 ///
 /// Words stand between runs of spaces and TABs. A line of more than 200 bytes is `LongLine`; a first word with which no
 /// command begins is `UnknownWord`, and so is a second one that does not complete it; a missing second word and another

@@ -15,7 +15,7 @@ pub enum Request {
     Nothing,
     /// A command.
     Command(Command),
-    /// No command: this is the first fault.
+    /// No command: this is the first error.
     Refused(CommandFault),
 }
 

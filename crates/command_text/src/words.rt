@@ -24,7 +24,7 @@ fn word_place(bytes: &[u8]) -> Option<usize>
     bytes.iter().position(|b| !is_blank(*b))
 }
 
-// The first word, and what stands behind it.
+// The first word, and what follows it.
 pub(crate) fn next_word(line: &[u8]) -> Option<(&[u8], &[u8])>
     ensures { IsFirstWord line.now result }
 {

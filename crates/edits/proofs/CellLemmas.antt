@@ -1,11 +1,12 @@
 -- Lists of cells: those that an edit changes, and a grid with cells of a list changed.
-use Rattle.std.proofs.Common.{◌≡◌, ◌≢◌, ℕ, zero, suc, ◌+◌, ◌<◌, ◌≤◌, ◌⊎◌, inl, inr, Bool, true, false, cond, ◌==◌, List, [], ◌∷◌, ◌++◌, length, get_or, map, take, refl, sym, ap, subst, ◌∙◌, arith, add-one}
+use Rattle.std.proofs.Common.{◌≡◌, ◌≢◌, ℕ, zero, suc, ◌+◌, ◌<◌, ◌≤◌, ◌⊎◌, inl, inr, Bool, true, false, cond, ◌==◌, List, [], ◌∷◌, ◌++◌, length, get_or, map, take, refl, sym, ap, subst, ◌∙◌, arith}
+use Rattle.std.proofs.Common.{add-one}
 use Rattle.std.proofs.lemmas.Bool.{cases_lt, cases_eq, eqb-false, ne_eqb, eq-eqb, cond-true, cond-false}
 use Rattle.std.specs.List.{All}
 use Rattle.std.proofs.lemmas.List.{append-nil, take_more, get_or-map, length-map}
 use Rattle.std.proofs.lemmas.List.Elements.{All-head, All-tail, All-take, All-weaker}
 use Rattle.picture.specs.Picture.{IsPicture}
-use Rattle.picture.specs.Rows.{width_of, cell_at, with_cell}
+use Rattle.picture.specs.Rows.{width_of, cell_at, with_cell, Rows}
 use Rattle.edits.specs.declared.edit.Edit.{Edit}
 use Rattle.edits.specs.Design.{IsGrid}
 use Rattle.edits.specs.Edit.{colour_after, painted}
@@ -73,7 +74,8 @@ joined_gap f a (suc b) le none =
     ]
 
 -- a cell that is as it is to be, or is still to be changed, once the first of the cells is changed
-still_right : (h w : ℕ) (c : Cell) (cells : List Cell) (old new : List (List ℕ)) (i j : ℕ) → IsGrid h w old → (c.0 < h) × (c.1 < w) × (cell_at new c.0 c.1 ≡ c.2) → (cell_at old i j ≡ cell_at new i j) ⊎ Has (c ∷ cells) (i, j, cell_at new i j) → (cell_at (with_cell old c.0 c.1 c.2) i j ≡ cell_at new i j) ⊎ Has cells (i, j, cell_at new i j)
+still_right : (h w : ℕ) (c : Cell) (cells : List Cell) (old new : Rows) (i j : ℕ) → IsGrid h w old → (c.0 < h) × (c.1 < w) × (cell_at new c.0 c.1 ≡ c.2)
+    → (cell_at old i j ≡ cell_at new i j) ⊎ Has (c ∷ cells) (i, j, cell_at new i j) → (cell_at (with_cell old c.0 c.1 c.2) i j ≡ cell_at new i j) ⊎ Has cells (i, j, cell_at new i j)
 still_right h w c cells old new i j is here was =
     elim (place_cases i j c.0 c.1) [
       | inl at ↦ inl (rw (at.0, at.1) (cell_at-with_same h w old c.0 c.1 c.2 is here.0 here.1 ∙ sym here.2))
@@ -85,7 +87,8 @@ still_right h w c cells old new i j is here was =
     ]
 
 -- a grid in which the cells of a list are changed, where these are all that differ from another grid
-pub with_cells_give : (h w : ℕ) (cells : List Cell) (old new : List (List ℕ)) → IsGrid h w old → IsGrid h w new → ((c : Cell) → Has cells c → (c.0 < h) × (c.1 < w) × (cell_at new c.0 c.1 ≡ c.2)) → ((i j : ℕ) → i < h → j < w → (cell_at old i j ≡ cell_at new i j) ⊎ Has cells (i, j, cell_at new i j)) → with_cells old cells ≡ new
+pub with_cells_give : (h w : ℕ) (cells : List Cell) (old new : Rows) → IsGrid h w old → IsGrid h w new → ((c : Cell) → Has cells c → (c.0 < h) × (c.1 < w) × (cell_at new c.0 c.1 ≡ c.2))
+    → ((i j : ℕ) → i < h → j < w → (cell_at old i j ≡ cell_at new i j) ⊎ Has cells (i, j, cell_at new i j)) → with_cells old cells ≡ new
 with_cells_give h w [] old new is_old is_new right all =
     same_grid h w old new is_old is_new (λ i j in_rows in_columns. elim (all i j in_rows in_columns) [ inl same ↦ same | inr none ↦ absurd none ])
 with_cells_give h w (c ∷ cells) old new is_old is_new right all =
@@ -103,7 +106,7 @@ pub unless_has : {X : Type 0} (b : Bool) (d : X) → b ≡ false → Has (cond b
 unless_has true d e = absurd (cc e)
 unless_has false d e = inl refl
 
-pub changed_from : (e : Edit) (rows : List (List ℕ)) (c : Cell) → Has (changed_cells e rows) c → (c.0 < length rows) × (c.1 < width_of rows) × (cell_at rows c.0 c.1 ≡ c.2) × (colour_after e c.0 c.1 c.2 ≢ c.2)
+pub changed_from : (e : Edit) (rows : Rows) (c : Cell) → Has (changed_cells e rows) c → (c.0 < length rows) × (c.1 < width_of rows) × (cell_at rows c.0 c.1 ≡ c.2) × (colour_after e c.0 c.1 c.2 ≢ c.2)
 changed_from e rows c h =
     let in_row = joined_from (changed_in_row e rows) (length rows) c h in
     let at = joined_from (changed_cell e rows in_row.0) (width_of rows) c in_row.2 in
@@ -114,21 +117,24 @@ changed_from e rows c h =
     subst (λ (d : Cell). (d.0 < length rows) × (d.1 < width_of rows) × (cell_at rows d.0 d.1 ≡ d.2) × (colour_after e d.0 d.1 d.2 ≢ d.2)) is.1
     (in_row.1, at.1, refl, eqb-false (colour_after e i j x) x is.0)
 
-pub changed_has : (e : Edit) (rows : List (List ℕ)) (i j : ℕ) → i < length rows → j < width_of rows → colour_after e i j (cell_at rows i j) ≢ cell_at rows i j → Has (changed_cells e rows) (i, j, cell_at rows i j)
+pub changed_has : (e : Edit) (rows : Rows) (i j : ℕ) → i < length rows → j < width_of rows → colour_after e i j (cell_at rows i j) ≢ cell_at rows i j
+    → Has (changed_cells e rows) (i, j, cell_at rows i j)
 changed_has e rows i j in_rows in_columns changes =
     let x = cell_at rows i j in
     joined_has (changed_in_row e rows) (length rows) i (i, j, x) in_rows
     (joined_has (changed_cell e rows i) (width_of rows) j (i, j, x) in_columns
     (unless_has (colour_after e i j x == x) (i, j, x) (ne_eqb (colour_after e i j x) x changes)))
 
-pub unchanged_cell : (e : Edit) (rows : List (List ℕ)) (i j : ℕ) → colour_after e i j (cell_at rows i j) ≡ cell_at rows i j → changed_cell e rows i j ≡ []
-unchanged_cell e rows i j same = cond-true (colour_after e i j (cell_at rows i j) == cell_at rows i j) [] ((i, j, cell_at rows i j) ∷ []) (eq-eqb (colour_after e i j (cell_at rows i j)) (cell_at rows i j) same)
+pub unchanged_cell : (e : Edit) (rows : Rows) (i j : ℕ) → colour_after e i j (cell_at rows i j) ≡ cell_at rows i j → changed_cell e rows i j ≡ []
+unchanged_cell e rows i j same =
+    cond-true (colour_after e i j (cell_at rows i j) == cell_at rows i j) [] ((i, j, cell_at rows i j) ∷ []) (eq-eqb (colour_after e i j (cell_at rows i j)) (cell_at rows i j) same)
 
-pub changed_cell_is : (e : Edit) (rows : List (List ℕ)) (i j : ℕ) → colour_after e i j (cell_at rows i j) ≢ cell_at rows i j → changed_cell e rows i j ≡ (i, j, cell_at rows i j) ∷ []
-changed_cell_is e rows i j other = cond-false (colour_after e i j (cell_at rows i j) == cell_at rows i j) [] ((i, j, cell_at rows i j) ∷ []) (ne_eqb (colour_after e i j (cell_at rows i j)) (cell_at rows i j) other)
+pub changed_cell_is : (e : Edit) (rows : Rows) (i j : ℕ) → colour_after e i j (cell_at rows i j) ≢ cell_at rows i j → changed_cell e rows i j ≡ (i, j, cell_at rows i j) ∷ []
+changed_cell_is e rows i j other =
+    cond-false (colour_after e i j (cell_at rows i j) == cell_at rows i j) [] ((i, j, cell_at rows i j) ∷ []) (ne_eqb (colour_after e i j (cell_at rows i j)) (cell_at rows i j) other)
 
 -- an edit that changes no cell leaves the picture, and only such an edit does
-pub painted_unchanged : (e : Edit) (rows : List (List ℕ)) → IsPicture rows → changed_cells e rows ≡ [] → painted e rows ≡ rows
+pub painted_unchanged : (e : Edit) (rows : Rows) → IsPicture rows → changed_cells e rows ≡ [] → painted e rows ≡ rows
 painted_unchanged e rows is none =
     grid_same (length rows) (width_of rows) (λ i j. colour_after e i j (cell_at rows i j)) rows (picture_is_grid rows is)
     (λ i j in_rows in_columns.
@@ -137,7 +143,7 @@ painted_unchanged e rows is none =
       | inr other ↦ absurd (rw none at (changed_has e rows i j in_rows in_columns other))
     ])
 
-pub unchanged_painted : (e : Edit) (rows : List (List ℕ)) → painted e rows ≡ rows → changed_cells e rows ≡ []
+pub unchanged_painted : (e : Edit) (rows : Rows) → painted e rows ≡ rows → changed_cells e rows ≡ []
 unchanged_painted e rows same =
     joined_gap (changed_in_row e rows) 0 (length rows) (omega arith)
     (λ i _ in_rows.
@@ -161,7 +167,7 @@ has_from_map f (d ∷ cells) c h =
     ]
 
 -- the changed cells painted, and given back
-pub paints_cells : (e : Edit) (rows : List (List ℕ)) → IsPicture rows → with_cells rows (map (repainted e) (changed_cells e rows)) ≡ painted e rows
+pub paints_cells : (e : Edit) (rows : Rows) → IsPicture rows → with_cells rows (map (repainted e) (changed_cells e rows)) ≡ painted e rows
 paints_cells e rows is =
     let h = length rows in
     let w = width_of rows in
@@ -179,7 +185,7 @@ paints_cells e rows is =
       | inr other ↦ inr (rw after (has_map (repainted e) (changed_cells e rows) (i, j, cell_at rows i j) (changed_has e rows i j in_rows in_columns other)))
     ])
 
-pub gives_cells_back : (e : Edit) (rows : List (List ℕ)) → IsPicture rows → with_cells (painted e rows) (changed_cells e rows) ≡ rows
+pub gives_cells_back : (e : Edit) (rows : Rows) → IsPicture rows → with_cells (painted e rows) (changed_cells e rows) ≡ rows
 gives_cells_back e rows is =
     let h = length rows in
     let w = width_of rows in
@@ -203,34 +209,40 @@ pub all_has : {X : Type 0} (P : X → Type 0) (xs : List X) → ((x : X) → Has
 all_has P xs each = λ k d within. each (get_or xs k d) (has_at xs k d within)
 
 -- cells changed one by one
-pub with_cells-push : (rows : List (List ℕ)) (cells : List Cell) (c : Cell) → with_cells rows (cells ++ c ∷ []) ≡ with_cell (with_cells rows cells) c.0 c.1 c.2
+pub with_cells-push : (rows : Rows) (cells : List Cell) (c : Cell) → with_cells rows (cells ++ c ∷ []) ≡ with_cell (with_cells rows cells) c.0 c.1 c.2
 with_cells-push rows [] c = refl
 with_cells-push rows (d ∷ cells) c = with_cells-push (with_cell rows d.0 d.1 d.2) cells c
 
-pub with_cells_grid : (h w : ℕ) (rows : List (List ℕ)) (cells : List Cell) → IsGrid h w rows → All (λ (c : Cell). c.0 < h) cells → IsGrid h w (with_cells rows cells)
+pub with_cells_grid : (h w : ℕ) (rows : Rows) (cells : List Cell) → IsGrid h w rows → All (λ (c : Cell). c.0 < h) cells → IsGrid h w (with_cells rows cells)
 with_cells_grid h w rows [] is inside = is
-with_cells_grid h w rows (c ∷ cells) is inside = with_cells_grid h w (with_cell rows c.0 c.1 c.2) cells (with_cell_is_grid h w rows c.0 c.1 c.2 is (All-head (λ (d : Cell). d.0 < h) c cells inside)) (All-tail (λ (d : Cell). d.0 < h) c cells inside)
+with_cells_grid h w rows (c ∷ cells) is inside = with_cells_grid h w (with_cell rows c.0 c.1 c.2) cells (with_cell_is_grid h w rows c.0 c.1 c.2 is (All-head (λ (d : Cell). d.0 < h) c cells inside))
+    (All-tail (λ (d : Cell). d.0 < h) c cells inside)
 
-pub with_cells_sizes : (rows : List (List ℕ)) (cells : List Cell) → IsPicture rows → All (IsCellIn rows) cells → (length (with_cells rows cells) ≡ length rows) × (width_of (with_cells rows cells) ≡ width_of rows)
+pub with_cells_sizes : (rows : Rows) (cells : List Cell) → IsPicture rows → All (IsCellIn rows) cells
+    → (length (with_cells rows cells) ≡ length rows) × (width_of (with_cells rows cells) ≡ width_of rows)
 with_cells_sizes rows cells is inside =
     let grid = with_cells_grid (length rows) (width_of rows) rows cells (picture_is_grid rows is) (All-weaker (IsCellIn rows) (λ (c : Cell). c.0 < length rows) (λ c h. h.0) cells inside) in
     (grid.row_count, grid.row_lengths 0 is.has_row)
 
-pub with_one_more : (rows now : List (List ℕ)) (cells : List Cell) (i : ℕ) (d : Cell) → i < length cells → now ≡ with_cells rows (take i cells) → with_cell now (get_or cells i d).0 (get_or cells i d).1 (get_or cells i d).2 ≡ with_cells rows (take (i + 1) cells)
+pub with_one_more : (rows now : Rows) (cells : List Cell) (i : ℕ) (d : Cell) → i < length cells → now ≡ with_cells rows (take i cells)
+    → with_cell now (get_or cells i d).0 (get_or cells i d).1 (get_or cells i d).2 ≡ with_cells rows (take (i + 1) cells)
 with_one_more rows now cells i d within same =
     rw same (sym (ap (with_cells rows) (take_more cells i d within) ∙ with_cells-push rows (take i cells) (get_or cells i d)))
 
-pub fits_now : (rows now : List (List ℕ)) (cells : List Cell) (i : ℕ) (d : Cell) → IsPicture rows → All (IsCellIn rows) cells → i < length cells → now ≡ with_cells rows (take i cells) → IsCellIn now (get_or cells i d)
+pub fits_now : (rows now : Rows) (cells : List Cell) (i : ℕ) (d : Cell) → IsPicture rows → All (IsCellIn rows) cells → i < length cells → now ≡ with_cells rows (take i cells)
+    → IsCellIn now (get_or cells i d)
 fits_now rows now cells i d is inside within same =
     let sizes = with_cells_sizes rows (take i cells) is (All-take (IsCellIn rows) i cells inside) in
     let at : IsCellIn rows (get_or cells i d) = inside i d within in
     rw (same, sizes.0, sizes.1) at
 
-pub mapped_fits : (e : Edit) (rows now : List (List ℕ)) (cells : List Cell) (i : ℕ) (d : Cell) → IsPicture rows → All (IsCellIn rows) (map (repainted e) cells) → i < length cells → now ≡ with_cells rows (take i (map (repainted e) cells)) → IsCellIn now (repainted e (get_or cells i d))
+pub mapped_fits : (e : Edit) (rows now : Rows) (cells : List Cell) (i : ℕ) (d : Cell) → IsPicture rows → All (IsCellIn rows) (map (repainted e) cells) → i < length cells
+    → now ≡ with_cells rows (take i (map (repainted e) cells)) → IsCellIn now (repainted e (get_or cells i d))
 mapped_fits e rows now cells i d is inside within same =
     rw (get_or-map (repainted e) cells i d d within) at (fits_now rows now (map (repainted e) cells) i d is inside (omega (arith, length-map cells (repainted e))) same)
 
-pub with_one_painted : (e : Edit) (rows now : List (List ℕ)) (cells : List Cell) (i : ℕ) (d : Cell) → i < length cells → now ≡ with_cells rows (take i (map (repainted e) cells)) → with_cell now (get_or cells i d).0 (get_or cells i d).1 (colour_after e (get_or cells i d).0 (get_or cells i d).1 (get_or cells i d).2) ≡ with_cells rows (take (i + 1) (map (repainted e) cells))
+pub with_one_painted : (e : Edit) (rows now : Rows) (cells : List Cell) (i : ℕ) (d : Cell) → i < length cells → now ≡ with_cells rows (take i (map (repainted e) cells))
+    → with_cell now (get_or cells i d).0 (get_or cells i d).1 (colour_after e (get_or cells i d).0 (get_or cells i d).1 (get_or cells i d).2) ≡ with_cells rows (take (i + 1) (map (repainted e) cells))
 with_one_painted e rows now cells i d within same =
     ap (λ (c : Cell). with_cell now c.0 c.1 c.2) (sym (get_or-map (repainted e) cells i d d within))
     ∙ with_one_more rows now (map (repainted e) cells) i d (omega (arith, length-map cells (repainted e))) same

@@ -6,12 +6,12 @@ use Rattle.picture.specs.declared.line_id.Axis.{Axis}
 use Rattle.picture.specs.declared.line_id.Axis.TheVariants.{Across, Down}
 use Rattle.picture.specs.declared.line_id.LineId.{LineId}
 use Rattle.picture.specs.Picture.{IsPicture}
-use Rattle.picture.specs.Rows.{width_of, cell_at, line_along, line_of, lines_along, lines_swapped}
+use Rattle.picture.specs.Rows.{width_of, cell_at, line_along, line_of, lines_along, lines_swapped, Rows}
 use Rattle.clues.specs.declared.places.Places.{Places}
 use Rattle.clues.specs.declared.places.Places.TheVariants.{Kept, Inserted, Deleted, Swapped}
 use Rattle.clues.specs.Places.{count_after, reversed}
 use Rattle.clues.specs.Change.{AgreesOff, AreMoves, Changes, FollowsCells, FollowsSwap, HaveSizes, IsChangeOf, IsTouched, back, moved_along}
-use Rattle.picture.specs.Crossing.{crossing}
+use Rattle.picture.specs.CrossingLines.{crossing}
 use Rattle.clues.specs.Laws.{IsAtPlace, IsOnLine}
 use Rattle.edits.specs.declared.edit.Edit.{Edit}
 use Rattle.edits.specs.declared.edit.Edit.TheVariants.{Paint, Fill, Recolour, InsertLine, DeleteLine, SwapLines, AddColour, SetColour, Pin, Unpin}
@@ -32,15 +32,16 @@ abbrev position_of : Axis → ℕ → ℕ → ℕ
 position_of Across i j = j
 position_of Down i j = i
 
-cell_on_line : (axis : Axis) (at i j : ℕ) (rows : List (List ℕ)) → i < length rows → IsAtPlace axis at i j → get_or (line_along axis at rows) (position_of axis i j) 0 ≡ cell_at rows i j
+cell_on_line : (axis : Axis) (at i j : ℕ) (rows : Rows) → i < length rows → IsAtPlace axis at i j → get_or (line_along axis at rows) (position_of axis i j) 0 ≡ cell_at rows i j
 cell_on_line Across at i j rows in_rows on = ap (λ k. get_or (get_or rows k []) j 0) (sym on)
 cell_on_line Down at i j rows in_rows on = get_or-map (λ row. get_or row at 0) rows i [] 0 in_rows ∙ ap (λ k. get_or (get_or rows i []) k 0) (sym on)
 
 -- lines with other cells, and with the same ones
-lines_differ : (line : LineId) (old new : List (List ℕ)) (i j : ℕ) → i < length old → length new ≡ length old → IsOnLine line i j → cell_at new i j ≢ cell_at old i j → line_of new line ≢ line_of old line
+lines_differ : (line : LineId) (old new : Rows) (i j : ℕ) → i < length old → length new ≡ length old → IsOnLine line i j → cell_at new i j ≢ cell_at old i j → line_of new line ≢ line_of old line
 lines_differ line old new i j in_rows count on differ same = grind (arith, cell_on_line, get_or)
 
-lines_same : (axis : Axis) (at : ℕ) (old new : List (List ℕ)) → IsPicture old → IsPicture new → length new ≡ length old → width_of new ≡ width_of old → at < lines_along axis new → ((i j : ℕ) → i < length old → j < width_of old → IsAtPlace axis at i j → cell_at new i j ≡ cell_at old i j) → line_along axis at new ≡ line_along axis at old
+lines_same : (axis : Axis) (at : ℕ) (old new : Rows) → IsPicture old → IsPicture new → length new ≡ length old → width_of new ≡ width_of old → at < lines_along axis new
+    → ((i j : ℕ) → i < length old → j < width_of old → IsAtPlace axis at i j → cell_at new i j ≡ cell_at old i j) → line_along axis at new ≡ line_along axis at old
 lines_same Across at old new is_old is_new count wide within same =
     let here : at < length old = omega (arith, count) in
     let length_old = is_old.rectangular at here in
@@ -56,7 +57,8 @@ lines_same Down at old new is_old is_new count wide within same =
     get_or-map cell new i [] 0 here ∙ (same i at there (omega (arith, wide)) refl ∙ sym (get_or-map cell old i [] 0 there)))
 
 -- where the lines of the cells are touched in which two pictures differ
-pub cells_exact : (change : Changes) (old new : List (List ℕ)) (cells : List Cell) → IsPicture old → IsPicture new → DifferIn cells old new → FollowsCells change.moves old new → ((line : LineId) → IsTouched change line ↔ IsCrossed (length cells) cells line) → IsChangeOf change old new
+pub cells_exact : (change : Changes) (old new : Rows) (cells : List Cell) → IsPicture old → IsPicture new → DifferIn cells old new → FollowsCells change.moves old new
+    → ((line : LineId) → IsTouched change line ↔ IsCrossed (length cells) cells line) → IsChangeOf change old new
 cells_exact change old new cells is_old is_new differ follows by = record {
   sizes = follows.sizes;
   follows = record {
@@ -69,7 +71,8 @@ cells_exact change old new cells is_old is_new differ follows by = record {
           | inl same ↦ same
           | inr other ↦
               let at = differ.only i j in_rows in_columns other in
-              let crossed : IsOnLine line (nth_cell cells at.0).0 (nth_cell cells at.0).1 = subst (λ x. IsOnLine line x (nth_cell cells at.0).1) (sym at.2) (subst (λ x. IsOnLine line i x) (sym at.3) on) in
+              let crossed : IsOnLine line (nth_cell cells at.0).0 (nth_cell cells at.0).1 =
+              subst (λ x. IsOnLine line x (nth_cell cells at.0).1) (sym at.2) (subst (λ x. IsOnLine line i x) (sym at.3) on) in
               absurd (untouched ((by line).1 (at.0, at.1, crossed)))
         ]));
   };
@@ -80,15 +83,17 @@ cells_exact change old new cells is_old is_new differ follows by = record {
 }
 
 -- where the crossing lines are touched that have different cells in two exchanged lines
-crossed_cell : (axis : Axis) (at k : ℕ) (rows : List (List ℕ)) → at < lines_along axis rows → get_or (line_along (crossing axis) k rows) at 0 ≡ cell_at rows (place_on axis at k).0 (place_on axis at k).1
+crossed_cell : (axis : Axis) (at k : ℕ) (rows : Rows) → at < lines_along axis rows → get_or (line_along (crossing axis) k rows) at 0 ≡ cell_at rows (place_on axis at k).0 (place_on axis at k).1
 crossed_cell Across at k rows within = get_or-map (λ row. get_or row k 0) rows at [] 0 within
 crossed_cell Down at k rows within = refl
 
-crossing_count : (axis : Axis) (rows : List (List ℕ)) → lines_along (crossing axis) rows ≡ cells_along axis rows
+crossing_count : (axis : Axis) (rows : Rows) → lines_along (crossing axis) rows ≡ cells_along axis rows
 crossing_count Across rows = refl
 crossing_count Down rows = refl
 
-pub swap_exact : (change : Changes) (axis : Axis) (first second : ℕ) (old : List (List ℕ)) → IsPicture old → first < lines_along axis old → second < lines_along axis old → FollowsSwap axis first second change.moves old (lines_swapped axis first second old) → ((line : LineId) → IsTouched change line ↔ CrossesApart (cells_along axis old) axis first second old line) → IsChangeOf change old (lines_swapped axis first second old)
+pub swap_exact : (change : Changes) (axis : Axis) (first second : ℕ) (old : Rows) → IsPicture old → first < lines_along axis old → second < lines_along axis old
+    → FollowsSwap axis first second change.moves old (lines_swapped axis first second old) → ((line : LineId) → IsTouched change line ↔ CrossesApart (cells_along axis old) axis first second old line)
+    → IsChangeOf change old (lines_swapped axis first second old)
 swap_exact change axis first second old is f s follows by =
     let new = lines_swapped axis first second old in
     let count : lines_along (crossing axis) new ≡ cells_along axis old = crossing_count axis new ∙ (swapped_sizes axis first second old is f s).1 in
@@ -129,7 +134,8 @@ painted_differ b d e is p gives =
     let cells = changed_cells e old in
     let value : ℕ → ℕ → ℕ = λ i j. colour_after e i j (cell_at old i j) in
     let rows : painted e old ≡ d.rows = ap (λ (x : Design). x.rows) (sym (p.gives b) ∙ gives) in
-    let after : (i j : ℕ) → i < length old → j < width_of old → cell_at d.rows i j ≡ colour_after e i j (cell_at old i j) = λ i j in_rows in_columns. ap (λ r. cell_at r i j) (sym rows) ∙ cell_at-grid (length old) (width_of old) value i j in_rows in_columns in
+    let after : (i j : ℕ) → i < length old → j < width_of old → cell_at d.rows i j ≡ colour_after e i j (cell_at old i j) =
+    λ i j in_rows in_columns. ap (λ r. cell_at r i j) (sym rows) ∙ cell_at-grid (length old) (width_of old) value i j in_rows in_columns in
     record {
       row_count = ap length (sym rows) ∙ length-grid (length old) (width_of old) value;
       column_count = ap width_of (sym rows) ∙ width_of-grid (length old) (width_of old) value is.is_picture.has_row;
@@ -144,7 +150,7 @@ painted_differ b d e is p gives =
           (at.0, at.1, ap (λ (c : Cell). c.0) at.2, ap (λ (c : Cell). c.1) at.2);
     }
 
-differ_back : (cells : List Cell) (old new : List (List ℕ)) → DifferIn cells old new → DifferIn cells new old
+differ_back : (cells : List Cell) (old new : Rows) → DifferIn cells old new → DifferIn cells new old
 differ_back cells old new differ = record {
   row_count = sym differ.row_count;
   column_count = sym differ.column_count;
@@ -153,7 +159,7 @@ differ_back cells old new differ = record {
   only = λ i j in_rows in_columns other. differ.only i j (omega (arith, differ.row_count)) (omega (arith, differ.column_count)) (λ same. other (sym same));
 }
 
-none_differ : (rows : List (List ℕ)) → DifferIn [] rows rows
+none_differ : (rows : Rows) → DifferIn [] rows rows
 none_differ rows = record {
   row_count = refl;
   column_count = refl;
@@ -217,7 +223,9 @@ count_back (Inserted at) n m some e = omega arith
 count_back (Deleted at) n m some e = omega arith
 count_back (Swapped first second) n m some e = sym e
 
-moved_back : (axis : Axis) (places : Places) (old new : List (List ℕ)) → AreMoves (moved_along axis (reversed places) (length new) (width_of new)) → HaveSizes (moved_along axis (reversed places) (length new) (width_of new)) new old → moved_along axis (reversed places) (length new) (width_of new) ≡ back (moved_along axis places (length old) (width_of old))
+moved_back : (axis : Axis) (places : Places) (old new : Rows) → AreMoves (moved_along axis (reversed places) (length new) (width_of new))
+    → HaveSizes (moved_along axis (reversed places) (length new) (width_of new)) new old
+    → moved_along axis (reversed places) (length new) (width_of new) ≡ back (moved_along axis places (length old) (width_of old))
 moved_back Across places old new are sizes =
     ap (λ h. moved_along Across (reversed places) h (width_of new)) (count_back places (length old) (length new) (are.some_before Across) (sizes.after Across))
     ∙ ap (λ w. moved_along Across (reversed places) (count_after places (length old)) w) (sym (sizes.after Down))
@@ -225,7 +233,7 @@ moved_back Down places old new are sizes =
     ap (λ h. moved_along Down (reversed places) h (width_of new)) (sym (sizes.after Across))
     ∙ ap (λ w. moved_along Down (reversed places) (length old) w) (count_back places (width_of old) (width_of new) (are.some_before Down) (sizes.after Down))
 
-pub moves_back : (e : Edit) (old new : List (List ℕ)) → AreMoves (moves_of (reversed_edit e) new) → HaveSizes (moves_of (reversed_edit e) new) new old → moves_of (reversed_edit e) new ≡ back (moves_of e old)
+pub moves_back : (e : Edit) (old new : Rows) → AreMoves (moves_of (reversed_edit e) new) → HaveSizes (moves_of (reversed_edit e) new) new old → moves_of (reversed_edit e) new ≡ back (moves_of e old)
 moves_back (InsertLine line) old new are sizes = moved_back line.axis (Inserted line.at) old new are sizes
 moves_back (DeleteLine line) old new are sizes = moved_back line.axis (Deleted line.at) old new are sizes
 moves_back (SwapLines axis first second) old new are sizes = moved_back axis (Swapped first second) old new are sizes

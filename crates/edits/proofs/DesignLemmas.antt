@@ -5,10 +5,11 @@ use Rattle.picture.specs.CellSet.{HasCell, PutsCell, TakesOutCell}
 use Rattle.picture.specs.Palette.{IsPalette, Colours}
 use Rattle.picture.specs.Picture.{IsPicture}
 use Rattle.picture.specs.Document.{AreColoured}
-use Rattle.picture.specs.Rows.{cell_at, width_of, with_cell}
+use Rattle.picture.specs.Rows.{cell_at, width_of, with_cell, Rows}
 use Rattle.edits.specs.Design.{IsDesign, design, mark_at, marks_of}
 use Rattle.edits.specs.Laws.{MarksAreGivens}
-use Rattle.edits.proofs.GridLemmas.{grid_below, grid_is_grid, grid_same, with_cell_is_grid, cell_at-with_other, cell_at-with_same, place_cases, cell_at-grid, cell_at-past_rows, cell_at-past_columns, length-grid}
+use Rattle.edits.proofs.GridLemmas.{grid_below, grid_is_grid, grid_same, with_cell_is_grid, cell_at-with_other, cell_at-with_same, place_cases, cell_at-grid, cell_at-past_rows, cell_at-past_columns}
+use Rattle.edits.proofs.GridLemmas.{length-grid}
 
 pub mark_small : (b : Bool) → cond b 0 1 < 2
 mark_small true = omega arith
@@ -49,7 +50,8 @@ all_marked rows givens inside i j =
       ]),
     )
 
-pub is_design : (colours : Colours) (rows : List (List ℕ)) (givens : List ℕ) → IsPalette colours → IsPicture rows → AreColoured rows colours → IsDesign (design colours rows (marks_of (length rows) (width_of rows) givens))
+pub is_design : (colours : Colours) (rows : Rows) (givens : List ℕ) → IsPalette colours → IsPicture rows → AreColoured rows colours
+    → IsDesign (design colours rows (marks_of (length rows) (width_of rows) givens))
 is_design colours rows givens palette picture coloured = record {
   is_palette = palette;
   is_picture = picture;
@@ -63,7 +65,8 @@ pub mark_same : (old new : List ℕ) (i j : ℕ) → HasCell new i j ↔ HasCell
 mark_same old new i j alike = grind (arith, has_mark, mark_at, mark_has, mark_none)
 
 -- a given more, or less
-cell_marked : (h w : ℕ) (old new : List ℕ) (row col x : ℕ) → row < h → col < w → mark_at new row col ≡ x → ((i j : ℕ) → ((i ≡ row) × (j ≡ col) → ⊥) → HasCell new i j ↔ HasCell old i j) → marks_of h w new ≡ with_cell (marks_of h w old) row col x
+cell_marked : (h w : ℕ) (old new : List ℕ) (row col x : ℕ) → row < h → col < w → mark_at new row col ≡ x → ((i j : ℕ) → ((i ≡ row) × (j ≡ col) → ⊥) → HasCell new i j ↔ HasCell old i j)
+    → marks_of h w new ≡ with_cell (marks_of h w old) row col x
 cell_marked h w old new row col x in_rows in_columns marked alike =
     let is = grid_is_grid h w (mark_at old) in
     grid_same h w (mark_at new) (with_cell (marks_of h w old) row col x) (with_cell_is_grid h w (marks_of h w old) row col x is in_rows)
@@ -80,7 +83,8 @@ pub unpinned_marks : (h w : ℕ) (old new : List ℕ) (row col : ℕ) → row < 
 unpinned_marks h w old new row col in_rows in_columns takes = grind (arith, cell_marked, mark_none)
 
 -- a document from its parts
-pub assembled : (p p' : Colours) (r r' : List (List ℕ)) (g : List ℕ) (m : List (List ℕ)) → p' ≡ p → r' ≡ r → marks_of (length r) (width_of r) g ≡ m → design p' r' (marks_of (length r') (width_of r') g) ≡ design p r m
+pub assembled : (p p' : Colours) (r r' : List (List ℕ)) (g : List ℕ) (m : List (List ℕ)) → p' ≡ p → r' ≡ r → marks_of (length r) (width_of r) g ≡ m
+    → design p' r' (marks_of (length r') (width_of r') g) ≡ design p r m
 assembled p p' r r' g m same_palette same_rows same_marks = grind (arith, design, length, marks_of, width_of)
 
 pub ruleset marking = (mark_is_given, given_is_marked, is_design)

@@ -14,7 +14,7 @@ use Rattle.edits.specs.Note.{Note, IsEntry, note_for}
 use Rattle.edits.specs.Edit.{edited}
 use Rattle.edits.specs.Fault.{edit_fault, same_design, is_outside, lacks_colour, has_no_room, deletes_last, is_over, is_full, is_there, sets_background}
 
--- the conditions of faults, of which none holds
+-- the conditions of errors, of which none holds
 pub record IsLawful (d : Design) (e : Edit) : Type 0 where
   pub inside : is_outside d.rows e ≡ false
   pub coloured : lacks_colour d.colours e ≡ false

@@ -2,7 +2,7 @@
 use Rattle.std.proofs.Common.{◌≡◌, ◌≢◌, ℕ, ◌+◌, ◌<◌, ◌≤◌, List, arith}
 use Rattle.picture.specs.CellSet.{HasCell, PutsCell}
 use Rattle.clues.specs.Change.{Moves}
-use Rattle.edits.specs.Moving.{AreMoved, AreMovedTo, mark_before}
+use Rattle.edits.specs.MovedGivens.{AreMoved, AreMovedTo, mark_before}
 
 pub none_moved : (old new : List ℕ) (back : Moves) (width : ℕ) → ((i j : ℕ) → HasCell new i j → ⊥) → AreMovedTo old new back width 0 0
 none_moved old new back width none = record {
@@ -12,7 +12,8 @@ none_moved old new back width none = record {
   here = λ j below. absurd (omega arith);
 }
 
-pub cell_put : (old now new : List ℕ) (back : Moves) (width row col : ℕ) → col < width → AreMovedTo old now back width row col → PutsCell now new row col → mark_before old back row col ≡ 1 → AreMovedTo old new back width row (col + 1)
+pub cell_put : (old now new : List ℕ) (back : Moves) (width row col : ℕ) → col < width → AreMovedTo old now back width row col → PutsCell now new row col → mark_before old back row col ≡ 1
+    → AreMovedTo old new back width row (col + 1)
 cell_put old now new back width row col in_columns moved puts one = grind arith
 
 pub cell_left : (old now : List ℕ) (back : Moves) (width row col : ℕ) → AreMovedTo old now back width row col → mark_before old back row col ≢ 1 → AreMovedTo old now back width row (col + 1)

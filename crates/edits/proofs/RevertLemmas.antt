@@ -1,5 +1,5 @@
 -- An edit taken back gives the document before it.
-use Rattle.std.proofs.Common.{◌≡◌, ◌≢◌, ℕ, ◌-◌, ◌<◌, ◌≤◌, false, not, inl, inr, Option, Some, None, List, [], ◌∷◌, ◌++◌, length, length-append, get_or, set, take, refl, sym, ap, ◌∙◌, arith, slice_get}
+use Rattle.std.proofs.Common.{◌≡◌, ◌≢◌, ℕ, ◌-◌, ◌<◌, ◌≤◌, false, not, inl, inr, Option, Some, None, [], ◌∷◌, ◌++◌, length, length-append, get_or, set, take, refl, sym, ap, ◌∙◌, arith, slice_get}
 use Rattle.std.proofs.lemmas.Bool.Decides.{nat_tests}
 use Rattle.std.proofs.lemmas.List.{set-set, set-get_or, get_or-set_same}
 use Rattle.std.proofs.lemmas.Option.{slice_get_cases, get_or_from_slice_get}
@@ -8,7 +8,7 @@ use Rattle.picture.specs.declared.line_id.Axis.{Axis}
 use Rattle.picture.specs.declared.line_id.Axis.TheVariants.{Across, Down}
 use Rattle.picture.specs.declared.rgb.Rgb.{Rgb}
 use Rattle.picture.specs.Palette.{Colours, with_colour, with_triple, without_last}
-use Rattle.picture.specs.Rows.{width_of, cell_at, with_cell, lines_along}
+use Rattle.picture.specs.Rows.{width_of, cell_at, with_cell, lines_along, Rows}
 use Rattle.edits.specs.declared.edit.Edit.{Edit}
 use Rattle.edits.specs.declared.edit.Edit.TheVariants.{Paint, Fill, Recolour, InsertLine, DeleteLine, SwapLines, AddColour, SetColour, Pin, Unpin}
 use Rattle.edits.specs.Design.{Design, design, IsDesign, IsGrid}
@@ -21,18 +21,18 @@ use Rattle.edits.proofs.LineLemmas.{size_along, delete_insert, swap_back, gives_
 use Rattle.edits.proofs.FaultLemmas.{IsLawful, lawful, same_parts, differs}
 
 -- the size of a picture
-pub size_of_lines : (axis : Axis) (rows : List (List ℕ)) → lines_along axis rows ≡ size_along axis (length rows) (width_of rows)
+pub size_of_lines : (axis : Axis) (rows : Rows) → lines_along axis rows ≡ size_along axis (length rows) (width_of rows)
 size_of_lines Across rows = refl
 size_of_lines Down rows = refl
 
 -- one cell changed and given back
-pub with_cell_same : (rows : List (List ℕ)) (i j : ℕ) → with_cell rows i j (cell_at rows i j) ≡ rows
+pub with_cell_same : (rows : Rows) (i j : ℕ) → with_cell rows i j (cell_at rows i j) ≡ rows
 with_cell_same rows i j = ap (set rows i) (set-get_or (get_or rows i []) j 0) ∙ set-get_or rows i []
 
-pub with_cell_back : (rows : List (List ℕ)) (i j x : ℕ) → i < length rows → with_cell (with_cell rows i j x) i j (cell_at rows i j) ≡ rows
+pub with_cell_back : (rows : Rows) (i j x : ℕ) → i < length rows → with_cell (with_cell rows i j x) i j (cell_at rows i j) ≡ rows
 with_cell_back rows i j x within = grind (arith, get_or, get_or-set_same, set, set-get_or, set-set)
 
-pub not_in : (rows : List (List ℕ)) (i j : ℕ) → not (has_cell rows i j) ≡ false → (i < length rows) × (j < width_of rows)
+pub not_in : (rows : Rows) (i j : ℕ) → not (has_cell rows i j) ≡ false → (i < length rows) × (j < width_of rows)
 not_in rows i j e = grind (arith, nat_tests)
 
 -- palettes
@@ -63,7 +63,8 @@ module _ (d : Design) (is : IsDesign d) where
   reverted-edited (InsertLine line) none =
       let is_lawful = lawful d (InsertLine line) none in
       let place : line.at ≤ size_along line.axis (length d.rows) (width_of d.rows) = rw (← size_of_lines line.axis d.rows) (grind (arith, nat_tests, is_lawful.inside)) in
-      same_parts _ d refl (delete_insert line.axis line.at (length d.rows) (width_of d.rows) d.rows grid_of_rows place) (delete_insert line.axis line.at (length d.rows) (width_of d.rows) d.marks is.marks_fit place)
+      same_parts _ d refl (delete_insert line.axis line.at (length d.rows) (width_of d.rows) d.rows grid_of_rows place)
+      (delete_insert line.axis line.at (length d.rows) (width_of d.rows) d.marks is.marks_fit place)
   reverted-edited (DeleteLine line) none =
       let is_lawful = lawful d (DeleteLine line) none in
       let place : line.at < size_along line.axis (length d.rows) (width_of d.rows) = rw (← size_of_lines line.axis d.rows) (grind (arith, nat_tests, is_lawful.inside)) in
@@ -75,7 +76,8 @@ module _ (d : Design) (is : IsDesign d) where
       let is_lawful = lawful d (SwapLines axis first second) none in
       let first_in : first < size_along axis (length d.rows) (width_of d.rows) = rw (← size_of_lines axis d.rows) (grind (arith, nat_tests, is_lawful.inside)) in
       let second_in : second < size_along axis (length d.rows) (width_of d.rows) = rw (← size_of_lines axis d.rows) (grind (arith, nat_tests, is_lawful.inside)) in
-      same_parts _ d refl (swap_back axis first second (length d.rows) (width_of d.rows) d.rows grid_of_rows first_in second_in) (swap_back axis first second (length d.rows) (width_of d.rows) d.marks is.marks_fit first_in second_in)
+      same_parts _ d refl (swap_back axis first second (length d.rows) (width_of d.rows) d.rows grid_of_rows first_in second_in)
+      (swap_back axis first second (length d.rows) (width_of d.rows) d.marks is.marks_fit first_in second_in)
   reverted-edited (AddColour rgb) none = ap (λ c. design c d.rows d.marks) (pop_added d.colours rgb)
   reverted-edited (SetColour colour rgb) none =
       let is_lawful = lawful d (SetColour colour rgb) none in
@@ -84,12 +86,16 @@ module _ (d : Design) (is : IsDesign d) where
   reverted-edited (Pin row col) none =
       let is_lawful = lawful d (Pin row col) none in
       let inside = not_in d.rows row col is_lawful.inside in
-      let other : cell_at d.marks row col ≢ 1 = λ one. unchanged (Pin row col) is_lawful (ap (λ m. design d.colours d.rows m) (ap (λ x. with_cell d.marks row col x) (sym one) ∙ with_cell_same d.marks row col)) in
+      let other : cell_at d.marks row col ≢ 1 =
+      λ one. unchanged (Pin row col) is_lawful (ap (λ m. design d.colours d.rows m) (ap (λ x. with_cell d.marks row col x) (sym one) ∙ with_cell_same d.marks row col)) in
       let none_here : cell_at d.marks row col ≡ 0 = omega (arith, is.are_marks row col, other) in
-      ap (λ m. design d.colours d.rows m) (ap (λ x. with_cell (with_cell d.marks row col 1) row col x) (sym none_here) ∙ with_cell_back d.marks row col 1 (omega (arith, is.marks_fit.row_count, inside.0)))
+      ap (λ m. design d.colours d.rows m)
+      (ap (λ x. with_cell (with_cell d.marks row col 1) row col x) (sym none_here) ∙ with_cell_back d.marks row col 1 (omega (arith, is.marks_fit.row_count, inside.0)))
   reverted-edited (Unpin row col) none =
       let is_lawful = lawful d (Unpin row col) none in
       let inside = not_in d.rows row col is_lawful.inside in
-      let other : cell_at d.marks row col ≢ 0 = λ zero_here. unchanged (Unpin row col) is_lawful (ap (λ m. design d.colours d.rows m) (ap (λ x. with_cell d.marks row col x) (sym zero_here) ∙ with_cell_same d.marks row col)) in
+      let other : cell_at d.marks row col ≢ 0 =
+      λ zero_here. unchanged (Unpin row col) is_lawful (ap (λ m. design d.colours d.rows m) (ap (λ x. with_cell d.marks row col x) (sym zero_here) ∙ with_cell_same d.marks row col)) in
       let one_here : cell_at d.marks row col ≡ 1 = omega (arith, is.are_marks row col, other) in
-      ap (λ m. design d.colours d.rows m) (ap (λ x. with_cell (with_cell d.marks row col 0) row col x) (sym one_here) ∙ with_cell_back d.marks row col 0 (omega (arith, is.marks_fit.row_count, inside.0)))
+      ap (λ m. design d.colours d.rows m)
+      (ap (λ x. with_cell (with_cell d.marks row col 0) row col x) (sym one_here) ∙ with_cell_back d.marks row col 0 (omega (arith, is.marks_fit.row_count, inside.0)))

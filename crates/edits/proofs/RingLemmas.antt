@@ -13,9 +13,11 @@ use Rattle.edits.specs.Design.{Design, IsDesign}
 use Rattle.edits.specs.Edit.{edited}
 use Rattle.edits.specs.Note.{IsStep, note_for, note_of, reverted}
 use Rattle.edits.specs.Prepared.{advance_of}
-use Rattle.edits.specs.History.{Turn, turn, History, history, past_from, future_from, ArePast, AreFuture, last_turn, undone, undone_to, redone, fault_if_empty, undo_fault, redo_fault, or_memory, IsPlanFor, Advance, ByEdit, ByUndo, ByRedo, Plan, plan, advanced, first_turn}
+use Rattle.edits.specs.History.{Turn, turn, History, history, past_from, future_from, ArePast, AreFuture, last_turn, undone, undone_to, redone, fault_if_empty, undo_fault, redo_fault, or_memory}
+use Rattle.edits.specs.History.{IsPlanFor, Advance, ByEdit, ByUndo, ByRedo, Plan, plan, advanced, first_turn}
 use Rattle.edits.specs.Studio.{AreRings, notes_of, history_from, with_first, with_last, past_after, future_after}
-use Rattle.edits.proofs.HistoryLemmas.{split_last, take_front, last_of, length-future_from, length-past_from, step_entry, entry_step, past_from-last, past_from-push, past_from-drop, ArePast-push, ArePast-drop, ArePast-pop}
+use Rattle.edits.proofs.HistoryLemmas.{split_last, take_front, last_of, length-future_from, length-past_from, step_entry, entry_step, past_from-last, past_from-push, past_from-drop, ArePast-push}
+use Rattle.edits.proofs.HistoryLemmas.{ArePast-drop, ArePast-pop}
 
 -- a step back and a step forth, where there is one
 not_empty : (ts : List Turn) (t : Turn) (fault : EditFault) → fault_if_empty (ts ++ t ∷ []) fault ≡ None
@@ -41,16 +43,20 @@ pub first_split : {X : Type 0} (xs : List X) (x : X) → slice_get xs 0 ≡ Some
 first_split [] x e = absurd (cc e)
 first_split (y ∷ xs) x e = let same : y ≡ x = cc e in ap (λ z. z ∷ xs) same
 
-pub last_step : (d : Design) (es : List Entry) (x : Entry) → last_item es ≡ Some x → ArePast d (notes_of es) → IsStep (reverted d (note_of x)) (note_of x) d × ArePast (reverted d (note_of x)) (notes_of (take (length es - 1) es))
+pub last_step : (d : Design) (es : List Entry) (x : Entry) → last_item es ≡ Some x → ArePast d (notes_of es)
+    → IsStep (reverted d (note_of x)) (note_of x) d × ArePast (reverted d (note_of x)) (notes_of (take (length es - 1) es))
 last_step d es x e are = ArePast-pop d (notes_of (take (length es - 1) es)) (note_of x) (subst (ArePast d) (notes_split es x e) are)
 
-pub past_split : (d : Design) (es : List Entry) (x : Entry) → last_item es ≡ Some x → past_from d (notes_of es) ≡ past_from (reverted d (note_of x)) (notes_of (take (length es - 1) es)) ++ turn (reverted d (note_of x)) (note_of x).edit ∷ []
+pub past_split : (d : Design) (es : List Entry) (x : Entry) → last_item es ≡ Some x
+    → past_from d (notes_of es) ≡ past_from (reverted d (note_of x)) (notes_of (take (length es - 1) es)) ++ turn (reverted d (note_of x)) (note_of x).edit ∷ []
 past_split d es x e = ap (past_from d) (notes_split es x e) ∙ past_from-last d (notes_of (take (length es - 1) es)) (note_of x)
 
-pub first_step : (d : Design) (es : List Entry) (x : Entry) → slice_get es 0 ≡ Some x → AreFuture d (notes_of es) → IsStep d (note_of x) (edited d x.edit) × AreFuture (edited d x.edit) (notes_of (drop 1 es))
+pub first_step : (d : Design) (es : List Entry) (x : Entry) → slice_get es 0 ≡ Some x → AreFuture d (notes_of es)
+    → IsStep d (note_of x) (edited d x.edit) × AreFuture (edited d x.edit) (notes_of (drop 1 es))
 first_step d es x e are = subst (λ (ys : List Entry). AreFuture d (notes_of ys)) (first_split es x e) are
 
-pub future_split : (d : Design) (es : List Entry) (x : Entry) → slice_get es 0 ≡ Some x → future_from d (notes_of es) ≡ turn (edited d x.edit) x.edit ∷ future_from (edited d x.edit) (notes_of (drop 1 es))
+pub future_split : (d : Design) (es : List Entry) (x : Entry) → slice_get es 0 ≡ Some x
+    → future_from d (notes_of es) ≡ turn (edited d x.edit) x.edit ∷ future_from (edited d x.edit) (notes_of (drop 1 es))
 future_split d es x e = ap (λ (ys : List Entry). future_from d (notes_of ys)) (first_split es x e)
 
 -- the history is as long as the rings
@@ -72,7 +78,8 @@ module _ (d d' : Design) (past future : Buffer Entry) (x : Entry) (is : IsDesign
 
   pub edit_rings : IsStep d (note_of x) d' → AreRings d' (past_after (Edit x) past future) (future_after (Edit x) past future)
   edit_rings step = record {
-    are_past = subst (ArePast d') (sym notes_kept) (ArePast-drop d' (length (past.items ++ x ∷ []) - past.capacity) (notes_of past.items ++ note_of x ∷ []) (ArePast-push d d' (notes_of past.items) (note_of x) step are.are_past));
+    are_past = subst (ArePast d') (sym notes_kept)
+        (ArePast-drop d' (length (past.items ++ x ∷ []) - past.capacity) (notes_of past.items ++ note_of x ∷ []) (ArePast-push d d' (notes_of past.items) (note_of x) step are.are_past));
     are_future = tt;
     room = omega (arith, length-drop (length (past.items ++ x ∷ []) - past.capacity) (past.items ++ x ∷ []));
     same_room = are.same_room;
@@ -176,7 +183,8 @@ pub record Comes (d d' : Design) (past future : Buffer Entry) (step : Step) : Ty
   pub rings : AreRings d' (past_after step past future) (future_after step past future)
   pub same : history_from d' (past_after step past future) (future_after step past future) ≡ advanced (history_from d past future) (advance_of step)
 
-pub comes : (d d' : Design) (past future : Buffer Entry) (step : Step) (k : Changes) → IsDesign d → AreRings d past future → IsPlanFor (history_from d past future) (plan (advance_of step) d' k) → Comes d d' past future step
+pub comes : (d d' : Design) (past future : Buffer Entry) (step : Step) (k : Changes) → IsDesign d → AreRings d past future → IsPlanFor (history_from d past future) (plan (advance_of step) d' k)
+    → Comes d d' past future step
 comes d d' past future (Edit x) k is are ready =
     let step = made d d' past future x is are k ready in
     record { rings = edit_rings d d' past future x is are step; same = edit_history d d' past future x is are step }
@@ -209,7 +217,8 @@ pub plan_is : (p : Plan) (a : Advance) (d : Design) → p.advance ≡ a → p.do
 plan_is p a d advances gives = sym (ap (λ (b : Advance). plan b p.document p.change) advances ∙ ap (λ (e : Design). plan a e p.change) gives)
 
 -- what is kept of the last edit
-pub last_note : (d : Design) (es : List Entry) → ArePast d (notes_of es) → option_map note_of (last_item es) ≡ option_map (λ (t : Turn). note_for t.document t.edit) (last_turn (past_from d (notes_of es)))
+pub last_note : (d : Design) (es : List Entry) → ArePast d (notes_of es)
+    → option_map note_of (last_item es) ≡ option_map (λ (t : Turn). note_for t.document t.edit) (last_turn (past_from d (notes_of es)))
 last_note d es are =
     elim (last_cases es) [
       | inl none ↦ rw none refl

@@ -29,7 +29,8 @@ pub step_coloured : (b : Design) (n : Note) (d : Design) → IsStep b n d → Ar
 step_coloured b n d step = subst (λ (x : Design). AreColoured x.rows x.colours) (sym (step_reverts b n d step)) step.is_design.is_coloured
 
 -- a document made back is the one before
-pub gives_before : (r : Result Document AllocError) (y d : Design) (n : Note) → reverted d n ≡ y → IfOk r (λ x. design_of x ≡ y) → IfOk r (λ x. (before : Design) → IsStep before n d → design_of x ≡ before)
+pub gives_before : (r : Result Document AllocError) (y d : Design) (n : Note) → reverted d n ≡ y → IfOk r (λ x. design_of x ≡ y)
+    → IfOk r (λ x. (before : Design) → IsStep before n d → design_of x ≡ before)
 gives_before (Ok x) y d n is same = λ before step. same ∙ (sym is ∙ step_reverts before n d step)
 gives_before (Err e) y d n is same = same
 
@@ -55,12 +56,16 @@ module _ (b d : Design) (is : IsDesign b) where
   redelete_fits line is_lawful gives = grind (arith, delete_fits, deleted_sizes, line_deleted, lines_along, some_lines)
 
   -- the picture with room for the deleted line has the size of the one before
-  line_room : (line : LineId) → IsLawful b (DeleteLine line) → edited b (DeleteLine line) ≡ d → (line.at < size_along line.axis (length b.rows) (width_of b.rows)) × IsGrid (length b.rows) (width_of b.rows) (line_inserted d.rows line)
+  line_room : (line : LineId) → IsLawful b (DeleteLine line) → edited b (DeleteLine line) ≡ d
+      → (line.at < size_along line.axis (length b.rows) (width_of b.rows)) × IsGrid (length b.rows) (width_of b.rows) (line_inserted d.rows line)
   line_room line is_lawful gives =
       let fits = delete_fits b line is is_lawful in
       let place : line.at < size_along line.axis (length b.rows) (width_of b.rows) = rw (← size_of_lines line.axis b.rows) fits.0 in
-      let more : 1 < size_along line.axis (length b.rows) (width_of b.rows) = rw (← size_of_lines line.axis b.rows) fits.1 in
-      (place, subst (λ (x : Design). IsGrid (length b.rows) (width_of b.rows) (line_inserted x.rows line)) gives (line_back_is_grid line.axis line.at (length b.rows) (width_of b.rows) b.rows (picture_is_grid b.rows is.is_picture) place more))
+      let more : 1 < size_along line.axis (length b.rows) (width_of b.rows) = rw (← size_of_lines line.axis b.rows) fits.1 in (
+        place,
+        subst (λ (x : Design). IsGrid (length b.rows) (width_of b.rows) (line_inserted x.rows line)) gives
+            (line_back_is_grid line.axis line.at (length b.rows) (width_of b.rows) b.rows (picture_is_grid b.rows is.is_picture) place more),
+      )
 
   pub line_cells_fit : (line : LineId) → IsLawful b (DeleteLine line) → edited b (DeleteLine line) ≡ d → All (IsCellIn (line_inserted d.rows line)) (cells_of_line b.rows line)
   line_cells_fit line is_lawful gives =
@@ -78,5 +83,6 @@ module _ (b d : Design) (is : IsDesign b) where
       let was = given_of_line line.axis line.at (length b.rows) (width_of b.rows) b.marks is.marks_fit is.is_picture.has_row room.0 p has in
       (omega (arith, was.0, room.1.row_count), omega (arith, was.1, room.1.row_lengths 0 is.is_picture.has_row)))
 
-  pub reswap_fits : (axis : Axis) (first second : ℕ) → IsLawful b (SwapLines axis first second) → edited b (SwapLines axis first second) ≡ d → (first < lines_along axis d.rows) × (second < lines_along axis d.rows)
+  pub reswap_fits : (axis : Axis) (first second : ℕ) → IsLawful b (SwapLines axis first second) → edited b (SwapLines axis first second) ≡ d
+      → (first < lines_along axis d.rows) × (second < lines_along axis d.rows)
   reswap_fits axis first second is_lawful gives = grind (arith, lines_along, lines_swapped, swap_fits, swapped_sizes)

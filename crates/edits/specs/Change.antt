@@ -3,18 +3,18 @@ use Rattle.std.specs.Prelude.{◌≡◌, ◌≢◌, ℕ, ◌<◌, ◌≤◌, Lis
 use Rattle.picture.specs.declared.line_id.Axis.{Axis}
 use Rattle.picture.specs.declared.line_id.LineId.{LineId}
 use Rattle.picture.specs.declared.picture.TheConstants.{MAX_SIDE}
-use Rattle.picture.specs.Rows.{width_of, cell_at, lines_along, line_deleted, lines_swapped}
+use Rattle.picture.specs.Rows.{width_of, cell_at, lines_along, line_deleted, lines_swapped, Rows}
 use Rattle.clues.specs.declared.places.Places.TheVariants.{Inserted, Deleted, Swapped}
 use Rattle.clues.specs.Change.{AgreesOff, Moves, moved_along, still}
-use Rattle.picture.specs.Crossing.{crossing}
+use Rattle.picture.specs.CrossingLines.{crossing}
 use Rattle.clues.specs.Laws.{IsOnLine}
 use Rattle.edits.specs.declared.edit.Edit.{Edit}
 use Rattle.edits.specs.declared.edit.Edit.TheVariants.{InsertLine, DeleteLine, SwapLines}
 use Rattle.edits.specs.Note.{Cell}
-use Rattle.edits.specs.Painting.{SameAt}
+use Rattle.edits.specs.Areas.{SameAt}
 
 -- where an edit moves the lines of a picture
-abbrev pub moves_of : Edit → List (List ℕ) → Moves
+abbrev pub moves_of : Edit → Rows → Moves
 moves_of (InsertLine line) rows = moved_along line.axis (Inserted line.at) (length rows) (width_of rows)
 moves_of (DeleteLine line) rows = moved_along line.axis (Deleted line.at) (length rows) (width_of rows)
 moves_of (SwapLines axis first second) rows = moved_along axis (Swapped first second) (length rows) (width_of rows)
@@ -34,21 +34,26 @@ abbrev pub IsCrossed : ℕ → List Cell → LineId → Type 0
 IsCrossed n cells line = (k : ℕ) × (k < n) × IsOnLine line (nth_cell cells k).0 (nth_cell cells k).1
 
 -- two pictures of one size differ in these cells, and in no other
-pub record DifferIn (cells : List Cell) (old new : List (List ℕ)) : Type 0 where
+pub record DifferIn (cells : List Cell) (old new : Rows) : Type 0 where
   pub row_count : length new ≡ length old
   pub column_count : width_of new ≡ width_of old
   pub inside : (k : ℕ) → k < length cells → ((nth_cell cells k).0 < length old) × ((nth_cell cells k).1 < width_of old)
-  pub differ : (k : ℕ) → k < length cells → cell_at new (nth_cell cells k).0 (nth_cell cells k).1 ≢ cell_at old (nth_cell cells k).0 (nth_cell cells k).1
-  pub only : (i j : ℕ) → i < length old → j < width_of old → cell_at new i j ≢ cell_at old i j → (k : ℕ) × (k < length cells) × ((nth_cell cells k).0 ≡ i) × ((nth_cell cells k).1 ≡ j)
+  pub differ : (k : ℕ) → k < length cells
+      → cell_at new (nth_cell cells k).0 (nth_cell cells k).1 ≢ cell_at old (nth_cell cells k).0 (nth_cell cells k).1
+  pub only : (i j : ℕ) → i < length old → j < width_of old → cell_at new i j ≢ cell_at old i j
+      → (k : ℕ) × (k < length cells) × ((nth_cell cells k).0 ≡ i) × ((nth_cell cells k).1 ≡ j)
 
 -- the line crosses two lines of an axis, at a position before the n-th, in different cells
-abbrev pub CrossesApart : ℕ → Axis → ℕ → ℕ → List (List ℕ) → LineId → Type 0
+abbrev pub CrossesApart : ℕ → Axis → ℕ → ℕ → Rows → LineId → Type 0
 CrossesApart n axis first second rows line =
     (line.axis ≡ crossing axis) × (line.at < n) × (SameAt axis first second rows line.at → ⊥)
 
 -- an edit leads from one picture to the other; where it moves no line, they differ in the cells
-abbrev pub Leads : Edit → List Cell → List (List ℕ) → List (List ℕ) → Type 0
-Leads (InsertLine line) cells old new = (line.at ≤ lines_along line.axis old) × (lines_along line.axis old < MAX_SIDE) × AgreesOff line old new
-Leads (DeleteLine line) cells old new = (line.at < lines_along line.axis old) × (1 < lines_along line.axis old) × (new ≡ line_deleted old line)
-Leads (SwapLines axis first second) cells old new = (first < lines_along axis old) × (second < lines_along axis old) × (new ≡ lines_swapped axis first second old)
+abbrev pub Leads : Edit → List Cell → Rows → Rows → Type 0
+Leads (InsertLine line) cells old new =
+    (line.at ≤ lines_along line.axis old) × (lines_along line.axis old < MAX_SIDE) × AgreesOff line old new
+Leads (DeleteLine line) cells old new =
+    (line.at < lines_along line.axis old) × (1 < lines_along line.axis old) × (new ≡ line_deleted old line)
+Leads (SwapLines axis first second) cells old new =
+    (first < lines_along axis old) × (second < lines_along axis old) × (new ≡ lines_swapped axis first second old)
 Leads e cells old new = DifferIn cells old new

@@ -1,11 +1,12 @@
 -- The document after an edit.
-use Rattle.std.specs.Prelude.{◌≡◌, ℕ, ◌&&◌, Bool, nat_le, ◌==◌, List, [], ◌∷◌, length, if◌then◌else◌, refl}
+use Rattle.std.specs.Prelude.{◌≡◌, ℕ, ◌&&◌, Bool, nat_le, ◌==◌, [], ◌∷◌, length, if◌then◌else◌, refl}
 use Rattle.picture.specs.declared.line_id.Axis.TheVariants.{Across}
 use Rattle.picture.specs.Palette.{Colours, with_colour, with_triple}
-use Rattle.picture.specs.Rows.{width_of, cell_at, with_cell, line_inserted, line_deleted, lines_swapped}
+use Rattle.picture.specs.Rows.{width_of, cell_at, with_cell, line_inserted, line_deleted, lines_swapped, Rows}
 use Rattle.edits.specs.declared.edit.Edit.{Edit}
-use Rattle.edits.specs.declared.edit.Edit.TheVariants.{Paint, Fill, Recolour, InsertLine, DeleteLine, SwapLines, AddColour, SetColour, Pin, Unpin}
-use Rattle.edits.specs.Design.{Design, design, grid}
+use Rattle.edits.specs.declared.edit.Edit.TheVariants.{Paint, Fill, Recolour, InsertLine, DeleteLine, SwapLines}
+use Rattle.edits.specs.declared.edit.Edit.TheVariants.{AddColour, SetColour, Pin, Unpin}
+use Rattle.edits.specs.Design.{Design, design, grid, Marks}
 
 -- the cell lies in the rectangle
 abbrev pub is_within : ℕ → ℕ → ℕ → ℕ → ℕ → ℕ → Bool
@@ -19,10 +20,10 @@ colour_after (Recolour source target) i j x = if x == source then target else x
 colour_after e i j x = x
 
 -- the picture with these colours
-abbrev pub painted : Edit → List (List ℕ) → List (List ℕ)
+abbrev pub painted : Edit → Rows → Rows
 painted e rows = grid (length rows) (width_of rows) (λ i j. colour_after e i j (cell_at rows i j))
 
-abbrev pub rows_after : Edit → List (List ℕ) → List (List ℕ)
+abbrev pub rows_after : Edit → Rows → Rows
 rows_after (Paint row col colour) rows = painted (Paint row col colour) rows
 rows_after (Fill top left bottom right colour) rows = painted (Fill top left bottom right colour) rows
 rows_after (Recolour source target) rows = painted (Recolour source target) rows
@@ -32,7 +33,7 @@ rows_after (SwapLines axis first second) rows = lines_swapped axis first second 
 rows_after e rows = rows
 
 -- the givens move with the lines, and a new line has none
-abbrev pub marks_after : Edit → List (List ℕ) → List (List ℕ)
+abbrev pub marks_after : Edit → Marks → Marks
 marks_after (InsertLine line) marks = line_inserted marks line
 marks_after (DeleteLine line) marks = line_deleted marks line
 marks_after (SwapLines axis first second) marks = lines_swapped axis first second marks
@@ -53,7 +54,8 @@ paints : rows_after (Paint 0 1 1) ((1 ∷ 0 ∷ []) ∷ []) ≡ (1 ∷ 1 ∷ [])
 unfolding grid
 paints = refl
 
-inserts : rows_after (InsertLine (record { axis = Across; at = 0 })) ((1 ∷ 0 ∷ []) ∷ []) ≡ (0 ∷ 0 ∷ []) ∷ (1 ∷ 0 ∷ []) ∷ []
+inserts : rows_after (InsertLine (record { axis = Across; at = 0 })) ((1 ∷ 0 ∷ []) ∷ [])
+    ≡ (0 ∷ 0 ∷ []) ∷ (1 ∷ 0 ∷ []) ∷ []
 inserts = refl
 
 -- `ab/b.` recoloured from b to a

@@ -1,5 +1,6 @@
 -- The history of a document: a present document, those before it and those after it, each with the edit between.
 use Rattle.std.specs.Prelude.{◌≡◌, ℕ, ◌-◌, List, [], ◌∷◌, ◌++◌, length, take, drop, Option, Some, None, slice_get}
+use Rattle.picture.specs.Rows.{Rows}
 use Rattle.circular_buffer.specs.Buffer.{keep_last}
 use Rattle.clues.specs.Change.{Changes, Moves, AreMoves, IsChangeOf}
 use Rattle.edits.specs.declared.edit.Edit.{Edit}
@@ -27,7 +28,8 @@ pub record History : Type 0 where
 abbrev pub history : Design → List Turn → List Turn → ℕ → History
 history d past future depth = record { document = d; past = past; future = future; depth = depth }
 
--- an accepted edit puts the document with the edit on the past, which keeps the last `depth` of them, and empties the future
+-- an accepted edit puts the document with the edit on the past,
+-- which keeps the last `depth` of them, and empties the future
 abbrev pub after_edit : History → Edit → History
 after_edit h e = history (edited h.document e) (keep_last h.depth (h.past ++ turn h.document e ∷ [])) [] h.depth
 
@@ -71,7 +73,7 @@ undo_fault h = fault_if_empty h.past UndoEmpty
 abbrev pub redo_fault : History → Option EditFault
 redo_fault h = fault_if_empty h.future RedoEmpty
 
--- the fault that is answered: want of memory only where there is no other
+-- The error that is answered: out of memory only where there is no other.
 abbrev pub or_memory : Option EditFault → EditFault
 or_memory None = Memory
 or_memory (Some fault) = fault
@@ -99,7 +101,7 @@ IsKeptOf d ByUndo = Unit {0}
 IsKeptOf d ByRedo = Unit {0}
 
 -- the change moves the lines so, and it is that of the two pictures: the touched lines are those that have other cells
-pub record IsChangeBy (moves : Moves) (old new : List (List ℕ)) (change : Changes) : Type 0 where
+pub record IsChangeBy (moves : Moves) (old new : Rows) (change : Changes) : Type 0 where
   pub moved : change.moves ≡ moves
   pub are_moves : AreMoves change.moves
   pub exact : IsChangeOf change old new

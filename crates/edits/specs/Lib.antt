@@ -4,8 +4,8 @@ pub mod Edit
 pub mod Fault
 pub mod History
 pub mod Laws
-pub mod Moving
+pub mod MovedGivens
 pub mod Note
-pub mod Painting
+pub mod Areas
 pub mod Prepared
 pub mod Studio

@@ -1,5 +1,6 @@
 -- A studio's rings of entries, and the history that they give.
-use Rattle.std.specs.Prelude.{◌≡◌, ◌+◌, ◌-◌, ◌≤◌, List, [], ◌∷◌, ◌++◌, length, map, take, drop, slice_get, Option, Some, None}
+use Rattle.std.specs.Prelude.{◌≡◌, ◌+◌, ◌-◌, ◌≤◌, List, [], ◌∷◌, ◌++◌, length, map, take, drop, slice_get, Option, Some}
+use Rattle.std.specs.Prelude.{None}
 use Rattle.circular_buffer.specs.Buffer.{Buffer, buffer, keep_last, last_item}
 use Rattle.edits.specs.declared.entry.Entry.{Entry}
 use Rattle.edits.specs.declared.prepared.Step.{Step}
@@ -12,7 +13,8 @@ abbrev pub notes_of : List Entry → List Note
 notes_of entries = map note_of entries
 
 abbrev pub history_from : Design → Buffer Entry → Buffer Entry → History
-history_from d past future = history d (past_from d (notes_of past.items)) (future_from d (notes_of future.items)) past.capacity
+history_from d past future =
+    history d (past_from d (notes_of past.items)) (future_from d (notes_of future.items)) past.capacity
 
 -- the entries give the documents back, and both rings have room for all of them
 pub record AreRings (d : Design) (past future : Buffer Entry) : Type 0 where

@@ -8,7 +8,7 @@ ghost use Rattle.clues.specs.Change.{AreMoves, IsChangeOf, IsTouched, lines_afte
 ghost use Rattle.clues.specs.Laws.{IsOnLine};
 ghost use Rattle.edits.specs.Change.{DifferIn, Leads, moves_of, reversed_edit};
 ghost use Rattle.edits.specs.Note.{cells_along};
-ghost use Rattle.edits.specs.Painting.{SameAt};
+ghost use Rattle.edits.specs.Areas.{SameAt};
 
 use crate::cells::Cell;
 use crate::edit::Edit;

@@ -24,7 +24,7 @@ pub enum Edit {
         source: u8,
         target: u8,
     },
-    /// Puts a line of background at a place, which may be the one behind the last line. Later lines move up by one.
+    /// Puts a line of background at a place, which may be the one after the last line. Later lines move up by one.
     InsertLine {
         line: LineId,
     },

@@ -32,7 +32,7 @@ impl Entry {
     ghost use Rattle.edits.specs.Fault.{edit_fault};
     ghost use Rattle.edits.specs.Note.{IsEntry, IsStep, note_for, note_of};
 
-    /// The entry of an edit that no fault refuses. Its allocator is kept with its lists.
+    /// The entry of an edit that no error refuses. Its allocator is kept with its lists.
     #[tactic(auto, using(crate::proofs::FaultLemmas::lawful, crate::proofs::FaultLemmas::entry_of))]
     pub fn of(alloc: Global, document: &Document, edit: &Edit) -> Result<Entry, AllocError>
         requires { edit_fault (design_of document.now) edit.now ≡ None }

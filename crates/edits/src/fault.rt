@@ -7,8 +7,8 @@ ghost use Rattle.edits.specs.Fault.{fault_name};
 use std::alloc::AllocError;
 use thiserror::Error;
 
-/// Why an edit, an undo or a redo is refused. The first of these that holds is answered, and want of memory only
-/// where no other does.
+/// Why an edit, an undo or a redo is refused. The first of these that holds is answered, and out of memory only where
+/// no other does.
 #[derive(Clone, Copy, Debug, PartialEq, Eq, Error)]
 pub enum EditFault {
     /// A cell or a line lies outside the picture, or a rectangle has no cell.
@@ -29,7 +29,7 @@ pub enum EditFault {
     /// The palette has 16 colours already.
     #[error("the palette has 16 colours already")]
     PaletteFull,
-    /// The colour stands at another number.
+    /// The colour has another number.
     #[error("the colour stands at another number")]
     DuplicateColour,
     /// The background keeps its colour.
@@ -50,7 +50,7 @@ pub enum EditFault {
 }
 
 impl EditFault {
-    /// The fault's name, as the variant is called.
+    /// The error's name, as the variant is called.
     pub fn name(&self) -> &'static str
         ensures { result.now ≡ fault_name self.now }
     {

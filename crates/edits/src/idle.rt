@@ -6,7 +6,7 @@ ghost use Rattle.edits.specs.Design.{design_of};
 ghost use Rattle.edits.specs.Edit.{edited};
 ghost use Rattle.edits.specs.Fault.{deletes_last, is_outside, lacks_colour, same_design};
 ghost use Rattle.edits.specs.Note.{cells_along};
-ghost use Rattle.edits.specs.Painting.{AreAlike, AreAlikeAt};
+ghost use Rattle.edits.specs.Areas.{AreAlike, AreAlikeAt};
 
 use crate::edit::Edit;
 use crate::facts::know;

@@ -2,7 +2,7 @@
 
 ghost use Rattle.std.specs.Prelude.{◌≡◌, ◌<◌, ◌≤◌, ◌↔◌, IsTrue};
 ghost use Rattle.clues.specs.Change.{lines_before};
-ghost use Rattle.edits.specs.Moving.{AreMoved, mark_before};
+ghost use Rattle.edits.specs.MovedGivens.{AreMoved, mark_before};
 
 use clues::Change;
 use picture::{Axis, CellSet, LineId, MAX_SIDE};

@@ -4,7 +4,7 @@ ghost use Rattle.std.specs.Prelude.{◌≡◌, ◌≢◌, [], false, IfOk, Match
 ghost use Rattle.edits.specs.Edit.{colour_after};
 ghost use Rattle.edits.specs.Fault.{is_outside};
 ghost use Rattle.edits.specs.Note.{changed_cells};
-ghost use Rattle.edits.specs.Painting.{IsArea};
+ghost use Rattle.edits.specs.Areas.{IsArea};
 
 use crate::cells::Cell;
 use crate::edit::Edit;

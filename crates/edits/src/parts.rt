@@ -8,7 +8,7 @@ ghost use Rattle.picture.specs.Palette.{with_colour, with_triple, without_last};
 ghost use Rattle.picture.specs.Rows.{line_deleted, line_inserted, lines_along, lines_swapped, width_of, with_cell};
 ghost use Rattle.clues.specs.Change.{lines_before};
 ghost use Rattle.edits.specs.Design.{design, design_of};
-ghost use Rattle.edits.specs.Moving.{AreMoved};
+ghost use Rattle.edits.specs.MovedGivens.{AreMoved};
 ghost use Rattle.edits.specs.Note.{IsCellIn, IsPlaceIn, as_mark, repainted, with_cells};
 
 use crate::cells::{Cell, paint_cells, put_cells, put_givens};

@@ -10,7 +10,7 @@ use crate::idle::changes_nothing;
 use picture::{Document, MAX_COLOURS, MAX_SIDE, Palette, Picture};
 
 impl Edit {
-    /// Why the edit of a document is refused, where it is: the first fault in order whose condition holds. It takes no
+    /// Why the edit of a document is refused, where it is: the first error in order whose condition holds. It takes no
     /// memory.
     pub fn refusal(&self, document: &Document) -> Option<EditFault>
         ensures { result ≡ edit_fault (design_of document.now) self.now }
@@ -119,7 +119,7 @@ fn is_full(palette: &Palette, edit: &Edit) -> bool
     matches!(*edit, Edit::AddColour { .. } if palette.len() >= MAX_COLOURS)
 }
 
-// The colour stands at another number.
+// The colour has another number.
 fn is_there(palette: &Palette, edit: &Edit) -> bool
     requires { lacks_colour palette.now edit.now ≡ false }
     ensures { result ≡ is_there palette.now edit.now }

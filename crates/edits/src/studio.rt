@@ -87,7 +87,7 @@ impl Studio {
         self.past.back()
     }
 
-    /// What an edit comes to, or the first fault that refuses it. The studio stays as it is.
+    /// What an edit comes to, or the first error that refuses it. The studio stays as it is.
     pub fn prepare(&self, alloc: Global, edit: &Edit) -> Result<Prepared, EditFault>
         ensures refused { IfErr result
             (λ fault. fault ≡ or_memory (edit_fault self.now.document edit.now)) }

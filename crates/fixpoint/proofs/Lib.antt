@@ -1,2 +1,5 @@
 pub mod NameLemmas
 pub mod PictureLemmas
+pub mod ClosingLaws
+pub mod FillingLaws
+pub mod WorkLaws

@@ -1,13 +1,14 @@
 -- How many names all lines of facts have.
-use Rattle.std.proofs.Common.{◌≡◌, ℕ, zero, suc, ◌+◌, ◌/◌, ◌<◌, ◌↔◌, List, length, sym, ap, ◌∙◌, arith}
+use Rattle.std.proofs.Common.{◌≡◌, ℕ, zero, suc, ◌+◌, ◌/◌, ◌<◌, ◌↔◌, length, sym, ap, ◌∙◌, arith}
 use Rattle.std.specs.Prelude.{IsBitSet, count_ones}
 use Rattle.std.specs.Int.Count.{ones_step}
 use Rattle.std.proofs.lemmas.Nat.{ones_le_self}
 use Rattle.std.proofs.lemmas.Nat.Bits.{bit_at-suc, bit_at_lowest}
+use Rattle.line_settle.specs.Masks.{Masks}
 use Rattle.picture.specs.declared.line_id.Axis.TheVariants.{Across, Down}
 use Rattle.picture.specs.LineSet.{Lines, name_count}
 use Rattle.picture.specs.Rows.{width_of}
-use Rattle.picture.specs.BitLaws.{same_bits, bit_is_set, set_bit, no_bit}
+use Rattle.picture.proofs.BitLaws.{same_bits, bit_is_set, set_bit, no_bit}
 use Rattle.fixpoint.specs.LineNames.{AllLines}
 
 -- a number whose bits are the lowest n has n of them
@@ -24,7 +25,7 @@ counted_below (suc n) mask h =
     let low = set_bit mask 0 ((h 0).1 (omega arith)) in
     omega (arith, ones_step mask, bit_at_lowest mask, low, half)
 
-pub all_counted : (facts : List (List ℕ)) (lines : Lines) → AllLines facts lines → name_count lines ≡ length facts + width_of facts
+pub all_counted : (facts : Masks) (lines : Lines) → AllLines facts lines → name_count lines ≡ length facts + width_of facts
 all_counted facts lines all =
     let rows = counted_below (length facts) lines.rows (λ k. all (record { axis = Across; at = k })) in
     let columns = counted_below (width_of facts) lines.columns (λ k. all (record { axis = Down; at = k })) in

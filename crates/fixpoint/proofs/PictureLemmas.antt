@@ -3,50 +3,51 @@ use Rattle.std.proofs.Common.{◌≡◌, ℕ, ◌^◌, ◌<◌, ◌≤◌, List,
 use Rattle.std.specs.Prelude.{IsBitSet}
 use Rattle.std.proofs.lemmas.Bool.{cases_lt}
 use Rattle.std.proofs.lemmas.List.{get_or_past, length-map, get_or-map}
+use Rattle.line_settle.specs.Masks.{Masks}
 use Rattle.picture.specs.declared.line_id.Axis.{Axis}
 use Rattle.picture.specs.declared.line_id.Axis.TheVariants.{Across, Down}
 use Rattle.picture.specs.Picture.{IsPicture}
 use Rattle.picture.specs.declared.line_id.LineId.{LineId}
-use Rattle.picture.specs.Rows.{row_at, cell_at, line_along, line_of, lines_along, HasLine}
+use Rattle.picture.specs.Rows.{row_at, cell_at, line_along, line_of, lines_along, HasLine, Rows}
 use Rattle.clues.specs.ClueBook.{Clues, clue_at, clues_of}
 use Rattle.line_settle.specs.FactSets.{IsClosed, IsWithin, SameShape, Leaves, row_on, col_on}
-use Rattle.line_settle.specs.Fitting.{CanFit, Fits}
-use Rattle.fixpoint.specs.Filling.{Fills, LeavesPicture, only}
-use Rattle.fixpoint.specs.FillingLaws.{fills_fewer}
+use Rattle.line_settle.specs.Fits.{CanFit, Fits}
+use Rattle.fixpoint.specs.Fillings.{Fills, LeavesPicture, only}
+use Rattle.fixpoint.proofs.FillingLaws.{fills_fewer}
 use Rattle.fixpoint.specs.Laws.{ClosingKeepsFillings, OnlyIsClosed, PictureStays}
-use Rattle.clues.specs.BookLaws.{clue_at-clues_of}
-use Rattle.picture.specs.BitLaws.{no_bit, power_has}
-use Rattle.line_settle.specs.GridLaws.{cell_on, same_line_length, same_has_line, shape_sym, shape_trans}
+use Rattle.clues.proofs.BookLaws.{clue_at-clues_of}
+use Rattle.picture.proofs.BitLaws.{no_bit, power_has}
+use Rattle.line_settle.proofs.GridLaws.{cell_on, same_line_length, same_has_line, shape_sym, shape_trans}
 
 abbrev powers : List ℕ → List ℕ
 powers row = map (λ (colour : ℕ). 2 ^ colour) row
 
-only_row : (picture : List (List ℕ)) (i : ℕ) → row_at (only picture) i ≡ powers (row_at picture i)
+only_row : (picture : Rows) (i : ℕ) → row_at (only picture) i ≡ powers (row_at picture i)
 unfolding only
 only_row picture i = elim (cases_lt i (length picture)) [
   | inl l ↦ get_or-map powers picture i [] [] l
   | inr p ↦ get_or_past (only picture) i [] (let m = length-map picture powers in omega arith) ∙ ap powers (sym (get_or_past picture i [] p))
 ]
 
-only_shape : (picture : List (List ℕ)) → SameShape picture (only picture)
+only_shape : (picture : Rows) → SameShape picture (only picture)
 unfolding only
 only_shape picture = record {
   rows = sym (length-map picture powers);
   each = λ i. sym (ap length (only_row picture i) ∙ length-map (row_at picture i) (λ (x : ℕ). 2 ^ x));
 }
 
-only_cell : (picture : List (List ℕ)) (i j : ℕ) → j < length (row_at picture i) → cell_at (only picture) i j ≡ 2 ^ cell_at picture i j
+only_cell : (picture : Rows) (i j : ℕ) → j < length (row_at picture i) → cell_at (only picture) i j ≡ 2 ^ cell_at picture i j
 only_cell picture i j l = ap (λ (row : List ℕ). get_or row j 0) (only_row picture i) ∙ get_or-map (λ (x : ℕ). 2 ^ x) (row_at picture i) j 0 0 l
 
-only_past : (picture : List (List ℕ)) (i j : ℕ) → length (row_at picture i) ≤ j → cell_at (only picture) i j ≡ 0
+only_past : (picture : Rows) (i j : ℕ) → length (row_at picture i) ≤ j → cell_at (only picture) i j ≡ 0
 only_past picture i j p = get_or_past (row_at (only picture) i) j 0 (let e = (only_shape picture).each i in omega arith)
 
 -- a cell whose colour is left lies in the picture, and the colour is its own
-record Own (picture : List (List ℕ)) (i j k : ℕ) : Type 0 where
+record Own (picture : Rows) (i j k : ℕ) : Type 0 where
   inside : j < length (row_at picture i)
   own : k ≡ cell_at picture i j
 
-own_colour : (picture : List (List ℕ)) (i j k : ℕ) → Leaves (only picture) i j k → Own picture i j k
+own_colour : (picture : Rows) (i j k : ℕ) → Leaves (only picture) i j k → Own picture i j k
 own_colour picture i j k s =
     let P : ℕ → Type 0 = λ m. IsBitSet m k in
     elim (cases_lt j (length (row_at picture i))) [
@@ -54,10 +55,11 @@ own_colour picture i j k s =
       | inr p ↦ absurd (no_bit k (subst P (only_past picture i j p) s))
     ]
 
-has_own : (picture : List (List ℕ)) (i j : ℕ) → j < length (row_at picture i) → Leaves (only picture) i j (cell_at picture i j)
+has_own : (picture : Rows) (i j : ℕ) → j < length (row_at picture i) → Leaves (only picture) i j (cell_at picture i j)
 has_own picture i j l = let P : ℕ → Type 0 = λ m. IsBitSet m (cell_at picture i j) in subst P (sym (only_cell picture i j l)) ((power_has (cell_at picture i j) (cell_at picture i j)).1 refl)
 
-along_inside : (axis : Axis) (at i : ℕ) (picture : List (List ℕ)) → IsPicture picture → at < lines_along axis picture → i < length (line_along axis at picture) → col_on axis at i < length (row_at picture (row_on axis at i))
+along_inside : (axis : Axis) (at i : ℕ) (picture : Rows) → IsPicture picture → at < lines_along axis picture → i < length (line_along axis at picture)
+    → col_on axis at i < length (row_at picture (row_on axis at i))
 along_inside Across at i picture is h l = l
 along_inside Down at i picture is h l =
     let m = length-map picture (λ (row : List ℕ). get_or row at 0) in
@@ -65,7 +67,7 @@ along_inside Down at i picture is h l =
     omega arith
 
 -- a line of the picture fits that line of the facts that leave it alone
-own_line : (picture : List (List ℕ)) → IsPicture picture → (line : LineId) → HasLine picture line → Fits (clue_at (clues_of picture) line) (line_of (only picture) line) (line_of picture line)
+own_line : (picture : Rows) → IsPicture picture → (line : LineId) → HasLine picture line → Fits (clue_at (clues_of picture) line) (line_of (only picture) line) (line_of picture line)
 own_line picture is line has =
     let len = same_line_length picture (only picture) line (only_shape picture) in
     record {
@@ -77,7 +79,7 @@ own_line picture is line has =
           rw (cell_on picture line j) (rw (cell_on (only picture) line j) left);
     }
 
-only_closed : (picture : List (List ℕ)) → IsPicture picture → IsClosed (clues_of picture) (only picture)
+only_closed : (picture : Rows) → IsPicture picture → IsClosed (clues_of picture) (only picture)
 only_closed picture is line has i k s =
     let P : ℕ → Type 0 = λ m. IsBitSet m k in
     let own = own_colour picture (row_on line.axis line.at i) (col_on line.axis line.at i) k (subst P (cell_on (only picture) line i) s) in
@@ -92,7 +94,7 @@ only_closed picture is line has i k s =
     }
 
 -- facts leave a picture exactly where they lie inside those that leave it alone
-within_only : (picture facts : List (List ℕ)) → SameShape picture facts → LeavesPicture picture facts → IsWithin facts (only picture)
+within_only : (picture : Rows) (facts : Masks) → SameShape picture facts → LeavesPicture picture facts → IsWithin facts (only picture)
 within_only picture facts shape leaves = record {
   same_shape = shape_trans (shape_sym shape) (only_shape picture);
   leaves = λ i j k s.
@@ -100,7 +102,7 @@ within_only picture facts shape leaves = record {
       rw own.own (leaves i j own.inside);
 }
 
-leaves_within : (picture facts : List (List ℕ)) → IsWithin facts (only picture) → LeavesPicture picture facts
+leaves_within : (picture : Rows) (facts : Masks) → IsWithin facts (only picture) → LeavesPicture picture facts
 leaves_within picture facts w row col inside = w.leaves row col (cell_at picture row col) (has_own picture row col inside)
 
 pub only_is_closed : OnlyIsClosed
@@ -120,14 +122,14 @@ picture_stays picture base facts is shape leaves least =
 
 -- ---- pictures with given clues
 
-fills_closed : (clues : Clues) (facts picture : List (List ℕ)) → Fills clues facts picture → IsClosed clues (only picture)
+fills_closed : (clues : Clues) (facts : Masks) (picture : Rows) → Fills clues facts picture → IsClosed clues (only picture)
 fills_closed clues facts picture f = let P : Clues → Type 0 = λ c. IsClosed c (only picture) in subst P f.has_clues (only_closed picture f.is_picture)
 
-fills_within : (clues : Clues) (facts picture : List (List ℕ)) → Fills clues facts picture → IsWithin facts (only picture)
+fills_within : (clues : Clues) (facts : Masks) (picture : Rows) → Fills clues facts picture → IsWithin facts (only picture)
 fills_within clues facts picture f = within_only picture facts f.same_shape f.leaves
 
 -- what fills facts fills all that lie inside the same closed facts, and all that exclude less
-fills_more : (clues : Clues) (base facts picture : List (List ℕ)) → SameShape base facts → IsWithin facts (only picture) → Fills clues base picture → Fills clues facts picture
+fills_more : (clues : Clues) (base facts : Masks) (picture : Rows) → SameShape base facts → IsWithin facts (only picture) → Fills clues base picture → Fills clues facts picture
 fills_more clues base facts picture shape w f = record {
   is_picture = f.is_picture;
   same_shape = shape_trans f.same_shape shape;
@@ -136,7 +138,7 @@ fills_more clues base facts picture shape w f = record {
 }
 
 -- each line of a picture fits the facts that leave it alone
-fits_only : (clues : Clues) (facts picture : List (List ℕ)) (line : LineId) → Fills clues facts picture → HasLine facts line → CanFit (clue_at clues line) (line_of (only picture) line)
+fits_only : (clues : Clues) (facts : Masks) (picture : Rows) (line : LineId) → Fills clues facts picture → HasLine facts line → CanFit (clue_at clues line) (line_of (only picture) line)
 fits_only clues facts picture line f has =
     rw (← f.has_clues) (line_of picture line, own_line picture f.is_picture line (same_has_line facts picture line (shape_sym f.same_shape) has))
 

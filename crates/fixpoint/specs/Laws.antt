@@ -1,34 +1,42 @@
 -- Laws of the least closed facts, and of pictures that facts allow.
-use Rattle.std.specs.Prelude.{◌≡◌, ℕ, ◌+◌, ◌<◌, ◌↔◌, List, length}
+use Rattle.std.specs.Prelude.{◌≡◌, ℕ, ◌+◌, ◌<◌, ◌↔◌, length}
+use Rattle.line_settle.specs.Masks.{Masks}
 use Rattle.picture.specs.Picture.{IsPicture}
 use Rattle.picture.specs.LineSet.{Lines, name_count}
-use Rattle.picture.specs.Rows.{row_at, cell_at, width_of}
+use Rattle.picture.specs.Rows.{row_at, cell_at, width_of, Rows}
 use Rattle.clues.specs.ClueBook.{Clues, clues_of}
 use Rattle.line_settle.specs.declared.line_engine.Outcome.{Outcome}
 use Rattle.line_settle.specs.FactSets.{IsClosed, IsLeast, IsWithin, Leaves, SameShape}
-use Rattle.fixpoint.specs.Closing.{Closes, HasDeadLine}
-use Rattle.fixpoint.specs.Filling.{Fills, LeavesPicture, only}
+use Rattle.fixpoint.specs.ClosedFacts.{Closes, HasDeadLine}
+use Rattle.fixpoint.specs.Fillings.{Fills, LeavesPicture, only}
 use Rattle.fixpoint.specs.LineNames.{AllLines}
 
 -- the names of all lines are as many as the rows and the columns together
 abbrev pub AllNamesAreCounted : Type 0
-AllNamesAreCounted = (facts : List (List ℕ)) (lines : Lines) → AllLines facts lines → name_count lines ≡ length facts + width_of facts
+AllNamesAreCounted = (facts : Masks) (lines : Lines) → AllLines facts lines
+    → name_count lines ≡ length facts + width_of facts
 
 -- where the base leaves the colours of a picture that has the clues, so do the least closed facts
 abbrev pub PictureStays : Type 0
-PictureStays = (picture base facts : List (List ℕ)) → IsPicture picture → SameShape picture base → LeavesPicture picture base → IsLeast (clues_of picture) base facts → LeavesPicture picture facts
+PictureStays = (picture : Rows) (base facts : Masks) → IsPicture picture → SameShape picture base
+    → LeavesPicture picture base → IsLeast (clues_of picture) base facts → LeavesPicture picture facts
 
--- The facts that leave a picture alone: they leave in each of its cells its own colour and no other, they are closed for its
--- clues, and other facts leave the picture exactly where all that they exclude is excluded here.
+-- The facts that leave a picture alone: they leave in each of its cells its own colour and no other, they are
+-- closed for its clues, and other facts leave the picture exactly where all that they exclude is excluded here.
 pub record OnlyIsClosed : Type 0 where
-  pub same_shape : (picture : List (List ℕ)) → SameShape picture (only picture)
-  pub leaves : (picture : List (List ℕ)) (row col k : ℕ) → Leaves (only picture) row col k ↔ ((col < length (row_at picture row)) × (k ≡ cell_at picture row col))
-  pub closed : (picture : List (List ℕ)) → IsPicture picture → IsClosed (clues_of picture) (only picture)
-  pub within : (picture facts : List (List ℕ)) → SameShape picture facts → LeavesPicture picture facts ↔ IsWithin facts (only picture)
+  pub same_shape : (picture : Rows) → SameShape picture (only picture)
+  pub leaves : (picture : Rows) (row col k : ℕ)
+      → Leaves (only picture) row col k ↔ ((col < length (row_at picture row)) × (k ≡ cell_at picture row col))
+  pub closed : (picture : Rows) → IsPicture picture → IsClosed (clues_of picture) (only picture)
+  pub within : (picture : Rows) (facts : Masks) → SameShape picture facts
+      → LeavesPicture picture facts ↔ IsWithin facts (only picture)
 
--- Closing loses no picture and finds none anew: what fills the facts handed in is what fills those that then stand. Where some
--- line is dead, as Dead says, nothing fills the facts handed in.
+-- Closing loses no picture and finds none anew: what fills the facts passed is what fills those that then stand. Where
+-- some line is dead, as Dead says, nothing fills the facts passed.
 pub record ClosingKeepsFillings : Type 0 where
-  pub stays : (clues : Clues) (base facts : List (List ℕ)) (outcome : Outcome) (picture : List (List ℕ)) → Closes clues base facts outcome → Fills clues base picture ↔ Fills clues facts picture
-  pub least : (clues : Clues) (base facts picture : List (List ℕ)) → IsLeast clues base facts → Fills clues base picture ↔ Fills clues facts picture
-  pub none_where_dead : (clues : Clues) (base picture : List (List ℕ)) → HasDeadLine clues base → Fills clues base picture → ⊥
+  pub stays : (clues : Clues) (base facts : Masks) (outcome : Outcome) (picture : Rows)
+      → Closes clues base facts outcome → Fills clues base picture ↔ Fills clues facts picture
+  pub least : (clues : Clues) (base facts : Masks) (picture : Rows) → IsLeast clues base facts
+      → Fills clues base picture ↔ Fills clues facts picture
+  pub none_where_dead : (clues : Clues) (base : Masks) (picture : Rows) → HasDeadLine clues base
+      → Fills clues base picture → ⊥

@@ -1,8 +1,5 @@
-pub mod Closing
-pub mod Filling
-pub mod FillingLaws
+pub mod ClosedFacts
+pub mod Fillings
 pub mod LineNames
-pub mod Settling
+pub mod LeastFacts
 pub mod Laws
-pub mod ClosingLaws
-pub mod WorkLaws

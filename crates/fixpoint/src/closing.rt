@@ -1,7 +1,7 @@
 //! Propagating facts to the fixpoint of all lines.
 
 ghost use Rattle.std.specs.Prelude.{◌≡◌};
-ghost use Rattle.fixpoint.specs.Closing.{AreClosable, Closes, KeepsOtherLines, QuietOutside, Works, evaluated};
+ghost use Rattle.fixpoint.specs.ClosedFacts.{AreClosable, Closes, KeepsOtherLines, QuietOutside, Works, evaluated};
 ghost use Rattle.fixpoint.specs.LineNames.{AreLinesOf};
 
 use clues::ClueBook;
@@ -20,8 +20,8 @@ pub struct Closed {
 
 /// Excludes in the facts what any line forces, until no line forces more. Every line that is not in `dirty` has to be
 /// quiet already: it forces nothing new, and some list fits it. Narrowed leaves the least closed facts that hold the
-/// ones handed in. Dead says that under these some line has no list that fits; what then stands is for throwing away.
-/// The lines that the agenda had are forgotten. No memory is taken.
+/// ones passed. Dead says that under these some line has no list that fits; what then stands is for throwing away. The
+/// lines that the agenda had are forgotten. No memory is taken.
 pub fn close_facts<E: LineEngine, A: Agenda>(
     engine: &mut E,
     agenda: &mut A,

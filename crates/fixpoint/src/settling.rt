@@ -1,10 +1,10 @@
 //! Settling clues from a base: the least closed facts.
 
 ghost use Rattle.std.specs.Prelude.{◌≡◌, ◌≤◌};
-ghost use Rattle.line_settle.specs.Counting.{Counts};
+ghost use Rattle.line_settle.specs.Counts.{Counts};
 ghost use Rattle.line_settle.specs.FactSets.{IsFacts};
-ghost use Rattle.fixpoint.specs.Closing.{AreClosable};
-ghost use Rattle.fixpoint.specs.Settling.{Settles, SettlingWorks};
+ghost use Rattle.fixpoint.specs.ClosedFacts.{AreClosable};
+ghost use Rattle.fixpoint.specs.LeastFacts.{Settles, SettlingWorks};
 
 use crate::closing::close_facts;
 use crate::fault::CloseFault;

@@ -4,12 +4,13 @@ use Rattle.std.proofs.Math.ListN.{get_or-append}
 use Rattle.std.proofs.Math.Seq.{get_or-append_seam}
 use Rattle.std.proofs.lemmas.Bool.{cases_eq}
 use Rattle.std.proofs.lemmas.List.{get_or_read}
+use Rattle.line_settle.specs.Masks.{Masks}
 use Rattle.justify.specs.declared.step.Step.{Step}
 use Rattle.picture.specs.Rows.{line_of}
 use Rattle.justify.specs.Premises.{Mentions}
 use Rattle.justify.specs.Steps.{step_at, Draws}
 use Rattle.justify.specs.Book.{Account, account, IsAccount, AreFactsBehind, CanFollow, CanAdd, GainDrawn, IsDrawnBefore}
-use Rattle.line_settle.specs.GridLaws.{same_line_length, shape_trans}
+use Rattle.line_settle.proofs.GridLaws.{same_line_length, shape_trans}
 
 pub step_before : (steps : List Step) (step : Step) (j : ℕ) → j < length steps → step_at (steps ++ step ∷ []) j ≡ step_at steps j
 step_before steps step j l = get_or-append steps (step ∷ []) _ j l
@@ -31,7 +32,7 @@ module _ (steps : List Step) (step : Step) (n : ℕ) (within : n ≤ length step
       let l : d.which < length steps = (let b = d.before in omega arith) in
       record { which = d.which; before = d.before; draws = (let P : Step → Type 0 = λ s. Draws s row col k in subst P (step_before steps step d.which l) d.draws) }
 
-pub follows_more : (base : List (List ℕ)) (steps : List Step) (more : Step) (n : ℕ) (step : Step) → n ≤ length steps → CanFollow base steps n step → CanFollow base (steps ++ more ∷ []) n step
+pub follows_more : (base : Masks) (steps : List Step) (more : Step) (n : ℕ) (step : Step) → n ≤ length steps → CanFollow base steps n step → CanFollow base (steps ++ more ∷ []) n step
 follows_more base steps more n step within f = record {
   has_line = f.has_line;
   premises_inside = f.premises_inside;
@@ -41,7 +42,7 @@ follows_more base steps more n step within f = record {
   drawn_once = λ i k s d. f.drawn_once i k s (drawn_fewer steps more n within _ _ k d);
 }
 
-module _ (base : List (List ℕ)) (steps : List Step) (step : Step) (old new : List (List ℕ)) (b : AreFactsBehind base steps (length steps) old) (g : GainDrawn step old new) where
+module _ (base : Masks) (steps : List Step) (step : Step) (old new : Masks) (b : AreFactsBehind base steps (length steps) old) (g : GainDrawn step old new) where
   drawn_here : (row col k : ℕ) → Draws step row col k → IsDrawnBefore (steps ++ step ∷ []) (length steps + 1) row col k
   drawn_here row col k d = record { which = length steps; before = omega arith; draws = (let P : Step → Type 0 = λ s. Draws s row col k in subst P (sym (step_last steps step)) d) }
 
@@ -70,12 +71,14 @@ module _ (base : List (List ℕ)) (steps : List Step) (step : Step) (old new : L
         );
       })
 
-pub account_more : (base : List (List ℕ)) (steps : List Step) (old new : List (List ℕ)) (step : Step) → IsAccount (account base steps old) → CanAdd (account base steps old) step → GainDrawn step old new → IsAccount (account base (steps ++ step ∷ []) new)
+pub account_more : (base : Masks) (steps : List Step) (old new : Masks) (step : Step) → IsAccount (account base steps old) → CanAdd (account base steps old) step → GainDrawn step old new
+    → IsAccount (account base (steps ++ step ∷ []) new)
 account_more base steps old new step is can g = record {
   base_facts = is.base_facts;
   follows = λ n l. elim (cases_eq n (length steps)) [
     | inl e ↦
-        subst (λ (m : ℕ). CanFollow base (steps ++ step ∷ []) m (step_at (steps ++ step ∷ []) m)) (sym e) (rw (step_last steps step) (follows_more base steps step (length steps) step (omega arith) can))
+        subst (λ (m : ℕ). CanFollow base (steps ++ step ∷ []) m (step_at (steps ++ step ∷ []) m)) (sym e)
+        (rw (step_last steps step) (follows_more base steps step (length steps) step (omega arith) can))
     | inr other ↦
         let len = one_longer steps step in
         let m : n < length steps = omega arith in
@@ -85,13 +88,14 @@ account_more base steps old new step is can g = record {
 }
 
 -- what the step that was added draws lies on its line of the facts
-pub drawn_lies_inside : (base : List (List ℕ)) (steps : List Step) (facts : List (List ℕ)) (step : Step) → IsAccount (account base steps facts) → CanAdd (account base steps facts) step → (i : ℕ) → Mentions step.drawn i → i < length (line_of facts step.line)
+pub drawn_lies_inside : (base : Masks) (steps : List Step) (facts : Masks) (step : Step) → IsAccount (account base steps facts) → CanAdd (account base steps facts) step → (i : ℕ)
+    → Mentions step.drawn i → i < length (line_of facts step.line)
 drawn_lies_inside base steps facts step is can i m =
     let len = same_line_length base facts step.line is.behind.same_shape in
     let l = can.drawn_inside i m in
     omega arith
 
--- what stands behind all steps is the one that was put there
+-- what follows all steps is the one that was put there
 pub found_last : (steps items : List Step) (step found : Step) (n : ℕ) → n ≡ length steps → items ≡ steps ++ step ∷ [] → found ≡ get_or items n found → found ≡ step
 found_last steps items step found n at e here = grind (arith, get_or, get_or-append_seam, length)
 

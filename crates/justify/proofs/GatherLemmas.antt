@@ -1,5 +1,6 @@
 -- The cells in which the masks of a line have colours, gathered one after another.
-use Rattle.std.proofs.Common.{◌≡◌, ℕ, ◌+◌, ◌-◌, ◌/◌, ◌%◌, ◌<◌, ◌≤◌, ◌↔◌, ◌^◌, List, length, take, sym, ap, ◌∙◌, subst, arith, inl, inr, get_or, set, get_or-set_same, get_or-set_other, Bool, false, cond, not, eqb, eq-eqb, ne_eqb, map, replicate, w16, length-take}
+use Rattle.std.proofs.Common.{◌≡◌, ℕ, ◌+◌, ◌-◌, ◌/◌, ◌%◌, ◌<◌, ◌≤◌, ◌↔◌, ◌^◌, List, length, take, sym, ap, ◌∙◌, subst, arith, inl, inr, get_or, set, get_or-set_same, get_or-set_other, Bool, false}
+use Rattle.std.proofs.Common.{cond, not, eqb, eq-eqb, ne_eqb, map, replicate, w16, length-take}
 use Rattle.std.specs.Prelude.{IsBitSet}
 use Rattle.std.specs.Int.{bit_at}
 use Rattle.std.specs.Simd.Lanes.{zip2, chunk, top, mask_l}
@@ -10,9 +11,9 @@ use Rattle.std.proofs.lemmas.Nat.{pow-add}
 use Rattle.std.proofs.lemmas.Nat.Bits.{bit_at-zero}
 use Rattle.std.proofs.Math.Nat.{div-div-eq-div-mul}
 use Rattle.justify.specs.declared.premise.Premise.{Premise}
-use Rattle.justify.specs.Gathering.{Gathered, AreColoured}
+use Rattle.justify.specs.GatheredCells.{Gathered, AreColoured}
 use Rattle.justify.specs.Premises.{premise, premise_at, Gathers}
-use Rattle.picture.specs.BitLaws.{no_bit}
+use Rattle.picture.proofs.BitLaws.{no_bit}
 
 module _ (masks : List ℕ) (n : ℕ) (found : List Premise) (count : ℕ) (new : Premise) (g : Gathered masks n found count) where
   kept : (m : ℕ) → m < count → premise_at (set found count new) m ≡ premise_at found m
@@ -35,7 +36,8 @@ module _ (masks : List ℕ) (n : ℕ) (found : List Premise) (count : ℕ) (new 
             let s : m < count = omega arith in
             subst (λ (x : Premise). x.at < (premise_at (set found count new) p).at) (sym (kept m s)) (elim (cases_eq p count) [
               | inl e ↦
-                  subst (λ (j : ℕ). (premise_at found m).at < (premise_at (set found count new) j).at) (sym e) (subst (λ (x : Premise). (premise_at found m).at < x.at) (sym here) (let b = g.before m s in omega arith))
+                  subst (λ (j : ℕ). (premise_at found m).at < (premise_at (set found count new) j).at) (sym e)
+                  (subst (λ (x : Premise). (premise_at found m).at < x.at) (sym here) (let b = g.before m s in omega arith))
               | inr other ↦
                   let t : p < count = omega arith in
                   subst (λ (x : Premise). (premise_at found m).at < x.at) (sym (kept p t)) (g.rising m p a t)
@@ -48,7 +50,8 @@ module _ (masks : List ℕ) (n : ℕ) (found : List Premise) (count : ℕ) (new 
         ];
       }
 
-pub gathered_all : (masks : List ℕ) (n : ℕ) (found : List Premise) (count : ℕ) → length masks ≤ n → count ≤ length found → ((i : ℕ) → get_or masks i 0 < 2 ^ 16) → Gathered masks n found count → Gathers masks (take count found)
+pub gathered_all : (masks : List ℕ) (n : ℕ) (found : List Premise) (count : ℕ) → length masks ≤ n → count ≤ length found → ((i : ℕ) → get_or masks i 0 < 2 ^ 16) → Gathered masks n found count
+    → Gathers masks (take count found)
 gathered_all masks n found count all room small g =
     let front : (m : ℕ) → m < count → premise_at (take count found) m ≡ premise_at found m = λ m l. get_or-take count found m (premise 0 0) l in
     let len : length (take count found) ≡ count = grind (arith, length-take) in
@@ -94,7 +97,8 @@ gathered_all masks n found count all room small g =
     }
 
 -- over cells without colours, nothing is gathered
-pub gathered_over : (masks : List ℕ) (n m : ℕ) (found : List Premise) (count : ℕ) → n ≤ m → ((i : ℕ) → n ≤ i → i < m → get_or masks i 0 ≡ 0) → Gathered masks n found count → Gathered masks m found count
+pub gathered_over : (masks : List ℕ) (n m : ℕ) (found : List Premise) (count : ℕ) → n ≤ m → ((i : ℕ) → n ≤ i → i < m → get_or masks i 0 ≡ 0) → Gathered masks n found count
+    → Gathered masks m found count
 gathered_over masks n m found count more none g = grind arith
 
 -- ---- cells found by bits
@@ -116,7 +120,7 @@ module _ (masks : List ℕ) (place end bits : ℕ) (are : AreColoured masks plac
   pub none_below : (s : ℕ) → ((j : ℕ) → j < s → bit_at bits j ≡ 0) → bit_at bits s ≡ 1 → (i : ℕ) → place ≤ i → i < place + s → get_or masks i 0 ≡ 0
   none_below s low one i past l = let inside = ((are.each s).0 one).0 in blank i past (omega arith) (low (i - place) (omega arith))
 
-  -- the bits behind one are those of the cells behind its cell
+  -- the bits after one are those of the cells after its cell
   pub coloured_behind : (s : ℕ) → AreColoured masks (place + s + 1) end (bits / 2 ^ s / 2)
   coloured_behind s = record {
     each = λ j.
@@ -132,14 +136,16 @@ told_some : (mask bit : ℕ) → bit ≡ cond (some mask) 1 0 → (bit ≡ 1) �
 told_some mask bit told = grind (arith, cond, eq-eqb, ne_eqb, not)
 
 -- what the comparison of eight masks with none gives
-pub eight_coloured : (masks : List ℕ) (first : ℕ) → first + 8 ≤ length masks → AreColoured masks first (first + 8) (mask_l (map (top 15) (zip2 (λ (a b : ℕ). cond (not (eqb a b)) 65535 0) (chunk first 8 masks) (replicate 8 0))) % 2 ^ 64)
+pub eight_coloured : (masks : List ℕ) (first : ℕ) → first + 8 ≤ length masks
+    → AreColoured masks first (first + 8) (mask_l (map (top 15) (zip2 (λ (a b : ℕ). cond (not (eqb a b)) 65535 0) (chunk first 8 masks) (replicate 8 0))) % 2 ^ 64)
 eight_coloured masks first room =
     let eight = chunk first 8 masks in
     let len : length eight ≡ 8 = length-chunk first 8 masks room in
     let is = bitmask_splat w16 (λ (a b : ℕ). not (eqb a b)) eight 8 0 len (omega arith) in
     record {
       each = λ j.
-          let bit : bit_at (mask_l (map (top 15) (zip2 (λ (a b : ℕ). cond (not (eqb a b)) 65535 0) eight (replicate 8 0))) % 2 ^ 64) j ≡ cond (get_or (map some eight) j false) 1 0 = ap (λ m. bit_at m j) is ∙ bit_mask_l (map some eight) j in
+          let bit : bit_at (mask_l (map (top 15) (zip2 (λ (a b : ℕ). cond (not (eqb a b)) 65535 0) eight (replicate 8 0))) % 2 ^ 64) j ≡ cond (get_or (map some eight) j false) 1 0 =
+          ap (λ m. bit_at m j) is ∙ bit_mask_l (map some eight) j in
           elim (cases_lt j 8) [
             | inl l ↦
                 let at : get_or (map some eight) j false ≡ some (get_or masks (first + j) 0) = get_or-map some eight j 0 false (omega arith) ∙ ap some (get_or-chunk first 8 masks j 0 l) in

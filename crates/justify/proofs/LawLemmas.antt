@@ -2,23 +2,24 @@
 use Rattle.std.proofs.Common.{◌≡◌, ℕ, zero, suc, ◌<◌, ◌≤◌, List, [], ◌∷◌, ◌++◌, length, refl, sym, ap, ◌∙◌, subst, arith, inl, inr, get_or}
 use Rattle.std.specs.Prelude.{IsBitSet}
 use Rattle.std.proofs.lemmas.Bool.{cases_eq}
+use Rattle.line_settle.specs.Masks.{Masks}
 use Rattle.picture.specs.declared.line_id.LineId.{LineId}
 use Rattle.picture.specs.Rows.{cell_at, line_of, width_of, HasLine}
 use Rattle.clues.specs.declared.block.Block.{Block}
 use Rattle.clues.specs.ClueBook.{Clues, clue_at}
 use Rattle.line_settle.specs.declared.line_engine.Outcome.TheVariants.{Narrowed, Dead}
-use Rattle.line_settle.specs.Fitting.{CanHave}
-use Rattle.line_settle.specs.Narrowing.{Narrows}
+use Rattle.line_settle.specs.Fits.{CanHave}
+use Rattle.line_settle.specs.NarrowedLine.{Narrows}
 use Rattle.line_settle.specs.FactSets.{Leaves, IsWithin, IsClosed, IsClosedLine, Gains, row_on, col_on}
 use Rattle.justify.specs.declared.step.Step.{Step}
 use Rattle.justify.specs.Premises.{Says}
 use Rattle.justify.specs.Steps.{step_at, Draws, IsForced, IsTrimmed}
 use Rattle.justify.specs.Book.{Account, IsAccount, IsDrawnBefore, CanAdd, GainDrawn, Adds, IsDerivation, AreTrimmed}
-use Rattle.justify.specs.Making.{IsNewStep}
+use Rattle.justify.specs.NewSteps.{IsNewStep}
 use Rattle.justify.specs.Laws.{FactsAreWhatIsKnown, NewStepsFollow, NewStepsDerive, DerivationsGrow, DerivationsStayInside}
-use Rattle.line_settle.specs.GridLaws.{same_line_length, same_has_line, shape_sym, shape_trans, cell_on}
-use Rattle.line_settle.specs.FitLaws.{have_left, have_narrowed}
-use Rattle.picture.specs.BitLaws.{same_bits, bit_below}
+use Rattle.line_settle.proofs.GridLaws.{same_line_length, same_has_line, shape_sym, shape_trans, cell_on}
+use Rattle.line_settle.proofs.FitLaws.{have_left, have_narrowed}
+use Rattle.picture.proofs.BitLaws.{same_bits, bit_below}
 use Rattle.justify.proofs.SaidLemmas.{bit_or_not}
 use Rattle.justify.proofs.PlaceLemmas.{one_along, drawn_or_not}
 use Rattle.justify.proofs.BookLemmas.{step_before, step_last, one_longer}
@@ -32,10 +33,10 @@ facts_known base facts steps n b row col k = grind (arith, bit_or_not, cell_at, 
 -- ---- new steps
 
 -- what a line of the facts has at a place
-at_place : (facts : List (List ℕ)) (line : LineId) (i k : ℕ) → IsBitSet (get_or (line_of facts line) i 0) k → Leaves facts (row_on line.axis line.at i) (col_on line.axis line.at i) k
+at_place : (facts : Masks) (line : LineId) (i k : ℕ) → IsBitSet (get_or (line_of facts line) i 0) k → Leaves facts (row_on line.axis line.at i) (col_on line.axis line.at i) k
 at_place facts line i k s = let P : ℕ → Type 0 = λ m. IsBitSet m k in subst P (cell_on facts line i) s
 
-place_at : (facts : List (List ℕ)) (line : LineId) (i k : ℕ) → Leaves facts (row_on line.axis line.at i) (col_on line.axis line.at i) k → IsBitSet (get_or (line_of facts line) i 0) k
+place_at : (facts : Masks) (line : LineId) (i k : ℕ) → Leaves facts (row_on line.axis line.at i) (col_on line.axis line.at i) k → IsBitSet (get_or (line_of facts line) i 0) k
 place_at facts line i k s = let P : ℕ → Type 0 = λ m. IsBitSet m k in subst P (sym (cell_on facts line i)) s
 
 can_add_own : (book : Account) (clue : List Block) (step : Step) → IsAccount book → HasLine book.facts step.line → IsNewStep clue step.line (line_of book.facts step.line) step → CanAdd book step
@@ -59,7 +60,7 @@ can_add : (book : Account) (clue : List Block) (line : LineId) (step : Step) →
 can_add book clue line step is has n =
     subst (λ (l : LineId). HasLine book.facts l → IsNewStep clue l (line_of book.facts l) step → CanAdd book step) n.of_line (can_add_own book clue step is) has n
 
-module _ (clue : List Block) (step : Step) (old new : List (List ℕ)) (n : IsNewStep clue step.line (line_of old step.line) step) (g : GainDrawn step old new) where
+module _ (clue : List Block) (step : Step) (old new : Masks) (n : IsNewStep clue step.line (line_of old step.line) step) (g : GainDrawn step old new) where
   still_left : (i k : ℕ) → IsBitSet (get_or (line_of new step.line) i 0) k → CanHave clue (line_of old step.line) i k
   still_left i k s =
       let o = (g.leaves _ _ k).0 (at_place new step.line i k s) in
@@ -95,20 +96,24 @@ module _ (clue : List Block) (step : Step) (old new : List (List ℕ)) (n : IsNe
   closes_own : IsClosedLine clue (line_of new step.line)
   closes_own i k s = have_narrowed clue (line_of old step.line) (line_of new step.line) Narrowed narrows_own i k (still_left i k s)
 
-gains_new : (old new : Account) (clue : List Block) (line : LineId) (step : Step) → Adds old step new → HasLine old.facts line → IsNewStep clue line (line_of old.facts line) step → Gains clue line old.facts new.facts Narrowed
+gains_new : (old new : Account) (clue : List Block) (line : LineId) (step : Step) → Adds old step new → HasLine old.facts line → IsNewStep clue line (line_of old.facts line) step
+    → Gains clue line old.facts new.facts Narrowed
 gains_new old new clue line step a has n =
     subst (λ (l : LineId). IsNewStep clue l (line_of old.facts l) step → Gains clue l old.facts new.facts Narrowed) n.of_line (λ m. gains_own clue step old.facts new.facts m a.facts) n
 
-closes_new : (old new : Account) (clue : List Block) (line : LineId) (step : Step) → Adds old step new → HasLine old.facts line → IsNewStep clue line (line_of old.facts line) step → IsClosedLine clue (line_of new.facts line)
+closes_new : (old new : Account) (clue : List Block) (line : LineId) (step : Step) → Adds old step new → HasLine old.facts line → IsNewStep clue line (line_of old.facts line) step
+    → IsClosedLine clue (line_of new.facts line)
 closes_new old new clue line step a has n = grind (arith, closes_own, line_of)
 
 pub new_follow : NewStepsFollow
 new_follow = record { can_add = can_add; gains = gains_new; closes = closes_new }
 
-forced_new : (clues : Clues) (book : Account) (line : LineId) (step : Step) → IsAccount book → IsNewStep (clue_at clues line) line (line_of book.facts line) step → IsForced (clue_at clues step.line) (length (line_of book.base step.line)) step
+forced_new : (clues : Clues) (book : Account) (line : LineId) (step : Step) → IsAccount book → IsNewStep (clue_at clues line) line (line_of book.facts line) step
+    → IsForced (clue_at clues step.line) (length (line_of book.base step.line)) step
 forced_new clues book line step is n = grind (arith, clue_at, length, line_of, same_line_length)
 
-trimmed_new : (clues : Clues) (book : Account) (line : LineId) (step : Step) → IsAccount book → IsNewStep (clue_at clues line) line (line_of book.facts line) step → IsTrimmed (clue_at clues step.line) (length (line_of book.base step.line)) step
+trimmed_new : (clues : Clues) (book : Account) (line : LineId) (step : Step) → IsAccount book → IsNewStep (clue_at clues line) line (line_of book.facts line) step
+    → IsTrimmed (clue_at clues step.line) (length (line_of book.base step.line)) step
 trimmed_new clues book line step is n = grind (arith, clue_at, length, line_of, same_line_length)
 
 pub new_derive : NewStepsDerive
@@ -126,11 +131,13 @@ each_more R old step before now n l = elim (cases_eq n (length old)) [
       subst R (sym (step_before old step n m)) (before n m)
 ]
 
-each_added : (R : Step → Type 0) (old new : Account) (step : Step) → new.steps ≡ old.steps ++ step ∷ [] → ((n : ℕ) → n < length old.steps → R (step_at old.steps n)) → R step → (n : ℕ) → n < length new.steps → R (step_at new.steps n)
+each_added : (R : Step → Type 0) (old new : Account) (step : Step) → new.steps ≡ old.steps ++ step ∷ [] → ((n : ℕ) → n < length old.steps → R (step_at old.steps n)) → R step → (n : ℕ)
+    → n < length new.steps → R (step_at new.steps n)
 each_added R old new step e before now =
     subst (λ (steps : List Step). (n : ℕ) → n < length steps → R (step_at steps n)) (sym e) (each_more R old.steps step before now)
 
-derives_more : (clues : Clues) (old new : Account) (step : Step) → IsAccount old → Adds old step new → IsForced (clue_at clues step.line) (length (line_of old.base step.line)) step → IsDerivation clues old → IsDerivation clues new
+derives_more : (clues : Clues) (old new : Account) (step : Step) → IsAccount old → Adds old step new → IsForced (clue_at clues step.line) (length (line_of old.base step.line)) step
+    → IsDerivation clues old → IsDerivation clues new
 derives_more clues old new step is a forced d = record {
   rows = ap length a.base ∙ d.rows;
   columns = ap width_of a.base ∙ d.columns;
@@ -138,7 +145,8 @@ derives_more clues old new step is a forced d = record {
       rw a.base (each_added (λ s. IsForced (clue_at clues s.line) (length (line_of old.base s.line)) s) old new step a.steps d.forced forced);
 }
 
-trimmed_more : (clues : Clues) (old new : Account) (step : Step) → IsAccount old → Adds old step new → IsTrimmed (clue_at clues step.line) (length (line_of old.base step.line)) step → AreTrimmed clues old → AreTrimmed clues new
+trimmed_more : (clues : Clues) (old new : Account) (step : Step) → IsAccount old → Adds old step new → IsTrimmed (clue_at clues step.line) (length (line_of old.base step.line)) step
+    → AreTrimmed clues old → AreTrimmed clues new
 trimmed_more clues old new step is a trimmed t =
     rw a.base (each_added (λ s. IsTrimmed (clue_at clues s.line) (length (line_of old.base s.line)) s) old new step a.steps t trimmed)
 
@@ -150,9 +158,10 @@ derivations_grow = record { derives = derives_more; trimmed = trimmed_more }
 holds_base : (book : Account) → IsAccount book → IsWithin book.base book.facts
 holds_base book is = record { same_shape = is.behind.same_shape; leaves = λ row col k s. ((is.behind.leaves row col k).0 s).0 }
 
-module _ (clues : Clues) (book : Account) (is : IsAccount book) (derives : IsDerivation clues book) (others : List (List ℕ)) (closed : IsClosed clues others) (w : IsWithin book.base others) where
+module _ (clues : Clues) (book : Account) (is : IsAccount book) (derives : IsDerivation clues book) (others : Masks) (closed : IsClosed clues others) (w : IsWithin book.base others) where
   -- a step whose premises the others hold draws nothing that they leave
-  draws_nothing_left : (n : ℕ) → n < length book.steps → ((row col k : ℕ) → Leaves others row col k → IsDrawnBefore book.steps n row col k → ⊥) → (row col k : ℕ) → Leaves others row col k → Draws (step_at book.steps n) row col k → ⊥
+  draws_nothing_left : (n : ℕ) → n < length book.steps → ((row col k : ℕ) → Leaves others row col k → IsDrawnBefore book.steps n row col k → ⊥) → (row col k : ℕ) → Leaves others row col k
+      → Draws (step_at book.steps n) row col k → ⊥
   draws_nothing_left n l before row col k leaves d =
       let step = step_at book.steps n in
       let follows = is.follows n l in

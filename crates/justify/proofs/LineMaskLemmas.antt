@@ -1,5 +1,6 @@
 -- Masks of a line made from premises, turned, and compared.
-use Rattle.std.proofs.Common.{◌≡◌, Bool, not, nat_eq, ne_eqb, ℕ, ◌+◌, ◌-◌, ◌<◌, ◌≤◌, ◌^◌, ◌↔◌, List, length, refl, sym, ap, ◌∙◌, subst, arith, inl, inr, get_or, set, bit_and, bit_or, get_or-set_same, get_or-set_other}
+use Rattle.std.proofs.Common.{◌≡◌, Bool, not, nat_eq, ne_eqb, ℕ, ◌+◌, ◌-◌, ◌<◌, ◌≤◌, ◌^◌, ◌↔◌, List, length, refl, sym, ap, ◌∙◌, subst, arith, inl, inr, get_or, set, bit_and, bit_or, get_or-set_same}
+use Rattle.std.proofs.Common.{get_or-set_other}
 use Rattle.std.specs.Prelude.{IsBitSet}
 use Rattle.std.specs.Int.{bit_at, trailing_zeros, w16}
 use Rattle.std.proofs.lemmas.Bool.{cases_eq, cases_lt}
@@ -11,8 +12,8 @@ use Rattle.std.proofs.lemmas.Nat.{le_or_l, le_or_r}
 use Rattle.std.proofs.lemmas.Nat.Bits.{bit_at_and, bit_at-lt, bit_at_not, bit_at-trailing_zeros}
 use Rattle.justify.specs.declared.premise.Premise.{Premise}
 use Rattle.justify.specs.Premises.{premise_at, ArePremises, IsComplement, KeepsLost, LeavesRest, HasSaid}
-use Rattle.picture.specs.BitLaws.{bit_is_set, set_bit, no_bit, bit_below}
-use Rattle.line_settle.specs.MaskLaws.{full_has, without_bit}
+use Rattle.picture.proofs.BitLaws.{bit_is_set, set_bit, no_bit, bit_below}
+use Rattle.line_settle.proofs.MaskLaws.{full_has, without_bit}
 use Rattle.justify.proofs.SaidLemmas.{mentions_or_not}
 
 -- ---- bits
@@ -56,7 +57,8 @@ pub empty_more : (masks : List ℕ) (seen n : ℕ) → ((seen ≡ 0) ↔ ((i : �
 empty_more masks seen n so_far = grind (arith, bit_or, get_or, le_or_l, le_or_r)
 
 -- one mask more of those that are kept
-pub lost_more : (masks : List ℕ) (seen lost n : ℕ) → n < length masks → ((seen ≡ 0) ↔ ((i : ℕ) → i < n → get_or masks i 0 ≡ 0)) → (bit_or seen lost ≡ 0) ↔ ((i : ℕ) → i < n + 1 → get_or (set masks n lost) i 0 ≡ 0)
+pub lost_more : (masks : List ℕ) (seen lost n : ℕ) → n < length masks → ((seen ≡ 0) ↔ ((i : ℕ) → i < n → get_or masks i 0 ≡ 0))
+    → (bit_or seen lost ≡ 0) ↔ ((i : ℕ) → i < n + 1 → get_or (set masks n lost) i 0 ≡ 0)
 lost_more masks seen lost n room so_far =
     let here = get_or-set_same masks n lost 0 room in
     let before : (seen ≡ 0) ↔ ((i : ℕ) → i < n → get_or (set masks n lost) i 0 ≡ 0) = (
@@ -66,7 +68,9 @@ lost_more masks seen lost n room so_far =
     let P : ℕ → Type 0 = λ m. (bit_or seen m ≡ 0) ↔ ((i : ℕ) → i < n + 1 → get_or (set masks n lost) i 0 ≡ 0) in
     subst P here (empty_more (set masks n lost) seen n before)
 
-pub lost_so_far : (before old masks : List ℕ) (n : ℕ) → n < length masks → get_or masks n 0 ≡ get_or old n 0 → ((i : ℕ) → i < n → get_or masks i 0 ≡ bit_and (get_or before i 0) (65535 - get_or old i 0)) → (i : ℕ) → i < n + 1 → get_or (set masks n (bit_and (get_or before n 0) (65535 - get_or masks n 0))) i 0 ≡ bit_and (get_or before i 0) (65535 - get_or old i 0)
+pub lost_so_far : (before old masks : List ℕ) (n : ℕ) → n < length masks → get_or masks n 0 ≡ get_or old n 0
+    → ((i : ℕ) → i < n → get_or masks i 0 ≡ bit_and (get_or before i 0) (65535 - get_or old i 0)) → (i : ℕ) → i < n + 1
+    → get_or (set masks n (bit_and (get_or before n 0) (65535 - get_or masks n 0))) i 0 ≡ bit_and (get_or before i 0) (65535 - get_or old i 0)
 lost_so_far before old masks n room same done i l = elim (cases_eq i n) [
   | inl e ↦
       let value : ℕ → ℕ = λ m. bit_and (get_or before n 0) (65535 - m) in
@@ -76,7 +80,8 @@ lost_so_far before old masks n room same done i l = elim (cases_eq i n) [
 ]
 
 -- some are left where not each mask is empty
-pub any_lost : (masks : List ℕ) (seen n : ℕ) → length masks ≤ n → ((seen ≡ 0) ↔ ((i : ℕ) → i < n → get_or masks i 0 ≡ 0)) → MatchBool (not (nat_eq seen 0)) (All (λ mask. mask ≡ 0) masks → ⊥) (All (λ mask. mask ≡ 0) masks)
+pub any_lost : (masks : List ℕ) (seen n : ℕ) → length masks ≤ n → ((seen ≡ 0) ↔ ((i : ℕ) → i < n → get_or masks i 0 ≡ 0))
+    → MatchBool (not (nat_eq seen 0)) (All (λ mask. mask ≡ 0) masks → ⊥) (All (λ mask. mask ≡ 0) masks)
 any_lost masks seen n all so_far = elim (cases_eq seen 0) [
   | inl e ↦
       let P : ℕ → Type 0 = λ m. MatchBool (not (nat_eq m 0)) (All (λ mask. mask ≡ 0) masks → ⊥) (All (λ mask. mask ≡ 0) masks) in
@@ -91,19 +96,22 @@ any_lost masks seen n all so_far = elim (cases_eq seen 0) [
 
 -- ---- whole lines
 
-pub complemented : (old new : List ℕ) (n : ℕ) → length new ≡ length old → length old ≤ n → ((i : ℕ) → get_or old i 0 < 2 ^ 16) → ((i : ℕ) → i < n → get_or new i 0 ≡ 65535 - get_or old i 0) → IsComplement old new
+pub complemented : (old new : List ℕ) (n : ℕ) → length new ≡ length old → length old ≤ n → ((i : ℕ) → get_or old i 0 < 2 ^ 16) → ((i : ℕ) → i < n → get_or new i 0 ≡ 65535 - get_or old i 0)
+    → IsComplement old new
 complemented old new n len all small done = record {
   same_length = len;
   small = small;
   colours = λ i k l. (let P : ℕ → Type 0 = λ m. IsBitSet m k ↔ ((k < 16) × (IsBitSet (get_or old i 0) k → ⊥)) in subst P (sym (done i (omega arith))) (complement_bit (get_or old i 0) k (small i)));
 }
 
-pub lost_kept : (before old new : List ℕ) (n : ℕ) → length new ≡ length old → length before ≡ length old → length old ≤ n → ((i : ℕ) → get_or before i 0 < 2 ^ 16) → ((i : ℕ) → get_or old i 0 < 2 ^ 16) → ((i : ℕ) → i < n → get_or new i 0 ≡ bit_and (get_or before i 0) (65535 - get_or old i 0)) → KeepsLost before old new
+pub lost_kept : (before old new : List ℕ) (n : ℕ) → length new ≡ length old → length before ≡ length old → length old ≤ n → ((i : ℕ) → get_or before i 0 < 2 ^ 16) → ((i : ℕ) → get_or old i 0 < 2 ^ 16)
+    → ((i : ℕ) → i < n → get_or new i 0 ≡ bit_and (get_or before i 0) (65535 - get_or old i 0)) → KeepsLost before old new
 lost_kept before old new n len same all small_before small done = record {
   same_length = len;
   colours = λ i k. elim (cases_lt i (length old)) [
     | inl l ↦
-        subst (λ (m : ℕ). IsBitSet m k ↔ (IsBitSet (get_or before i 0) k × (IsBitSet (get_or old i 0) k → ⊥))) (sym (done i (omega arith))) (without_bit (get_or before i 0) (get_or old i 0) k (small_before i) (small i))
+        subst (λ (m : ℕ). IsBitSet m k ↔ (IsBitSet (get_or before i 0) k × (IsBitSet (get_or old i 0) k → ⊥))) (sym (done i (omega arith)))
+        (without_bit (get_or before i 0) (get_or old i 0) k (small_before i) (small i))
     | inr past ↦
         let P : ℕ → Type 0 = λ m. IsBitSet m k in (
           (λ s. absurd (no_bit k (subst P (get_or_past new i 0 (omega arith)) s))),
@@ -119,7 +127,8 @@ pub record Rest (premises : List Premise) (n : ℕ) (left : List ℕ) : Type 0 w
   pub done : (m : ℕ) → m < n → get_or left (premise_at premises m).at 0 ≡ 65535 - (premise_at premises m).colours
   pub others : (i : ℕ) → i < length left → ((m : ℕ) → m < n → (premise_at premises m).at ≡ i → ⊥) → get_or left i 0 ≡ 65535
 
-pub rest_more : (premises : List Premise) (n : ℕ) (left : List ℕ) → ArePremises premises → n < length premises → (premise_at premises n).at < length left → Rest premises n left → Rest premises (n + 1) (set left (premise_at premises n).at (65535 - (premise_at premises n).colours))
+pub rest_more : (premises : List Premise) (n : ℕ) (left : List ℕ) → ArePremises premises → n < length premises → (premise_at premises n).at < length left → Rest premises n left
+    → Rest premises (n + 1) (set left (premise_at premises n).at (65535 - (premise_at premises n).colours))
 rest_more premises n left are within inside r =
     let at = (premise_at premises n).at in
     let mask = 65535 - (premise_at premises n).colours in
@@ -168,7 +177,8 @@ rest_all premises n left are all r i k l = elim (mentions_or_not premises i) [
 
 -- ---- a cell that has what is said of it
 
-pub said_here : (premises : List Premise) (left : List ℕ) (m : ℕ) → m < length premises → 0 < bit_and (get_or left (premise_at premises m).at 0) (premise_at premises m).colours → bit_and (get_or left (premise_at premises m).at 0) (premise_at premises m).colours < 2 ^ 16 → HasSaid premises left
+pub said_here : (premises : List Premise) (left : List ℕ) (m : ℕ) → m < length premises → 0 < bit_and (get_or left (premise_at premises m).at 0) (premise_at premises m).colours
+    → bit_and (get_or left (premise_at premises m).at 0) (premise_at premises m).colours < 2 ^ 16 → HasSaid premises left
 said_here premises left m within some small =
     let b = some_bit _ some small in
     let both = (both_bits (get_or left (premise_at premises m).at 0) (premise_at premises m).colours b.0).0 b.1 in
@@ -179,7 +189,8 @@ said_here premises left m within some small =
       has = both.0;
     }
 
-pub none_said : (premises : List Premise) (left : List ℕ) (n : ℕ) → length premises ≤ n → ((m : ℕ) → m < n → bit_and (get_or left (premise_at premises m).at 0) (premise_at premises m).colours ≡ 0) → HasSaid premises left → ⊥
+pub none_said : (premises : List Premise) (left : List ℕ) (n : ℕ) → length premises ≤ n → ((m : ℕ) → m < n → bit_and (get_or left (premise_at premises m).at 0) (premise_at premises m).colours ≡ 0)
+    → HasSaid premises left → ⊥
 none_said premises left n all none h =
     let s = h.says in
     let P : ℕ → Type 0 = λ c. IsBitSet c h.colour in

@@ -8,16 +8,16 @@ use Rattle.std.proofs.lemmas.List.{get_or_past, length-set}
 use Rattle.picture.specs.declared.line_id.LineId.{LineId}
 use Rattle.clues.specs.declared.block.Block.{Block}
 use Rattle.line_settle.specs.declared.line_engine.Outcome.TheVariants.{Narrowed}
-use Rattle.line_settle.specs.Fitting.{CanHave}
-use Rattle.line_settle.specs.Narrowing.{Narrows}
-use Rattle.line_settle.specs.LeavingOut.{ForcesAll, LeavesOut}
+use Rattle.line_settle.specs.Fits.{CanHave}
+use Rattle.line_settle.specs.NarrowedLine.{Narrows}
+use Rattle.line_settle.specs.LeftOut.{ForcesAll, LeavesOut}
 use Rattle.justify.specs.declared.premise.Premise.{Premise}
 use Rattle.justify.specs.Premises.{premise_at, Gathers, IsComplement, KeepsLost, Mentions, Says, SaysBut}
-use Rattle.justify.specs.Forcing.{CanHaveWithout}
+use Rattle.justify.specs.Exclusions.{CanHaveWithout}
 use Rattle.justify.specs.Needs.{AreNeeded, DrawsLess}
-use Rattle.justify.specs.Making.{DrawsNothing, IsNewStep}
-use Rattle.picture.specs.BitLaws.{no_bit, bit_below, same_bits}
-use Rattle.line_settle.specs.MaskLaws.{full_has}
+use Rattle.justify.specs.NewSteps.{DrawsNothing, IsNewStep}
+use Rattle.picture.proofs.BitLaws.{no_bit, bit_below, same_bits}
+use Rattle.line_settle.proofs.MaskLaws.{full_has}
 use Rattle.justify.proofs.SaidLemmas.{bit_or_not}
 use Rattle.justify.proofs.LineMaskLemmas.{some_bit}
 use Rattle.justify.proofs.ForcingLemmas.{have_without, without_have}
@@ -79,7 +79,8 @@ module _ (clue : List Block) (drawn old new others : List ℕ) (l : LeavesOut cl
   whole_says i k m c n = let P : ℕ → Type 0 = λ c. IsBitSet c k in is_said i k (in_line i m) c (λ b. n (subst P (old_mask i m) b))
 
   all_forced : (i k : ℕ) → IsBitSet (get_or drawn i 0) k → CanHaveWithout clue (length old) (Says premises) i k → ⊥
-  all_forced i k d c = l.forced i k d (without_have clue new (length old) (Says premises) l.same_length (λ j h b small none. elim (bit_or_not (get_or new j 0) h) [ inl s ↦ s | inr n ↦ absurd (none (is_said j h b small n)) ]) i k c)
+  all_forced i k d c = l.forced i k d
+      (without_have clue new (length old) (Says premises) l.same_length (λ j h b small none. elim (bit_or_not (get_or new j 0) h) [ inl s ↦ s | inr n ↦ absurd (none (is_said j h b small n)) ]) i k c)
 
   less_drawn : (cell : ℕ) → Mentions premises cell → DrawsLess clue (length old) drawn premises cell
   less_drawn cell m =
@@ -135,7 +136,8 @@ module _ (clue : List Block) (left out drawn : List ℕ) (lost : List Premise) (
   pub forces_lost : ForcesAll clue left drawn
   forces_lost i k d = (lost_is i k d).1
 
-  pub new_step : (line : LineId) (premises : List Premise) → AreNeeded clue left drawn premises → (All (λ (mask : ℕ). mask ≡ 0) drawn → ⊥) → IsNewStep clue line left (record { line = line; premises = premises; drawn = lost })
+  pub new_step : (line : LineId) (premises : List Premise) → AreNeeded clue left drawn premises → (All (λ (mask : ℕ). mask ≡ 0) drawn → ⊥)
+      → IsNewStep clue line left (record { line = line; premises = premises; drawn = lost })
   new_step line premises a some = record {
     of_line = refl;
     draws = λ i k s. lost_is i k ((g.says i k).0 s);

@@ -19,11 +19,13 @@ eq_is_true a b h = search rules
 
 pub passes_across : (line : LineId) (row col : ℕ) → line.axis ≡ Across → IsTrue (row == line.at) ↔ IsOn line row col
 passes_across line row col e =
-    subst (λ (a : Axis). IsTrue (row == line.at) ↔ ((i : ℕ) × (row ≡ row_on a line.at i) × (col ≡ col_on a line.at i))) (sym e) ((λ t. (col, is_true_eq row line.at t, refl)), (λ p. eq_is_true row line.at p.1))
+    subst (λ (a : Axis). IsTrue (row == line.at) ↔ ((i : ℕ) × (row ≡ row_on a line.at i) × (col ≡ col_on a line.at i))) (sym e)
+    ((λ t. (col, is_true_eq row line.at t, refl)), (λ p. eq_is_true row line.at p.1))
 
 pub passes_down : (line : LineId) (row col : ℕ) → line.axis ≡ Down → IsTrue (col == line.at) ↔ IsOn line row col
 passes_down line row col e =
-    subst (λ (a : Axis). IsTrue (col == line.at) ↔ ((i : ℕ) × (row ≡ row_on a line.at i) × (col ≡ col_on a line.at i))) (sym e) ((λ t. (row, refl, is_true_eq col line.at t)), (λ p. eq_is_true col line.at p.2))
+    subst (λ (a : Axis). IsTrue (col == line.at) ↔ ((i : ℕ) × (row ≡ row_on a line.at i) × (col ≡ col_on a line.at i))) (sym e)
+    ((λ t. (row, refl, is_true_eq col line.at t)), (λ p. eq_is_true col line.at p.2))
 
 one_by : (axis : Axis) (at i j : ℕ) → row_on axis at i ≡ row_on axis at j → col_on axis at i ≡ col_on axis at j → i ≡ j
 one_by Across at i j r c = c

@@ -7,17 +7,17 @@ use Rattle.picture.specs.Rows.{line_of}
 use Rattle.clues.specs.declared.block.Block.{Block}
 use Rattle.clues.specs.ClueBook.{Clues, clue_at}
 use Rattle.line_settle.specs.FactSets.{Leaves, row_on, col_on}
-use Rattle.line_settle.specs.LeavingOut.{ForcesAll}
+use Rattle.line_settle.specs.LeftOut.{ForcesAll}
 use Rattle.justify.specs.declared.premise.Premise.{Premise}
 use Rattle.justify.specs.declared.step.Step.{Step}
 use Rattle.justify.specs.Premises.{IsMark, LeavesRest, Mentions, Says, SaysBut}
-use Rattle.justify.specs.Forcing.{CanHaveWithout, ForcesFrom}
+use Rattle.justify.specs.Exclusions.{CanHaveWithout, ForcesFrom}
 use Rattle.justify.specs.Steps.{step_at, Draws}
 use Rattle.justify.specs.Book.{Account, CanFollow, IsAccount, IsDerivation}
 use Rattle.justify.specs.Needs.{AreNeeded}
 use Rattle.justify.specs.Reasons.{Argues, Supports}
-use Rattle.picture.specs.BitLaws.{no_bit, power_has}
-use Rattle.line_settle.specs.MaskLaws.{shifted}
+use Rattle.picture.proofs.BitLaws.{no_bit, power_has}
+use Rattle.line_settle.proofs.MaskLaws.{shifted}
 use Rattle.justify.proofs.SaidLemmas.{says_or_not}
 use Rattle.justify.proofs.ForcingLemmas.{have_without}
 
@@ -69,12 +69,14 @@ module _ (clue : List Block) (all : List Premise) (left drawn : List ℕ) (place
     trimmed = λ cell m.
         let t = a.trimmed cell m in
         let e = mark.alone t.place t.colour t.is_drawn in
-        subst (λ (h : ℕ). CanHaveWithout clue (length left) (SaysBut premises cell) place h) e.1 (subst (λ (j : ℕ). CanHaveWithout clue (length left) (SaysBut premises cell) j t.colour) e.0 t.can_have);
+        subst (λ (h : ℕ). CanHaveWithout clue (length left) (SaysBut premises cell) place h) e.1
+        (subst (λ (j : ℕ). CanHaveWithout clue (length left) (SaysBut premises cell) j t.colour) e.0 t.can_have);
   }
 
 -- ---- in a book
 
-module _ (clues : Clues) (book : Account) (row col k n place : ℕ) (is : IsAccount book) (within : n < length book.steps) (d : Draws (step_at book.steps n) row col k) (one : (i : ℕ) → row ≡ row_on (step_at book.steps n).line.axis (step_at book.steps n).line.at i → col ≡ col_on (step_at book.steps n).line.axis (step_at book.steps n).line.at i → i ≡ place) where
+module _ (clues : Clues) (book : Account) (row col k n place : ℕ) (is : IsAccount book) (within : n < length book.steps) (d : Draws (step_at book.steps n) row col k)
+    (one : (i : ℕ) → row ≡ row_on (step_at book.steps n).line.axis (step_at book.steps n).line.at i → col ≡ col_on (step_at book.steps n).line.axis (step_at book.steps n).line.at i → i ≡ place) where
   at_row : row ≡ row_on (step_at book.steps n).line.axis (step_at book.steps n).line.at place
   at_row = d.in_row ∙ ap (λ i. row_on (step_at book.steps n).line.axis (step_at book.steps n).line.at i) (one d.place d.in_row d.in_column)
 
@@ -84,7 +86,8 @@ module _ (clues : Clues) (book : Account) (row col k n place : ℕ) (is : IsAcco
   pub says_there : Says (step_at book.steps n).drawn place k
   says_there = let P : ℕ → Type 0 = λ i. Says (step_at book.steps n).drawn i k in subst P (one d.place d.in_row d.in_column) d.says
 
-  pub argues : (premises : List Premise) → Leaves book.base row col k → Supports (clue_at clues (step_at book.steps n).line) (length (line_of book.base (step_at book.steps n).line)) (step_at book.steps n).premises place k premises → Argues clues book row col k (record { step = n; line = (step_at book.steps n).line; premises = premises })
+  pub argues : (premises : List Premise) → Leaves book.base row col k → Supports (clue_at clues (step_at book.steps n).line) (length (line_of book.base (step_at book.steps n).line))
+      (step_at book.steps n).premises place k premises → Argues clues book row col k (record { step = n; line = (step_at book.steps n).line; premises = premises })
   argues premises leaves s =
       let line = (step_at book.steps n).line in
       let follows = is.follows n within in
@@ -105,10 +108,12 @@ module _ (clues : Clues) (book : Account) (row col k n place : ℕ) (is : IsAcco
 
 -- ---- of a step that was read from the book
 
-says_along : (step : Step) (row col k place : ℕ) → Draws step row col k → ((i : ℕ) → row ≡ row_on step.line.axis step.line.at i → col ≡ col_on step.line.axis step.line.at i → i ≡ place) → Says step.drawn place k
+says_along : (step : Step) (row col k place : ℕ) → Draws step row col k → ((i : ℕ) → row ≡ row_on step.line.axis step.line.at i → col ≡ col_on step.line.axis step.line.at i → i ≡ place)
+    → Says step.drawn place k
 says_along step row col k place d one = let P : ℕ → Type 0 = λ i. Says step.drawn i k in subst P (one d.place d.in_row d.in_column) d.says
 
-module _ (clues : Clues) (book : Account) (row col k n place : ℕ) (step : Step) (is : IsAccount book) (within : n < length book.steps) (same : step ≡ step_at book.steps n) (d : Draws (step_at book.steps n) row col k) (one : (i : ℕ) → row ≡ row_on step.line.axis step.line.at i → col ≡ col_on step.line.axis step.line.at i → i ≡ place) where
+module _ (clues : Clues) (book : Account) (row col k n place : ℕ) (step : Step) (is : IsAccount book) (within : n < length book.steps) (same : step ≡ step_at book.steps n)
+    (d : Draws (step_at book.steps n) row col k) (one : (i : ℕ) → row ≡ row_on step.line.axis step.line.at i → col ≡ col_on step.line.axis step.line.at i → i ≡ place) where
   draws_own : Draws step row col k
   draws_own = let P : Step → Type 0 = λ s. Draws s row col k in subst P (sym same) d
 
@@ -120,7 +125,9 @@ module _ (clues : Clues) (book : Account) (row col k n place : ℕ) (step : Step
   pub forced_there : IsDerivation clues book → ForcesFrom (clue_at clues step.line) (length (line_of book.base step.line)) (Says step.premises) place k
   forced_there derives = grind (arith, clue_at, draws_own, length, line_of, says_along)
 
-  pub argues_by : (premises : List Premise) → Leaves book.base row col k → Supports (clue_at clues step.line) (length (line_of book.base step.line)) step.premises place k premises → Argues clues book row col k (record { step = n; line = step.line; premises = premises })
+  pub argues_by : (premises : List Premise) → Leaves book.base row col k → Supports (clue_at clues step.line) (length (line_of book.base step.line)) step.premises place k premises
+      → Argues clues book row col k (record { step = n; line = step.line; premises = premises })
   argues_by premises leaves support =
-      let P : Step → Type 0 = λ s. ((i : ℕ) → row ≡ row_on s.line.axis s.line.at i → col ≡ col_on s.line.axis s.line.at i → i ≡ place) → Supports (clue_at clues s.line) (length (line_of book.base s.line)) s.premises place k premises → Argues clues book row col k (record { step = n; line = s.line; premises = premises }) in
+      let P : Step → Type 0 = λ s. ((i : ℕ) → row ≡ row_on s.line.axis s.line.at i → col ≡ col_on s.line.axis s.line.at i → i ≡ place)
+      → Supports (clue_at clues s.line) (length (line_of book.base s.line)) s.premises place k premises → Argues clues book row col k (record { step = n; line = s.line; premises = premises }) in
       subst P (sym same) (λ one_at s. argues clues book row col k n place is within d one_at premises leaves s) one support

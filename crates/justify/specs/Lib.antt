@@ -1,8 +1,8 @@
 pub mod Book
-pub mod Forcing
-pub mod Gathering
+pub mod Exclusions
+pub mod GatheredCells
 pub mod Laws
-pub mod Making
+pub mod NewSteps
 pub mod Needs
 pub mod Premises
 pub mod Reasons

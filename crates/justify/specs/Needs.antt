@@ -3,17 +3,18 @@ use Rattle.std.specs.Prelude.{ℕ, ◌<◌, ◌↔◌, List, length, slice_index
 use Rattle.clues.specs.declared.block.Block.{Block}
 use Rattle.justify.specs.declared.premise.Premise.{Premise}
 use Rattle.justify.specs.Premises.{ArePremises, Mentions, Says, SaysBut}
-use Rattle.justify.specs.Forcing.{CanHaveWithout, ForcesFrom}
+use Rattle.justify.specs.Exclusions.{CanHaveWithout, ForcesFrom}
 
 -- without the premises of one cell, something that the masks draw is not forced
-pub record DrawsLess (clue : List Block) (cells : ℕ) (drawn : List ℕ) (premises : List Premise) (cell : ℕ) : Type 0 where
+pub record DrawsLess (clue : List Block) (cells : ℕ) (drawn : List ℕ) (premises : List Premise)
+    (cell : ℕ) : Type 0 where
   pub place : ℕ
   pub colour : ℕ
   pub is_drawn : IsBitSet (slice_index drawn place) colour
   pub can_have : CanHaveWithout clue cells (SaysBut premises cell) place colour
 
--- where these masks are left on a line: each premise has all colours that are excluded in its cell, together they force all
--- that the masks draw, and none of their cells can be left out
+-- where these masks are left on a line: each premise has all colours that are excluded in its
+-- cell, together they force all that the masks draw, and none of their cells can be left out
 pub record AreNeeded (clue : List Block) (left drawn : List ℕ) (premises : List Premise) : Type 0 where
   pub are : ArePremises premises
   pub inside : (i : ℕ) → Mentions premises i → i < length left

@@ -8,7 +8,7 @@ premise at colours = record { at = at; colours = colours }
 abbrev pub premise_at : List Premise → ℕ → Premise
 premise_at premises n = slice_index_or premises n (premise 0 0)
 
--- in rising places, and each with some of the sixteen colours
+-- at ascending places, and each with some of the sixteen colours
 pub record ArePremises (premises : List Premise) : Type 0 where
   pub rising : (m n : ℕ) → m < n → n < length premises → (premise_at premises m).at < (premise_at premises n).at
   pub some : (n : ℕ) → n < length premises → 0 < (premise_at premises n).colours
@@ -42,18 +42,21 @@ pub record Gathers (masks : List ℕ) (premises : List Premise) : Type 0 where
 
 -- the masks of a line leave all sixteen colours but what is said
 abbrev pub LeavesRest : List Premise → List ℕ → Type 0
-LeavesRest premises left = (i k : ℕ) → i < length left → IsBitSet (slice_index left i) k ↔ ((k < 16) × (Says premises i k → ⊥))
+LeavesRest premises left = (i k : ℕ) → i < length left
+    → IsBitSet (slice_index left i) k ↔ ((k < 16) × (Says premises i k → ⊥))
 
 -- masks of sixteen colours, each turned into that of the colours which it has not
 pub record IsComplement (old new : List ℕ) : Type 0 where
   pub same_length : length new ≡ length old
   pub small : (i : ℕ) → slice_index old i < 2 ^ 16
-  pub colours : (i k : ℕ) → i < length old → IsBitSet (slice_index new i) k ↔ ((k < 16) × (IsBitSet (slice_index old i) k → ⊥))
+  pub colours : (i k : ℕ) → i < length old
+      → IsBitSet (slice_index new i) k ↔ ((k < 16) × (IsBitSet (slice_index old i) k → ⊥))
 
 -- each mask turned into that of the colours which were there before and it has not
 pub record KeepsLost (before old new : List ℕ) : Type 0 where
   pub same_length : length new ≡ length old
-  pub colours : (i k : ℕ) → IsBitSet (slice_index new i) k ↔ (IsBitSet (slice_index before i) k × (IsBitSet (slice_index old i) k → ⊥))
+  pub colours : (i k : ℕ)
+      → IsBitSet (slice_index new i) k ↔ (IsBitSet (slice_index before i) k × (IsBitSet (slice_index old i) k → ⊥))
 
 -- a cell of a line has a colour that is said there
 pub record HasSaid (premises : List Premise) (left : List ℕ) : Type 0 where

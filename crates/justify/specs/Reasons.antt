@@ -8,7 +8,7 @@ use Rattle.justify.specs.declared.premise.Premise.{Premise}
 use Rattle.justify.specs.declared.step.Step.{Step}
 use Rattle.justify.specs.declared.reason.Reason.{Reason}
 use Rattle.justify.specs.Premises.{ArePremises, Mentions, Says, SaysBut}
-use Rattle.justify.specs.Forcing.{CanHaveWithout, ForcesFrom}
+use Rattle.justify.specs.Exclusions.{CanHaveWithout, ForcesFrom}
 use Rattle.justify.specs.Steps.{step_at, Draws}
 use Rattle.justify.specs.Book.{Account, IsDrawnBefore}
 
@@ -17,8 +17,9 @@ abbrev pub Finds : List Step → ℕ → ℕ → ℕ → Option ℕ → Type 0
 Finds steps row col k None = IsDrawnBefore steps (length steps) row col k → ⊥
 Finds steps row col k (Some n) = (n < length steps) × Draws (step_at steps n) row col k
 
--- premises of a step, in rising places, that a line needs to force one exclusion, and no more than it needs
-pub record Supports (clue : List Block) (cells : ℕ) (all : List Premise) (place colour : ℕ) (premises : List Premise) : Type 0 where
+-- premises of a step, at ascending places, that a line needs to force one exclusion, and no more than it needs
+pub record Supports (clue : List Block) (cells : ℕ) (all : List Premise) (place colour : ℕ)
+    (premises : List Premise) : Type 0 where
   pub are : ArePremises premises
   pub among : (i k : ℕ) → Says premises i k → Says all i k
   pub forced : ForcesFrom clue cells (Says premises) place colour
@@ -33,7 +34,8 @@ pub record Argues (clues : Clues) (book : Account) (row col k : ℕ) (reason : R
   pub in_row : row ≡ row_on reason.line.axis reason.line.at place
   pub in_column : col ≡ col_on reason.line.axis reason.line.at place
   pub is_drawn : Says (step_at book.steps reason.step).drawn place k
-  pub support : Supports (clue_at clues reason.line) (length (line_of book.base reason.line)) (step_at book.steps reason.step).premises place k reason.premises
+  pub support : Supports (clue_at clues reason.line) (length (line_of book.base reason.line))
+      (step_at book.steps reason.step).premises place k reason.premises
   pub apart : Says reason.premises place k → ⊥
 
 -- no reason where the colour is left, and else one

@@ -6,7 +6,7 @@ use Rattle.line_settle.specs.FactSets.{row_on, col_on}
 use Rattle.justify.specs.declared.premise.Premise.{Premise}
 use Rattle.justify.specs.declared.step.Step.{Step}
 use Rattle.justify.specs.Premises.{Mentions, Says, SaysBut}
-use Rattle.justify.specs.Forcing.{CanHaveWithout, ForcesFrom}
+use Rattle.justify.specs.Exclusions.{CanHaveWithout, ForcesFrom}
 
 -- the step at a place of a list, and one that draws nothing past its end
 abbrev pub step_at : List Step → ℕ → Step
@@ -32,4 +32,5 @@ pub record LosesWithout (clue : List Block) (cells : ℕ) (premises drawn : List
 
 -- no premise can be left out: without those of any one cell the line forces less than all that the step draws
 abbrev pub IsTrimmed : List Block → ℕ → Step → Type 0
-IsTrimmed clue cells step = (cell : ℕ) → Mentions step.premises cell → LosesWithout clue cells step.premises step.drawn cell
+IsTrimmed clue cells step = (cell : ℕ) → Mentions step.premises cell
+    → LosesWithout clue cells step.premises step.drawn cell

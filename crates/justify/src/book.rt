@@ -13,8 +13,8 @@ use picture::{Axis, LineId};
 use std::alloc::{AllocError, Global};
 use std::marker::Model;
 
-/// A list of steps over a base, and all that is excluded behind them. Each premise of a step is in the base or drawn by an
-/// earlier step, each step draws something, and no exclusion is drawn twice.
+/// A list of steps over a base, and all that is excluded after them. Each premise of a step is in the base or drawn by
+/// an earlier step, each step draws something, and no exclusion is drawn twice.
 #[derive(Drop)]
 pub struct Book {
     base: Facts,
@@ -90,9 +90,9 @@ impl Book {
         Ok(Book { base, facts, steps })
     }
 
-    /// Puts a step behind all others, and the facts gain what it draws. Its line is one of the base, each of its premises is
-    /// in the base or drawn already, it draws something, and no step has drawn any of that before. On an error the book is as
-    /// it was, and the step is dropped.
+    /// Puts a step after all others, and the facts gain what it draws. Its line is one of the base, each of its
+    /// premises is in the base or drawn already, it draws something, and no step has drawn any of that before. On an
+    /// error the book is as it was, and the step is dropped.
     pub fn add_step(&mut self, step: Step) -> Result<(), AllocError>
         requires { CanAdd self.old step }
         ensures ok { OnOk result (Adds self.old step self.new) }

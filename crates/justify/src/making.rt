@@ -2,8 +2,8 @@
 
 ghost use Rattle.std.specs.Prelude.{◌≡◌, ◌≤◌, length};
 ghost use Rattle.picture.specs.Rows.{line_of, HasLine};
-ghost use Rattle.line_settle.specs.Counting.{Counts};
-ghost use Rattle.justify.specs.Making.{Makes};
+ghost use Rattle.line_settle.specs.Counts.{Counts};
+ghost use Rattle.justify.specs.NewSteps.{Makes};
 
 use crate::book::Book;
 use crate::fault::StepFault;

@@ -2,7 +2,7 @@
 
 ghost use Rattle.std.specs.Prelude.{◌≡◌, ◌≢◌, ℕ, ◌+◌, ◌/◌, ◌^◌, ◌<◌, ◌≤◌, ◌↔◌, length, slice_index, take, IsTrue, IsBitSet, MatchBool};
 ghost use Rattle.std.specs.List.{All};
-ghost use Rattle.justify.specs.Gathering.{AreColoured, Gathered};
+ghost use Rattle.justify.specs.GatheredCells.{AreColoured, Gathered};
 ghost use Rattle.justify.specs.Premises.{ArePremises, Gathers, HasSaid, IsComplement, KeepsLost, IsMark, LeavesRest, Mentions, Says};
 
 use crate::premise::Premise;

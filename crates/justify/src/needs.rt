@@ -1,7 +1,7 @@
 //! Which premises a line needs: the sweep of `line_settle`, turned into premises.
 
 ghost use Rattle.std.specs.Prelude.{◌≡◌, ◌≤◌, length, IfOk};
-ghost use Rattle.line_settle.specs.LeavingOut.{ForcesAll};
+ghost use Rattle.line_settle.specs.LeftOut.{ForcesAll};
 ghost use Rattle.justify.specs.Needs.{AreNeeded};
 
 use crate::masks::{MOST_CELLS, complement};

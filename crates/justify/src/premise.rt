@@ -19,8 +19,8 @@ pub struct Premise {
     pub colours: u16,
 }
 
-/// Colours that are excluded along a line, in rising places and with some colours in each. Most steps have few, and keep
-/// them in the value itself.
+/// Colours that are excluded along a line, at ascending places and with some colours in each. Most steps have few, and
+/// keep them in the value itself.
 #[derive(Drop)]
 pub struct Premises {
     list: SmallVec<Premise, 8>,
@@ -39,7 +39,7 @@ impl Model for Premises {
 }
 
 impl Premises {
-    /// These premises, which stand in rising places and have some colours each.
+    /// These premises, which stand at ascending places and have some colours each.
     pub fn from_slice(alloc: Global, premises: &[Premise]) -> Result<Premises, AllocError>
         requires { ArePremises premises.now }
         ensures { IfOk result (λ p. p ≡ premises.now) }
@@ -85,7 +85,7 @@ impl Premises {
         *self.list.allocator()
     }
 
-    /// The premises in rising places.
+    /// The premises at ascending places.
     pub fn as_slice(&self) -> &[Premise]
         ensures value { result.now ≡ self.now }
         ensures premises { ArePremises self.now }

@@ -4,7 +4,7 @@ ghost use Rattle.std.specs.Prelude.{◌≡◌, ℕ, ◌<◌, ◌≤◌, length, 
 ghost use Rattle.picture.specs.Rows.{width_of};
 ghost use Rattle.line_settle.specs.FactSets.{Leaves};
 ghost use Rattle.justify.specs.Book.{IsDerivation};
-ghost use Rattle.justify.specs.Forcing.{ForcesFrom};
+ghost use Rattle.justify.specs.Exclusions.{ForcesFrom};
 ghost use Rattle.justify.specs.Premises.{Mentions, Says};
 ghost use Rattle.justify.specs.Reasons.{Supports, Reasons};
 

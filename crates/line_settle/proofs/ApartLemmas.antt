@@ -8,7 +8,7 @@ use Rattle.std.proofs.lemmas.Nat.Bits.{bit_at-lt, bit_at_above, same_from_bits}
 use Rattle.std.proofs.Math.Nat.{mod-lt}
 use Rattle.std.specs.Int.{bit_at}
 use Rattle.line_settle.specs.Positions.{has}
-use Rattle.line_settle.specs.Crossing.{differs}
+use Rattle.line_settle.specs.CrossedLines.{differs}
 use Rattle.line_settle.proofs.GatheringLemmas.{has_mask}
 use Rattle.line_settle.proofs.PositionLemmas.{bit_low, has_above, has_none}
 
@@ -53,7 +53,8 @@ pub none_apart : (before after : List ℕ) (cells n j : ℕ) → cells ≤ n →
 none_apart before after cells n j h same = has_none j ∙ sym (ap not (eq-eqb (get_or before (n + j) 0) (get_or after (n + j) 0) (same (n + j) (omega arith))))
 
 -- all places at which two lists differ lie in the 128 that a set has
-pub all_apart : (before after : List ℕ) (cells places n : ℕ) → n ≡ 0 → places < 2 ^ 128 → cells ≤ 128 → ((i : ℕ) → cells ≤ i → get_or before i 0 ≡ get_or after i 0) → ((j : ℕ) → j < 128 → has places j ≡ differs before after (16 * n + j)) → (i : ℕ) → has places i ≡ differs before after i
+pub all_apart : (before after : List ℕ) (cells places n : ℕ) → n ≡ 0 → places < 2 ^ 128 → cells ≤ 128 → ((i : ℕ) → cells ≤ i → get_or before i 0 ≡ get_or after i 0)
+    → ((j : ℕ) → j < 128 → has places j ≡ differs before after (16 * n + j)) → (i : ℕ) → has places i ≡ differs before after i
 all_apart before after cells places n e small short same is i =
     let z : 16 * n + i ≡ i = omega arith in
     elim (cases_lt i 128) [

@@ -7,7 +7,7 @@ use Rattle.std.proofs.lemmas.Bool.{cases_eq, cases_lt}
 use Rattle.std.proofs.lemmas.Nat.{leading_top}
 use Rattle.std.proofs.lemmas.Nat.Bits.{shr_and_one, bit_at_or, bit_at-lt, bit_at-zero, bit_at_above, bit_at-pow_same, bit_at-pow_other}
 use Rattle.std.proofs.lemmas.Grind.{one_shifted}
-use Rattle.line_settle.specs.Spelling.{allows}
+use Rattle.line_settle.specs.Patterns.{allows}
 
 pub allows_is : (mask k : ℕ) → allows mask k ≡ (bit_at mask k == 1)
 allows_is mask k = ap (λ b. b == 1) (shr_and_one mask k)

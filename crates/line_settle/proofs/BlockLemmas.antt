@@ -1,17 +1,18 @@
 -- Where the blocks of a clue stand in its pattern.
-use Rattle.std.proofs.Common.{◌≡◌, ◌≢◌, ℕ, zero, suc, ◌+◌, ◌-◌, ◌<◌, ◌≤◌, Bool, true, false, not, ◌&&◌, ◌||◌, List, [], ◌∷◌, ◌++◌, replicate, ◌==◌, nat_lt, refl, sym, ap, ◌∙◌, arith, eq-eqb, ne_eqb, inl, inr, length, get_or, drop}
+use Rattle.std.proofs.Common.{◌≡◌, ◌≢◌, ℕ, zero, suc, ◌+◌, ◌-◌, ◌<◌, ◌≤◌, Bool, true, false, not, ◌&&◌, ◌||◌, List, [], ◌∷◌, ◌++◌, replicate, ◌==◌, nat_lt, refl, sym, ap, ◌∙◌, arith, eq-eqb, ne_eqb}
+use Rattle.std.proofs.Common.{inl, inr, length, get_or, drop}
 use Rattle.std.proofs.lemmas.Bool.Decides.{nat_tests}
 use Rattle.std.proofs.Math.Seq.{drop-length}
 use Rattle.std.proofs.lemmas.Bool.{cases_lt, false≢true, eqb-false, lt-leb, or_left, or_right}
 use Rattle.std.proofs.lemmas.List.{drop-drop, get_or-drop, get_or-replicate, get_or_append_left, drop_more, length-append, length-drop, length-replicate}
 use Rattle.clues.specs.declared.block.Block.{Block}
 use Rattle.clues.specs.Clue.{block, IsBlock, IsClue}
-use Rattle.line_settle.specs.Spelling.{gap, spelled_after, pattern_of, waits}
-use Rattle.line_settle.specs.Laying.{meets, gap_before, state_behind, state_before}
+use Rattle.line_settle.specs.Patterns.{gap, spelled_after, pattern_of, waits}
+use Rattle.line_settle.specs.LaidBlocks.{meets, gap_before, state_behind, state_before}
 use Rattle.line_settle.proofs.PatternLemmas.{first_is, rest_are}
 use Rattle.line_settle.proofs.StateLemmas.{waits_before}
 
--- the colour behind which block j stands
+-- the colour after which block j stands
 colour_before : ℕ → List Block → ℕ → ℕ
 colour_before last bs zero = last
 colour_before last [] (suc j) = last
@@ -50,7 +51,7 @@ meets_first (b ∷ bs) zero c h e =
     sym (ne_eqb b.colour 0 (λ z. let g = f.has_colour in absurd (omega arith)))
 meets_first (b ∷ bs) (suc j) c h e = absurd (omega arith)
 
--- ---- the pattern behind the first j blocks
+-- ---- the pattern after the first j blocks
 
 run_dropped : (l c : ℕ) (rest : List ℕ) → drop l (c ∷ (replicate l c ++ rest)) ≡ c ∷ rest
 run_dropped zero c rest = refl
@@ -69,7 +70,8 @@ block_dropped m x zero c n rest h = absurd (omega arith)
 block_dropped m x (suc l) c n rest h =
     rw (← drop-drop, piece_dropped m x l c rest) refl
 
-behind : (last : ℕ) (bs : List Block) (j : ℕ) → IsClue bs → j ≤ length bs → drop (state_behind last bs j) (last ∷ spelled_after last bs) ≡ colour_before last bs j ∷ spelled_after (colour_before last bs j) (drop j bs)
+behind : (last : ℕ) (bs : List Block) (j : ℕ) → IsClue bs → j ≤ length bs
+    → drop (state_behind last bs j) (last ∷ spelled_after last bs) ≡ colour_before last bs j ∷ spelled_after (colour_before last bs j) (drop j bs)
 unfolding colour_before
 behind last bs zero c h = refl
 behind last [] (suc j) c h = absurd (omega arith)
@@ -88,7 +90,7 @@ state_next last (b ∷ bs) (suc j) h =
 
 -- ---- a block, a gap and the end in a pattern
 
--- a block of `len` cells behind state s, in which the line waits for it
+-- a block of `len` cells after state s, in which the line waits for it
 pub record BlockAt (pattern : List ℕ) (s len colour : ℕ) : Type 0 where
   pub has_cells : 0 < len
   pub within : s + len < length pattern
@@ -96,7 +98,7 @@ pub record BlockAt (pattern : List ℕ) (s len colour : ℕ) : Type 0 where
   pub other : get_or pattern s 0 ≢ colour
   pub coloured : colour ≢ 0
 
--- a cell of background behind state q that is no waiting state
+-- a cell of background after state q that is no waiting state
 pub record GapAt (pattern : List ℕ) (q : ℕ) : Type 0 where
   pub within : q + 1 < length pattern
   pub background : get_or pattern (q + 1) 0 ≡ 0
@@ -149,14 +151,15 @@ piece_of bs j c h =
     let e : drop (state_behind 0 bs j) (pattern_of bs) ≡ x ∷ spelled_after x (drop j bs) = behind 0 bs j c (omega arith) in
     let d = ap (λ l. x ∷ spelled_after x l) (drop_more bs j (block 0 0) h) in
     let k = ap (λ m. x ∷ (gap m ++ (replicate b.len b.colour ++ spelled_after b.colour (drop (j + 1) bs)))) (sym g) in
-    piece_at (pattern_of bs) (state_behind 0 bs j) x b.len b.colour (meets 0 bs j) (spelled_after b.colour (drop (j + 1) bs)) (e ∙ (d ∙ k)) f.has_cells (λ z. let w = f.has_colour in absurd (omega arith)) (λ m z. eqb-false _ _ (sym g ∙ m) (sym z))
+    piece_at (pattern_of bs) (state_behind 0 bs j) x b.len b.colour (meets 0 bs j) (spelled_after b.colour (drop (j + 1) bs)) (e ∙ (d ∙ k)) f.has_cells
+    (λ z. let w = f.has_colour in absurd (omega arith)) (λ m z. eqb-false _ _ (sym g ∙ m) (sym z))
 
 meets_past : (last : ℕ) (bs : List Block) (j : ℕ) → length bs ≤ j → meets last bs j ≡ false
 meets_past last [] j h = refl
 meets_past last (b ∷ bs) zero h = absurd (omega arith)
 meets_past last (b ∷ bs) (suc j) h = meets_past b.colour bs j (omega arith)
 
--- behind the last block the pattern is at its end
+-- after the last block the pattern is at its end
 pub state_at_end : (bs : List Block) → IsClue bs → (state_before bs (length bs) ≡ state_behind 0 bs (length bs)) × (state_behind 0 bs (length bs) + 1 ≡ length (pattern_of bs))
 state_at_end bs c =
     let x = colour_before 0 bs (length bs) in

@@ -5,18 +5,19 @@ use Rattle.std.specs.Int.{bit_at}
 use Rattle.std.proofs.lemmas.Bool.{cases_lt, eqb-true, false≢true}
 use Rattle.std.proofs.lemmas.Bool.Decides.{eqb_tells}
 use Rattle.std.proofs.lemmas.List.{get_or-take, length-take-le}
+use Rattle.line_settle.specs.Masks.{Masks}
 use Rattle.picture.specs.declared.picture.TheConstants.{MAX_SIDE}
 use Rattle.picture.specs.declared.line_id.Axis.{Axis}
 use Rattle.picture.specs.declared.line_id.LineId.{LineId}
 use Rattle.picture.specs.LineSet.{Lines, HasName}
 use Rattle.picture.specs.Rows.{line_of}
-use Rattle.picture.specs.Crossing.{crossing}
-use Rattle.line_settle.specs.Crossing.{CrossesChange, differs}
+use Rattle.picture.specs.CrossingLines.{crossing}
+use Rattle.line_settle.specs.CrossedLines.{CrossesChange, differs}
 use Rattle.line_settle.specs.FactSets.{HoldsLine}
 use Rattle.line_settle.specs.Positions.{has}
-use Rattle.line_settle.specs.GridLaws.{same_list, shape_refl}
+use Rattle.line_settle.proofs.GridLaws.{same_list, shape_refl}
 use Rattle.line_settle.proofs.ApartLemmas.{none_from}
-use Rattle.picture.specs.BitLaws.{bit_is_set, set_bit}
+use Rattle.picture.proofs.BitLaws.{bit_is_set, set_bit}
 use Rattle.line_settle.proofs.PositionLemmas.{has_none}
 
 -- ---- the places at which two lists differ
@@ -43,7 +44,7 @@ has_bit a i e = bit_is_set a i (eqb-true (bit_at a i) 1 e)
 
 -- ---- a line that does not change
 
-pub unchanged : (line : LineId) (old : List (List ℕ)) (masks : List ℕ) → line_of old line ≡ masks → HoldsLine line old old masks
+pub unchanged : (line : LineId) (old : Masks) (masks : List ℕ) → line_of old line ≡ masks → HoldsLine line old old masks
 unchanged line old masks e = record { same_shape = shape_refl old; line_is = e; elsewhere = λ r c n. refl }
 
 -- ---- the first cells of two lists, and the set of places at which the lists differ
@@ -55,7 +56,8 @@ module _ (before after : List ℕ) (places cells : ℕ) (same : (i : ℕ) → ce
   pub all_same : length after ≡ length before → places ≡ 0 → take cells before ≡ take cells after
   all_same len e = ap (take cells) (same_list before after (sym len) (λ j l. same_at before after j (sym (are j) ∙ (ap (λ p. has p j) e ∙ has_none j))))
 
-  pub all_cross : (line : LineId) (axis : Axis) (names : Lines) → cells ≤ length before → axis ≡ crossing line.axis → ((other : LineId) → HasName names other ↔ ((other.axis ≡ axis) × IsBitSet places other.at)) → (other : LineId) → HasName names other ↔ CrossesChange line (take cells before) (take cells after) other
+  pub all_cross : (line : LineId) (axis : Axis) (names : Lines) → cells ≤ length before → axis ≡ crossing line.axis → ((other : LineId)
+      → HasName names other ↔ ((other.axis ≡ axis) × IsBitSet places other.at)) → (other : LineId) → HasName names other ↔ CrossesChange line (take cells before) (take cells after) other
   all_cross line axis names room e named other = (
     (λ s.
         let x = (named other).0 s in

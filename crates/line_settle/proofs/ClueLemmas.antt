@@ -98,7 +98,7 @@ pub clue_behind : (c x : ℕ) (f e : List ℕ) → clue_of (x ∷ f) ≡ clue_of
 clue_behind zero x f e h = h
 clue_behind (suc c) x f e h = ap (λ bs. cond (suc c == x) (longer bs) (block 1 (suc c) ∷ bs)) h
 
--- background behind a cell that ends its run
+-- background after a cell that ends its run
 pub clue_background : (c : ℕ) (f : List ℕ) → (c ≢ 0 → Apart c f) → clue_of (c ∷ 0 ∷ f) ≡ clue_of (c ∷ f)
 clue_background zero f h = refl
 clue_background (suc c) f h =

@@ -5,7 +5,7 @@ use Rattle.std.proofs.Math.Bool.{and-true, or-false}
 use Rattle.std.proofs.lemmas.Bool.{cases_eq, cases_lt}
 use Rattle.std.proofs.lemmas.List.{get_or-set_same, get_or-set_other}
 use Rattle.std.proofs.lemmas.Nat.Bits.{shr_and_one, bit_at_ones}
-use Rattle.line_settle.specs.Spelling.{allows}
+use Rattle.line_settle.specs.Patterns.{allows}
 use Rattle.line_settle.specs.Positions.{has, IsColoured}
 use Rattle.line_settle.proofs.BitLemmas.{allows_or, allows_shifted}
 use Rattle.line_settle.proofs.PositionLemmas.{has_and, has_down}
@@ -24,7 +24,8 @@ tested a j = ap (λ x. x == 1) (shr_and_one a j)
 pub none_coloured : (places colour : ℕ) (keep : Bool) (first : ℕ) (old : List ℕ) → IsColoured places colour keep first first old old
 none_coloured places colour keep first old = record { inside = λ i j k e l. absurd (omega arith); before = λ i l. refl; behind = λ i l. refl }
 
-pub coloured_more : (places colour : ℕ) (keep : Bool) (first here next j v : ℕ) (b : Bool) (old out : List ℕ) → here ≡ first + j → next ≡ here + 1 → here < length out → b ≡ has places j → ((k : ℕ) → allows v k ≡ ((keep && allows (get_or out here 0) k) || (b && colour == k))) → IsColoured places colour keep first here old out → IsColoured places colour keep first next old (set out here v)
+pub coloured_more : (places colour : ℕ) (keep : Bool) (first here next j v : ℕ) (b : Bool) (old out : List ℕ) → here ≡ first + j → next ≡ here + 1 → here < length out → b ≡ has places j → ((k : ℕ)
+    → allows v k ≡ ((keep && allows (get_or out here 0) k) || (b && colour == k))) → IsColoured places colour keep first here old out → IsColoured places colour keep first next old (set out here v)
 coloured_more places colour keep first here next j v b old out e f h t is done = record {
   inside = λ i n k p l. elim (cases_eq i here) [
     | inl same ↦
@@ -36,8 +37,9 @@ coloured_more places colour keep first here next j v b old out e f h t is done =
   behind = λ i l. get_or-set_other out here i v 0 (λ q. absurd (omega arith)) ∙ done.behind i (omega arith);
 }
 
--- cells behind those that are done already
-pub coloured_on : (places rest colour : ℕ) (keep : Bool) (done first end n : ℕ) (old out new : List ℕ) → first ≡ done → end ≡ n → done ≤ n → ((j : ℕ) → done + j < n → has rest j ≡ has places (done + j)) → IsColoured places colour keep 0 done old out → IsColoured rest colour keep first end out new → IsColoured places colour keep 0 n old new
+-- cells after those that are done already
+pub coloured_on : (places rest colour : ℕ) (keep : Bool) (done first end n : ℕ) (old out new : List ℕ) → first ≡ done → end ≡ n → done ≤ n → ((j : ℕ) → done + j < n
+    → has rest j ≡ has places (done + j)) → IsColoured places colour keep 0 done old out → IsColoured rest colour keep first end out new → IsColoured places colour keep 0 n old new
 coloured_on places rest colour keep done first end n old out new f e d same earlier more = record {
   inside = λ i j k p l. elim (cases_lt i done) [
     | inl low ↦ rw (more.before i (omega arith)) (earlier.inside i j k p low)
@@ -59,7 +61,8 @@ pub rest_more : (places rest chunk j : ℕ) → ((n : ℕ) → has rest n ≡ ha
 rest_more places rest chunk j h = has_down 8 rest j ∙ (h (j + 8) ∙ ap (λ n. has places n) (let e : 8 * chunk + (j + 8) ≡ 8 * (chunk + 1) + j = omega arith in e))
 
 -- the last eight cells, some of which are done already
-pub coloured_last : (places colour : ℕ) (keep : Bool) (last whole n : ℕ) (old out new : List ℕ) → last + 8 ≡ n → last < whole → whole ≤ n → IsColoured places colour keep 0 whole old out → IsColoured (bit_and (places / 2 ^ last) 255) colour keep last (last + 8) out new → (i k : ℕ) → i < n → allows (get_or new i 0) k ≡ ((keep && allows (get_or old i 0) k) || (has places i && colour == k))
+pub coloured_last : (places colour : ℕ) (keep : Bool) (last whole n : ℕ) (old out new : List ℕ) → last + 8 ≡ n → last < whole → whole ≤ n → IsColoured places colour keep 0 whole old out → IsColoured
+    (bit_and (places / 2 ^ last) 255) colour keep last (last + 8) out new → (i k : ℕ) → i < n → allows (get_or new i 0) k ≡ ((keep && allows (get_or old i 0) k) || (has places i && colour == k))
 coloured_last places colour keep last whole n old out new e l w earlier more i k h = elim (cases_lt i last) [
   | inl low ↦ rw (more.before i low) (earlier.inside i i k (omega arith) (omega arith))
   | inr high ↦

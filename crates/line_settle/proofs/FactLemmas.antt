@@ -1,10 +1,11 @@
 -- Facts as rows of masks that lie in one flat list.
-use Rattle.std.proofs.Common.{◌≡◌, ℕ, zero, suc, ◌+◌, ◌-◌, ◌*◌, ◌^◌, ◌<◌, ◌≤◌, List, [], ◌∷◌, refl, sym, ap, subst, ◌∙◌, arith, inl, inr, length, get_or, set, replicate, get_or-set_same, get_or-set_other}
+use Rattle.std.proofs.Common.{◌≡◌, ℕ, zero, suc, ◌+◌, ◌-◌, ◌*◌, ◌^◌, ◌<◌, ◌≤◌, List, [], ◌∷◌, refl, sym, ap, subst, ◌∙◌, arith, inl, inr, length, get_or, set, replicate, get_or-set_same}
+use Rattle.std.proofs.Common.{get_or-set_other}
 use Rattle.std.proofs.lemmas.Bool.{cases_eq, cases_lt}
 use Rattle.std.proofs.lemmas.List.{get_or_past, length-set, take-replicate, drop-replicate}
-use Rattle.picture.specs.Rows.{rows_of, width_of, row_at, cell_at}
+use Rattle.picture.specs.Rows.{rows_of, width_of, row_at, cell_at, Rows}
 use Rattle.line_settle.specs.FactSets.{AreMasks, IsFacts}
-use Rattle.picture.specs.FlatLaws.{length-rows_of, length-row, cell_at-rows_of, place_inside}
+use Rattle.picture.proofs.FlatLaws.{length-rows_of, length-row, cell_at-rows_of, place_inside}
 
 cell_below : (height width : ℕ) (masks : List ℕ) → AreMasks height width masks → (i j : ℕ) → cell_at (rows_of height width masks) i j < 2 ^ 16
 cell_below height width masks is i j =
@@ -21,7 +22,7 @@ cell_below height width masks is i j =
     ]
 
 -- what is known of rows of masks that lie in a flat list
-pub record Known (height width : ℕ) (masks : List ℕ) (rows : List (List ℕ)) : Type 0 where
+pub record Known (height width : ℕ) (masks : List ℕ) (rows : Rows) : Type 0 where
   pub tall : length rows ≡ height
   pub wide : width_of rows ≡ width
   pub facts : IsFacts rows
@@ -45,7 +46,7 @@ known_flat height width masks is =
       cell = cell_at-rows_of height width masks;
     }
 
-pub known : (height width : ℕ) (masks : List ℕ) (rows : List (List ℕ)) → rows_of height width masks ≡ rows → AreMasks height width masks → Known height width masks rows
+pub known : (height width : ℕ) (masks : List ℕ) (rows : Rows) → rows_of height width masks ≡ rows → AreMasks height width masks → Known height width masks rows
 known height width masks rows e is = subst (Known height width masks) e (known_flat height width masks is)
 
 pub are_masks_set : (height width : ℕ) (masks : List ℕ) (k x : ℕ) → AreMasks height width masks → x < 2 ^ 16 → AreMasks height width (set masks k x)
@@ -71,6 +72,6 @@ rows_of_one (suc height) width x =
     let room : width ≤ width + height * width = omega arith in
     let rest : width + height * width - width ≡ height * width = omega arith in
     rw (more, take-replicate {X = ℕ} width (width + height * width) x room, drop-replicate {X = ℕ} width (width + height * width) x, rest)
-    (ap (λ (rows : List (List ℕ)). replicate width x ∷ rows) (rows_of_one height width x))
+    (ap (λ (rows : Rows). replicate width x ∷ rows) (rows_of_one height width x))
 
 pub ruleset flat = (length-rows_of, place_inside, rows_of_one)

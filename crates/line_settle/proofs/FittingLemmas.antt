@@ -5,8 +5,8 @@ use Rattle.std.proofs.lemmas.Bool.{eqb-true}
 use Rattle.std.proofs.lemmas.Nat.{bit_set_by_shift}
 use Rattle.clues.specs.declared.block.Block.{Block}
 use Rattle.clues.specs.Clue.{IsClue}
-use Rattle.line_settle.specs.Fitting.{Fits, CanFit, CanHave}
-use Rattle.line_settle.specs.Spelling.{pattern_of, allows, finishes, reaches}
+use Rattle.line_settle.specs.Fits.{Fits, CanFit, CanHave}
+use Rattle.line_settle.specs.Patterns.{pattern_of, allows, finishes, reaches}
 use Rattle.line_settle.proofs.PatternLemmas.{clue_is_spelled, spells_clue, spells_length}
 use Rattle.line_settle.proofs.StateLemmas.{SpellsAt}
 use Rattle.line_settle.proofs.TableLemmas.{Keeps, Shown, shown_spelled, spelled_shown, finishes_from, ending_of}

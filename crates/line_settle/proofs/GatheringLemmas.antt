@@ -1,5 +1,6 @@
 -- The cells in which a colour is left, gathered as a set of positions, some cells at a time.
-use Rattle.std.proofs.Common.{◌≡◌, ℕ, zero, suc, ◌+◌, ◌-◌, ◌*◌, ◌%◌, ◌^◌, ◌<◌, ◌≤◌, Bool, true, false, cond, List, map, eqb, ◌==◌, bit_and, bit_or, refl, sym, ap, subst, ◌∙◌, arith, inl, inr, eq-eqb, ne_eqb, length, get_or, replicate, take, drop, get_or-drop, w16}
+use Rattle.std.proofs.Common.{◌≡◌, ℕ, zero, suc, ◌+◌, ◌-◌, ◌*◌, ◌%◌, ◌^◌, ◌<◌, ◌≤◌, Bool, true, false, cond, List, map, eqb, ◌==◌, bit_and, bit_or, refl, sym, ap, subst, ◌∙◌, arith, inl, inr, eq-eqb}
+use Rattle.std.proofs.Common.{ne_eqb, length, get_or, replicate, take, drop, get_or-drop, w16}
 use Rattle.std.specs.Int.{bit_at}
 use Rattle.std.specs.Simd.Lanes.{zip2, chunk, top, mask_l}
 use Rattle.std.proofs.Math.Bool.{or-false, or_self}
@@ -10,7 +11,7 @@ use Rattle.std.proofs.lemmas.Nat.Bits.{bit_at_cat_low, bit_at_cat_high, bit_at-l
 use Rattle.std.proofs.lemmas.Simd.{length-chunk, get_or-chunk, length-zip2, zip2_splat, map-map, bitmask_splat, bit_mask_l, mask_l-lt}
 use Rattle.std.proofs.lemmas.Grind.{one_shifted}
 use mir.Val.{bool_byte}
-use Rattle.line_settle.specs.Spelling.{allows}
+use Rattle.line_settle.specs.Patterns.{allows}
 use Rattle.line_settle.specs.Positions.{has}
 use Rattle.line_settle.proofs.BitLemmas.{allows_is, allows_none}
 use Rattle.line_settle.proofs.PositionLemmas.{bit_low, has_above, has_or, has_none, has_one, has_bit}
@@ -31,7 +32,8 @@ shifted w s a i p h l =
 
 -- ---- s cells more in front of those that are gathered already, where a test says of which cells a set has the positions
 
-pub gathered_more : (w s : ℕ) (test : ℕ → Bool) (cells low here next : ℕ) → next ≡ here + s → low < 2 ^ s → ((j : ℕ) → j < s → has low j ≡ test (here + j)) → ((j : ℕ) → j < w → has cells j ≡ test (next + j)) → (j : ℕ) → j < w → has (bit_or (cells * 2 ^ s % 2 ^ w) low) j ≡ test (here + j)
+pub gathered_more : (w s : ℕ) (test : ℕ → Bool) (cells low here next : ℕ) → next ≡ here + s → low < 2 ^ s → ((j : ℕ) → j < s → has low j ≡ test (here + j))
+    → ((j : ℕ) → j < w → has cells j ≡ test (next + j)) → (j : ℕ) → j < w → has (bit_or (cells * 2 ^ s % 2 ^ w) low) j ≡ test (here + j)
 gathered_more w s test cells low here next e small new before j h = has_or (cells * 2 ^ s % 2 ^ w) low j ∙ elim (cases_lt j s) [
   | inl l ↦ rw (below_shifted w s cells j l h) (new j l)
   | inr m ↦
@@ -40,7 +42,8 @@ gathered_more w s test cells low here next e small new before j h = has_or (cell
 ]
 
 -- one cell more
-pub gathered_one : (w : ℕ) (left : List ℕ) (cells low colour here next : ℕ) (b : Bool) → next ≡ here + 1 → low ≡ bool_byte b → b ≡ allows (get_or left here 0) colour → ((j : ℕ) → j < w → has cells j ≡ allows (get_or left (next + j) 0) colour) → (j : ℕ) → j < w → has (bit_or (cells * 2 ^ 1 % 2 ^ w) low) j ≡ allows (get_or left (here + j) 0) colour
+pub gathered_one : (w : ℕ) (left : List ℕ) (cells low colour here next : ℕ) (b : Bool) → next ≡ here + 1 → low ≡ bool_byte b → b ≡ allows (get_or left here 0) colour
+    → ((j : ℕ) → j < w → has cells j ≡ allows (get_or left (next + j) 0) colour) → (j : ℕ) → j < w → has (bit_or (cells * 2 ^ 1 % 2 ^ w) low) j ≡ allows (get_or left (here + j) 0) colour
 gathered_one w left cells low colour here next b e is new before =
     let P : ℕ → Type 0 = λ n. n < 2 in
     gathered_more w 1 (λ n. allows (get_or left n 0) colour) cells low here next e (subst P (sym is) (small b)) (λ j h.
@@ -63,7 +66,9 @@ pub none_gathered : (left : List ℕ) (colour j : ℕ) → has 0 j ≡ allows (g
 none_gathered left colour j = has_none j ∙ sym (none_past left colour (length left + j) (omega arith))
 
 -- the cells of the whole parts of s cells, and the last s cells laid over them
-pub overlapped : (w s : ℕ) (left : List ℕ) (cells low colour whole last : ℕ) → last + s ≡ length left → last ≤ whole → whole ≤ length left → length left ≤ w → low < 2 ^ s → ((j : ℕ) → j < s → has low j ≡ allows (get_or left (last + j) 0) colour) → ((j : ℕ) → j < w → has cells j ≡ allows (get_or (take whole left) j 0) colour) → (i : ℕ) → i < w → has (bit_or cells (low * 2 ^ last % 2 ^ w)) i ≡ allows (get_or left i 0) colour
+pub overlapped : (w s : ℕ) (left : List ℕ) (cells low colour whole last : ℕ) → last + s ≡ length left → last ≤ whole → whole ≤ length left → length left ≤ w → low < 2 ^ s
+    → ((j : ℕ) → j < s → has low j ≡ allows (get_or left (last + j) 0) colour) → ((j : ℕ) → j < w → has cells j ≡ allows (get_or (take whole left) j 0) colour) → (i : ℕ) → i < w
+    → has (bit_or cells (low * 2 ^ last % 2 ^ w)) i ≡ allows (get_or left i 0) colour
 overlapped w s left cells low colour whole last e l ends room small new before i h =
     has_or cells (low * 2 ^ last % 2 ^ w) i ∙ elim (cases_lt i last) [
       | inl m ↦ rw (below_shifted w last low i m h, or-false, before i h, get_or-take whole left i 0 (omega arith)) refl
@@ -74,15 +79,17 @@ overlapped w s left cells low colour whole last e l ends room small new before i
               | inl b ↦ rw (get_or-take whole left i 0 b) (or_self (allows (get_or left i 0) colour))
               | inr b ↦ rw (none_past (take whole left) colour i (let n = length-take whole left in omega arith)) refl
             ])
-        | inr past ↦ rw (has_above s low (i - last) small past, or-false, none_past (take whole left) colour i (let n = length-take whole left in omega arith), none_past left colour i (omega arith)) refl
+        | inr past ↦
+            rw (has_above s low (i - last) small past, or-false, none_past (take whole left) colour i (let n = length-take whole left in omega arith), none_past left colour i (omega arith)) refl
       ])
     ]
 
--- s cells more behind those that are gathered already
+-- s cells more after those that are gathered already
 pub none_taken : (left : List ℕ) (colour n j : ℕ) → n ≡ 0 → has 0 j ≡ allows (get_or (take n left) j 0) colour
 none_taken left colour n j e = has_none j ∙ sym (none_past (take n left) colour j (let l = length-take n left in omega arith))
 
-pub gathered_on : (w s : ℕ) (left : List ℕ) (cells low colour here next : ℕ) → next ≡ here + s → low < 2 ^ s → ((j : ℕ) → j < s → has low j ≡ allows (get_or left (here + j) 0) colour) → ((j : ℕ) → j < w → has cells j ≡ allows (get_or (take here left) j 0) colour) → (j : ℕ) → j < w → has (bit_or cells (low * 2 ^ here % 2 ^ w)) j ≡ allows (get_or (take next left) j 0) colour
+pub gathered_on : (w s : ℕ) (left : List ℕ) (cells low colour here next : ℕ) → next ≡ here + s → low < 2 ^ s → ((j : ℕ) → j < s → has low j ≡ allows (get_or left (here + j) 0) colour)
+    → ((j : ℕ) → j < w → has cells j ≡ allows (get_or (take here left) j 0) colour) → (j : ℕ) → j < w → has (bit_or cells (low * 2 ^ here % 2 ^ w)) j ≡ allows (get_or (take next left) j 0) colour
 gathered_on w s left cells low colour here next e small new before j h = has_or cells (low * 2 ^ here % 2 ^ w) j ∙ elim (cases_lt j here) [
   | inl m ↦ rw (below_shifted w here low j m h, or-false, before j h, get_or-take here left j 0 m, get_or-take next left j 0 (omega arith)) refl
   | inr m ↦
@@ -96,7 +103,8 @@ gathered_on w s left cells low colour here next e small new before j h = has_or 
 ]
 
 -- the first s cells alone
-pub gathered_first : (s : ℕ) (left : List ℕ) (low colour : ℕ) → low < 2 ^ s → ((j : ℕ) → j < s → has low j ≡ allows (get_or left (0 + j) 0) colour) → (j : ℕ) → has low j ≡ allows (get_or (take s left) j 0) colour
+pub gathered_first : (s : ℕ) (left : List ℕ) (low colour : ℕ) → low < 2 ^ s → ((j : ℕ) → j < s → has low j ≡ allows (get_or left (0 + j) 0) colour) → (j : ℕ)
+    → has low j ≡ allows (get_or (take s left) j 0) colour
 gathered_first s left low colour small is j = elim (cases_lt j s) [
   | inl l ↦
       let z : 0 + j ≡ j = omega arith in
@@ -105,7 +113,8 @@ gathered_first s left low colour small is j = elim (cases_lt j s) [
 ]
 
 -- all cells, where they are at most 64
-pub whole_word : (left : List ℕ) (cells colour : ℕ) → cells < 2 ^ 64 → length left ≤ 64 → ((j : ℕ) → j < 64 → has cells j ≡ allows (get_or left j 0) colour) → (j : ℕ) → has cells j ≡ allows (get_or left j 0) colour
+pub whole_word : (left : List ℕ) (cells colour : ℕ) → cells < 2 ^ 64 → length left ≤ 64 → ((j : ℕ) → j < 64 → has cells j ≡ allows (get_or left j 0) colour) → (j : ℕ)
+    → has cells j ≡ allows (get_or left j 0) colour
 whole_word left cells colour small short is j = elim (cases_lt j 64) [
   | inl l ↦ is j l
   | inr m ↦ has_above 64 cells j small m ∙ sym (none_past left colour j (omega arith))
@@ -114,14 +123,16 @@ whole_word left cells colour small short is j = elim (cases_lt j 64) [
 pub whole_taken : (left : List ℕ) (colour n j : ℕ) → length left ≤ n → allows (get_or (take n left) j 0) colour ≡ allows (get_or left j 0) colour
 whole_taken left colour n j h = ap (λ (xs : List ℕ). allows (get_or xs j 0) colour) (take_all n left h)
 
-pub whole_both : (left : List ℕ) (cells low colour : ℕ) → cells < 2 ^ 64 → low < 2 ^ 64 → length left ≤ 64 → ((j : ℕ) → j < 64 → has (bit_or cells low) j ≡ allows (get_or left j 0) colour) → (j : ℕ) → has (bit_or cells low) j ≡ allows (get_or left j 0) colour
+pub whole_both : (left : List ℕ) (cells low colour : ℕ) → cells < 2 ^ 64 → low < 2 ^ 64 → length left ≤ 64 → ((j : ℕ) → j < 64 → has (bit_or cells low) j ≡ allows (get_or left j 0) colour) → (j : ℕ)
+    → has (bit_or cells low) j ≡ allows (get_or left j 0) colour
 whole_both left cells low colour small few short is j = elim (cases_lt j 64) [
   | inl l ↦ is j l
   | inr m ↦ rw (has_or, has_above 64 cells j small m, has_above 64 low j few m) (sym (none_past left colour j (omega arith)))
 ]
 
--- the first 64 cells, and those behind them
-pub two_halves : (w : ℕ) (left : List ℕ) (front rest colour : ℕ) → front < 2 ^ 64 → ((i : ℕ) → has front i ≡ allows (get_or (take 64 left) i 0) colour) → ((i : ℕ) → has rest i ≡ allows (get_or (drop 64 left) i 0) colour) → (i : ℕ) → i < w → has (bit_or front (rest * 2 ^ 64 % 2 ^ w)) i ≡ allows (get_or left i 0) colour
+-- the first 64 cells, and those after them
+pub two_halves : (w : ℕ) (left : List ℕ) (front rest colour : ℕ) → front < 2 ^ 64 → ((i : ℕ) → has front i ≡ allows (get_or (take 64 left) i 0) colour)
+    → ((i : ℕ) → has rest i ≡ allows (get_or (drop 64 left) i 0) colour) → (i : ℕ) → i < w → has (bit_or front (rest * 2 ^ 64 % 2 ^ w)) i ≡ allows (get_or left i 0) colour
 two_halves w left front rest colour small f r i h = has_or front (rest * 2 ^ 64 % 2 ^ w) i ∙ elim (cases_lt i 64) [
   | inl m ↦ rw (below_shifted w 64 rest i m h, or-false, f i, get_or-take 64 left i 0 m) refl
   | inr m ↦
@@ -168,9 +179,11 @@ has_mask ms i = ap (λ n. n == 1) (bit_mask_l ms i) ∙ told (get_or ms i false)
     told true = refl
     told false = refl
 
-pub compared_each : (s : ℕ) (left : List ℕ) (first colour i : ℕ) → s ≤ 64 → colour < 16 → first + s ≤ length left → i < s → has (compared s (1 * 2 ^ colour % 65536) (chunk first s left)) i ≡ allows (get_or left (first + i) 0) colour
+pub compared_each : (s : ℕ) (left : List ℕ) (first colour i : ℕ) → s ≤ 64 → colour < 16 → first + s ≤ length left → i < s
+    → has (compared s (1 * 2 ^ colour % 65536) (chunk first s left)) i ≡ allows (get_or left (first + i) 0) colour
 compared_each s left first colour i few h room l =
     let bit = 1 * 2 ^ colour % 65536 in
     let cells = chunk first s left in
     let n : length cells ≡ s = length-chunk first s left room in
-    rw (compared_is s bit cells few n, has_mask, get_or-map (covers bit) cells i 0 false (omega arith), get_or-chunk first s left i 0 l, (one_shifted colour 65535 refl h).0) (covers_is (get_or left (first + i) 0) colour)
+    rw (compared_is s bit cells few n, has_mask, get_or-map (covers bit) cells i 0 false (omega arith), get_or-chunk first s left i 0 l, (one_shifted colour 65535 refl h).0)
+    (covers_is (get_or left (first + i) 0) colour)

@@ -3,19 +3,21 @@ use Rattle.std.proofs.Common.{◌≡◌, ℕ, ◌^◌, ◌<◌, List, [], ◌↔
 use Rattle.std.specs.Prelude.{IsBitSet}
 use Rattle.std.proofs.lemmas.Bool.{cases_eq, cases_lt}
 use Rattle.std.proofs.lemmas.List.{get_or_past, get_or-replicate}
+use Rattle.line_settle.specs.Masks.{Masks}
 use Rattle.picture.specs.CellSet.{HasCell, PutsCell}
 use Rattle.picture.specs.Picture.{IsPicture}
-use Rattle.picture.specs.Rows.{width_of, row_at, cell_at}
+use Rattle.picture.specs.Rows.{width_of, row_at, cell_at, Rows}
 use Rattle.line_settle.specs.FactSets.{SameShape, IsBase, IsOpen, Leaves, nothing_excluded, with_given}
 use Rattle.line_settle.specs.Laws.{BaseIsCellByCell}
-use Rattle.line_settle.specs.MaskLaws.{only_is_power, full_has}
-use Rattle.picture.specs.BitLaws.{same_bits, bit_below, no_bit, power_has}
-use Rattle.line_settle.specs.GridLaws.{full_shape, all_left, shape_with_cell, at_with_cell, off_with_cell, shape_trans, shape_sym}
-use Rattle.line_settle.specs.FitLaws.{same_facts}
+use Rattle.line_settle.proofs.MaskLaws.{only_is_power, full_has}
+use Rattle.picture.proofs.BitLaws.{same_bits, bit_below, no_bit, power_has}
+use Rattle.line_settle.proofs.GridLaws.{full_shape, all_left, shape_with_cell, at_with_cell, off_with_cell, shape_trans, shape_sym}
+use Rattle.line_settle.proofs.FitLaws.{same_facts}
 
 -- ---- one cell
 
-given_mask : (givens : List ℕ) (picture facts : List (List ℕ)) → IsBase givens picture facts → (row col : ℕ) → row < length picture → col < width_of picture → cell_at picture row col < 16 → HasCell givens row col → cell_at facts row col ≡ 2 ^ cell_at picture row col
+given_mask : (givens : List ℕ) (picture : Rows) (facts : Masks) → IsBase givens picture facts → (row col : ℕ) → row < length picture → col < width_of picture → cell_at picture row col < 16
+    → HasCell givens row col → cell_at facts row col ≡ 2 ^ cell_at picture row col
 given_mask givens picture facts b row col h w small g =
     only_is_power (cell_at facts row col) (cell_at picture row col)
     (λ k. (
@@ -23,7 +25,8 @@ given_mask givens picture facts b row col h w small g =
       (λ e. (b.left row col k h w).1 ((let l : k < 16 = omega arith in l), (λ _. e))),
     ))
 
-free_mask : (givens : List ℕ) (picture facts : List (List ℕ)) → IsBase givens picture facts → (row col : ℕ) → row < length picture → col < width_of picture → (HasCell givens row col → ⊥) → cell_at facts row col ≡ 65535
+free_mask : (givens : List ℕ) (picture : Rows) (facts : Masks) → IsBase givens picture facts → (row col : ℕ) → row < length picture → col < width_of picture → (HasCell givens row col → ⊥)
+    → cell_at facts row col ≡ 65535
 free_mask givens picture facts b row col h w n =
     same_bits (cell_at facts row col) 65535
     (λ k. (
@@ -34,7 +37,7 @@ free_mask givens picture facts b row col h w n =
 -- ---- what lies outside
 
 -- no colour is left outside the grid
-nothing_outside : (picture facts : List (List ℕ)) → IsPicture picture → SameShape picture facts → (row col k : ℕ) → (row < length picture → col < width_of picture → ⊥) → Leaves facts row col k → ⊥
+nothing_outside : (picture : Rows) (facts : Masks) → IsPicture picture → SameShape picture facts → (row col k : ℕ) → (row < length picture → col < width_of picture → ⊥) → Leaves facts row col k → ⊥
 nothing_outside picture facts is shape row col k n s = elim (cases_lt row (length facts)) [
   | inl l ↦
       let e = shape.each row in
@@ -49,9 +52,10 @@ nothing_outside picture facts is shape row col k n s = elim (cases_lt row (lengt
 ]
 
 -- facts of a picture's shape in which the same is left in each of its cells
-same_inside : (picture one other : List (List ℕ)) → IsPicture picture → SameShape picture one → SameShape picture other → ((row col k : ℕ) → row < length picture → col < width_of picture → Leaves one row col k ↔ Leaves other row col k) → one ≡ other
+same_inside : (picture : Rows) (one : List (List ℕ)) (other : Rows) → IsPicture picture → SameShape picture one → SameShape picture other
+    → ((row col k : ℕ) → row < length picture → col < width_of picture → Leaves one row col k ↔ Leaves other row col k) → one ≡ other
 same_inside picture one other is s t h = same_facts one other (shape_trans (shape_sym s) t) (λ row col k.
-    let out : (facts : List (List ℕ)) → SameShape picture facts → Leaves facts row col k → (row < length picture → col < width_of picture → ⊥) → ⊥ =
+    let out : (facts : Masks) → SameShape picture facts → Leaves facts row col k → (row < length picture → col < width_of picture → ⊥) → ⊥ =
     λ facts f l n. nothing_outside picture facts is f row col k n l in
     elim (cases_lt row (length picture)) [
       | inl in_rows ↦ elim (cases_lt col (width_of picture)) [
@@ -63,10 +67,11 @@ same_inside picture one other is s t h = same_facts one other (shape_trans (shap
 
 -- ---- one base
 
-same_open : (givens same : List ℕ) (picture : List (List ℕ)) (row col k : ℕ) → (HasCell same row col → HasCell givens row col) → IsOpen givens picture row col k → IsOpen same picture row col k
+same_open : (givens same : List ℕ) (picture : Rows) (row col k : ℕ) → (HasCell same row col → HasCell givens row col) → IsOpen givens picture row col k → IsOpen same picture row col k
 same_open givens same picture row col k h o = (o.0, (λ g. o.1 (h g)))
 
-one_base : (picture : List (List ℕ)) → IsPicture picture → (givens same : List ℕ) → ((row col : ℕ) → HasCell givens row col ↔ HasCell same row col) → (facts others : List (List ℕ)) → IsBase givens picture facts → IsBase same picture others → facts ≡ others
+one_base : (picture : Rows) → IsPicture picture → (givens same : List ℕ) → ((row col : ℕ) → HasCell givens row col ↔ HasCell same row col) → (facts others : Masks) → IsBase givens picture facts
+    → IsBase same picture others → facts ≡ others
 one_base picture is givens same h facts others b c = same_inside picture facts others is b.same_shape c.same_shape (λ row col k in_rows in_columns. (
   (λ l. (c.left row col k in_rows in_columns).1 (same_open givens same picture row col k (h row col).1 ((b.left row col k in_rows in_columns).0 l))),
   (λ l. (b.left row col k in_rows in_columns).1 (same_open same givens picture row col k (h row col).0 ((c.left row col k in_rows in_columns).0 l))),
@@ -74,7 +79,7 @@ one_base picture is givens same h facts others b c = same_inside picture facts o
 
 -- ---- no givens
 
-pub full_base : (picture : List (List ℕ)) → IsPicture picture → (givens : List ℕ) → ((row col : ℕ) → HasCell givens row col → ⊥) → IsBase givens picture (nothing_excluded (length picture) (width_of picture))
+pub full_base : (picture : Rows) → IsPicture picture → (givens : List ℕ) → ((row col : ℕ) → HasCell givens row col → ⊥) → IsBase givens picture (nothing_excluded (length picture) (width_of picture))
 full_base picture is givens n = record {
   same_shape = full_shape picture is;
   left = λ row col k h w.
@@ -86,7 +91,8 @@ full_base picture is givens n = record {
       );
 }
 
-no_givens : (picture : List (List ℕ)) → IsPicture picture → (givens : List ℕ) → ((row col : ℕ) → HasCell givens row col → ⊥) → (facts : List (List ℕ)) → IsBase givens picture facts ↔ (facts ≡ nothing_excluded (length picture) (width_of picture))
+no_givens : (picture : Rows) → IsPicture picture → (givens : List ℕ) → ((row col : ℕ) → HasCell givens row col → ⊥) → (facts : Masks)
+    → IsBase givens picture facts ↔ (facts ≡ nothing_excluded (length picture) (width_of picture))
 no_givens picture is givens n facts = (
   (λ b. one_base picture is givens givens (λ row col. ((λ g. g), (λ g. g))) facts (nothing_excluded (length picture) (width_of picture)) b (full_base picture is givens n)),
   (λ e. subst (IsBase givens picture) (sym e) (full_base picture is givens n)),
@@ -95,7 +101,8 @@ no_givens picture is givens n facts = (
 -- ---- one given more
 
 -- the given's own cell
-given_here : (picture : List (List ℕ)) → IsPicture picture → (givens more : List ℕ) (row col : ℕ) → row < length picture → col < width_of picture → PutsCell givens more row col → (facts : List (List ℕ)) → SameShape picture facts → (k : ℕ) → Leaves (with_given picture facts row col) row col k ↔ IsOpen more picture row col k
+given_here : (picture : Rows) → IsPicture picture → (givens more : List ℕ) (row col : ℕ) → row < length picture → col < width_of picture → PutsCell givens more row col → (facts : Masks)
+    → SameShape picture facts → (k : ℕ) → Leaves (with_given picture facts row col) row col k ↔ IsOpen more picture row col k
 given_here picture is givens more row col h w puts facts shape k =
     let colour = cell_at picture row col in
     let small = is.colours row col in
@@ -109,7 +116,8 @@ given_here picture is givens more row col h w puts facts shape k =
     )
 
 -- any other cell
-given_apart : (picture : List (List ℕ)) (givens more : List ℕ) (row col : ℕ) → PutsCell givens more row col → (facts : List (List ℕ)) → IsBase givens picture facts → (r c k : ℕ) → r < length picture → c < width_of picture → ((r ≡ row) × (c ≡ col) → ⊥) → Leaves (with_given picture facts row col) r c k ↔ IsOpen more picture r c k
+given_apart : (picture : Rows) (givens more : List ℕ) (row col : ℕ) → PutsCell givens more row col → (facts : Masks) → IsBase givens picture facts → (r c k : ℕ) → r < length picture
+    → c < width_of picture → ((r ≡ row) × (c ≡ col) → ⊥) → Leaves (with_given picture facts row col) r c k ↔ IsOpen more picture r c k
 given_apart picture givens more row col puts facts b r c k h w n =
     let P : ℕ → Type 0 = λ m. IsBitSet m k ↔ IsOpen more picture r c k in
     subst P (sym (off_with_cell facts row col (2 ^ cell_at picture row col) r c n)) (
@@ -117,7 +125,8 @@ given_apart picture givens more row col puts facts b r c k h w n =
       (λ o. (b.left r c k h w).1 (same_open more givens picture r c k (λ g. (puts r c).1 (inl g)) o)),
     )
 
-one_more : (picture : List (List ℕ)) → IsPicture picture → (givens more : List ℕ) (row col : ℕ) → row < length picture → col < width_of picture → PutsCell givens more row col → (facts : List (List ℕ)) → IsBase givens picture facts → IsBase more picture (with_given picture facts row col)
+one_more : (picture : Rows) → IsPicture picture → (givens more : List ℕ) (row col : ℕ) → row < length picture → col < width_of picture → PutsCell givens more row col → (facts : Masks)
+    → IsBase givens picture facts → IsBase more picture (with_given picture facts row col)
 one_more picture is givens more row col h w puts facts b = record {
   same_shape = shape_trans b.same_shape (shape_with_cell facts row col (2 ^ cell_at picture row col));
   left = λ r c k in_rows in_columns. elim (cases_eq r row) [

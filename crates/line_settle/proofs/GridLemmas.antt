@@ -3,11 +3,13 @@ use Rattle.std.proofs.Common.{◌≡◌, ℕ, ◌<◌, List, sym, subst, ◌∙�
 use Rattle.picture.specs.Rows.{width_of, cell_at, with_cell}
 use Rattle.std.specs.Prelude.{IsBitSet}
 use Rattle.std.specs.Int.{bit_not, w16}
+use Rattle.line_settle.specs.Masks.{Masks}
 use Rattle.line_settle.specs.FactSets.{IsFacts, ExcludesAt}
-use Rattle.line_settle.specs.MaskLaws.{without_bit}
-use Rattle.line_settle.specs.GridLaws.{shape_with_cell, at_with_cell, off_with_cell}
+use Rattle.line_settle.proofs.MaskLaws.{without_bit}
+use Rattle.line_settle.proofs.GridLaws.{shape_with_cell, at_with_cell, off_with_cell}
 
-pub excludes_at : (old new : List (List ℕ)) (row col mask colours : ℕ) → IsFacts old → row < length old → col < width_of old → colours < 2 ^ 16 → mask ≡ bit_and (cell_at old row col) (bit_not w16 colours) → new ≡ with_cell old row col mask → ExcludesAt old new row col colours
+pub excludes_at : (old new : Masks) (row col mask colours : ℕ) → IsFacts old → row < length old → col < width_of old → colours < 2 ^ 16 → mask ≡ bit_and (cell_at old row col) (bit_not w16 colours)
+    → new ≡ with_cell old row col mask → ExcludesAt old new row col colours
 excludes_at old new row col mask colours is h w small m e =
     let P : List (List ℕ) → Type 0 = λ rows. ExcludesAt old rows row col colours in
     let at : cell_at (with_cell old row col mask) row col ≡ bit_and (cell_at old row col) (bit_not w16 colours) =

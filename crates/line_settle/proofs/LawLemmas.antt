@@ -2,8 +2,8 @@
 use Rattle.std.proofs.Common.{inl, inr}
 use Rattle.line_settle.specs.Laws.{ClosedLinesHoldWhatTheyForce, FittingListStays, ForcingIsMonotone, LeastIsUnique, NarrowingTwiceIsOnce}
 use Rattle.line_settle.specs.Laws.{ForcingClosesALine}
-use Rattle.line_settle.specs.FitLaws.{tighter_have, tighter_can_fit, within_tighter, fits_narrowed, narrowed_tighter, have_narrowed, same_masks, same_outcome, within_both}
-use Rattle.line_settle.specs.ForceLaws.{gains_grows, gains_inside, gains_closes}
+use Rattle.line_settle.proofs.FitLaws.{tighter_have, tighter_can_fit, within_tighter, fits_narrowed, narrowed_tighter, have_narrowed, same_masks, same_outcome, within_both}
+use Rattle.line_settle.proofs.ForceLaws.{gains_grows, gains_inside, gains_closes}
 use Rattle.line_settle.proofs.NarrowLemmas.{have_or_not}
 
 pub forcing_monotone : ForcingIsMonotone

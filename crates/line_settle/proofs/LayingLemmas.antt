@@ -2,7 +2,7 @@
 use Rattle.std.proofs.Common.{◌≡◌, ℕ, zero, suc, ◌+◌, ◌*◌, ◌/◌, ◌%◌, ◌^◌, ◌<◌, ◌&&◌, ◌||◌, bit_and, bit_or, ap, ◌∙◌, arith}
 use Rattle.std.proofs.Math.Bool.{and_comm}
 use Rattle.line_settle.specs.Positions.{has}
-use Rattle.line_settle.specs.Laying.{lays, moved, covers}
+use Rattle.line_settle.specs.LaidBlocks.{lays, moved, covers}
 use Rattle.line_settle.proofs.PositionLemmas.{has_and, has_or, has_none, has_down, none_moved_up, moved_up, up_next}
 
 -- ---- before the cells of a block
@@ -16,7 +16,7 @@ lays_more ends cells starts new n m i e is made =
     ∙ (ap (λ x. has cells i && x) (has_down 1 starts i ∙ is (i + 1))
     ∙ ap (λ k. lays cells ends k i) z)))
 
--- ---- the cells of a block, and behind them
+-- ---- the cells of a block, and after them
 
 pub moved_more : (w starts ends n m i : ℕ) → m ≡ n + 1 → ((j : ℕ) → j < w → has ends j ≡ moved starts n j) → i < w → has (ends * 2 % 2 ^ w) i ≡ moved starts m i
 moved_more w starts ends n m zero e is h = none_moved_up w ends h ∙ ap (λ k. moved starts k 0) (let z : suc n ≡ m = omega arith in z)
@@ -26,7 +26,8 @@ moved_more w starts ends n m (suc i) e is h =
 pub covers_none : (starts i : ℕ) → has 0 i ≡ covers starts 0 i
 covers_none starts i = has_none i
 
-pub covers_more : (w starts cells ends n m i : ℕ) → m ≡ n + 1 → ((j : ℕ) → j < w → has cells j ≡ covers starts n j) → ((j : ℕ) → j < w → has ends j ≡ moved starts n j) → i < w → has (bit_or cells ends) i ≡ covers starts m i
+pub covers_more : (w starts cells ends n m i : ℕ) → m ≡ n + 1 → ((j : ℕ) → j < w → has cells j ≡ covers starts n j) → ((j : ℕ) → j < w → has ends j ≡ moved starts n j) → i < w
+    → has (bit_or cells ends) i ≡ covers starts m i
 covers_more w starts cells ends n m i e is at h =
     has_or cells ends i
     ∙ (ap (λ x. x || has ends i) (is i h)

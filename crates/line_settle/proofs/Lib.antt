@@ -35,3 +35,9 @@ pub mod ShownLemmas
 pub mod StateSetLemmas
 pub mod MarkedLemmas
 pub mod SweepLemmas
+pub mod AlongLaws
+pub mod FitLaws
+pub mod ForceLaws
+pub mod GridLaws
+pub mod MaskLaws
+pub mod SolutionLaws

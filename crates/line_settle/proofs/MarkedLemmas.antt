@@ -3,9 +3,9 @@ use Rattle.std.proofs.Common.{◌≡◌, ℕ, zero, suc, ◌<◌, ◌≤◌, ◌
 use Rattle.std.proofs.lemmas.Bool.{or_cases, or_left, or_right, false≢true, eqb-true}
 use Rattle.clues.specs.declared.block.Block.{Block}
 use Rattle.clues.specs.Clue.{IsClue}
-use Rattle.line_settle.specs.LeavingOut.{ForcesAll, Misses}
-use Rattle.line_settle.specs.Marking.{finish_marked, finishes_marked, reach_marked, reaches_marked}
-use Rattle.line_settle.specs.Spelling.{pattern_of, allows, finish_step, finishes, reach_step, reaches}
+use Rattle.line_settle.specs.LeftOut.{ForcesAll, Misses}
+use Rattle.line_settle.specs.MarkedLists.{finish_marked, finishes_marked, reach_marked, reaches_marked}
+use Rattle.line_settle.specs.Patterns.{pattern_of, allows, finish_step, finishes, reach_step, reaches}
 use Rattle.line_settle.proofs.BitLemmas.{allows_none}
 use Rattle.line_settle.proofs.FillLemmas.{reach_step_agree}
 use Rattle.line_settle.proofs.FittingLemmas.{allows_bit, bit_allows, fits_from, fits_keeps, fits_spells}
@@ -57,7 +57,8 @@ marked_line pattern (mask ∷ masks) (d ∷ drawn) q h e = elim (or_cases _ _ e)
       }
 ]
 
-pub line_marked : (pattern masks drawn line : List ℕ) (q place : ℕ) → q < length pattern → Keeps masks line → SpellsAt pattern q line → place < length masks → allows (get_or drawn place 0) (get_or line place 0) ≡ true → finishes_marked pattern masks drawn q ≡ true
+pub line_marked : (pattern masks drawn line : List ℕ) (q place : ℕ) → q < length pattern → Keeps masks line → SpellsAt pattern q line → place < length masks
+    → allows (get_or drawn place 0) (get_or line place 0) ≡ true → finishes_marked pattern masks drawn q ≡ true
 line_marked pattern [] drawn line q place h k s l a = absurd (omega arith)
 line_marked pattern (mask ∷ masks) drawn [] q place h k s l a = absurd k
 line_marked pattern (mask ∷ masks) [] (x ∷ line) q place h k s l a = absurd (false≢true (sym (allows_none (get_or (x ∷ line) place 0)) ∙ a))
@@ -74,7 +75,8 @@ line_marked pattern (mask ∷ masks) (d ∷ drawn) (x ∷ line) q (suc place) h 
 pub misses_marked : (clue : List Block) (left drawn : List ℕ) → IsClue clue → Misses clue left drawn → finishes_marked (pattern_of clue) left drawn 0 ≡ true
 misses_marked clue left drawn b m =
     let P : ℕ → Type 0 = λ k. allows (get_or drawn m.place 0) k ≡ true in
-    line_marked (pattern_of clue) left drawn m.has.line 0 m.place (omega arith) (fits_keeps m.has.fits) (fits_spells clue m.has.line b m.has.fits) m.has.within (subst P (sym m.has.has) (bit_allows _ _ m.is_drawn))
+    line_marked (pattern_of clue) left drawn m.has.line 0 m.place (omega arith) (fits_keeps m.has.fits) (fits_spells clue m.has.line b m.has.fits) m.has.within
+    (subst P (sym m.has.has) (bit_allows _ _ m.is_drawn))
 
 pub marked_misses : (clue : List Block) (left drawn : List ℕ) → IsClue clue → finishes_marked (pattern_of clue) left drawn 0 ≡ true → Misses clue left drawn
 marked_misses clue left drawn b e =
@@ -174,7 +176,8 @@ before_left pattern f g later m = record { state = m.state; inside = m.inside; i
 before_right : (pattern : List ℕ) (f g later : ℕ → Bool) → Meets pattern g later → Meets pattern (λ q. f q || g q) later
 before_right pattern f g later m = record { state = m.state; inside = m.inside; is_before = or_right _ _ m.is_before; is_later = m.is_later }
 
-pub joins_on : (pattern : List ℕ) (mask colours : ℕ) (all marked later later_marked : ℕ → Bool) → Joins pattern all marked (finish_step pattern mask later) (finish_marked pattern mask colours later later_marked) → Joins pattern (reach_step pattern mask all) (reach_marked pattern mask colours all marked) later later_marked
+pub joins_on : (pattern : List ℕ) (mask colours : ℕ) (all marked later later_marked : ℕ → Bool) → Joins pattern all marked (finish_step pattern mask later)
+    (finish_marked pattern mask colours later later_marked) → Joins pattern (reach_step pattern mask all) (reach_marked pattern mask colours all marked) later later_marked
 joins_on pattern mask colours all marked later later_marked j = elim j [
   | inl m ↦ inl (before_left pattern (reach_step pattern mask marked) (reach_step pattern colours all) later (meets_on pattern mask marked later m))
   | inr m ↦ elim (meets_or pattern all (finish_step pattern mask later_marked) (finish_step pattern colours later) m) [
@@ -183,7 +186,8 @@ joins_on pattern mask colours all marked later later_marked j = elim j [
   ]
 ]
 
-pub joins_back : (pattern : List ℕ) (mask colours : ℕ) (all marked later later_marked : ℕ → Bool) → Joins pattern (reach_step pattern mask all) (reach_marked pattern mask colours all marked) later later_marked → Joins pattern all marked (finish_step pattern mask later) (finish_marked pattern mask colours later later_marked)
+pub joins_back : (pattern : List ℕ) (mask colours : ℕ) (all marked later later_marked : ℕ → Bool) → Joins pattern (reach_step pattern mask all)
+    (reach_marked pattern mask colours all marked) later later_marked → Joins pattern all marked (finish_step pattern mask later) (finish_marked pattern mask colours later later_marked)
 joins_back pattern mask colours all marked later later_marked j = elim j [
   | inl m ↦ elim (or_meets pattern (reach_step pattern mask marked) (reach_step pattern colours all) later m) [
     | inl a ↦ inl (meets_back pattern mask marked later a)
@@ -201,8 +205,10 @@ joins_next pattern masks drawn i l e j =
     let m = drop-cons masks i 0 l in
     let d = drop-cons drawn i 0 (let k : i < length drawn = omega arith in k) in
     let P : List ℕ → Type 0 = λ ms. Joins pattern (reaches pattern masks i) (reaches_marked pattern masks drawn i) (finishes pattern ms) (finishes_marked pattern ms (drop i drawn)) in
-    let Q : List ℕ → Type 0 = λ ds. Joins pattern (reaches pattern masks i) (reaches_marked pattern masks drawn i) (finishes pattern (get_or masks i 0 ∷ drop (suc i) masks)) (finishes_marked pattern (get_or masks i 0 ∷ drop (suc i) masks) ds) in
-    joins_on pattern (get_or masks i 0) (bit_and (get_or masks i 0) (get_or drawn i 0)) (reaches pattern masks i) (reaches_marked pattern masks drawn i) (finishes pattern (drop (suc i) masks)) (finishes_marked pattern (drop (suc i) masks) (drop (suc i) drawn))
+    let Q : List ℕ → Type 0 = λ ds. Joins pattern (reaches pattern masks i) (reaches_marked pattern masks drawn i) (finishes pattern (get_or masks i 0 ∷ drop (suc i) masks))
+    (finishes_marked pattern (get_or masks i 0 ∷ drop (suc i) masks) ds) in
+    joins_on pattern (get_or masks i 0) (bit_and (get_or masks i 0) (get_or drawn i 0)) (reaches pattern masks i) (reaches_marked pattern masks drawn i) (finishes pattern (drop (suc i) masks))
+    (finishes_marked pattern (drop (suc i) masks) (drop (suc i) drawn))
     (subst Q d (subst P m j))
 
 pub joins_before : (pattern masks drawn : List ℕ) (i : ℕ) → i < length masks → length drawn ≡ length masks → JoinsAt pattern masks drawn (suc i) → JoinsAt pattern masks drawn i
@@ -210,9 +216,11 @@ joins_before pattern masks drawn i l e j =
     let m = drop-cons masks i 0 l in
     let d = drop-cons drawn i 0 (let k : i < length drawn = omega arith in k) in
     let P : List ℕ → Type 0 = λ ms. Joins pattern (reaches pattern masks i) (reaches_marked pattern masks drawn i) (finishes pattern ms) (finishes_marked pattern ms (drop i drawn)) in
-    let Q : List ℕ → Type 0 = λ ds. Joins pattern (reaches pattern masks i) (reaches_marked pattern masks drawn i) (finishes pattern (get_or masks i 0 ∷ drop (suc i) masks)) (finishes_marked pattern (get_or masks i 0 ∷ drop (suc i) masks) ds) in
+    let Q : List ℕ → Type 0 = λ ds. Joins pattern (reaches pattern masks i) (reaches_marked pattern masks drawn i) (finishes pattern (get_or masks i 0 ∷ drop (suc i) masks))
+    (finishes_marked pattern (get_or masks i 0 ∷ drop (suc i) masks) ds) in
     subst P (sym m) (subst Q (sym d)
-    (joins_back pattern (get_or masks i 0) (bit_and (get_or masks i 0) (get_or drawn i 0)) (reaches pattern masks i) (reaches_marked pattern masks drawn i) (finishes pattern (drop (suc i) masks)) (finishes_marked pattern (drop (suc i) masks) (drop (suc i) drawn)) j))
+    (joins_back pattern (get_or masks i 0) (bit_and (get_or masks i 0) (get_or drawn i 0)) (reaches pattern masks i) (reaches_marked pattern masks drawn i) (finishes pattern (drop (suc i) masks))
+    (finishes_marked pattern (drop (suc i) masks) (drop (suc i) drawn)) j))
 
 marked_joins : (pattern masks drawn : List ℕ) → 0 < length pattern → finishes_marked pattern masks drawn 0 ≡ true → JoinsAt pattern masks drawn 0
 marked_joins pattern masks drawn h e = inr (record { state = 0; inside = h; is_before = refl; is_later = e })
@@ -224,7 +232,8 @@ joins_marked pattern masks drawn j = elim j [
 ]
 
 -- a line is marked exactly where the two sides of a place have a state in common, one of them marked
-pub marked_at : (pattern masks drawn : List ℕ) (i : ℕ) → i ≤ length masks → length drawn ≡ length masks → 0 < length pattern → finishes_marked pattern masks drawn 0 ≡ true → JoinsAt pattern masks drawn i
+pub marked_at : (pattern masks drawn : List ℕ) (i : ℕ) → i ≤ length masks → length drawn ≡ length masks → 0 < length pattern → finishes_marked pattern masks drawn 0 ≡ true
+    → JoinsAt pattern masks drawn i
 marked_at pattern masks drawn zero l e h m = marked_joins pattern masks drawn h m
 marked_at pattern masks drawn (suc i) l e h m = joins_next pattern masks drawn i (omega arith) e (marked_at pattern masks drawn i (omega arith) e h m)
 
@@ -253,5 +262,6 @@ same_reached_marked pattern a b drawn (suc n) h q l =
     let m = get_or b n 0 in
     let d = bit_and m (get_or drawn n 0) in
     ap (λ x. reach_marked pattern x (bit_and x (get_or drawn n 0)) (reaches pattern a n) (reaches_marked pattern a drawn n) q) (h n (omega arith))
-    ∙ (ap (λ x. x || reach_step pattern d (reaches pattern a n) q) (reach_step_agree pattern m (reaches_marked pattern a drawn n) (reaches_marked pattern b drawn n) (same_reached_marked pattern a b drawn n less) q l)
+    ∙ (ap (λ x. x || reach_step pattern d (reaches pattern a n) q)
+    (reach_step_agree pattern m (reaches_marked pattern a drawn n) (reaches_marked pattern b drawn n) (same_reached_marked pattern a b drawn n less) q l)
     ∙ ap (λ x. reach_step pattern m (reaches_marked pattern b drawn n) q || x) (reach_step_agree pattern d (reaches pattern a n) (reaches pattern b n) (same_reached pattern a b n less) q l))

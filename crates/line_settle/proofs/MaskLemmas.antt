@@ -3,8 +3,8 @@ use Rattle.std.proofs.Common.{◌≡◌, ◌≢◌, ℕ, ◌*◌, ◌%◌, ◌^�
 use Rattle.std.specs.Prelude.{IsBitSet}
 use Rattle.std.specs.Int.{trailing_zeros, w16}
 use Rattle.line_settle.specs.Masks.{IsOnly}
-use Rattle.picture.specs.BitLaws.{bit_below, no_bit, power_has}
-use Rattle.line_settle.specs.MaskLaws.{only_is_power, lowest_of_power, lowest_below, shifted}
+use Rattle.picture.proofs.BitLaws.{bit_below, no_bit, power_has}
+use Rattle.line_settle.proofs.MaskLaws.{only_is_power, lowest_of_power, lowest_below, shifted}
 
 pub only_one : (mask lowest : ℕ) → lowest < 16 → mask ≡ 1 * 2 ^ lowest % 65536 → IsOnly mask lowest
 only_one mask lowest h e = let P : ℕ → Type 0 = λ m. IsOnly m lowest in subst P (sym (e ∙ shifted lowest h)) (power_has lowest)

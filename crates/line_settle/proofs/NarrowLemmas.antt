@@ -1,5 +1,6 @@
 -- From the tables to what narrowing a line promises.
-use Rattle.std.proofs.Common.{◌≡◌, ℕ, zero, suc, ◌+◌, ◌<◌, ◌≤◌, Bool, true, false, List, [], ◌∷◌, ◌++◌, replicate, ◌==◌, refl, sym, ap, subst, ◌∙◌, arith, ◌⊎◌, inl, inr, length, get_or, drop, take, ◌&&◌, ◌||◌, ne_eqb}
+use Rattle.std.proofs.Common.{◌≡◌, ℕ, zero, suc, ◌+◌, ◌<◌, ◌≤◌, Bool, true, false, List, [], ◌∷◌, ◌++◌, replicate, ◌==◌, refl, sym, ap, subst, ◌∙◌, arith, ◌⊎◌, inl, inr, length, get_or, drop, take}
+use Rattle.std.proofs.Common.{◌&&◌, ◌||◌, ne_eqb}
 use Rattle.std.proofs.lemmas.Bool.Decides.{nat_tests}
 use Rattle.std.specs.List.{All}
 use Rattle.std.proofs.Math.ListN.{get_or-eq_default}
@@ -9,11 +10,11 @@ use Rattle.std.proofs.lemmas.Bool.{or_cases, or_left, or_right, cases_lt, cases_
 use Rattle.clues.specs.declared.block.Block.{Block}
 use Rattle.clues.specs.Clue.{block, IsBlock, IsClue}
 use Rattle.line_settle.specs.declared.line_engine.Outcome.TheVariants.{Narrowed, Dead}
-use Rattle.line_settle.specs.Fitting.{CanFit, CanHave}
-use Rattle.line_settle.specs.Narrowing.{Narrows}
-use Rattle.line_settle.specs.Spelling.{gap, spelled_after, pattern_of, allows, finishes, reaches, advances, rests, passes, passes_below}
+use Rattle.line_settle.specs.Fits.{CanFit, CanHave}
+use Rattle.line_settle.specs.NarrowedLine.{Narrows}
+use Rattle.line_settle.specs.Patterns.{gap, spelled_after, pattern_of, allows, finishes, reaches, advances, rests, passes, passes_below}
 use Rattle.line_settle.specs.Positions.{has}
-use Rattle.line_settle.specs.Laying.{AreSeen}
+use Rattle.line_settle.specs.LaidBlocks.{AreSeen}
 use Rattle.line_settle.proofs.PatternLemmas.{first_is, rest_are}
 use Rattle.line_settle.proofs.BitLemmas.{allows_none}
 use Rattle.line_settle.proofs.PositionLemmas.{has_none}
@@ -76,7 +77,8 @@ seen_in_full blocks left seen n some h is i k l = elim (cases_lt k n) [
   | inr m ↦
       ap (λ s. has s i) (get_or_past (take n seen) k 0 (let e = length-take n seen in omega arith))
       ∙ (has_none i
-      ∙ sym (none_above (pattern_of blocks) (get_or left i 0) (reaches (pattern_of blocks) left i) (finishes (pattern_of blocks) (drop (i + 1) left)) n (length (pattern_of blocks)) k some (pattern_below n some blocks h) m))
+      ∙ sym (none_above (pattern_of blocks) (get_or left i 0) (reaches (pattern_of blocks) left i) (finishes (pattern_of blocks) (drop (i + 1) left)) n (length (pattern_of blocks)) k some
+      (pattern_below n some blocks h) m))
 ]
 
 -- some state lets a line pass exactly where one below the pattern's length does
@@ -98,12 +100,14 @@ passing_below pattern mask f g (suc n) q k h e = elim (cases_lt q n) [
 
 -- the colours that the tables give for each cell
 abbrev pub Collected : List ℕ → List ℕ → List ℕ → Type 0
-Collected pattern left out = (i k : ℕ) → i < length left → allows (get_or out i 0) k ≡ passes_below pattern (get_or left i 0) (reaches pattern left i) (finishes pattern (drop (i + 1) left)) (length pattern) k
+Collected pattern left out = (i k : ℕ) → i < length left
+    → allows (get_or out i 0) k ≡ passes_below pattern (get_or left i 0) (reaches pattern left i) (finishes pattern (drop (i + 1) left)) (length pattern) k
 
 past_end : (out : List ℕ) (i k : ℕ) → length out ≤ i → allows (get_or out i 0) k ≡ true → ⊥
 past_end out i k h e = false≢true (sym (ap (λ m. allows m k) (get_or-eq_default out 0 h) ∙ allows_none k) ∙ e)
 
-collected_have : (clue : List Block) (left out : List ℕ) → IsClue clue → length out ≡ length left → Collected (pattern_of clue) left out → (i k : ℕ) → allows (get_or out i 0) k ≡ true → CanHave clue left i k
+collected_have : (clue : List Block) (left out : List ℕ) → IsClue clue → length out ≡ length left → Collected (pattern_of clue) left out → (i k : ℕ) → allows (get_or out i 0) k ≡ true
+    → CanHave clue left i k
 collected_have clue left out b n c i k e = elim (cases_lt i (length left)) [
   | inl l ↦
       let pattern = pattern_of clue in
@@ -122,7 +126,8 @@ have_collected clue left out b c i k h =
     let p = subst P s (have_shown clue left i k b h) in
     c i k h.within ∙ passing_below pattern (get_or left i 0) (reaches pattern left i) (finishes pattern (drop (i + 1) left)) (length pattern) p.state k p.within p.passes_there
 
-pub narrows_some : (clue : List Block) (left out : List ℕ) → IsClue clue → length out ≡ length left → finishes (pattern_of clue) left 0 ≡ true → Collected (pattern_of clue) left out → Narrows clue left Narrowed out
+pub narrows_some : (clue : List Block) (left out : List ℕ) → IsClue clue → length out ≡ length left → finishes (pattern_of clue) left 0 ≡ true → Collected (pattern_of clue) left out
+    → Narrows clue left Narrowed out
 narrows_some clue left out b n f c = record {
   same_length = n;
   fits = ((λ _. finishes_fit clue left b f), (λ _. refl));

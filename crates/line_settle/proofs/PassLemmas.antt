@@ -1,13 +1,14 @@
 -- What is seen from the front: the cells with which a line goes on from its first position to its end.
-use Rattle.std.proofs.Common.{◌≡◌, ℕ, zero, suc, ◌+◌, ◌-◌, ◌/◌, ◌<◌, ◌≤◌, Bool, true, false, List, ◌==◌, ◌&&◌, ◌||◌, nat_lt, bit_and, bit_or, replicate, refl, sym, ap, subst, ◌∙◌, arith, inl, inr, ne_eqb, length, get_or, drop}
+use Rattle.std.proofs.Common.{◌≡◌, ℕ, zero, suc, ◌+◌, ◌-◌, ◌/◌, ◌<◌, ◌≤◌, Bool, true, false, List, ◌==◌, ◌&&◌, ◌||◌, nat_lt, bit_and, bit_or, replicate, refl, sym, ap, subst, ◌∙◌, arith, inl, inr}
+use Rattle.std.proofs.Common.{ne_eqb, length, get_or, drop}
 use Rattle.std.proofs.lemmas.Bool.Decides.{nat_tests}
 use Rattle.std.proofs.Math.Bool.{and-false, or_self}
 use Rattle.std.proofs.lemmas.Bool.{cases_lt, lt-ltb, le-ltb}
 use Rattle.clues.specs.declared.block.Block.{Block}
 use Rattle.clues.specs.Clue.{IsClue}
-use Rattle.line_settle.specs.Spelling.{pattern_of, allows, waits, advances, rests, finishes, reaches, passes, passes_below}
+use Rattle.line_settle.specs.Patterns.{pattern_of, allows, waits, advances, rests, finishes, reaches, passes, passes_below}
 use Rattle.line_settle.specs.Positions.{has, IsCellsWith}
-use Rattle.line_settle.specs.Laying.{moved, covers, meets, gap_before, state_behind, IsAllowed, IsBack, IsStart, AreMarked, AreSeen}
+use Rattle.line_settle.specs.LaidBlocks.{moved, covers, meets, gap_before, state_behind, IsAllowed, IsBack, IsStart, AreMarked, AreSeen}
 use Rattle.line_settle.proofs.PositionLemmas.{has_and, has_or, has_down, has_none, has_one}
 use Rattle.line_settle.proofs.StateLemmas.{waits_at_end}
 use Rattle.line_settle.proofs.NarrowLemmas.{zeros}
@@ -55,7 +56,8 @@ first_entry pattern left f (suc i) h = has_one (suc i) ∙ ne_eqb (suc i) 0 (λ 
 over : (a e f : Bool) → (a && (e && (a && f))) ≡ ((a && e) && f)
 over a e f = grind (arith, nat_tests)
 
-pub gap_entry : (pattern left : List ℕ) (q background from here : ℕ) → GapAt pattern q → IsCellsWith left 0 background → IsEntry pattern left q from → has here 0 ≡ false → ((i : ℕ) → i < length left → has here (i + 1) ≡ (has background i && has from i)) → IsEntry pattern left (q + 1) here
+pub gap_entry : (pattern left : List ℕ) (q background from here : ℕ) → GapAt pattern q → IsCellsWith left 0 background → IsEntry pattern left q from → has here 0 ≡ false
+    → ((i : ℕ) → i < length left → has here (i + 1) ≡ (has background i && has from i)) → IsEntry pattern left (q + 1) here
 gap_entry pattern left q background from here g is before first next zero h = first ∙ sym (enters_not pattern left (q + 1) (finishes pattern left (q + 1)) (omega arith))
 gap_entry pattern left q background from here g is before first next (suc i) h =
     let z : suc i ≡ i + 1 = omega arith in
@@ -68,7 +70,8 @@ gap_entry pattern left q background from here g is before first next (suc i) h =
     ∙ (ap (λ x. x && has from i) (is i (omega arith))
     ∙ (ap (λ x. a && x) (before i (omega arith) ∙ ap (λ x. e && x) back)
     ∙ (over a e f
-    ∙ sym (ap (λ x. x && finishes pattern (drop (suc i) left) (q + 1)) (enters_next pattern left i (q + 1) q 0 refl g.background ∙ ap (λ x. a && x) (reaches_enters pattern left i q (gap_waits_not pattern q g)))
+    ∙ sym (ap (λ x. x && finishes pattern (drop (suc i) left) (q + 1))
+    (enters_next pattern left i (q + 1) q 0 refl g.background ∙ ap (λ x. a && x) (reaches_enters pattern left i q (gap_waits_not pattern q g)))
     ∙ ap (λ n. (a && e) && finishes pattern (drop n left) (q + 1)) z)))))
 
 -- ---- waiting
@@ -83,7 +86,8 @@ twice e f = grind (arith, nat_tests)
 waited : (e f a h r x g w : Bool) → w ≡ true → g ≡ (x || (w && (a && f))) → (h && g) ≡ (r && g) → (((e && f) || (a && h)) && f) ≡ ((e || (w && (a && r))) && f)
 waited e f a h r x g w i j k = grind (arith, nat_tests)
 
-pub wait_reached : (pattern left : List ℕ) (s background from here : ℕ) → waits pattern s ≡ true → IsCellsWith left 0 background → IsEntry pattern left s from → has here 0 ≡ has from 0 → ((i : ℕ) → i < length left → has here (i + 1) ≡ (has from (i + 1) || (has background i && has here i))) → IsReached pattern left s here
+pub wait_reached : (pattern left : List ℕ) (s background from here : ℕ) → waits pattern s ≡ true → IsCellsWith left 0 background → IsEntry pattern left s from → has here 0 ≡ has from 0
+    → ((i : ℕ) → i < length left → has here (i + 1) ≡ (has from (i + 1) || (has background i && has here i))) → IsReached pattern left s here
 wait_reached pattern left s background from here w is before first next zero h =
     let f = finishes pattern left s in
     ap (λ x. x && f) (first ∙ before 0 (omega arith)) ∙ twice (s == 0) f
@@ -94,9 +98,11 @@ wait_reached pattern left s background from here w is before first next (suc i) 
     let a = allows (get_or left i 0) 0 in
     let x = advances pattern (get_or left i 0) (finishes pattern (drop (i + 1) left)) s in
     let back = finish_on pattern left s i (omega arith) ∙ ap (λ n. x || (waits pattern s && (a && finishes pattern (drop n left) s))) (sym z) in
-    let here_is = ap (λ n. has here n) z ∙ (next i (omega arith) ∙ (ap (λ n. has from n || (has background i && has here i)) (sym z) ∙ (ap (λ y. y || (has background i && has here i)) (before (suc i) h) ∙ ap (λ y. (e && f) || (y && has here i)) (is i (omega arith))))) in
+    let here_is = ap (λ n. has here n) z ∙ (next i (omega arith) ∙ (ap (λ n. has from n || (has background i && has here i)) (sym z)
+    ∙ (ap (λ y. y || (has background i && has here i)) (before (suc i) h) ∙ ap (λ y. (e && f) || (y && has here i)) (is i (omega arith))))) in
     ap (λ y. y && f) here_is
-    ∙ waited e f a (has here i) (reaches pattern left i s) x (finishes pattern (drop i left) s) (waits pattern s) w back (wait_reached pattern left s background from here w is before first next i (omega arith))
+    ∙ waited e f a (has here i) (reaches pattern left i s) x (finishes pattern (drop i left) s) (waits pattern s) w back
+    (wait_reached pattern left s background from here w is before first next i (omega arith))
 
 -- ---- laying a block
 
@@ -115,7 +121,8 @@ no_advance pattern left s i h =
 same_nothing : (h r s : Bool) → s ≡ false → (h && s) ≡ (r && s)
 same_nothing h r s i = grind (arith, nat_tests)
 
-pub laid_at : (pattern left : List ℕ) (s here starts laid : ℕ) → IsReached pattern left s here → IsStart pattern left s starts → ((i : ℕ) → has laid i ≡ (has here i && has starts i)) → IsLaid pattern left s laid
+pub laid_at : (pattern left : List ℕ) (s here starts laid : ℕ) → IsReached pattern left s here → IsStart pattern left s starts → ((i : ℕ) → has laid i ≡ (has here i && has starts i))
+    → IsLaid pattern left s laid
 laid_at pattern left s here starts laid reached begins is i h =
     let a = advances pattern (get_or left i 0) (finishes pattern (drop (i + 1) left)) s in
     let r = rests pattern (get_or left i 0) (finishes pattern (drop (i + 1) left)) s in
@@ -129,8 +136,9 @@ laid_at pattern left s here starts laid reached begins is i h =
 moved_one : (r l a f : Bool) → l ≡ true → (r && (l && (a && f))) ≡ ((a && r) && f)
 moved_one r l a f h = grind (arith, nat_tests)
 
--- behind each cell of the block the line comes to the state behind that cell
-block_entries : (pattern left : List ℕ) (s len c laid : ℕ) → BlockAt pattern s len c → IsLaid pattern left s laid → (t : ℕ) → t < len → (i : ℕ) → i ≤ length left → moved laid (suc t) i ≡ (enters pattern left i (s + suc t) && finishes pattern (drop i left) (s + suc t))
+-- after each cell of the block the line comes to the state after that cell
+block_entries : (pattern left : List ℕ) (s len c laid : ℕ) → BlockAt pattern s len c → IsLaid pattern left s laid → (t : ℕ) → t < len → (i : ℕ) → i ≤ length left
+    → moved laid (suc t) i ≡ (enters pattern left i (s + suc t) && finishes pattern (drop i left) (s + suc t))
 block_entries pattern left s len c laid b is t l zero h = sym (enters_not pattern left (s + suc t) (finishes pattern left (s + suc t)) (omega arith))
 block_entries pattern left s len c laid b is zero l (suc i) h =
     let w = b.within in
@@ -162,7 +170,8 @@ block_entries pattern left s len c laid b is (suc t) l (suc i) h =
     onward : (e a f : Bool) → (e && (a && f)) ≡ ((a && e) && f)
     onward e a f = grind (arith, nat_tests)
 
-pub block_entry : (pattern left : List ℕ) (s len c laid ends : ℕ) → BlockAt pattern s len c → IsLaid pattern left s laid → ((i : ℕ) → i ≤ length left → has ends i ≡ moved laid len i) → IsEntry pattern left (s + len) ends
+pub block_entry : (pattern left : List ℕ) (s len c laid ends : ℕ) → BlockAt pattern s len c → IsLaid pattern left s laid → ((i : ℕ) → i ≤ length left → has ends i ≡ moved laid len i)
+    → IsEntry pattern left (s + len) ends
 block_entry pattern left s len c laid ends b is e i h =
     let z : len ≡ suc (len - 1) = omega arith in
     let y : s + suc (len - 1) ≡ s + len = omega arith in
@@ -179,14 +188,15 @@ Passes pattern left i q k = passes pattern (get_or left i 0) (reaches pattern le
 abbrev pub Below : List ℕ → List ℕ → ℕ → ℕ → ℕ → Bool
 Below pattern left i n k = passes_below pattern (get_or left i 0) (reaches pattern left i) (finishes pattern (drop (i + 1) left)) n k
 
--- the cells of background behind the positions of a set, from which another set is reached
+-- the cells of background after the positions of a set, from which another set is reached
 abbrev pub stays : ℕ → ℕ → ℕ → ℕ → Bool
 stays set background later i = has set i && (has background i && has later (i + 1))
 
 gap_seen : (r e a f l w x z y : Bool) → l ≡ true → w ≡ false → r ≡ e → y ≡ z → (r && (((l && (a && f)) && y) || ((w && x) && z))) ≡ (((e && (a && f)) && (a && f)) && z)
 gap_seen r e a f l w x z y h i j k = grind (arith, nat_tests)
 
-gap_passes : (pattern left : List ℕ) (q background from later i k : ℕ) → GapAt pattern q → IsCellsWith left 0 background → IsEntry pattern left q from → IsBack pattern left (q + 1) later → i < length left → Passes pattern left i q k ≡ (stays from background later i && 0 == k)
+gap_passes : (pattern left : List ℕ) (q background from later i k : ℕ) → GapAt pattern q → IsCellsWith left 0 background → IsEntry pattern left q from → IsBack pattern left (q + 1) later
+    → i < length left → Passes pattern left i q k ≡ (stays from background later i && 0 == k)
 gap_passes pattern left q background from later i k g is before back h =
     let w = gap_waits_not pattern q g in
     let a = allows (get_or left i 0) 0 in
@@ -209,7 +219,8 @@ wait_seen : (r h s b x z g w : Bool) → w ≡ true → g ≡ (s || (w && b)) �
 wait_seen r h s b x z g w i j k = grind (arith, nat_tests)
 
 -- a waiting state, whose next cell is of colour c
-wait_passes : (pattern left : List ℕ) (s background here laid later i k : ℕ) → waits pattern s ≡ true → IsCellsWith left 0 background → IsReached pattern left s here → IsLaid pattern left s laid → IsBack pattern left s later → i < length left → Passes pattern left i s k ≡ ((has laid i && get_or pattern (s + 1) 0 == k) || (stays here background later i && 0 == k))
+wait_passes : (pattern left : List ℕ) (s background here laid later i k : ℕ) → waits pattern s ≡ true → IsCellsWith left 0 background → IsReached pattern left s here → IsLaid pattern left s laid
+    → IsBack pattern left s later → i < length left → Passes pattern left i s k ≡ ((has laid i && get_or pattern (s + 1) 0 == k) || (stays here background later i && 0 == k))
 wait_passes pattern left s background here laid later i k w is reached lies back h =
     let f = finishes pattern (drop (i + 1) left) in
     let a = advances pattern (get_or left i 0) f s in
@@ -223,7 +234,8 @@ wait_passes pattern left s background here laid later i k w is reached lies back
 inside_seen : (r e a f l w x y z : Bool) → l ≡ true → w ≡ false → r ≡ e → (r && (((l && (a && f)) && y) || ((w && x) && z))) ≡ ((e && (a && f)) && y)
 inside_seen r e a f l w x y z h i j = grind (arith, nat_tests)
 
-inside_passes : (pattern left : List ℕ) (s len c laid t i k : ℕ) → BlockAt pattern s len c → IsLaid pattern left s laid → suc t < len → i < length left → Passes pattern left i (s + suc t) k ≡ (moved laid (suc t) i && c == k)
+inside_passes : (pattern left : List ℕ) (s len c laid t i k : ℕ) → BlockAt pattern s len c → IsLaid pattern left s laid → suc t < len → i < length left
+    → Passes pattern left i (s + suc t) k ≡ (moved laid (suc t) i && c == k)
 inside_passes pattern left s len c laid t i k b lies l h =
     let q = s + suc t in
     let w = inside_waits_not pattern s len c t b l in
@@ -233,7 +245,8 @@ inside_passes pattern left s len c laid t i k b lies l h =
     let x = allows (get_or left i 0) 0 && finishes pattern (drop (i + 1) left) q in
     let y : s + suc (suc t) ≡ q + 1 = omega arith in
     let colour : get_or pattern (q + 1) 0 ≡ c = ap (λ n. get_or pattern n 0) (sym y) ∙ b.cells (suc t) l in
-    inside_seen (reaches pattern left i q) e a f (nat_lt (q + 1) (length pattern)) (waits pattern q) x (get_or pattern (q + 1) 0 == k) (0 == k) (lt-ltb (q + 1) (length pattern) (omega arith)) w (reaches_enters pattern left i q w)
+    inside_seen (reaches pattern left i q) e a f (nat_lt (q + 1) (length pattern)) (waits pattern q) x (get_or pattern (q + 1) 0 == k) (0 == k) (lt-ltb (q + 1) (length pattern) (omega arith)) w
+    (reaches_enters pattern left i q w)
     ∙ (ap (λ n. (e && (a && f)) && n == k) colour
     ∙ (ap (λ n. (e && n) && c == k) (sym (step_back pattern left q i (omega arith) w (omega arith)))
     ∙ ap (λ n. n && c == k) (sym (block_entries pattern left s len c laid b lies t (omega arith) i (omega arith)))))
@@ -246,7 +259,9 @@ first_cell p l x b z = grind (arith, nat_tests)
 one_cell : (b c m x : Bool) → ((b || (c && x)) || (m && x)) ≡ (b || ((c || m) && x))
 one_cell b c m x = grind (arith, nat_tests)
 
-block_below : (pattern left : List ℕ) (s len c background here laid later i k : ℕ) → BlockAt pattern s len c → IsCellsWith left 0 background → IsReached pattern left s here → IsLaid pattern left s laid → IsBack pattern left s later → i < length left → (t : ℕ) → t < len → Below pattern left i (s + suc t) k ≡ ((Below pattern left i s k || (stays here background later i && 0 == k)) || (covers laid (suc t) i && c == k))
+block_below : (pattern left : List ℕ) (s len c background here laid later i k : ℕ) → BlockAt pattern s len c → IsCellsWith left 0 background → IsReached pattern left s here
+    → IsLaid pattern left s laid → IsBack pattern left s later → i < length left → (t : ℕ) → t < len
+    → Below pattern left i (s + suc t) k ≡ ((Below pattern left i s k || (stays here background later i && 0 == k)) || (covers laid (suc t) i && c == k))
 block_below pattern left s len c background here laid later i k b is reached lies back h zero l =
     let z : s + 1 ≡ suc s = omega arith in
     let before = Below pattern left i s k in
@@ -268,7 +283,7 @@ block_below pattern left s len c background here laid later i k b is reached lie
 abbrev pub HasSeen : List ℕ → List ℕ → List ℕ → ℕ → Type 0
 HasSeen pattern left seen n = (i k : ℕ) → i < length left → has (get_or seen k 0) i ≡ Below pattern left i n k
 
--- the positions behind the gap before a block, up to position n
+-- the positions after the gap before a block, up to position n
 pub record Entered (n : ℕ) (m : Bool) (background from entered : ℕ) : Type 0 where
   pub none : m ≡ false → entered ≡ from
   pub first : m ≡ true → has entered 0 ≡ false
@@ -279,7 +294,8 @@ pub record Filled (n background entered here : ℕ) : Type 0 where
   pub first : has here 0 ≡ has entered 0
   pub on : (i : ℕ) → i < n → has here (i + 1) ≡ (has entered (i + 1) || (has background i && has here i))
 
-gap_entered : (pattern left : List ℕ) (q len c background from entered : ℕ) (m : Bool) → PieceAt pattern q m len c → IsCellsWith left 0 background → IsEntry pattern left q from → Entered (length left) m background from entered → IsEntry pattern left (q + gap_before m) entered
+gap_entered : (pattern left : List ℕ) (q len c background from entered : ℕ) (m : Bool) → PieceAt pattern q m len c → IsCellsWith left 0 background → IsEntry pattern left q from
+    → Entered (length left) m background from entered → IsEntry pattern left (q + gap_before m) entered
 gap_entered pattern left q len c background from entered true p is before e = gap_entry pattern left q background from entered (p.gap_is refl) is before (e.first refl) (e.one refl)
 gap_entered pattern left q len c background from entered false p is before e =
     let z : q ≡ q + 0 = omega arith in
@@ -289,7 +305,8 @@ filled_has : (n background entered here i : ℕ) → Filled n background entered
 filled_has n background entered here zero f h = ap (λ x. x || has here 0) (sym f.first) ∙ or_self (has here 0)
 filled_has n background entered here (suc i) f h =
     let z : suc i ≡ i + 1 = omega arith in
-    let e : has here (suc i) ≡ (has entered (suc i) || (has background i && has here i)) = ap (λ n. has here n) z ∙ (f.on i (omega arith) ∙ ap (λ n. has entered n || (has background i && has here i)) (sym z)) in
+    let e : has here (suc i) ≡ (has entered (suc i) || (has background i && has here i)) = ap (λ n. has here n) z
+    ∙ (f.on i (omega arith) ∙ ap (λ n. has entered n || (has background i && has here i)) (sym z)) in
     ap (λ x. has entered (suc i) || x) e ∙ (same (has entered (suc i)) (has background i && has here i) ∙ sym e)
   where
     same : (a b : Bool) → (a || (a || b)) ≡ (a || b)
@@ -298,7 +315,9 @@ filled_has n background entered here (suc i) f h =
 gap_and_wait : (o f h b z : Bool) → ((o || ((f && b) && z)) || ((h && b) && z)) ≡ (o || (((f || h) && b) && z))
 gap_and_wait o f h b z = grind (arith, nat_tests)
 
-background_below : (pattern left : List ℕ) (q len c background from entered here later i k : ℕ) (m : Bool) → PieceAt pattern q m len c → IsCellsWith left 0 background → IsEntry pattern left q from → Entered (length left) m background from entered → Filled (length left) background entered here → IsBack pattern left (q + gap_before m) later → i < length left → (Below pattern left i (q + gap_before m) k || (stays here background later i && 0 == k)) ≡ (Below pattern left i q k || (((has from i || has here i) && (has background i && has later (i + 1))) && 0 == k))
+background_below : (pattern left : List ℕ) (q len c background from entered here later i k : ℕ) (m : Bool) → PieceAt pattern q m len c → IsCellsWith left 0 background → IsEntry pattern left q from
+    → Entered (length left) m background from entered → Filled (length left) background entered here → IsBack pattern left (q + gap_before m) later → i < length left → (Below pattern left i
+    (q + gap_before m) k || (stays here background later i && 0 == k)) ≡ (Below pattern left i q k || (((has from i || has here i) && (has background i && has later (i + 1))) && 0 == k))
 background_below pattern left q len c background from entered here later i k true p is before e f back h =
     let z : q + 1 ≡ suc q = omega arith in
     ap (λ n. Below pattern left i n k || (stays here background later i && 0 == k)) z
@@ -308,9 +327,10 @@ background_below pattern left q len c background from entered here later i k fal
     let z : q + 0 ≡ q = omega arith in
     let b = has background i && has later (i + 1) in
     ap (λ n. Below pattern left i n k || (stays here background later i && 0 == k)) z
-    ∙ sym (ap (λ x. Below pattern left i q k || (((has x i || has here i) && b) && 0 == k)) (sym (e.none refl)) ∙ ap (λ x. Below pattern left i q k || ((x && b) && 0 == k)) (filled_has (length left) background entered here i f (omega arith)))
+    ∙ sym (ap (λ x. Below pattern left i q k || (((has x i || has here i) && b) && 0 == k)) (sym (e.none refl))
+    ∙ ap (λ x. Below pattern left i q k || ((x && b) && 0 == k)) (filled_has (length left) background entered here i f (omega arith)))
 
--- what is known behind a block
+-- what is known after a block
 pub record Behind (pattern left : List ℕ) (q from : ℕ) (seen : List ℕ) : Type 0 where
   pub entry : IsEntry pattern left q from
   pub seen_is : HasSeen pattern left seen q
@@ -321,7 +341,12 @@ stays_has from here background later i =
     ∙ (ap (λ x. x && has (bit_and background (later / 2)) i) (has_or from here i)
     ∙ ap (λ x. (has from i || has here i) && x) (has_and background (later / 2) i ∙ ap (λ x. has background i && x) (has_down 1 later i)))
 
-pub behind_block : (pattern left : List ℕ) (q len c background from entered here starts later cells ends : ℕ) (old mid new : List ℕ) (m : Bool) → PieceAt pattern q m len c → IsCellsWith left 0 background → IsStart pattern left (q + gap_before m) starts → IsBack pattern left (q + gap_before m) later → Behind pattern left q from old → Entered (length left) m background from entered → Filled (length left) background entered here → ((i k : ℕ) → has (get_or mid k 0) i ≡ (has (get_or old k 0) i || (has (bit_and (bit_or from here) (bit_and background (later / 2))) i && 0 == k))) → ((i : ℕ) → i ≤ length left → has cells i ≡ covers (bit_and here starts) len i) → ((i : ℕ) → i ≤ length left → has ends i ≡ moved (bit_and here starts) len i) → ((i k : ℕ) → has (get_or new k 0) i ≡ (has (get_or mid k 0) i || (has cells i && c == k))) → Behind pattern left (q + gap_before m + len) ends new
+pub behind_block : (pattern left : List ℕ) (q len c background from entered here starts later cells ends : ℕ) (old mid new : List ℕ) (m : Bool) → PieceAt pattern q m len c
+    → IsCellsWith left 0 background → IsStart pattern left (q + gap_before m) starts → IsBack pattern left (q + gap_before m) later → Behind pattern left q from old
+    → Entered (length left) m background from entered → Filled (length left) background entered here
+    → ((i k : ℕ) → has (get_or mid k 0) i ≡ (has (get_or old k 0) i || (has (bit_and (bit_or from here) (bit_and background (later / 2))) i && 0 == k)))
+    → ((i : ℕ) → i ≤ length left → has cells i ≡ covers (bit_and here starts) len i) → ((i : ℕ) → i ≤ length left → has ends i ≡ moved (bit_and here starts) len i)
+    → ((i k : ℕ) → has (get_or new k 0) i ≡ (has (get_or mid k 0) i || (has cells i && c == k))) → Behind pattern left (q + gap_before m + len) ends new
 behind_block pattern left q len c background from entered here starts later cells ends old mid new m p is begins back before e f mids covered ended news =
     let s = q + gap_before m in
     let b = p.block_is in
@@ -346,12 +371,14 @@ behind_block pattern left q len c background from entered here starts later cell
           ∙ (sym below ∙ ap (λ n. Below pattern left i n k) u))))));
     }
 
--- ---- behind the last block
+-- ---- after the last block
 
 end_seen : (r h s b x z : Bool) → s ≡ false → (h && b) ≡ (r && b) → (r && ((s && x) || (b && z))) ≡ ((h && b) && z)
 end_seen r h s b x z i j = grind (arith, nat_tests)
 
-pub behind_all : (pattern left : List ℕ) (q background from here later : ℕ) (old new : List ℕ) → q + 1 ≡ length pattern → IsCellsWith left 0 background → IsBack pattern left q later → Behind pattern left q from old → Filled (length left) background from here → ((i k : ℕ) → has (get_or new k 0) i ≡ (has (get_or old k 0) i || (has (bit_and here (bit_and background (later / 2))) i && 0 == k))) → HasSeen pattern left new (length pattern)
+pub behind_all : (pattern left : List ℕ) (q background from here later : ℕ) (old new : List ℕ) → q + 1 ≡ length pattern → IsCellsWith left 0 background → IsBack pattern left q later
+    → Behind pattern left q from old → Filled (length left) background from here
+    → ((i k : ℕ) → has (get_or new k 0) i ≡ (has (get_or old k 0) i || (has (bit_and here (bit_and background (later / 2))) i && 0 == k))) → HasSeen pattern left new (length pattern)
 behind_all pattern left q background from here later old new e is back before f news i k h =
     let z : suc q ≡ length pattern = omega arith in
     let w = waits_at_end pattern q (omega arith) in
@@ -378,19 +405,28 @@ behind_all pattern left q background from here later old new e is back before f 
 
 -- ---- in the blocks of a clue
 
-pub pass_block : (bs : List Block) (left allowed starting waiting : List ℕ) (j from entered here cells ends : ℕ) (old mid new : List ℕ) (m : Bool) → IsClue bs → j < length bs → IsAllowed bs left allowed → AreMarked bs left starting waiting → m ≡ meets 0 bs j → Behind (pattern_of bs) left (state_behind 0 bs j) from old → Entered (length left) m (get_or allowed 0 0) from entered → Filled (length left) (get_or allowed 0 0) entered here → ((i k : ℕ) → has (get_or mid k 0) i ≡ (has (get_or old k 0) i || (has (bit_and (bit_or from here) (bit_and (get_or allowed 0 0) (get_or waiting j 0 / 2))) i && 0 == k))) → ((i : ℕ) → i ≤ length left → has cells i ≡ covers (bit_and here (get_or starting j 0)) (block_at bs j).len i) → ((i : ℕ) → i ≤ length left → has ends i ≡ moved (bit_and here (get_or starting j 0)) (block_at bs j).len i) → ((i k : ℕ) → has (get_or new k 0) i ≡ (has (get_or mid k 0) i || (has cells i && (block_at bs j).colour == k))) → Behind (pattern_of bs) left (state_behind 0 bs (j + 1)) ends new
+pub pass_block : (bs : List Block) (left allowed starting waiting : List ℕ) (j from entered here cells ends : ℕ) (old mid new : List ℕ) (m : Bool) → IsClue bs → j < length bs
+    → IsAllowed bs left allowed → AreMarked bs left starting waiting → m ≡ meets 0 bs j → Behind (pattern_of bs) left (state_behind 0 bs j) from old
+    → Entered (length left) m (get_or allowed 0 0) from entered → Filled (length left) (get_or allowed 0 0) entered here → ((i k : ℕ)
+    → has (get_or mid k 0) i ≡ (has (get_or old k 0) i || (has (bit_and (bit_or from here) (bit_and (get_or allowed 0 0) (get_or waiting j 0 / 2))) i && 0 == k))) → ((i : ℕ) → i ≤ length left
+    → has cells i ≡ covers (bit_and here (get_or starting j 0)) (block_at bs j).len i) → ((i : ℕ) → i ≤ length left → has ends i ≡ moved (bit_and here (get_or starting j 0)) (block_at bs j).len i)
+    → ((i k : ℕ) → has (get_or new k 0) i ≡ (has (get_or mid k 0) i || (has cells i && (block_at bs j).colour == k))) → Behind (pattern_of bs) left (state_behind 0 bs (j + 1)) ends new
 pass_block bs left allowed starting waiting j from entered here cells ends old mid new m clue h is marks g before e f mids covered ended news =
     let b = block_at bs j in
     let P : Bool → Type 0 = λ t. Entered (length left) t (get_or allowed 0 0) from entered in
     let K : ℕ → Type 0 = λ q. Behind (pattern_of bs) left q ends new in
-    subst K (sym (state_next 0 bs j h)) (behind_block (pattern_of bs) left (state_behind 0 bs j) b.len b.colour (get_or allowed 0 0) from entered here (get_or starting j 0) (get_or waiting j 0) cells ends old mid new (meets 0 bs j) (piece_of bs j clue h) is.background (marks.starts j h) (marks.waits j (omega arith)) before (subst P g e) f mids covered ended news)
+    subst K (sym (state_next 0 bs j h)) (behind_block (pattern_of bs) left (state_behind 0 bs j) b.len b.colour (get_or allowed 0 0) from entered here (get_or starting j 0)
+    (get_or waiting j 0) cells ends old mid new (meets 0 bs j) (piece_of bs j clue h) is.background (marks.starts j h) (marks.waits j (omega arith)) before (subst P g e) f mids covered ended news)
 
-pub pass_end : (bs : List Block) (left allowed starting waiting : List ℕ) (n from here : ℕ) (old new : List ℕ) → IsClue bs → n ≡ length bs → IsAllowed bs left allowed → AreMarked bs left starting waiting → Behind (pattern_of bs) left (state_behind 0 bs n) from old → Filled (length left) (get_or allowed 0 0) from here → ((i k : ℕ) → has (get_or new k 0) i ≡ (has (get_or old k 0) i || (has (bit_and here (bit_and (get_or allowed 0 0) (get_or waiting (length bs) 0 / 2))) i && 0 == k))) → AreSeen bs left new
+pub pass_end : (bs : List Block) (left allowed starting waiting : List ℕ) (n from here : ℕ) (old new : List ℕ) → IsClue bs → n ≡ length bs → IsAllowed bs left allowed
+    → AreMarked bs left starting waiting → Behind (pattern_of bs) left (state_behind 0 bs n) from old → Filled (length left) (get_or allowed 0 0) from here
+    → ((i k : ℕ) → has (get_or new k 0) i ≡ (has (get_or old k 0) i || (has (bit_and here (bit_and (get_or allowed 0 0) (get_or waiting (length bs) 0 / 2))) i && 0 == k))) → AreSeen bs left new
 pass_end bs left allowed starting waiting n from here old new clue e is marks before f news =
     let q = state_behind 0 bs (length bs) in
     let P : ℕ → Type 0 = λ m. Behind (pattern_of bs) left (state_behind 0 bs m) from old in
     let K : ℕ → Type 0 = λ s. IsBack (pattern_of bs) left s (get_or waiting (length bs) 0) in
-    behind_all (pattern_of bs) left q (get_or allowed 0 0) from here (get_or waiting (length bs) 0) old new (state_at_end bs clue).1 is.background (subst K (state_at_end bs clue).0 (marks.waits (length bs) (omega arith))) (subst P e before) f news
+    behind_all (pattern_of bs) left q (get_or allowed 0 0) from here (get_or waiting (length bs) 0) old new (state_at_end bs clue).1 is.background
+    (subst K (state_at_end bs clue).0 (marks.waits (length bs) (omega arith))) (subst P e before) f news
 
 pub none_yet : (bs : List Block) (left seen : List ℕ) → seen ≡ replicate 16 0 → finishes (pattern_of bs) left 0 ≡ true → Behind (pattern_of bs) left 0 1 seen
 none_yet bs left seen e f = record {

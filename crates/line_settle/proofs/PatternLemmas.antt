@@ -4,7 +4,7 @@ use Rattle.std.specs.List.{All}
 use Rattle.std.proofs.lemmas.Bool.{cases_eq}
 use Rattle.clues.specs.declared.block.Block.{Block}
 use Rattle.clues.specs.Clue.{block, longer, clue_of, IsBlock, IsClue}
-use Rattle.line_settle.specs.Spelling.{gap, spelled_after}
+use Rattle.line_settle.specs.Patterns.{gap, spelled_after}
 use Rattle.line_settle.proofs.ClueLemmas.{Apart, clue_more, clue_apart}
 use Rattle.line_settle.proofs.SpellsLemmas.{Spells, Tight, clue_from_spells, spells_from_clue}
 
@@ -60,7 +60,8 @@ clue_gap : (meets : Bool) (rest : List ℕ) → clue_of (gap meets ++ rest) ≡ 
 clue_gap true rest = refl
 clue_gap false rest = refl
 
-clue_piece : (meets : Bool) (len colour : ℕ) (bs : List Block) → 0 < len → colour ≢ 0 → Apart colour (spelled_after colour bs) → clue_of (piece meets len colour bs) ≡ block len colour ∷ clue_of (spelled_after colour bs)
+clue_piece : (meets : Bool) (len colour : ℕ) (bs : List Block) → 0 < len → colour ≢ 0 → Apart colour (spelled_after colour bs)
+    → clue_of (piece meets len colour bs) ≡ block len colour ∷ clue_of (spelled_after colour bs)
 clue_piece meets zero colour bs l h a = absurd (omega arith)
 clue_piece meets (suc n) colour bs l h a = clue_gap meets _ ∙ clue_run n colour (spelled_after colour bs) h a
 

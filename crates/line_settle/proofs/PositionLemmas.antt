@@ -1,11 +1,13 @@
 -- Sets of positions as masks: what is in them after `&`, `|`, shifts and additions.
-use Rattle.std.proofs.Common.{◌≡◌, ℕ, zero, suc, ◌+◌, ◌*◌, ◌/◌, ◌%◌, ◌^◌, ◌<◌, ◌≤◌, Bool, false, ◌==◌, ◌&&◌, ◌||◌, bit_and, bit_or, bit_xor, refl, sym, ap, ◌∙◌, arith, inl, inr, eq-eqb, ne_eqb, max, min, add-one}
+use Rattle.std.proofs.Common.{◌≡◌, ℕ, zero, suc, ◌+◌, ◌*◌, ◌/◌, ◌%◌, ◌^◌, ◌<◌, ◌≤◌, Bool, false, ◌==◌, ◌&&◌, ◌||◌, bit_and, bit_or, bit_xor, refl, sym, ap, ◌∙◌, arith, inl, inr, eq-eqb, ne_eqb, max}
+use Rattle.std.proofs.Common.{min, add-one}
 use Rattle.std.proofs.lemmas.Bool.Decides.{nat_tests}
 use Rattle.std.specs.Int.{bit_at}
 use Rattle.std.proofs.Math.Bool.{and-false, and-true, and_assoc, and_comm, or-false}
 use Rattle.std.proofs.lemmas.Bool.{cases_eq}
 use Rattle.std.proofs.Math.Nat.{pow-succ', div-div-eq-div-mul, div-add-mod, mul_comm}
-use Rattle.std.proofs.lemmas.Nat.Bits.{shr_and_one, bit_at_lowest, bit_at-suc, bit_at_and, bit_at_or, bit_at_xor, bit_at-lt, bit_at-zero, bit_at_above, bit_at-pow_same, bit_at-pow_other, bit_at_cat_low}
+use Rattle.std.proofs.lemmas.Nat.Bits.{shr_and_one, bit_at_lowest, bit_at-suc, bit_at_and, bit_at_or, bit_at_xor, bit_at-lt, bit_at-zero, bit_at_above, bit_at-pow_same, bit_at-pow_other}
+use Rattle.std.proofs.lemmas.Nat.Bits.{bit_at_cat_low}
 use Rattle.std.proofs.lemmas.Grind.{one_shifted}
 use Rattle.line_settle.specs.Positions.{has, spans}
 use Rattle.line_settle.proofs.BitLemmas.{max_is_one}
@@ -203,7 +205,8 @@ filled w set run all n i h l is =
     rw (is i, is (i + 1)) (sym (fills_enough (has set) (has run) w past n i (omega arith)))
 
 -- where no n cells in a row are in the run, what reaches the set over fewer is all that does
-pub filled_short : (set run all runs n i : ℕ) → runs ≡ 0 → ((j : ℕ) → has runs j ≡ spans (has run) n j) → ((j : ℕ) → has all j ≡ fills (has set) (has run) n j) → has all i ≡ (has set i || (has run i && has all (i + 1)))
+pub filled_short : (set run all runs n i : ℕ) → runs ≡ 0 → ((j : ℕ) → has runs j ≡ spans (has run) n j) → ((j : ℕ) → has all j ≡ fills (has set) (has run) n j)
+    → has all i ≡ (has set i || (has run i && has all (i + 1)))
 filled_short set run all runs n i none spanned is =
     let e : suc n ≡ n + 1 = omega arith in
     let no_span : spans (has run) n i ≡ false = sym (spanned i) ∙ (ap (λ m. has m i) none ∙ has_none i) in
@@ -216,7 +219,8 @@ fills_one set run i = sym (rw (and-false, or-false) refl)
 pub spans_one : (run i : ℕ) → has run i ≡ spans (has run) 1 i
 spans_one run i = sym (and-true (has run i))
 
-pub fills_twice : (set run all runs s i : ℕ) → ((j : ℕ) → has all j ≡ fills (has set) (has run) s j) → ((j : ℕ) → has runs j ≡ spans (has run) s j) → has (bit_or all (bit_and (all / 2 ^ s) runs)) i ≡ fills (has set) (has run) (s + s) i
+pub fills_twice : (set run all runs s i : ℕ) → ((j : ℕ) → has all j ≡ fills (has set) (has run) s j) → ((j : ℕ) → has runs j ≡ spans (has run) s j)
+    → has (bit_or all (bit_and (all / 2 ^ s) runs)) i ≡ fills (has set) (has run) (s + s) i
 fills_twice set run all runs s i f g =
     rw (has_or, has_and, and_comm (has (all / 2 ^ s) i) (has runs i), has_down, f i, g i, f (i + s)) (sym (fills_more (has set) (has run) s s i))
 

@@ -1,5 +1,6 @@
 -- Lines whose cells show a colour, and lines without blocks.
-use Rattle.std.proofs.Common.{◌≡◌, ◌≢◌, ℕ, zero, suc, ◌+◌, ◌^◌, ◌<◌, ◌≤◌, ◌++◌, ◌↔◌, List, [], ◌∷◌, length, get_or, drop, drop-cons, replicate, refl, sym, ap, subst, ◌∙◌, arith, add-one, inl, inr, true, bit_and}
+use Rattle.std.proofs.Common.{◌≡◌, ◌≢◌, ℕ, zero, suc, ◌+◌, ◌^◌, ◌<◌, ◌≤◌, ◌++◌, ◌↔◌, List, [], ◌∷◌, length, get_or, drop, drop-cons, replicate, refl, sym, ap, subst, ◌∙◌, arith, add-one, inl, inr}
+use Rattle.std.proofs.Common.{true, bit_and}
 use Rattle.std.specs.Prelude.{IsBitSet, IsTrue, Option, Some, None, MatchOption, is_some}
 use Rattle.std.specs.List.{All}
 use Rattle.std.proofs.Math.ListN.{get_or-eq_default}
@@ -11,14 +12,14 @@ use Rattle.std.proofs.lemmas.Grind.{same_number_lists}
 use Rattle.clues.specs.declared.block.Block.{Block}
 use Rattle.clues.specs.Clue.{clue_of, blocks_of}
 use Rattle.line_settle.specs.declared.line_engine.Outcome.TheVariants.{Narrowed, Dead}
-use Rattle.line_settle.specs.Fitting.{Fits, CanHave}
-use Rattle.line_settle.specs.Narrowing.{Narrows}
-use Rattle.line_settle.specs.Spelling.{allows}
+use Rattle.line_settle.specs.Fits.{Fits, CanHave}
+use Rattle.line_settle.specs.NarrowedLine.{Narrows}
+use Rattle.line_settle.specs.Patterns.{allows}
 use Rattle.line_settle.specs.Masks.{IsOnly}
 use Rattle.line_settle.specs.Shown.{lowest_colour, IsShown, AreShown, lowest_colours}
-use Rattle.clues.specs.RunLaws.{clue_of-run, clue_of-last_run, replicate-more}
-use Rattle.picture.specs.BitLaws.{no_bit, power_has, bit_below}
-use Rattle.line_settle.specs.MaskLaws.{only_is_power, lowest_of_power}
+use Rattle.clues.proofs.RunLaws.{clue_of-run, clue_of-last_run, replicate-more}
+use Rattle.picture.proofs.BitLaws.{no_bit, power_has, bit_below}
+use Rattle.line_settle.proofs.MaskLaws.{only_is_power, lowest_of_power}
 use Rattle.line_settle.proofs.FittingLemmas.{allows_bit, bit_allows}
 use Rattle.line_settle.proofs.NarrowLemmas.{zeros, narrows_dead}
 use Rattle.line_settle.proofs.ClueLemmas.{no_block}
@@ -44,13 +45,15 @@ colours_on : (left : List ℕ) (i : ℕ) → i < length left → lowest_colours 
 colours_on left i h = rw add-one (ap lowest_colours (drop-cons left i 0 h))
 
 -- the open run, one cell longer
-pub run_longer : (n x : ℕ) (left : List ℕ) (i : ℕ) → i < length left → lowest_colour (get_or left i 0) ≡ x → replicate (n + 1) x ++ lowest_colours (drop (i + 1) left) ≡ replicate n x ++ lowest_colours (drop i left)
+pub run_longer : (n x : ℕ) (left : List ℕ) (i : ℕ) → i < length left → lowest_colour (get_or left i 0) ≡ x
+    → replicate (n + 1) x ++ lowest_colours (drop (i + 1) left) ≡ replicate n x ++ lowest_colours (drop i left)
 run_longer n x left i h e =
     replicate-more n x (lowest_colours (drop (i + 1) left))
     ∙ ap (λ cells. replicate n x ++ cells) (ap (λ y. y ∷ lowest_colours (drop (i + 1) left)) (sym e) ∙ sym (colours_on left i h))
 
 -- the open run, where another colour ends it
-pub run_ends : (n x : ℕ) (left : List ℕ) (i : ℕ) → (x ≢ 0 → 0 < n) → i < length left → lowest_colour (get_or left i 0) ≢ x → clue_of (replicate n x ++ lowest_colours (drop i left)) ≡ blocks_of n x ++ clue_of (lowest_colours (drop i left))
+pub run_ends : (n x : ℕ) (left : List ℕ) (i : ℕ) → (x ≢ 0 → 0 < n) → i < length left → lowest_colour (get_or left i 0) ≢ x
+    → clue_of (replicate n x ++ lowest_colours (drop i left)) ≡ blocks_of n x ++ clue_of (lowest_colours (drop i left))
 run_ends n x left i some h n0 = rw colours_on (clue_of-run n x (lowest_colour (get_or left i 0)) (lowest_colours (drop (i + 1) left)) some n0)
 
 -- the run that begins there
@@ -168,7 +171,8 @@ narrows_not_blank left n =
     (λ i l. bit_allows _ 0 (subst (λ k. IsBitSet (get_or left i 0) k) (only_background h.0 i h.1.has_clue) (h.1.keeps i l)))))
 
 -- background in common with one cell more
-pub common_more : (left : List ℕ) (common n : ℕ) → ((allows common 0 ≡ true) ↔ ((i : ℕ) → i < n → allows (get_or left i 0) 0 ≡ true)) → (allows (bit_and common (get_or left n 0)) 0 ≡ true) ↔ ((i : ℕ) → i < n + 1 → allows (get_or left i 0) 0 ≡ true)
+pub common_more : (left : List ℕ) (common n : ℕ) → ((allows common 0 ≡ true) ↔ ((i : ℕ) → i < n → allows (get_or left i 0) 0 ≡ true))
+    → (allows (bit_and common (get_or left n 0)) 0 ≡ true) ↔ ((i : ℕ) → i < n + 1 → allows (get_or left i 0) 0 ≡ true)
 common_more left common n e =
     let P : ℕ → Type 0 = λ i. allows (get_or left i 0) 0 ≡ true in (
       (λ h i l.

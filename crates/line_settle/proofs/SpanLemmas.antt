@@ -30,7 +30,8 @@ below_rounds k n w e h = elim (cases_lt k n) [ inl l ↦ l | inr g ↦ (let l : 
 abbrev pub AreFirst : ℕ → List ℕ → ℕ → Type 0
 AreFirst cells spanned n = (k i : ℕ) → k < n → has (get_or spanned k 0) i ≡ spans (has cells) (2 ^ k) i
 
-pub first_more : (cells span step k : ℕ) (spanned : List ℕ) → k < length spanned → step ≡ 2 ^ k → ((j : ℕ) → has span j ≡ spans (has cells) step j) → AreFirst cells spanned k → AreFirst cells (set spanned k span) (k + 1)
+pub first_more : (cells span step k : ℕ) (spanned : List ℕ) → k < length spanned → step ≡ 2 ^ k → ((j : ℕ) → has span j ≡ spans (has cells) step j) → AreFirst cells spanned k
+    → AreFirst cells (set spanned k span) (k + 1)
 first_more cells span step k spanned room e is before n i h = elim (cases_eq n k) [
   | inl same ↦
       let P : ℕ → Type 0 = λ m. has (get_or (set spanned k span) m 0) i ≡ spans (has cells) (2 ^ m) i in

@@ -3,7 +3,7 @@ use Rattle.std.proofs.Common.{◌≡◌, ◌≢◌, ℕ, suc, ◌+◌, ◌<◌, 
 use Rattle.std.proofs.lemmas.Bool.{cases_lt, and_parts, and_from, or_cases, or_left, or_right, not-true, not_from_false, eqb-false, leb-true, le-leb}
 use Rattle.std.proofs.Common.{ne_eqb}
 use Rattle.std.proofs.Math.ListN.{drop_of_length-le}
-use Rattle.line_settle.specs.Spelling.{waits}
+use Rattle.line_settle.specs.Patterns.{waits}
 use Rattle.line_settle.proofs.SpellsLemmas.{Spells}
 
 -- the line spells the pattern on from its cell q
@@ -32,7 +32,7 @@ rest_at pattern q h = let i : suc q < length pattern = omega arith in rw add-one
 rest_at_end : (pattern : List ℕ) (q : ℕ) → length pattern ≤ q + 1 → drop (suc q) pattern ≡ []
 rest_at_end pattern q h = drop_of_length-le pattern (let i : length pattern ≤ suc q = omega arith in i)
 
--- the state behind a cell, and the spelling from there on
+-- the state after a cell, and the spelling from there on
 pub record Onward (pattern : List ℕ) (q x : ℕ) (line : List ℕ) : Type 0 where
   pub next : ℕ
   pub step : Step pattern q x next

@@ -1,5 +1,6 @@
 -- Sets of the states of a pattern, moved by a cell.
-use Rattle.std.proofs.Common.{◌≡◌, ◌≢◌, ℕ, zero, suc, ◌+◌, ◌-◌, ◌*◌, ◌/◌, ◌%◌, ◌^◌, ◌<◌, ◌≤◌, ◌↔◌, ◌⊎◌, Bool, true, false, ◌==◌, ◌&&◌, ◌||◌, List, bit_and, bit_or, refl, sym, ap, subst, ◌∙◌, arith, inl, inr, eq-eqb, length, get_or, replicate}
+use Rattle.std.proofs.Common.{◌≡◌, ◌≢◌, ℕ, zero, suc, ◌+◌, ◌-◌, ◌*◌, ◌/◌, ◌%◌, ◌^◌, ◌<◌, ◌≤◌, ◌↔◌, ◌⊎◌, Bool, true, false, ◌==◌, ◌&&◌, ◌||◌, List, bit_and, bit_or, refl, sym, ap, subst, ◌∙◌, arith}
+use Rattle.std.proofs.Common.{inl, inr, eq-eqb, length, get_or, replicate}
 use Rattle.std.specs.Int.{bit_at, trailing_zeros, w16}
 use Rattle.std.proofs.Math.Pow.{pow_mono}
 use Rattle.std.proofs.lemmas.Bool.{cases_eq, cases_lt, and_parts, and_from, or_cases, or_left, or_right, false≢true, eqb-true}
@@ -8,9 +9,9 @@ use Rattle.std.proofs.lemmas.Nat.{and_le_r}
 use Rattle.std.proofs.lemmas.Nat.Bits.{bit_at_lowest, bit_at-trailing_zeros, bit_at_mask_inside, bit_at_mask_below, bit_at_mask_above}
 use Rattle.clues.specs.declared.block.Block.{Block}
 use Rattle.clues.specs.Clue.{IsClue}
-use Rattle.line_settle.specs.Spelling.{pattern_of, allows, waits, finish_step, reach_step}
+use Rattle.line_settle.specs.Patterns.{pattern_of, allows, waits, finish_step, reach_step}
 use Rattle.line_settle.specs.Positions.{has}
-use Rattle.line_settle.specs.Laying.{meets, gap_before, state_behind}
+use Rattle.line_settle.specs.LaidBlocks.{meets, gap_before, state_behind}
 use Rattle.line_settle.specs.StateSets.{AreStates, MoveSets, MovesBy, AreNext, AreWaiting, HasColours, StateSets, ArePatternSets}
 use Rattle.line_settle.proofs.BitLemmas.{allows_is, allows_or, allows_none, allows_shifted}
 use Rattle.line_settle.proofs.NarrowLemmas.{zeros}
@@ -82,7 +83,8 @@ in_up w a j q e l h =
 
 -- ---- over a cell
 
-moved_into : (w : ℕ) (pattern : List ℕ) (mask : ℕ) (before : ℕ → Bool) (moves : MoveSets) (from q : ℕ) → 0 < w → MovesBy w pattern mask moves → AreStates pattern before from → has (bit_or (bit_and from moves.advancing * 2 % 2 ^ w) (bit_and from moves.resting)) q ≡ true → (q < length pattern) × (reach_step pattern mask before q ≡ true)
+moved_into : (w : ℕ) (pattern : List ℕ) (mask : ℕ) (before : ℕ → Bool) (moves : MoveSets) (from q : ℕ) → 0 < w → MovesBy w pattern mask moves → AreStates pattern before from
+    → has (bit_or (bit_and from moves.advancing * 2 % 2 ^ w) (bit_and from moves.resting)) q ≡ true → (q < length pattern) × (reach_step pattern mask before q ≡ true)
 moved_into w pattern mask before moves from q wide by is h = elim (in_or (bit_and from moves.advancing * 2 % 2 ^ w) (bit_and from moves.resting) q h) [
   | inl a ↦
       let u = up_in w (bit_and from moves.advancing) q wide a in
@@ -99,7 +101,8 @@ moved_into w pattern mask before moves from q wide by is h = elim (in_or (bit_an
       (s.0, step_reaches pattern mask before q 0 q s.1 m.2 step)
 ]
 
-into_moved : (w : ℕ) (pattern : List ℕ) (mask : ℕ) (before : ℕ → Bool) (moves : MoveSets) (from q : ℕ) → 0 < w → MovesBy w pattern mask moves → AreStates pattern before from → q < length pattern → reach_step pattern mask before q ≡ true → has (bit_or (bit_and from moves.advancing * 2 % 2 ^ w) (bit_and from moves.resting)) q ≡ true
+into_moved : (w : ℕ) (pattern : List ℕ) (mask : ℕ) (before : ℕ → Bool) (moves : MoveSets) (from q : ℕ) → 0 < w → MovesBy w pattern mask moves → AreStates pattern before from → q < length pattern
+    → reach_step pattern mask before q ≡ true → has (bit_or (bit_and from moves.advancing * 2 % 2 ^ w) (bit_and from moves.resting)) q ≡ true
 into_moved w pattern mask before moves from q wide by is h t =
     let r = reached_by_step pattern mask before q h t in
     elim r.step [
@@ -116,12 +119,14 @@ into_moved w pattern mask before moves from q wide by is h t =
           right_in (bit_and from moves.advancing * 2 % 2 ^ w) (bit_and from moves.resting) q (subst P (sym b.2) (and_in from moves.resting r.from s m))
     ]
 
-pub forward_states : (w : ℕ) (pattern : List ℕ) (mask : ℕ) (before : ℕ → Bool) (moves : MoveSets) (from : ℕ) → 0 < w → MovesBy w pattern mask moves → AreStates pattern before from → AreStates pattern (reach_step pattern mask before) (bit_or (bit_and from moves.advancing * 2 % 2 ^ w) (bit_and from moves.resting))
+pub forward_states : (w : ℕ) (pattern : List ℕ) (mask : ℕ) (before : ℕ → Bool) (moves : MoveSets) (from : ℕ) → 0 < w → MovesBy w pattern mask moves → AreStates pattern before from
+    → AreStates pattern (reach_step pattern mask before) (bit_or (bit_and from moves.advancing * 2 % 2 ^ w) (bit_and from moves.resting))
 forward_states w pattern mask before moves from wide by is = record {
   each = λ q. ((λ h. moved_into w pattern mask before moves from q wide by is h), (λ p. into_moved w pattern mask before moves from q wide by is p.0 p.1));
 }
 
-back_into : (w : ℕ) (pattern : List ℕ) (mask : ℕ) (behind : ℕ → Bool) (moves : MoveSets) (later q : ℕ) → MovesBy w pattern mask moves → AreStates pattern behind later → has (bit_or (bit_and (later / 2) moves.advancing) (bit_and later moves.resting)) q ≡ true → (q < length pattern) × (finish_step pattern mask behind q ≡ true)
+back_into : (w : ℕ) (pattern : List ℕ) (mask : ℕ) (behind : ℕ → Bool) (moves : MoveSets) (later q : ℕ) → MovesBy w pattern mask moves → AreStates pattern behind later
+    → has (bit_or (bit_and (later / 2) moves.advancing) (bit_and later moves.resting)) q ≡ true → (q < length pattern) × (finish_step pattern mask behind q ≡ true)
 back_into w pattern mask behind moves later q by is h = elim (in_or (bit_and (later / 2) moves.advancing) (bit_and later moves.resting) q h) [
   | inl a ↦
       let p = in_and (later / 2) moves.advancing q a in
@@ -137,7 +142,8 @@ back_into w pattern mask behind moves later q by is h = elim (in_or (bit_and (la
       (s.0, crosses_finish pattern mask behind q 0 (record { next = q; step = step; allowed = m.2; reaches_good = s.1 }))
 ]
 
-into_back : (w : ℕ) (pattern : List ℕ) (mask : ℕ) (behind : ℕ → Bool) (moves : MoveSets) (later q : ℕ) → MovesBy w pattern mask moves → AreStates pattern behind later → q < length pattern → finish_step pattern mask behind q ≡ true → has (bit_or (bit_and (later / 2) moves.advancing) (bit_and later moves.resting)) q ≡ true
+into_back : (w : ℕ) (pattern : List ℕ) (mask : ℕ) (behind : ℕ → Bool) (moves : MoveSets) (later q : ℕ) → MovesBy w pattern mask moves → AreStates pattern behind later → q < length pattern
+    → finish_step pattern mask behind q ≡ true → has (bit_or (bit_and (later / 2) moves.advancing) (bit_and later moves.resting)) q ≡ true
 into_back w pattern mask behind moves later q by is h t =
     let c = finish_crosses pattern mask behind q t in
     elim c.1.step [
@@ -151,7 +157,8 @@ into_back w pattern mask behind moves later q by is h t =
           right_in (bit_and (later / 2) moves.advancing) (bit_and later moves.resting) q (and_in later moves.resting q s m)
     ]
 
-pub back_states : (w : ℕ) (pattern : List ℕ) (mask : ℕ) (behind : ℕ → Bool) (moves : MoveSets) (later : ℕ) → MovesBy w pattern mask moves → AreStates pattern behind later → AreStates pattern (finish_step pattern mask behind) (bit_or (bit_and (later / 2) moves.advancing) (bit_and later moves.resting))
+pub back_states : (w : ℕ) (pattern : List ℕ) (mask : ℕ) (behind : ℕ → Bool) (moves : MoveSets) (later : ℕ) → MovesBy w pattern mask moves → AreStates pattern behind later
+    → AreStates pattern (finish_step pattern mask behind) (bit_or (bit_and (later / 2) moves.advancing) (bit_and later moves.resting))
 back_states w pattern mask behind moves later by is = record {
   each = λ q. ((λ h. back_into w pattern mask behind moves later q by is h), (λ p. into_back w pattern mask behind moves later q by is p.0 p.1));
 }
@@ -227,7 +234,8 @@ stays_allowed mask k n l other a =
     ]
 
 -- the lowest colour of those that are left is taken
-pub taken_more : (next : List ℕ) (colours rest advancing : ℕ) → rest ≢ 0 → rest < 2 ^ 16 → Taken next colours rest advancing → Taken next colours (without_lowest rest) (bit_or advancing (get_or next (trailing_zeros w16 rest) 0))
+pub taken_more : (next : List ℕ) (colours rest advancing : ℕ) → rest ≢ 0 → rest < 2 ^ 16 → Taken next colours rest advancing
+    → Taken next colours (without_lowest rest) (bit_or advancing (get_or next (trailing_zeros w16 rest) 0))
 taken_more next colours rest advancing n l t =
     let c = trailing_zeros w16 rest in
     record {
@@ -254,7 +262,8 @@ first_taken next colours n l =
 pub rest_falls : (rest : ℕ) → rest ≢ 0 → without_lowest rest < rest
 rest_falls rest n = let l = and_le_r rest (rest - 1) in omega arith
 
-pub all_taken : (next : List ℕ) (colours rest advancing q : ℕ) → rest ≡ 0 → Taken next colours rest advancing → (has advancing q ≡ true) ↔ ((k : ℕ) × (allows colours k ≡ true) × (has (get_or next k 0) q ≡ true))
+pub all_taken : (next : List ℕ) (colours rest advancing q : ℕ) → rest ≡ 0 → Taken next colours rest advancing
+    → (has advancing q ≡ true) ↔ ((k : ℕ) × (allows colours k ≡ true) × (has (get_or next k 0) q ≡ true))
 all_taken next colours rest advancing q e t = (
   (λ h. t.from q h),
   (λ p. elim (t.all p.0 q p.1 p.2) [
@@ -267,7 +276,9 @@ all_taken next colours rest advancing q e t = (
 pub no_colour : (next : List ℕ) (colours q : ℕ) → colours ≡ 0 → (has 0 q ≡ true) ↔ ((k : ℕ) × (allows colours k ≡ true) × (has (get_or next k 0) q ≡ true))
 no_colour next colours q e = all_taken next colours colours 0 q e (none_taken next colours)
 
-pub moves_made : (w : ℕ) (pattern : List ℕ) (sets : StateSets) (mask advancing resting : ℕ) → ArePatternSets w pattern sets → ((q : ℕ) → (has advancing q ≡ true) ↔ ((k : ℕ) × (allows (bit_and mask sets.colours) k ≡ true) × (has (get_or sets.next k 0) q ≡ true))) → ((q : ℕ) → (has resting q ≡ true) ↔ ((has sets.waiting q ≡ true) × (allows (bit_and mask sets.colours) 0 ≡ true))) → MovesBy w pattern mask (record { advancing = advancing; resting = resting })
+pub moves_made : (w : ℕ) (pattern : List ℕ) (sets : StateSets) (mask advancing resting : ℕ) → ArePatternSets w pattern sets
+    → ((q : ℕ) → (has advancing q ≡ true) ↔ ((k : ℕ) × (allows (bit_and mask sets.colours) k ≡ true) × (has (get_or sets.next k 0) q ≡ true)))
+    → ((q : ℕ) → (has resting q ≡ true) ↔ ((has sets.waiting q ≡ true) × (allows (bit_and mask sets.colours) 0 ≡ true))) → MovesBy w pattern mask (record { advancing = advancing; resting = resting })
 moves_made w pattern sets mask advancing resting are on stay = record {
   short = are.short;
   advancing = λ q. (
@@ -292,7 +303,8 @@ moves_made w pattern sets mask advancing resting are on stay = record {
 }
 
 -- a mask with all the pattern's colours lets every state move
-pub all_moves : (w : ℕ) (pattern : List ℕ) (sets : StateSets) (mask : ℕ) → ArePatternSets w pattern sets → bit_and mask sets.colours ≡ sets.colours → MovesBy w pattern mask (record { advancing = sets.inner; resting = sets.waiting })
+pub all_moves : (w : ℕ) (pattern : List ℕ) (sets : StateSets) (mask : ℕ) → ArePatternSets w pattern sets → bit_and mask sets.colours ≡ sets.colours
+    → MovesBy w pattern mask (record { advancing = sets.inner; resting = sets.waiting })
 all_moves w pattern sets mask are e =
     let P : ℕ → Type 0 = λ m. (k : ℕ) → allows m k ≡ true → allows mask k ≡ true in
     let each : P sets.colours = subst P e (λ k a. (allowed_both mask sets.colours k a).0) in
@@ -324,7 +336,8 @@ between start end q = (
 )
 
 -- a run of one colour more
-pub run_next : (pattern old new : List ℕ) (set colour start end : ℕ) → ((q : ℕ) → (has set q ≡ true) ↔ ((start ≤ q) × (q < end))) → ((i k : ℕ) → has (get_or new k 0) i ≡ (has (get_or old k 0) i || (has set i && colour == k))) → start ≤ end → AreNext pattern start old → ((q : ℕ) → start ≤ q → q < end → get_or pattern (q + 1) 0 ≡ colour) → AreNext pattern end new
+pub run_next : (pattern old new : List ℕ) (set colour start end : ℕ) → ((q : ℕ) → (has set q ≡ true) ↔ ((start ≤ q) × (q < end))) → ((i k : ℕ) → has (get_or new k 0) i
+    ≡ (has (get_or old k 0) i || (has set i && colour == k))) → start ≤ end → AreNext pattern start old → ((q : ℕ) → start ≤ q → q < end → get_or pattern (q + 1) 0 ≡ colour) → AreNext pattern end new
 run_next pattern old new set colour start end run seen h is cells = λ k q. (
   (λ a. elim (or_cases _ _ (sym (seen q k) ∙ a)) [
     | inl b ↦ let s = (is k q).0 b in ((let l = s.0 in omega arith), s.1)
@@ -348,7 +361,8 @@ gap_cells pattern q len colour s m p e t h l =
     let g = gap_place q t m h (omega arith) in
     ap (λ n. get_or pattern (n + 1) 0) g.1 ∙ (p.gap_is g.0).background
 
-pub block_cells : (pattern : List ℕ) (q len colour s e : ℕ) (m : Bool) → PieceAt pattern q m len colour → s ≡ q + gap_before m → e ≡ s + len → (t : ℕ) → s ≤ t → t < e → get_or pattern (t + 1) 0 ≡ colour
+pub block_cells : (pattern : List ℕ) (q len colour s e : ℕ) (m : Bool) → PieceAt pattern q m len colour → s ≡ q + gap_before m → e ≡ s + len → (t : ℕ) → s ≤ t → t < e
+    → get_or pattern (t + 1) 0 ≡ colour
 block_cells pattern q len colour s e m p is to t h l =
     let i : q + gap_before m + suc (t - s) ≡ t + 1 = omega arith in
     ap (λ n. get_or pattern n 0) (sym i) ∙ p.block_is.cells (t - s) (omega arith)
@@ -368,7 +382,8 @@ piece_waits pattern q len colour s e m p is to t h l w = elim (cases_lt t s) [
   ]
 ]
 
-pub waiting_more : (pattern : List ℕ) (q len colour s e waiting one : ℕ) (m : Bool) → PieceAt pattern q m len colour → s ≡ q + gap_before m → e ≡ s + len → ((t : ℕ) → has one t ≡ (t == s)) → AreWaiting pattern q waiting → AreWaiting pattern e (bit_or waiting one)
+pub waiting_more : (pattern : List ℕ) (q len colour s e waiting one : ℕ) (m : Bool) → PieceAt pattern q m len colour → s ≡ q + gap_before m → e ≡ s + len → ((t : ℕ) → has one t ≡ (t == s))
+    → AreWaiting pattern q waiting → AreWaiting pattern e (bit_or waiting one)
 waiting_more pattern q len colour s e waiting one m p is to place are =
     let here : waits pattern s ≡ true = ap (waits pattern) is ∙ waits_for_block pattern (q + gap_before m) len colour p.block_is in
     λ t. (
@@ -382,7 +397,8 @@ waiting_more pattern q len colour s e waiting one m p is to place are =
       ]),
     )
 
-pub waiting_all : (pattern : List ℕ) (q waiting one : ℕ) → q + 1 ≡ length pattern → ((t : ℕ) → has one t ≡ (t == q)) → AreWaiting pattern q waiting → AreWaiting pattern (length pattern) (bit_or waiting one)
+pub waiting_all : (pattern : List ℕ) (q waiting one : ℕ) → q + 1 ≡ length pattern → ((t : ℕ) → has one t ≡ (t == q)) → AreWaiting pattern q waiting
+    → AreWaiting pattern (length pattern) (bit_or waiting one)
 waiting_all pattern q waiting one end place are =
     λ t. (
       (λ h. elim (in_or waiting one t h) [
@@ -395,7 +411,8 @@ waiting_all pattern q waiting one end place are =
       ]),
     )
 
-pub colours_more : (pattern : List ℕ) (q len colour s e colours : ℕ) (m : Bool) → PieceAt pattern q m len colour → s ≡ q + gap_before m → e ≡ s + len → colour < 16 → HasColours pattern q colours → HasColours pattern e (bit_or colours (1 * 2 ^ colour % 65536))
+pub colours_more : (pattern : List ℕ) (q len colour s e colours : ℕ) (m : Bool) → PieceAt pattern q m len colour → s ≡ q + gap_before m → e ≡ s + len → colour < 16 → HasColours pattern q colours
+    → HasColours pattern e (bit_or colours (1 * 2 ^ colour % 65536))
 colours_more pattern q len colour s e colours m p is to c has_them =
     let one : ℕ = 1 * 2 ^ colour % 65536 in
     let P : ℕ → Type 0 = λ x. allows (bit_or colours one) x ≡ true in
@@ -411,7 +428,8 @@ colours_more pattern q len colour s e colours m p is to c has_them =
       ];
     }
 
-pub piece_here : (bs : List Block) (j state : ℕ) (m : Bool) → IsClue bs → j < length bs → state ≡ state_behind 0 bs j → m ≡ meets 0 bs j → PieceAt (pattern_of bs) state m (block_at bs j).len (block_at bs j).colour
+pub piece_here : (bs : List Block) (j state : ℕ) (m : Bool) → IsClue bs → j < length bs → state ≡ state_behind 0 bs j → m ≡ meets 0 bs j
+    → PieceAt (pattern_of bs) state m (block_at bs j).len (block_at bs j).colour
 piece_here bs j state m c h e f =
     let P : ℕ → Type 0 = λ q. PieceAt (pattern_of bs) q m (block_at bs j).len (block_at bs j).colour in
     let Q : Bool → Type 0 = λ x. PieceAt (pattern_of bs) (state_behind 0 bs j) x (block_at bs j).len (block_at bs j).colour in
@@ -420,7 +438,8 @@ piece_here bs j state m c h e f =
 pub end_state : (bs : List Block) (j state : ℕ) → IsClue bs → j ≡ length bs → state ≡ state_behind 0 bs j → state + 1 ≡ length (pattern_of bs)
 end_state bs j state c e f = ap (λ n. n + 1) (f ∙ ap (state_behind 0 bs) e) ∙ (state_at_end bs c).1
 
-pub next_state : (bs : List Block) (j state start end : ℕ) (m : Bool) → j < length bs → state ≡ state_behind 0 bs j → m ≡ meets 0 bs j → start ≡ state + gap_before m → end ≡ start + (block_at bs j).len → end ≡ state_behind 0 bs (j + 1)
+pub next_state : (bs : List Block) (j state start end : ℕ) (m : Bool) → j < length bs → state ≡ state_behind 0 bs j → m ≡ meets 0 bs j → start ≡ state + gap_before m
+    → end ≡ start + (block_at bs j).len → end ≡ state_behind 0 bs (j + 1)
 next_state bs j state start end m h e f g k =
     let n = state_next 0 bs j h in
     let w = ap gap_before f in

@@ -1,7 +1,7 @@
 -- What one step of the tables says of one cell of a line.
 use Rattle.std.proofs.Common.{◌≡◌, ℕ, ◌+◌, ◌-◌, ◌<◌, Bool, true, List, refl, sym, ap, subst, ◌∙◌, arith, inl, inr, length, get_or, eq-eqb}
 use Rattle.std.proofs.lemmas.Bool.{and_parts, and_from, or_cases, or_left, or_right, eqb-true, ltb-true, lt-ltb}
-use Rattle.line_settle.specs.Spelling.{allows, waits, finish_step, reach_step, passes}
+use Rattle.line_settle.specs.Patterns.{allows, waits, finish_step, reach_step, passes}
 use Rattle.line_settle.proofs.StateLemmas.{Step}
 
 -- a cell with colour x of the mask leads from state q to one of the states `good`
@@ -11,7 +11,8 @@ pub record Crosses (pattern : List ℕ) (mask : ℕ) (good : ℕ → Bool) (q x 
   pub allowed : allows mask x ≡ true
   pub reaches_good : good next ≡ true
 
-forward : (pattern : List ℕ) (mask : ℕ) (good : ℕ → Bool) (q : ℕ) → q + 1 < length pattern → allows mask (get_or pattern (q + 1) 0) ≡ true → good (q + 1) ≡ true → Crosses pattern mask good q (get_or pattern (q + 1) 0)
+forward : (pattern : List ℕ) (mask : ℕ) (good : ℕ → Bool) (q : ℕ) → q + 1 < length pattern → allows mask (get_or pattern (q + 1) 0) ≡ true → good (q + 1) ≡ true
+    → Crosses pattern mask good q (get_or pattern (q + 1) 0)
 forward pattern mask good q l a g = record { next = q + 1; step = inl (l, refl, refl); allowed = a; reaches_good = g }
 
 stay : (pattern : List ℕ) (mask : ℕ) (good : ℕ → Bool) (q x : ℕ) → x ≡ 0 → waits pattern q ≡ true → allows mask x ≡ true → good q ≡ true → Crosses pattern mask good q x

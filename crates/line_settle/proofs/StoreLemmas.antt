@@ -16,7 +16,8 @@ row_apart i j w q n l = elim (cases_order j i) [
 ]
 
 -- what is read outside a part that was written
-pub read_outside : {X : Type 0} (a k : ℕ) (xs ys : List X) (n : ℕ) (d : X) → a + k ≤ length xs → length ys ≡ k → (n < a) ⊎ (a + k ≤ n) → get_or (take a xs ++ (ys ++ drop k (drop a xs))) n d ≡ get_or xs n d
+pub read_outside : {X : Type 0} (a k : ℕ) (xs ys : List X) (n : ℕ) (d : X) → a + k ≤ length xs → length ys ≡ k → (n < a) ⊎ (a + k ≤ n)
+    → get_or (take a xs ++ (ys ++ drop k (drop a xs))) n d ≡ get_or xs n d
 read_outside a k xs ys n d h e o =
     let t = length-take a xs in
     let m : length (take a xs) ≡ a = omega arith in
@@ -31,12 +32,13 @@ read_outside a k xs ys n d h e o =
     ]
 
 -- the other rows of a table of which one was written, k being what the code computes for the row's width
-pub row_kept : (table ys : List Bool) (w k i j q : ℕ) → k ≡ w → i * w + w ≤ length table → length ys ≡ w → j ≢ i → q < w → get_or (take (i * w) table ++ (ys ++ drop k (drop (i * w) table))) (j * w + q) false ≡ get_or table (j * w + q) false
+pub row_kept : (table ys : List Bool) (w k i j q : ℕ) → k ≡ w → i * w + w ≤ length table → length ys ≡ w → j ≢ i → q < w
+    → get_or (take (i * w) table ++ (ys ++ drop k (drop (i * w) table))) (j * w + q) false ≡ get_or table (j * w + q) false
 row_kept table ys w k i j q e room len n l =
     let P : ℕ → Type 0 = λ m. get_or (take (i * w) table ++ (ys ++ drop m (drop (i * w) table))) (j * w + q) false ≡ get_or table (j * w + q) false in
     subst P (sym e) (read_outside (i * w) w table ys (j * w + q) false room len (row_apart i j w q n l))
 
--- a table of as many rows as a row is wide has room for the rows before n cells and behind them
+-- a table of as many rows as a row is wide has room for the rows before n cells and after them
 pub rows_fit : (n longest w t : ℕ) → n ≤ longest → w ≡ longest + 1 → t ≡ (longest + 1) * (longest + 1) → n * w + w ≤ t
 rows_fit n longest w t h e f =
     let P : ℕ → Type 0 = λ m. n * m + m ≤ t in

@@ -1,5 +1,6 @@
 -- What the sweep over a line keeps from cell to cell.
-use Rattle.std.proofs.Common.{◌≡◌, ◌≢◌, ℕ, zero, suc, ◌+◌, ◌^◌, ◌<◌, ◌≤◌, ◌↔◌, ◌⊎◌, Bool, true, false, ◌||◌, ◌==◌, not, ne_eqb, List, [], ◌∷◌, bit_and, bit_or, refl, sym, ap, subst, ◌∙◌, arith, inl, inr, eq-eqb, length, get_or, drop, drop-cons, replicate}
+use Rattle.std.proofs.Common.{◌≡◌, ◌≢◌, ℕ, zero, suc, ◌+◌, ◌^◌, ◌<◌, ◌≤◌, ◌↔◌, ◌⊎◌, Bool, true, false, ◌||◌, ◌==◌, not, ne_eqb, List, [], ◌∷◌, bit_and, bit_or, refl, sym, ap, subst, ◌∙◌, arith, inl}
+use Rattle.std.proofs.Common.{inr, eq-eqb, length, get_or, drop, drop-cons, replicate}
 use Rattle.std.specs.List.{All}
 use Rattle.std.proofs.Math.ListN.{set, drop_of_length-le}
 use Rattle.std.proofs.Math.Seq.{drop-length}
@@ -9,15 +10,15 @@ use Rattle.std.proofs.lemmas.List.{get_or_past, length-set, length-replicate, ge
 use Rattle.std.proofs.lemmas.List.Elements.{All-get_or}
 use Rattle.clues.specs.declared.block.Block.{Block}
 use Rattle.clues.specs.Clue.{IsClue}
-use Rattle.line_settle.specs.LeavingOut.{ForcesAll, LeavesOut}
+use Rattle.line_settle.specs.LeftOut.{ForcesAll, LeavesOut}
 use Rattle.line_settle.specs.Masks.{all_sixteen}
-use Rattle.line_settle.specs.Marking.{finish_marked, finishes_marked, reach_marked, reaches_marked, AreReached, AreBehind, ReachedSets, SweepsOut, unmarked}
-use Rattle.line_settle.specs.Sweeping.{IsUndrawn, SweptTo, SweptMarked}
+use Rattle.line_settle.specs.MarkedLists.{finish_marked, finishes_marked, reach_marked, reaches_marked, AreReached, AreBehind, ReachedSets, SweepsOut, unmarked}
+use Rattle.line_settle.specs.Sweeps.{IsUndrawn, SweptTo, SweptMarked}
 use Rattle.line_settle.specs.Positions.{has}
-use Rattle.line_settle.specs.Spelling.{pattern_of, allows, finish_step, finishes, reach_step, reaches}
+use Rattle.line_settle.specs.Patterns.{pattern_of, allows, finish_step, finishes, reach_step, reaches}
 use Rattle.line_settle.specs.StateSets.{AreStates, IsForeign, Shares, StateSets, ArePatternSets}
-use Rattle.picture.specs.BitLaws.{bit_below}
-use Rattle.line_settle.specs.MaskLaws.{full_has}
+use Rattle.picture.proofs.BitLaws.{bit_below}
+use Rattle.line_settle.proofs.MaskLaws.{full_has}
 use Rattle.line_settle.proofs.BitLemmas.{allows_none}
 use Rattle.line_settle.proofs.FillLemmas.{reach_step_agree}
 use Rattle.line_settle.proofs.FittingLemmas.{allows_bit, bit_allows, too_long, have_fits}
@@ -45,7 +46,8 @@ leads_nowhere w pattern sets mask q x r are none a s = elim s [
   | inr b ↦ none x a (ap (allows sets.colours) b.0 ∙ are.colours.background)
 ]
 
-pub none_forward : (w : ℕ) (pattern : List ℕ) (sets : StateSets) (mask : ℕ) (before : ℕ → Bool) → ArePatternSets w pattern sets → IsForeign sets.colours mask → AreStates pattern (reach_step pattern mask before) 0
+pub none_forward : (w : ℕ) (pattern : List ℕ) (sets : StateSets) (mask : ℕ) (before : ℕ → Bool) → ArePatternSets w pattern sets → IsForeign sets.colours mask
+    → AreStates pattern (reach_step pattern mask before) 0
 none_forward w pattern sets mask before are none = record {
   each = λ q. (
     (λ h. absurd (in_none q h)),
@@ -53,7 +55,8 @@ none_forward w pattern sets mask before are none = record {
   );
 }
 
-pub none_back : (w : ℕ) (pattern : List ℕ) (sets : StateSets) (mask : ℕ) (behind : ℕ → Bool) → ArePatternSets w pattern sets → IsForeign sets.colours mask → AreStates pattern (finish_step pattern mask behind) 0
+pub none_back : (w : ℕ) (pattern : List ℕ) (sets : StateSets) (mask : ℕ) (behind : ℕ → Bool) → ArePatternSets w pattern sets → IsForeign sets.colours mask
+    → AreStates pattern (finish_step pattern mask behind) 0
 none_back w pattern sets mask behind are none = record {
   each = λ q. (
     (λ h. absurd (in_none q h)),
@@ -125,7 +128,8 @@ meets_is a b c d x y z none e f g h =
 
 -- ---- from the back
 
-pub at_end : (w : ℕ) (pattern left drawn : List ℕ) (sets : StateSets) (n : ℕ) → n ≡ length left → ArePatternSets w pattern sets → AreReached pattern (finishes pattern (drop n left)) (finishes_marked pattern (drop n left) (drop n drawn)) (record { all = sets.last; marked = 0 })
+pub at_end : (w : ℕ) (pattern left drawn : List ℕ) (sets : StateSets) (n : ℕ) → n ≡ length left → ArePatternSets w pattern sets
+    → AreReached pattern (finishes pattern (drop n left)) (finishes_marked pattern (drop n left) (drop n drawn)) (record { all = sets.last; marked = 0 })
 at_end w pattern left drawn sets n e are =
     let d : drop n left ≡ [] = ap (λ k. drop k left) e ∙ drop-length left in
     let P : List ℕ → Type 0 = λ ms. AreReached pattern (finishes pattern ms) (finishes_marked pattern ms (drop n drawn)) (record { all = sets.last; marked = 0 }) in
@@ -139,8 +143,11 @@ at_end w pattern left drawn sets n e are =
       marked_are = record { each = λ q. ((λ h. absurd (in_none q h)), (λ p. absurd (false≢true p.1))) };
     })
 
--- the states behind cell i give those before it
-pub before_cell : (pattern left drawn : List ℕ) (i : ℕ) (from : ReachedSets) → i < length left → length drawn ≡ length left → AreReached pattern (finish_step pattern (get_or left i 0) (finishes pattern (drop (suc i) left))) (finish_marked pattern (get_or left i 0) (bit_and (get_or left i 0) (get_or drawn i 0)) (finishes pattern (drop (suc i) left)) (finishes_marked pattern (drop (suc i) left) (drop (suc i) drawn))) from → AreReached pattern (finishes pattern (drop i left)) (finishes_marked pattern (drop i left) (drop i drawn)) from
+-- the states after cell i give those before it
+pub before_cell : (pattern left drawn : List ℕ) (i : ℕ) (from : ReachedSets) → i < length left → length drawn ≡ length left
+    → AreReached pattern (finish_step pattern (get_or left i 0) (finishes pattern (drop (suc i) left)))
+    (finish_marked pattern (get_or left i 0) (bit_and (get_or left i 0) (get_or drawn i 0)) (finishes pattern (drop (suc i) left)) (finishes_marked pattern (drop (suc i) left) (drop (suc i) drawn)))
+    from → AreReached pattern (finishes pattern (drop i left)) (finishes_marked pattern (drop i left) (drop i drawn)) from
 before_cell pattern left drawn i from l e r =
     let m = drop-cons left i 0 l in
     let d = drop-cons drawn i 0 (let k : i < length drawn = omega arith in k) in
@@ -148,7 +155,9 @@ before_cell pattern left drawn i from l e r =
     let Q : List ℕ → Type 0 = λ ds. AreReached pattern (finishes pattern (get_or left i 0 ∷ drop (suc i) left)) (finishes_marked pattern (get_or left i 0 ∷ drop (suc i) left) ds) from in
     subst P (sym m) (subst Q (sym d) r)
 
-pub noted_more : (pattern left drawn plain marked : List ℕ) (i : ℕ) (later : ReachedSets) → i < length plain → i < length marked → AreReached pattern (finishes pattern (drop (suc i) left)) (finishes_marked pattern (drop (suc i) left) (drop (suc i) drawn)) later → ((j : ℕ) → suc i ≤ j → j < length left → AreBehind pattern left drawn plain marked j) → (j : ℕ) → i ≤ j → j < length left → AreBehind pattern left drawn (set plain i later.all) (set marked i later.marked) j
+pub noted_more : (pattern left drawn plain marked : List ℕ) (i : ℕ) (later : ReachedSets) → i < length plain → i < length marked
+    → AreReached pattern (finishes pattern (drop (suc i) left)) (finishes_marked pattern (drop (suc i) left) (drop (suc i) drawn)) later → ((j : ℕ) → suc i ≤ j → j < length left
+    → AreBehind pattern left drawn plain marked j) → (j : ℕ) → i ≤ j → j < length left → AreBehind pattern left drawn (set plain i later.all) (set marked i later.marked) j
 noted_more pattern left drawn plain marked i later l m r before j h k = elim (cases_eq j i) [
   | inl e ↦
       let P : ℕ → Type 0 = λ n. AreBehind pattern left drawn (set plain i later.all) (set marked i later.marked) n in
@@ -170,7 +179,8 @@ noted_more pattern left drawn plain marked i later l m r before j h k = elim (ca
 
 -- ---- from the front
 
-pub at_first : (w : ℕ) (pattern left drawn : List ℕ) (sets : StateSets) → ArePatternSets w pattern sets → AreReached pattern (reaches pattern left 0) (reaches_marked pattern left drawn 0) (record { all = 1; marked = 0 })
+pub at_first : (w : ℕ) (pattern left drawn : List ℕ) (sets : StateSets) → ArePatternSets w pattern sets
+    → AreReached pattern (reaches pattern left 0) (reaches_marked pattern left drawn 0) (record { all = 1; marked = 0 })
 at_first w pattern left drawn sets are =
     record {
       all_are = record {
@@ -182,15 +192,18 @@ at_first w pattern left drawn sets are =
       marked_are = record { each = λ q. ((λ h. absurd (in_none q h)), (λ p. absurd (false≢true p.1))) };
     }
 
-pub first_reached : (w : ℕ) (pattern left drawn : List ℕ) (sets : StateSets) (all marked : ℕ) → all ≡ 1 → marked ≡ 0 → ArePatternSets w pattern sets → AreReached pattern (reaches pattern left 0) (reaches_marked pattern left drawn 0) (record { all = all; marked = marked })
+pub first_reached : (w : ℕ) (pattern left drawn : List ℕ) (sets : StateSets) (all marked : ℕ) → all ≡ 1 → marked ≡ 0 → ArePatternSets w pattern sets
+    → AreReached pattern (reaches pattern left 0) (reaches_marked pattern left drawn 0) (record { all = all; marked = marked })
 first_reached w pattern left drawn sets all marked e f are =
     let r = at_first w pattern left drawn sets are in
     let S : ℕ → Type 0 = λ n. AreStates pattern (reaches pattern left 0) n in
     let T : ℕ → Type 0 = λ n. AreStates pattern (reaches_marked pattern left drawn 0) n in
     record { all_are = subst S (sym e) r.all_are; marked_are = subst T (sym f) r.marked_are }
 
--- behind cell i of a line that has the same masks before it, and this mask there
-pub behind_cell : (pattern left new drawn : List ℕ) (i mask : ℕ) (from : ReachedSets) → SameBefore i new left → get_or new i 0 ≡ mask → AreReached pattern (reach_step pattern mask (reaches pattern left i)) (reach_marked pattern mask (bit_and mask (get_or drawn i 0)) (reaches pattern left i) (reaches_marked pattern left drawn i)) from → AreReached pattern (reaches pattern new (suc i)) (reaches_marked pattern new drawn (suc i)) from
+-- after cell i of a line that has the same masks before it, and this mask there
+pub behind_cell : (pattern left new drawn : List ℕ) (i mask : ℕ) (from : ReachedSets) → SameBefore i new left → get_or new i 0 ≡ mask → AreReached pattern
+    (reach_step pattern mask (reaches pattern left i)) (reach_marked pattern mask (bit_and mask (get_or drawn i 0)) (reaches pattern left i) (reaches_marked pattern left drawn i)) from
+    → AreReached pattern (reaches pattern new (suc i)) (reaches_marked pattern new drawn (suc i)) from
 behind_cell pattern left new drawn i mask from same e r =
     let d = get_or drawn i 0 in
     let all : (q : ℕ) → q < length pattern → reaches pattern new i q ≡ reaches pattern left i q = same_reached pattern new left i same in
@@ -198,10 +211,13 @@ behind_cell pattern left new drawn i mask from same e r =
     record {
       all_are = same_states pattern (reach_step pattern mask (reaches pattern left i)) (reaches pattern new (suc i)) from.all
           (λ q l. ap (λ m. reach_step pattern m (reaches pattern new i) q) e ∙ reach_step_agree pattern mask (reaches pattern new i) (reaches pattern left i) all q l) r.all_are;
-      marked_are = same_states pattern (reach_marked pattern mask (bit_and mask d) (reaches pattern left i) (reaches_marked pattern left drawn i)) (reaches_marked pattern new drawn (suc i)) from.marked
+      marked_are =
+          same_states pattern (reach_marked pattern mask (bit_and mask d) (reaches pattern left i) (reaches_marked pattern left drawn i)) (reaches_marked pattern new drawn (suc i)) from.marked
           (λ q l. ap (λ m. reach_marked pattern m (bit_and m d) (reaches pattern new i) (reaches_marked pattern new drawn i) q) e
-          ∙ (ap (λ x. x || reach_step pattern (bit_and mask d) (reaches pattern new i) q) (reach_step_agree pattern mask (reaches_marked pattern new drawn i) (reaches_marked pattern left drawn i) marked q l)
-          ∙ ap (λ x. reach_step pattern mask (reaches_marked pattern left drawn i) q || x) (reach_step_agree pattern (bit_and mask d) (reaches pattern new i) (reaches pattern left i) all q l))) r.marked_are;
+          ∙ (ap (λ x. x || reach_step pattern (bit_and mask d) (reaches pattern new i) q)
+          (reach_step_agree pattern mask (reaches_marked pattern new drawn i) (reaches_marked pattern left drawn i) marked q l)
+          ∙ ap (λ x. reach_step pattern mask (reaches_marked pattern left drawn i) q || x)
+          (reach_step_agree pattern (bit_and mask d) (reaches pattern new i) (reaches pattern left i) all q l))) r.marked_are;
     }
 
 pub same_here : (left : List ℕ) (i : ℕ) → SameBefore i left left
@@ -210,7 +226,7 @@ same_here left i = λ j l. refl
 pub same_set : (left : List ℕ) (i mask : ℕ) → SameBefore i (set left i mask) left
 same_set left i mask = λ j l. get_or-set_other left i j mask 0 (λ e. absurd (omega arith))
 
--- the masks behind a cell are the old ones
+-- the masks after a cell are the old ones
 pub drop_more : (a b : List ℕ) (i : ℕ) → length a ≡ length b → drop i a ≡ drop i b → drop (suc i) a ≡ drop (suc i) b
 drop_more a b i e d = elim (cases_lt i (length a)) [
   | inl l ↦
@@ -226,7 +242,10 @@ same_at a b i d =
     ap (λ n. get_or a n 0) z ∙ (sym (get_or-drop i a 0 0) ∙ (ap (λ l. get_or l 0 0) d ∙ (get_or-drop i b 0 0 ∙ ap (λ n. get_or b n 0) (sym z))))
 
 -- with all sixteen colours in cell i a line is marked exactly where the sets on the two sides share a state
-pub test_marked : (pattern old left drawn plain marked : List ℕ) (i : ℕ) (on : ReachedSets) → 0 < length pattern → i < length left → length drawn ≡ length left → drop (suc i) left ≡ drop (suc i) old → AreBehind pattern old drawn plain marked i → AreReached pattern (reach_step pattern 65535 (reaches pattern left i)) (reach_marked pattern 65535 (bit_and 65535 (get_or drawn i 0)) (reaches pattern left i) (reaches_marked pattern left drawn i)) on → (Shares on.marked (get_or plain i 0) ⊎ Shares on.all (get_or marked i 0)) ↔ (finishes_marked pattern (set left i 65535) drawn 0 ≡ true)
+pub test_marked : (pattern old left drawn plain marked : List ℕ) (i : ℕ) (on : ReachedSets) → 0 < length pattern → i < length left → length drawn ≡ length left → drop (suc i) left ≡ drop (suc i) old
+    → AreBehind pattern old drawn plain marked i → AreReached pattern (reach_step pattern 65535 (reaches pattern left i))
+    (reach_marked pattern 65535 (bit_and 65535 (get_or drawn i 0)) (reaches pattern left i) (reaches_marked pattern left drawn i)) on
+    → (Shares on.marked (get_or plain i 0) ⊎ Shares on.all (get_or marked i 0)) ↔ (finishes_marked pattern (set left i 65535) drawn 0 ≡ true)
 test_marked pattern old left drawn plain marked i on p l e d b r =
     let new = set left i 65535 in
     let len = length-set left i 65535 in
@@ -297,7 +316,8 @@ set_wider left i j small h l =
       ];
     }
 
-pub swept_out : (pattern drawn old left : List ℕ) (i : ℕ) → 0 < length pattern → i < length left → ((t : ℕ) → get_or left t 0 < 2 ^ 16) → SweepsOut pattern drawn old left i → (finishes_marked pattern (set left i 65535) drawn 0 ≡ true → ⊥) → SweepsOut pattern drawn old (set left i 65535) (suc i)
+pub swept_out : (pattern drawn old left : List ℕ) (i : ℕ) → 0 < length pattern → i < length left → ((t : ℕ) → get_or left t 0 < 2 ^ 16) → SweepsOut pattern drawn old left i
+    → (finishes_marked pattern (set left i 65535) drawn 0 ≡ true → ⊥) → SweepsOut pattern drawn old (set left i 65535) (suc i)
 swept_out pattern drawn old left i p h small s f = record {
   same_length = length-set left i 65535 ∙ s.same_length;
   each = λ j k. elim (below_or_at j i k) [
@@ -316,11 +336,14 @@ swept_out pattern drawn old left i p h small s f = record {
   ];
 }
 
--- the states behind cell i with these colours there
+-- the states after cell i with these colours there
 abbrev pub Reaches : ℕ → StateSets → List ℕ → List ℕ → ℕ → ℕ → ReachedSets → Type 0
-Reaches w sets drawn left i mask on = (pattern : List ℕ) → ArePatternSets w pattern sets → AreReached pattern (reach_step pattern mask (reaches pattern left i)) (reach_marked pattern mask (bit_and mask (get_or drawn i 0)) (reaches pattern left i) (reaches_marked pattern left drawn i)) on
+Reaches w sets drawn left i mask on = (pattern : List ℕ) → ArePatternSets w pattern sets → AreReached pattern (reach_step pattern mask (reaches pattern left i))
+    (reach_marked pattern mask (bit_and mask (get_or drawn i 0)) (reaches pattern left i) (reaches_marked pattern left drawn i)) on
 
-pub step_kept : (w : ℕ) (sets : StateSets) (drawn plain marked old left : List ℕ) (from on next : ReachedSets) (i : ℕ) → i < length left → length drawn ≡ length left → SweptTo w sets drawn plain marked old left from i → Reaches w sets drawn left i 65535 on → Reaches w sets drawn left i (get_or left i 0) next → Shares on.marked (get_or plain i 0) ⊎ Shares on.all (get_or marked i 0) → SweptTo w sets drawn plain marked old left next (suc i)
+pub step_kept : (w : ℕ) (sets : StateSets) (drawn plain marked old left : List ℕ) (from on next : ReachedSets) (i : ℕ) → i < length left → length drawn ≡ length left
+    → SweptTo w sets drawn plain marked old left from i → Reaches w sets drawn left i 65535 on → Reaches w sets drawn left i (get_or left i 0) next
+    → Shares on.marked (get_or plain i 0) ⊎ Shares on.all (get_or marked i 0) → SweptTo w sets drawn plain marked old left next (suc i)
 step_kept w sets drawn plain marked old left from on next i l e t ons nexts shares = record {
   small = t.small;
   from_is = λ pattern are. behind_cell pattern left left drawn i (get_or left i 0) next (same_here left i) refl (nexts pattern are);
@@ -337,7 +360,9 @@ small_set left i l small j = elim (cases_eq j i) [
   | inr n ↦ (let g = get_or-set_other left i j 65535 0 n in let k = small j in omega arith)
 ]
 
-pub step_out : (w : ℕ) (sets : StateSets) (drawn plain marked old left : List ℕ) (from on : ReachedSets) (i : ℕ) → i < length left → length drawn ≡ length left → SweptTo w sets drawn plain marked old left from i → Reaches w sets drawn left i 65535 on → (Shares on.marked (get_or plain i 0) ⊎ Shares on.all (get_or marked i 0) → ⊥) → SweptTo w sets drawn plain marked old (set left i 65535) on (suc i)
+pub step_out : (w : ℕ) (sets : StateSets) (drawn plain marked old left : List ℕ) (from on : ReachedSets) (i : ℕ) → i < length left → length drawn ≡ length left
+    → SweptTo w sets drawn plain marked old left from i → Reaches w sets drawn left i 65535 on → (Shares on.marked (get_or plain i 0) ⊎ Shares on.all (get_or marked i 0) → ⊥)
+    → SweptTo w sets drawn plain marked old (set left i 65535) on (suc i)
 step_out w sets drawn plain marked old left from on i l e t ons none_shared = record {
   small = small_set left i l t.small;
   from_is = λ pattern are. behind_cell pattern left (set left i 65535) drawn i 65535 on (same_set left i 65535) (get_or-set_same left i 65535 0 l) (ons pattern are);
@@ -351,7 +376,8 @@ step_out w sets drawn plain marked old left from on i l e t ons none_shared = re
 -- ---- cells that are not drawn
 
 -- a state from which a cell leads to one of the pattern is one of it
-from_inside : (pattern : List ℕ) (mask : ℕ) (before : ℕ → Bool) (r : ℕ) (h : r < length pattern) (e : reach_step pattern mask before r ≡ true) → (reached_by_step pattern mask before r h e).from < length pattern
+from_inside : (pattern : List ℕ) (mask : ℕ) (before : ℕ → Bool) (r : ℕ) (h : r < length pattern) (e : reach_step pattern mask before r ≡ true)
+    → (reached_by_step pattern mask before r h e).from < length pattern
 from_inside pattern mask before r h e = elim (reached_by_step pattern mask before r h e).step [
   | inl a ↦ (let k = a.0 in let l = a.2 in omega arith)
   | inr b ↦ (let l = b.2 in omega arith)
@@ -410,17 +436,21 @@ states_below test (suc n) = let s = states_below test n in one_state test n s.0 
 set_for : (pattern : List ℕ) (test : ℕ → Bool) → (set : ℕ) × AreStates pattern test set
 set_for pattern test = let s = states_below test (length pattern) in (s.0, record { each = s.1 })
 
--- where no line is marked before an undrawn cell, none is behind it; and the same from the end
-pub unmarked_forward : (w : ℕ) (pattern : List ℕ) (sets : StateSets) (mask d on : ℕ) (all marked : ℕ → Bool) → ArePatternSets w pattern sets → IsForeign sets.colours d → AreStates pattern marked 0 → AreStates pattern (reach_step pattern mask all) on → AreReached pattern (reach_step pattern mask all) (reach_marked pattern mask (bit_and mask d) all marked) (unmarked on)
+-- where no line is marked before an undrawn cell, none is after it; and the same from the end
+pub unmarked_forward : (w : ℕ) (pattern : List ℕ) (sets : StateSets) (mask d on : ℕ) (all marked : ℕ → Bool) → ArePatternSets w pattern sets → IsForeign sets.colours d → AreStates pattern marked 0
+    → AreStates pattern (reach_step pattern mask all) on → AreReached pattern (reach_step pattern mask all) (reach_marked pattern mask (bit_and mask d) all marked) (unmarked on)
 unmarked_forward w pattern sets mask d on all marked are foreign none is = record {
   all_are = is;
-  marked_are = either_states pattern (reach_step pattern mask marked) (reach_step pattern (bit_and mask d) all) 0 0 (nowhere_forward pattern mask marked none) (none_forward w pattern sets (bit_and mask d) all are (foreign_part sets.colours mask d foreign));
+  marked_are = either_states pattern (reach_step pattern mask marked) (reach_step pattern (bit_and mask d) all) 0 0 (nowhere_forward pattern mask marked none)
+      (none_forward w pattern sets (bit_and mask d) all are (foreign_part sets.colours mask d foreign));
 }
 
-pub unmarked_back : (w : ℕ) (pattern : List ℕ) (sets : StateSets) (mask d on : ℕ) (all marked : ℕ → Bool) → ArePatternSets w pattern sets → IsForeign sets.colours d → AreStates pattern marked 0 → AreStates pattern (finish_step pattern mask all) on → AreReached pattern (finish_step pattern mask all) (finish_marked pattern mask (bit_and mask d) all marked) (unmarked on)
+pub unmarked_back : (w : ℕ) (pattern : List ℕ) (sets : StateSets) (mask d on : ℕ) (all marked : ℕ → Bool) → ArePatternSets w pattern sets → IsForeign sets.colours d → AreStates pattern marked 0
+    → AreStates pattern (finish_step pattern mask all) on → AreReached pattern (finish_step pattern mask all) (finish_marked pattern mask (bit_and mask d) all marked) (unmarked on)
 unmarked_back w pattern sets mask d on all marked are foreign none is = record {
   all_are = is;
-  marked_are = either_states pattern (finish_step pattern mask marked) (finish_step pattern (bit_and mask d) all) 0 0 (nowhere_back pattern mask marked none) (none_back w pattern sets (bit_and mask d) all are (foreign_part sets.colours mask d foreign));
+  marked_are = either_states pattern (finish_step pattern mask marked) (finish_step pattern (bit_and mask d) all) 0 0 (nowhere_back pattern mask marked none)
+      (none_back w pattern sets (bit_and mask d) all are (foreign_part sets.colours mask d foreign));
 }
 
 -- one undrawn cell more
@@ -433,14 +463,17 @@ undrawn_more colours drawn i here rest = λ j h. elim (cases_eq j i) [
 pub undrawn_past : (colours : ℕ) (drawn : List ℕ) (i : ℕ) → length drawn ≤ i → IsForeign colours (get_or drawn i 0)
 undrawn_past colours drawn i h k a b = false≢true (sym (allows_none k) ∙ (ap (λ m. allows m k) (sym (get_or_past drawn i 0 h)) ∙ a))
 
--- the marked lines behind an undrawn cell
-pub marked_forward : (w : ℕ) (pattern : List ℕ) (sets : StateSets) (mask d on : ℕ) (all marked : ℕ → Bool) → ArePatternSets w pattern sets → IsForeign sets.colours d → AreStates pattern (reach_step pattern mask marked) on → AreStates pattern (reach_marked pattern mask (bit_and mask d) all marked) on
+-- the marked lines after an undrawn cell
+pub marked_forward : (w : ℕ) (pattern : List ℕ) (sets : StateSets) (mask d on : ℕ) (all marked : ℕ → Bool) → ArePatternSets w pattern sets → IsForeign sets.colours d
+    → AreStates pattern (reach_step pattern mask marked) on → AreStates pattern (reach_marked pattern mask (bit_and mask d) all marked) on
 marked_forward w pattern sets mask d on all marked are foreign is =
     let P : ℕ → Type 0 = λ n. AreStates pattern (reach_marked pattern mask (bit_and mask d) all marked) n in
-    subst P (or_zero_r on) (either_states pattern (reach_step pattern mask marked) (reach_step pattern (bit_and mask d) all) on 0 is (none_forward w pattern sets (bit_and mask d) all are (foreign_part sets.colours mask d foreign)))
+    subst P (or_zero_r on) (either_states pattern (reach_step pattern mask marked) (reach_step pattern (bit_and mask d) all) on 0 is
+    (none_forward w pattern sets (bit_and mask d) all are (foreign_part sets.colours mask d foreign)))
 
 -- where none of the pattern's colours is drawn no line is marked
-never_marked : (w : ℕ) (pattern : List ℕ) (sets : StateSets) (masks drawn : List ℕ) (q : ℕ) → ArePatternSets w pattern sets → IsUndrawn sets.colours drawn 0 → finishes_marked pattern masks drawn q ≡ true → ⊥
+never_marked : (w : ℕ) (pattern : List ℕ) (sets : StateSets) (masks drawn : List ℕ) (q : ℕ) → ArePatternSets w pattern sets → IsUndrawn sets.colours drawn 0
+    → finishes_marked pattern masks drawn q ≡ true → ⊥
 never_marked w pattern sets [] drawn q are none m = false≢true m
 never_marked w pattern sets (mask ∷ masks) [] q are none m = false≢true m
 never_marked w pattern sets (mask ∷ masks) (d ∷ drawn) q are none m = elim (or_cases _ _ m) [
@@ -460,10 +493,13 @@ test_first on plain marked = (
 )
 
 -- the test of a cell from which on none of the pattern's colours is drawn
-pub test_last : (w : ℕ) (sets : StateSets) (pattern old left drawn plain marked : List ℕ) (i on : ℕ) → ArePatternSets w pattern sets → 0 < length pattern → i < length left → length drawn ≡ length left → drop (suc i) left ≡ drop (suc i) old → IsUndrawn sets.colours drawn i → AreBehind pattern old drawn plain marked i → AreStates pattern (reach_step pattern 65535 (reaches_marked pattern left drawn i)) on → Shares on (get_or plain i 0) ↔ (finishes_marked pattern (set left i 65535) drawn 0 ≡ true)
+pub test_last : (w : ℕ) (sets : StateSets) (pattern old left drawn plain marked : List ℕ) (i on : ℕ) → ArePatternSets w pattern sets → 0 < length pattern → i < length left → length drawn ≡ length left
+    → drop (suc i) left ≡ drop (suc i) old → IsUndrawn sets.colours drawn i → AreBehind pattern old drawn plain marked i
+    → AreStates pattern (reach_step pattern 65535 (reaches_marked pattern left drawn i)) on → Shares on (get_or plain i 0) ↔ (finishes_marked pattern (set left i 65535) drawn 0 ≡ true)
 test_last w sets pattern old left drawn plain marked i on are p l e d none b is =
     let all = set_for pattern (reach_step pattern 65535 (reaches pattern left i)) in
-    let r : AreReached pattern (reach_step pattern 65535 (reaches pattern left i)) (reach_marked pattern 65535 (bit_and 65535 (get_or drawn i 0)) (reaches pattern left i) (reaches_marked pattern left drawn i)) (record { all = all.0; marked = on }) = record {
+    let r : AreReached pattern (reach_step pattern 65535 (reaches pattern left i))
+    (reach_marked pattern 65535 (bit_and 65535 (get_or drawn i 0)) (reaches pattern left i) (reaches_marked pattern left drawn i)) (record { all = all.0; marked = on }) = record {
       all_are = all.1;
       marked_are = marked_forward w pattern sets 65535 (get_or drawn i 0) on (reaches pattern left i) (reaches_marked pattern left drawn i) are (none i (omega arith)) is;
     } in
@@ -477,18 +513,23 @@ test_last w sets pattern old left drawn plain marked i on are p l e d none b is 
       ]),
     )
 
--- the states of marked lines behind cell i with these colours there
+-- the states of marked lines after cell i with these colours there
 abbrev pub Marks : ℕ → StateSets → List ℕ → List ℕ → ℕ → ℕ → ℕ → Type 0
 Marks w sets drawn left i mask on = (pattern : List ℕ) → ArePatternSets w pattern sets → AreStates pattern (reach_step pattern mask (reaches_marked pattern left drawn i)) on
 
--- marked lines behind cell i of a line that has the same masks before it, and this mask there
-marked_behind : (w : ℕ) (pattern : List ℕ) (sets : StateSets) (left new drawn : List ℕ) (i mask on : ℕ) → ArePatternSets w pattern sets → SameBefore i new left → get_or new i 0 ≡ mask → IsForeign sets.colours (get_or drawn i 0) → AreStates pattern (reach_step pattern mask (reaches_marked pattern left drawn i)) on → AreStates pattern (reaches_marked pattern new drawn (suc i)) on
+-- marked lines after cell i of a line that has the same masks before it, and this mask there
+marked_behind : (w : ℕ) (pattern : List ℕ) (sets : StateSets) (left new drawn : List ℕ) (i mask on : ℕ) → ArePatternSets w pattern sets → SameBefore i new left → get_or new i 0 ≡ mask
+    → IsForeign sets.colours (get_or drawn i 0) → AreStates pattern (reach_step pattern mask (reaches_marked pattern left drawn i)) on → AreStates pattern (reaches_marked pattern new drawn (suc i)) on
 marked_behind w pattern sets left new drawn i mask on are same e none is =
     let all = set_for pattern (reach_step pattern mask (reaches pattern left i)) in
-    let r : AreReached pattern (reach_step pattern mask (reaches pattern left i)) (reach_marked pattern mask (bit_and mask (get_or drawn i 0)) (reaches pattern left i) (reaches_marked pattern left drawn i)) (record { all = all.0; marked = on }) = record { all_are = all.1; marked_are = marked_forward w pattern sets mask (get_or drawn i 0) on (reaches pattern left i) (reaches_marked pattern left drawn i) are none is } in
+    let r : AreReached pattern (reach_step pattern mask (reaches pattern left i))
+    (reach_marked pattern mask (bit_and mask (get_or drawn i 0)) (reaches pattern left i) (reaches_marked pattern left drawn i)) (record { all = all.0; marked = on }) =
+    record { all_are = all.1; marked_are = marked_forward w pattern sets mask (get_or drawn i 0) on (reaches pattern left i) (reaches_marked pattern left drawn i) are none is } in
     (behind_cell pattern left new drawn i mask (record { all = all.0; marked = on }) same e r).marked_are
 
-pub last_kept : (w : ℕ) (sets : StateSets) (drawn plain marked old left : List ℕ) (from on next i : ℕ) → i < length left → length drawn ≡ length left → IsUndrawn sets.colours drawn i → SweptMarked w sets drawn plain marked old left from i → Marks w sets drawn left i 65535 on → Marks w sets drawn left i (get_or left i 0) next → Shares on (get_or plain i 0) → SweptMarked w sets drawn plain marked old left next (suc i)
+pub last_kept : (w : ℕ) (sets : StateSets) (drawn plain marked old left : List ℕ) (from on next i : ℕ) → i < length left → length drawn ≡ length left → IsUndrawn sets.colours drawn i
+    → SweptMarked w sets drawn plain marked old left from i → Marks w sets drawn left i 65535 on → Marks w sets drawn left i (get_or left i 0) next → Shares on (get_or plain i 0)
+    → SweptMarked w sets drawn plain marked old left next (suc i)
 last_kept w sets drawn plain marked old left from on next i l e none t ons nexts shares = record {
   small = t.small;
   from_is = λ pattern are. marked_behind w pattern sets left left drawn i (get_or left i 0) next are (same_here left i) refl (none i (omega arith)) (nexts pattern are);
@@ -499,10 +540,13 @@ last_kept w sets drawn plain marked old left from on next i l e none t ons nexts
       ((test_last w sets pattern old left drawn plain marked i on are (omega arith) l e (drop_more left old i n s.behind) none (tables i (omega arith)) (ons pattern are)).0 shares);
 }
 
-pub last_out : (w : ℕ) (sets : StateSets) (drawn plain marked old left : List ℕ) (from on i : ℕ) → i < length left → length drawn ≡ length left → IsUndrawn sets.colours drawn i → SweptMarked w sets drawn plain marked old left from i → Marks w sets drawn left i 65535 on → (Shares on (get_or plain i 0) → ⊥) → SweptMarked w sets drawn plain marked old (set left i 65535) on (suc i)
+pub last_out : (w : ℕ) (sets : StateSets) (drawn plain marked old left : List ℕ) (from on i : ℕ) → i < length left → length drawn ≡ length left → IsUndrawn sets.colours drawn i
+    → SweptMarked w sets drawn plain marked old left from i → Marks w sets drawn left i 65535 on → (Shares on (get_or plain i 0) → ⊥)
+    → SweptMarked w sets drawn plain marked old (set left i 65535) on (suc i)
 last_out w sets drawn plain marked old left from on i l e none t ons none_shared = record {
   small = small_set left i l t.small;
-  from_is = λ pattern are. marked_behind w pattern sets left (set left i 65535) drawn i 65535 on are (same_set left i 65535) (get_or-set_same left i 65535 0 l) (none i (omega arith)) (ons pattern are);
+  from_is =
+      λ pattern are. marked_behind w pattern sets left (set left i 65535) drawn i 65535 on are (same_set left i 65535) (get_or-set_same left i 65535 0 l) (none i (omega arith)) (ons pattern are);
   so_far = λ pattern are tables unmarked_old.
       let s = t.so_far pattern are tables unmarked_old in
       let n = s.same_length in
@@ -519,7 +563,8 @@ share_test a b both none e f = (
 
 -- ---- the whole line
 
-pub leaves_out : (clue : List Block) (drawn old new : List ℕ) → IsClue clue → ForcesAll clue old drawn → ((finishes_marked (pattern_of clue) old drawn 0 ≡ true → ⊥) → SweepsOut (pattern_of clue) drawn old new (length old)) → LeavesOut clue drawn old new
+pub leaves_out : (clue : List Block) (drawn old new : List ℕ) → IsClue clue → ForcesAll clue old drawn
+    → ((finishes_marked (pattern_of clue) old drawn 0 ≡ true → ⊥) → SweepsOut (pattern_of clue) drawn old new (length old)) → LeavesOut clue drawn old new
 leaves_out clue drawn old new b f swept =
     let s = swept (forces_unmarked clue old drawn b f) in
     record {

@@ -2,7 +2,7 @@
 use Rattle.std.proofs.Common.{◌≡◌, ℕ, zero, suc, ◌+◌, ◌<◌, Bool, true, List, [], ◌∷◌, refl, sym, subst, arith, inl, inr, length, get_or, drop, drop-cons, eq-eqb}
 use Rattle.std.proofs.lemmas.List.{length-drop}
 use Rattle.std.proofs.lemmas.Bool.{eqb-true}
-use Rattle.line_settle.specs.Spelling.{allows, finishes, reach_step, reaches, passes}
+use Rattle.line_settle.specs.Patterns.{allows, finishes, reach_step, reaches, passes}
 use Rattle.line_settle.proofs.StateLemmas.{SpellsAt, Step, spells_onward, spells_from, spells_end, end_spells}
 use Rattle.line_settle.proofs.StepLemmas.{crosses_finish, finish_crosses, crosses_pass, pass_crosses, step_reaches, reached_by_step}
 
@@ -59,7 +59,8 @@ pub record Passing (pattern : List ℕ) (mask : ℕ) (before later : ℕ → Boo
   pub within : state < length pattern
   pub passes_there : passes pattern mask before later state k ≡ true
 
-onward_rest : (pattern : List ℕ) (start : ℕ → Bool) (mask : ℕ) (masks : List ℕ) (i k q : ℕ) (line : List ℕ) → q < length pattern → start q ≡ true → Keeps (mask ∷ masks) line → SpellsAt pattern q line → suc i < length (mask ∷ masks) → get_or line (suc i) 0 ≡ k → Through pattern (reach_step pattern mask start) masks i k
+onward_rest : (pattern : List ℕ) (start : ℕ → Bool) (mask : ℕ) (masks : List ℕ) (i k q : ℕ) (line : List ℕ) → q < length pattern → start q ≡ true → Keeps (mask ∷ masks) line → SpellsAt pattern q line
+    → suc i < length (mask ∷ masks) → get_or line (suc i) 0 ≡ k → Through pattern (reach_step pattern mask start) masks i k
 onward_rest pattern start mask masks i k q [] h st kp s n g = absurd kp
 onward_rest pattern start mask masks i k q (x ∷ line) h st kp s n g =
     let o = spells_onward pattern q x line h s in
@@ -74,11 +75,13 @@ onward_rest pattern start mask masks i k q (x ∷ line) h st kp s n g =
       has = g;
     }
 
-pub through_rest : (pattern : List ℕ) (start : ℕ → Bool) (mask : ℕ) (masks : List ℕ) (i k : ℕ) → Through pattern start (mask ∷ masks) (suc i) k → Through pattern (reach_step pattern mask start) masks i k
+pub through_rest : (pattern : List ℕ) (start : ℕ → Bool) (mask : ℕ) (masks : List ℕ) (i k : ℕ) → Through pattern start (mask ∷ masks) (suc i) k
+    → Through pattern (reach_step pattern mask start) masks i k
 through_rest pattern start mask masks i k t =
     onward_rest pattern start mask masks i k t.state t.line t.within t.starts t.keeps t.spells t.inside t.has
 
-pub rest_through : (pattern : List ℕ) (start : ℕ → Bool) (mask : ℕ) (masks : List ℕ) (i k : ℕ) → Through pattern (reach_step pattern mask start) masks i k → Through pattern start (mask ∷ masks) (suc i) k
+pub rest_through : (pattern : List ℕ) (start : ℕ → Bool) (mask : ℕ) (masks : List ℕ) (i k : ℕ) → Through pattern (reach_step pattern mask start) masks i k
+    → Through pattern start (mask ∷ masks) (suc i) k
 rest_through pattern start mask masks i k t =
     let r = reached_by_step pattern mask start t.state t.within t.starts in
     record {
@@ -92,7 +95,8 @@ rest_through pattern start mask masks i k t =
       has = t.has;
     }
 
-onward_first : (pattern : List ℕ) (start : ℕ → Bool) (mask : ℕ) (masks : List ℕ) (k q : ℕ) (line : List ℕ) → q < length pattern → start q ≡ true → Keeps (mask ∷ masks) line → SpellsAt pattern q line → get_or line 0 0 ≡ k → Passing pattern mask start (finishes pattern masks) k
+onward_first : (pattern : List ℕ) (start : ℕ → Bool) (mask : ℕ) (masks : List ℕ) (k q : ℕ) (line : List ℕ) → q < length pattern → start q ≡ true → Keeps (mask ∷ masks) line → SpellsAt pattern q line
+    → get_or line 0 0 ≡ k → Passing pattern mask start (finishes pattern masks) k
 onward_first pattern start mask masks k q [] h st kp s g = absurd kp
 onward_first pattern start mask masks k q (x ∷ line) h st kp s g =
     let o = spells_onward pattern q x line h s in
@@ -128,7 +132,7 @@ rest_of_masks masks j h = drop-cons masks j 0 h
 inside_rest : {pattern : List ℕ} {start : ℕ → Bool} (masks : List ℕ) (j i : ℕ) {k : ℕ} → Through pattern start (drop j masks) i k → j + i < length masks
 inside_rest masks j i t = let w = t.inside in omega (arith, length-drop j masks)
 
--- the states reached behind j cells say all that the line before says of the cells to come
+-- the states reached after j cells say all that the line before says of the cells to come
 to_cell : (pattern masks : List ℕ) (i j n k : ℕ) → j + i ≡ n → Through pattern (reaches pattern masks j) (drop j masks) i k → Through pattern (reaches pattern masks n) (drop n masks) 0 k
 to_cell pattern masks zero j n k e t =
     let P : ℕ → Type 0 = λ m. Through pattern (reaches pattern masks m) (drop m masks) 0 k in

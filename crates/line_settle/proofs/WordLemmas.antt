@@ -8,7 +8,8 @@ use Rattle.line_settle.proofs.MarkLemmas.{stored}
 pub word_at : {X : Type 0} (bits : X → ℕ) (xs : List X) (k : ℕ) (x : X) → k < length xs → x ≡ get_or xs k x → bits x ≡ get_or (map bits xs) k 0
 word_at bits xs k x room is = ap bits is ∙ sym (get_or-map bits xs k x 0 room)
 
-pub word_stored : {X : Type 0} (bits : X → ℕ) (P : ℕ → ℕ → Type 0) (B : ℕ → Type 0) (xs : List X) (n j : ℕ) (x : X) → n ≡ j + 1 → j < length xs → P j (bits x) → ((r : ℕ) → n ≤ r → B r → P r (get_or (map bits xs) r 0)) → (r : ℕ) → j ≤ r → B r → P r (get_or (map bits (set xs j x)) r 0)
+pub word_stored : {X : Type 0} (bits : X → ℕ) (P : ℕ → ℕ → Type 0) (B : ℕ → Type 0) (xs : List X) (n j : ℕ) (x : X) → n ≡ j + 1 → j < length xs → P j (bits x)
+    → ((r : ℕ) → n ≤ r → B r → P r (get_or (map bits xs) r 0)) → (r : ℕ) → j ≤ r → B r → P r (get_or (map bits (set xs j x)) r 0)
 word_stored bits P B xs n j x e room is before r h b =
     let l = length-map xs bits in
     rw map-set (stored P B (map bits xs) n j (bits x) e (omega arith) is before r h b)

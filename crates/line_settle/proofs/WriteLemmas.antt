@@ -3,10 +3,10 @@ use Rattle.std.proofs.Common.{◌≡◌, ℕ, ◌+◌, ◌*◌, ◌^◌, ◌<◌
 use Rattle.picture.specs.declared.line_id.Axis.TheVariants.{Across, Down}
 use Rattle.picture.specs.declared.line_id.LineId.{LineId}
 use Rattle.picture.specs.Rows.{rows_of, line_of, HasLine}
-use Rattle.picture.specs.FlatLaws.{place_inside, rows_of-set}
+use Rattle.picture.proofs.FlatLaws.{place_inside, rows_of-set}
 use Rattle.line_settle.specs.FactSets.{AreMasks, HoldsLine, row_on, col_on}
-use Rattle.line_settle.specs.AlongLaws.{Written, across_length, down_length, place_on, written_all, written_more, written_none}
-use Rattle.line_settle.specs.GridLaws.{same_has_line, same_line_length}
+use Rattle.line_settle.proofs.AlongLaws.{Written, across_length, down_length, place_on, written_all, written_more, written_none}
+use Rattle.line_settle.proofs.GridLaws.{same_has_line, same_line_length}
 use Rattle.line_settle.proofs.FactLemmas.{are_masks_set, known_flat}
 
 -- the first n masks stand along a line, and elsewhere all is as it was
@@ -14,7 +14,8 @@ pub record IsWriting (height width : ℕ) (old cells : List ℕ) (line : LineId)
   pub cells_are : AreMasks height width cells
   pub written : Written line (rows_of height width old) (rows_of height width cells) masks n
 
-module _ (height width : ℕ) (old : List ℕ) (line : LineId) (masks : List ℕ) (is : AreMasks height width old) (has : HasLine (rows_of height width old) line) (whole : length masks ≡ length (line_of (rows_of height width old) line)) where
+module _ (height width : ℕ) (old : List ℕ) (line : LineId) (masks : List ℕ) (is : AreMasks height width old) (has : HasLine (rows_of height width old) line)
+    (whole : length masks ≡ length (line_of (rows_of height width old) line)) where
   pub none_written : IsWriting height width old old line masks 0
   none_written = record { cells_are = is; written = written_none line (rows_of height width old) masks }
 
@@ -35,7 +36,8 @@ module _ (height width : ℕ) (old : List ℕ) (line : LineId) (masks : List ℕ
         let p = place_on (rows_of height width cells) line i k.facts (same_has_line (rows_of height width old) (rows_of height width cells) line w.written.same_shape has) (omega arith) in
         ((let t = k.tall in omega (arith, p.0)), (let t = k.wide in omega (arith, p.1)))
 
-    pub one_more : (place mask : ℕ) → place ≡ row_on line.axis line.at i * width + col_on line.axis line.at i → mask ≡ get_or masks i 0 → mask < 2 ^ 16 → IsWriting height width old (set cells place mask) line masks (i + 1)
+    pub one_more : (place mask : ℕ) → place ≡ row_on line.axis line.at i * width + col_on line.axis line.at i → mask ≡ get_or masks i 0 → mask < 2 ^ 16
+        → IsWriting height width old (set cells place mask) line masks (i + 1)
     one_more place mask e is_mask small =
         let k = known_flat height width cells w.cells_are in
         record {

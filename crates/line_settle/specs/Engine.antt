@@ -16,7 +16,8 @@ pub record EngineRoom (longest : ℕ) (pattern : List ℕ) (row table : List Boo
   pub row_room : length row ≡ longest + 1
   pub table_room : length table ≡ (longest + 1) * (longest + 1)
 
--- the buffers of a mask engine: two sets of positions for each block, and for what lies behind the last, in 64 bits and in 128
+-- the buffers of a mask engine: two sets of positions for each block, and for what lies after the last, in 64 bits and
+-- in 128
 pub record MaskRoom (longest : ℕ) (starting waiting far_starting far_waiting : List ℕ) : Type 0 where
   pub starting_room : length starting ≡ longest + 1
   pub waiting_room : length waiting ≡ longest + 1

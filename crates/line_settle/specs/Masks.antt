@@ -1,6 +1,10 @@
 -- Masks of colours.
-use Rattle.std.specs.Prelude.{◌≡◌, ℕ, IsBitSet, bit_and, ◌↔◌}
+use Rattle.std.specs.Prelude.{◌≡◌, List, ℕ, IsBitSet, bit_and, ◌↔◌}
 use Rattle.std.specs.Int.{bit_not, w16}
+
+-- a grid of masks: for each cell of a picture, the colours that are left
+abbrev pub Masks : Type 0
+Masks = List (List ℕ)
 
 -- the mask without the colours of another
 abbrev pub without : ℕ → ℕ → ℕ

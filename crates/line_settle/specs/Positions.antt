@@ -1,13 +1,14 @@
 -- Sets of positions of a line, counted before and after each cell: position i is bit i of a number.
-use Rattle.std.specs.Prelude.{◌≡◌, ℕ, zero, suc, ◌+◌, ◌^◌, ◌<◌, ◌≤◌, List, Bool, true, ◌==◌, ◌&&◌, ◌||◌, length, slice_index}
+use Rattle.std.specs.Prelude.{◌≡◌, ℕ, zero, suc, ◌+◌, ◌^◌, ◌<◌, ◌≤◌, List, Bool, true, ◌==◌, ◌&&◌, ◌||◌, length}
+use Rattle.std.specs.Prelude.{slice_index}
 use Rattle.std.specs.Int.{bit_at}
-use Rattle.line_settle.specs.Spelling.{allows}
+use Rattle.line_settle.specs.Patterns.{allows}
 
 -- a set has position i
 unfoldable pub has : ℕ → ℕ → Bool
 has set i = bit_at set i == 1
 
--- a set has the positions before the cells in which colour k is left, and not the one behind them
+-- a set has the positions before the cells in which colour k is left, and not the one after them
 abbrev pub IsCellsWith : List ℕ → ℕ → ℕ → Type 0
 IsCellsWith left k set = (i : ℕ) → i ≤ length left → has set i ≡ allows (slice_index left i) k
 
@@ -15,10 +16,11 @@ IsCellsWith left k set = (i : ℕ) → i ≤ length left → has set i ≡ allow
 abbrev pub HasMade : List ℕ → ℕ → List ℕ → Type 0
 HasMade left made allowed = (k : ℕ) → allows made k ≡ true → IsCellsWith left k (slice_index allowed k)
 
--- The cells from `first` up to `end` have got a colour behind the positions of a set that is counted from `first`, with those
--- that they had, where these are kept; and the other cells are as they were.
+-- The cells from `first` up to `end` have got a colour after the positions of a set that is counted from `first`, with
+-- those that they had, where these are kept; and the other cells are as they were.
 pub record IsColoured (set colour : ℕ) (keep : Bool) (first end : ℕ) (old new : List ℕ) : Type 0 where
-  pub inside : (i j k : ℕ) → i ≡ first + j → i < end → allows (slice_index new i) k ≡ ((keep && allows (slice_index old i) k) || (has set j && colour == k))
+  pub inside : (i j k : ℕ) → i ≡ first + j → i < end
+      → allows (slice_index new i) k ≡ ((keep && allows (slice_index old i) k) || (has set j && colour == k))
   pub before : (i : ℕ) → i < first → slice_index new i ≡ slice_index old i
   pub behind : (i : ℕ) → end ≤ i → slice_index new i ≡ slice_index old i
 
@@ -27,6 +29,7 @@ abbrev pub spans : (ℕ → Bool) → ℕ → ℕ → Bool
 spans cells zero i = true
 spans cells (suc n) i = cells i && spans cells n (i + 1)
 
--- sets of the positions from which 1, 2, 4 and so on cells in a row are in a set of cells, for the powers of two below a width
+-- sets of the positions from which 1, 2, 4 and so on cells in a
+-- row are in a set of cells, for the powers of two below a width
 abbrev pub AreSpans : ℕ → ℕ → List ℕ → Type 0
 AreSpans width cells spanned = (k i : ℕ) → 2 ^ k < width → has (slice_index spanned k) i ≡ spans (has cells) (2 ^ k) i

@@ -2,7 +2,7 @@
 use Rattle.std.specs.Prelude.{◌≡◌, ℕ, ◌+◌, ◌^◌, ◌<◌, ◌≤◌, ◌↔◌, List, Bool, true, length, slice_index, map}
 use Rattle.line_settle.specs.declared.state_sets.Moves.{Moves}
 use Rattle.line_settle.specs.declared.state_sets.PatternSets.{PatternSets}
-use Rattle.line_settle.specs.Spelling.{allows, waits}
+use Rattle.line_settle.specs.Patterns.{allows, waits}
 use Rattle.line_settle.specs.Positions.{has}
 
 -- a set has the states of a pattern for which a test holds
@@ -25,10 +25,12 @@ moves_of bits moves = record { advancing = bits moves.advancing; resting = bits 
 -- states are below the width.
 pub record MovesBy (width : ℕ) (pattern : List ℕ) (mask : ℕ) (moves : MoveSets) : Type 0 where
   pub short : length pattern ≤ width
-  pub advancing : (q : ℕ) → (has moves.advancing q ≡ true) ↔ ((q + 1 < length pattern) × (allows mask (slice_index pattern (q + 1)) ≡ true))
-  pub resting : (q : ℕ) → (has moves.resting q ≡ true) ↔ ((q < length pattern) × (waits pattern q ≡ true) × (allows mask 0 ≡ true))
+  pub advancing : (q : ℕ)
+      → (has moves.advancing q ≡ true) ↔ ((q + 1 < length pattern) × (allows mask (slice_index pattern (q + 1)) ≡ true))
+  pub resting : (q : ℕ)
+      → (has moves.resting q ≡ true) ↔ ((q < length pattern) × (waits pattern q ≡ true) × (allows mask 0 ≡ true))
 
--- by colour, the states below n behind which the pattern goes on with it
+-- by colour, the states below n after which the pattern goes on with it
 abbrev pub AreNext : List ℕ → ℕ → List ℕ → Type 0
 AreNext pattern n next = (k q : ℕ) → (has (slice_index next k) q ≡ true) ↔ ((q < n) × (slice_index pattern (q + 1) ≡ k))
 
@@ -36,7 +38,7 @@ AreNext pattern n next = (k q : ℕ) → (has (slice_index next k) q ≡ true) �
 abbrev pub AreWaiting : List ℕ → ℕ → ℕ → Type 0
 AreWaiting pattern n waiting = (q : ℕ) → (has waiting q ≡ true) ↔ ((q < n) × (waits pattern q ≡ true))
 
--- a mask has background and the colours with which the pattern goes on behind the states below n
+-- a mask has background and the colours with which the pattern goes on after the states below n
 pub record HasColours (pattern : List ℕ) (n colours : ℕ) : Type 0 where
   pub background : allows colours 0 ≡ true
   pub each : (q : ℕ) → q < n → allows colours (slice_index pattern (q + 1)) ≡ true
@@ -54,7 +56,13 @@ pub record StateSets : Type 0 where
   pub last : ℕ
 
 abbrev pub sets_of : {W : Type 0} → (W → ℕ) → PatternSets W → StateSets
-sets_of bits sets = record { next = map bits sets.next.now; waiting = bits sets.waiting; colours = sets.colours; inner = bits sets.inner; last = bits sets.last }
+sets_of bits sets = record {
+  next = map bits sets.next.now;
+  waiting = bits sets.waiting;
+  colours = sets.colours;
+  inner = bits sets.inner;
+  last = bits sets.last;
+}
 
 -- the sets that tell how a pattern's states move, all of them below the width
 pub record ArePatternSets (width : ℕ) (pattern : List ℕ) (sets : StateSets) : Type 0 where
@@ -69,4 +77,5 @@ pub record ArePatternSets (width : ℕ) (pattern : List ℕ) (sets : StateSets) 
 
 -- how a cell of a mask moves a line along each pattern with these sets
 abbrev pub AreMovesOf : ℕ → StateSets → ℕ → MoveSets → Type 0
-AreMovesOf width sets mask moves = (pattern : List ℕ) → ArePatternSets width pattern sets → MovesBy width pattern mask moves
+AreMovesOf width sets mask moves = (pattern : List ℕ) → ArePatternSets width pattern sets
+    → MovesBy width pattern mask moves

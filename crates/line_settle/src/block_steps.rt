@@ -3,7 +3,7 @@
 ghost use Rattle.std.specs.Prelude.{◌≡◌, ℕ, ◌+◌, ◌<◌, ◌&&◌, true, false, length};
 ghost use Rattle.clues.specs.Clue.{IsClue};
 ghost use Rattle.line_settle.specs.Positions.{has};
-ghost use Rattle.line_settle.specs.Laying.{lays, moved, covers, meets};
+ghost use Rattle.line_settle.specs.LaidBlocks.{lays, moved, covers, meets};
 
 use crate::word::Word;
 use clues::Block;
@@ -25,7 +25,7 @@ pub fn starts_before<W: Word>(ends: W, cells: W, len: u8) -> W
 pub struct Laid<W> {
     /// The positions before the cells that they take.
     pub cells: W,
-    /// The positions behind them.
+    /// The positions after them.
     pub ends: W,
 }
 
@@ -55,7 +55,7 @@ pub fn meets(blocks: &[Block], j: usize) -> bool
     j > 0 && blocks[j - 1].colour == blocks[j].colour
 }
 
-/// The positions before the gap before a block from which the line can go on, `later` being those behind the gap.
+/// The positions before the gap before a block from which the line can go on, `later` being those after the gap.
 #[inline]
 pub fn before_gap<W: Word>(later: W, background: W, is_gap: bool) -> W
     ensures none { is_gap ≡ false → result ≡ later }
@@ -70,7 +70,7 @@ pub fn before_gap<W: Word>(later: W, background: W, is_gap: bool) -> W
     }
 }
 
-/// The positions behind the gap before a block, `from` being those before the gap.
+/// The positions after the gap before a block, `from` being those before the gap.
 #[inline]
 pub fn behind_gap<W: Word>(from: W, background: W, is_gap: bool) -> W
     ensures none { is_gap ≡ false → result ≡ from }

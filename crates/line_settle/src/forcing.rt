@@ -4,8 +4,8 @@ ghost use Rattle.std.specs.Prelude.{◌≡◌, ℕ, ◌≤◌, ◌↔◌, length
 ghost use Rattle.picture.specs.declared.line_id.LineId.{LineId};
 ghost use Rattle.picture.specs.LineSet.{HasName};
 ghost use Rattle.picture.specs.Rows.{line_of, HasLine};
-ghost use Rattle.line_settle.specs.Counting.{counted};
-ghost use Rattle.line_settle.specs.Crossing.{CrossesChange};
+ghost use Rattle.line_settle.specs.Counts.{counted};
+ghost use Rattle.line_settle.specs.CrossedLines.{CrossesChange};
 ghost use Rattle.line_settle.specs.FactSets.{Gains, HoldsLine};
 
 use crate::facts::Facts;

@@ -2,7 +2,7 @@
 
 ghost use Rattle.std.specs.Prelude.{◌≡◌, ◌+◌, ◌*◌, ◌<◌, ◌≤◌, length};
 ghost use Rattle.clues.specs.Clue.{IsClue};
-ghost use Rattle.line_settle.specs.Narrowing.{Narrows};
+ghost use Rattle.line_settle.specs.NarrowedLine.{Narrows};
 
 use crate::line_engine::Outcome;
 use crate::pattern::spell;

@@ -1,8 +1,8 @@
 //! The trait of line engines: what comparing a line with its clue must answer.
 
 ghost use Rattle.std.specs.Prelude.{◌≡◌, ℕ, ◌≤◌, length};
-ghost use Rattle.line_settle.specs.Counting.{counted};
-ghost use Rattle.line_settle.specs.Narrowing.{Narrows};
+ghost use Rattle.line_settle.specs.Counts.{counted};
+ghost use Rattle.line_settle.specs.NarrowedLine.{Narrows};
 
 use clues::Clue;
 

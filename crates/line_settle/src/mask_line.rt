@@ -3,8 +3,8 @@
 ghost use Rattle.std.specs.Prelude.{◌≡◌, ◌+◌, ◌<◌, ◌≤◌, ◌↔◌, IsTrue, length};
 ghost use Rattle.std.specs.Mem.{type_size};
 ghost use Rattle.clues.specs.Clue.{IsClue};
-ghost use Rattle.line_settle.specs.Narrowing.{Narrows};
-ghost use Rattle.line_settle.specs.Spelling.{pattern_of};
+ghost use Rattle.line_settle.specs.NarrowedLine.{Narrows};
+ghost use Rattle.line_settle.specs.Patterns.{pattern_of};
 
 use crate::line_engine::Outcome;
 use crate::position_tables::{colours_of, mark_allowed, mark_back, see_blocks, write_colours};

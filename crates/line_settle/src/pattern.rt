@@ -2,12 +2,12 @@
 
 ghost use Rattle.std.specs.Prelude.{◌≡◌, ℕ, ◌+◌, ◌<◌, ◌≤◌, ◌++◌, ◌==◌, length, take, replicate, MatchOption};
 ghost use Rattle.clues.specs.Clue.{IsClue};
-ghost use Rattle.line_settle.specs.Spelling.{gap, pattern_of, waits, allows};
+ghost use Rattle.line_settle.specs.Patterns.{gap, pattern_of, waits, allows};
 
 use clues::Block;
 
 #[tactic(auto, using(crate::proofs::WritingLemmas::spelling))]
-/// Spells a clue cell by cell behind one background cell, with background only between two blocks of one colour, and
+/// Spells a clue cell by cell after one background cell, with background only between two blocks of one colour, and
 /// answers how many cells that takes; `None` where the buffer is shorter.
 pub fn spell(blocks: &[Block], buffer: &mut [u8]) -> Option<usize>
     requires blocks_of_clue { IsClue blocks.now }
@@ -28,7 +28,7 @@ pub fn spell(blocks: &[Block], buffer: &mut [u8]) -> Option<usize>
     Some(end)
 }
 
-// Writes the cells of one block from `start` on, behind a background cell where it follows a block of its colour.
+// Writes the cells of one block from `start` on, after a background cell where it follows a block of its colour.
 fn write_block(block: Block, is_gap: bool, buffer: &mut [u8], start: usize) -> Option<usize>
     requires begun { start ≤ length buffer.old }
     requires small { length buffer.old ≤ 256 }

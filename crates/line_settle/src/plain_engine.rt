@@ -10,7 +10,7 @@ use std::alloc::{AllocError, Global};
 use std::marker::Model;
 
 /// A line engine that keeps tables of truths: which states of the clue's pattern the cells before can come to, and from
-/// which ones the cells behind can go to the end.
+/// which ones the cells after can go to the end.
 #[derive(Drop)]
 pub struct PlainEngine {
     longest: u8,

@@ -4,9 +4,9 @@ ghost use Rattle.std.specs.Prelude.{◌≡◌, ℕ, ◌<◌, ◌≤◌, ◌&&◌
 ghost use Rattle.std.specs.List.{All};
 ghost use Rattle.std.specs.Mem.{type_size};
 ghost use Rattle.clues.specs.Clue.{IsClue};
-ghost use Rattle.line_settle.specs.Spelling.{allows, pattern_of, finishes};
+ghost use Rattle.line_settle.specs.Patterns.{allows, pattern_of, finishes};
 ghost use Rattle.line_settle.specs.Positions.{has, HasMade};
-ghost use Rattle.line_settle.specs.Laying.{AreMarked, AreSeen, IsAllowed};
+ghost use Rattle.line_settle.specs.LaidBlocks.{AreMarked, AreSeen, IsAllowed};
 
 use crate::block_steps::{before_gap, behind_gap, lay, meets, starts_before};
 use crate::pattern::allows;
@@ -129,15 +129,15 @@ pub fn see_blocks<W: Word>(
     for j in 0..blocks.len() {
         let block = blocks[j];
         let here = fill_up(behind_gap(from, background, meets(blocks, j)), background);
-        // A line reads background in the gap, which begins at `from`, and while it waits, which it does within `here`. Of
-        // these cells it goes on behind those that end, one position on, where it can still wait for the block.
+        // A line reads background in the gap, which begins at `from`, and while it waits, which it does within `here`.
+        // Of these cells it goes on after those that end, one position on, where it can still wait for the block.
         let stays = background.and(waiting[j].down(1));
         see_colour(from.or(here).and(stays), 0, seen);
         let laid = lay(here.and(starting[j]), block.len);
         see_colour(laid.cells, block.colour, seen);
         from = laid.ends;
     }
-    // The same behind the last block, where there is no gap.
+    // The same after the last block, where there is no gap.
     let here = fill_up(from, background);
     let stays = background.and(waiting[blocks.len()].down(1));
     see_colour(here.and(stays), 0, seen);

@@ -1,8 +1,8 @@
 //! Sets of positions on a line as bits, and moving them over background.
 
 ghost use Rattle.std.specs.Prelude.{◌≡◌, ℕ, ◌+◌, ◌*◌, ◌/◌, ◌<◌, ◌≤◌, ◌&&◌, ◌||◌, ◌==◌, Bool, length, map, slice_index};
-ghost use Rattle.line_settle.specs.Crossing.{differs};
-ghost use Rattle.line_settle.specs.Spelling.{allows};
+ghost use Rattle.line_settle.specs.CrossedLines.{differs};
+ghost use Rattle.line_settle.specs.Patterns.{allows};
 ghost use Rattle.line_settle.specs.Positions.{has, AreSpans, IsCellsWith, IsColoured};
 
 use crate::pattern::allows;
@@ -200,7 +200,7 @@ pub fn with_colour(mask: u16, keep: bool, more: bool, colour: u8) -> u16
 
 #[inline]
 #[tactic(auto, using(crate::proofs::ColouringLemmas::colouring))]
-// Leaves a colour in so many cells from `first` on, behind the positions of a set that is counted from there. The set is
+// Leaves a colour in so many cells from `first` on, after the positions of a set that is counted from there. The set is
 // as wide as a cell, so that where the count is known both are lanes of one vector.
 fn colour_cells(set: u16, colour: u8, keep: bool, first: usize, count: usize, out: &mut [u16])
     requires colour { colour < 16 }
@@ -213,7 +213,7 @@ fn colour_cells(set: u16, colour: u8, keep: bool, first: usize, count: usize, ou
     }
 }
 
-/// Leaves a colour in the cells behind the positions of a set, and in all cells the colours that they had, where `keep`
+/// Leaves a colour in the cells after the positions of a set, and in all cells the colours that they had, where `keep`
 /// says so.
 #[inline(always)]
 pub fn colour_line<W: Word>(set: W, colour: u8, keep: bool, out: &mut [u16])

@@ -4,8 +4,8 @@
 ghost use Rattle.std.specs.Prelude.{◌≡◌, ◌↔◌, ◌≤◌, length, [], IsTrue};
 ghost use Rattle.std.specs.List.{All};
 ghost use Rattle.clues.specs.Clue.{clue_of};
-ghost use Rattle.line_settle.specs.Narrowing.{Narrows};
-ghost use Rattle.line_settle.specs.Spelling.{allows};
+ghost use Rattle.line_settle.specs.NarrowedLine.{Narrows};
+ghost use Rattle.line_settle.specs.Patterns.{allows};
 ghost use Rattle.line_settle.specs.Shown.{AreShown, IsShown, lowest_colours};
 
 use crate::facts::only_colour;

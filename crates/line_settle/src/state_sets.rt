@@ -2,8 +2,8 @@
 
 ghost use Rattle.std.specs.Prelude.{◌≡◌, ℕ, ◌+◌, ◌<◌, ◌≤◌, ◌↔◌, true, List, Bool, length, map, replicate, slice_index};
 ghost use Rattle.clues.specs.Clue.{IsClue};
-ghost use Rattle.line_settle.specs.Spelling.{allows, pattern_of, finish_step, reach_step};
-ghost use Rattle.line_settle.specs.Laying.{gap_before};
+ghost use Rattle.line_settle.specs.Patterns.{allows, pattern_of, finish_step, reach_step};
+ghost use Rattle.line_settle.specs.LaidBlocks.{gap_before};
 ghost use Rattle.line_settle.specs.Positions.{has};
 ghost use Rattle.line_settle.specs.StateSets.{AreStates, MovesBy, AreMovesOf, AreNext, ArePatternSets, moves_of, sets_of};
 
@@ -25,7 +25,7 @@ pub struct Moves<W> {
 }
 
 impl<W: Word> Moves<W> {
-    /// The states behind the cell, from the ones before it.
+    /// The states after the cell, from the ones before it.
     #[inline]
     pub fn forward(self, from: W) -> W
         ensures { (pattern : List ℕ) (mask : ℕ) (before : ℕ → Bool)
@@ -54,7 +54,7 @@ impl<W: Word> Moves<W> {
 /// The states of a clue's pattern, by what each of them can read.
 #[derive(Clone, Copy)]
 pub struct PatternSets<'a, W> {
-    /// For each colour the states behind which the pattern goes on with it.
+    /// For each colour the states after which the pattern goes on with it.
     pub next: &'a [W],
     /// The states in which background can be read without leaving them.
     pub waiting: W,
@@ -75,7 +75,7 @@ fn states_between<W: Word>(start: usize, end: usize) -> W
     W::place(end).minus(W::place(start))
 }
 
-// Adds the states that a run of one colour stands behind.
+// Adds the states that a run of one colour follows.
 fn see_run<W: Word>(start: usize, end: usize, colour: u8, next: &mut [W])
     requires in_order { start ≤ end }
     requires few { end < W.width }
@@ -88,7 +88,7 @@ fn see_run<W: Word>(start: usize, end: usize, colour: u8, next: &mut [W])
     see_colour(states_between(start, end), colour, next);
 }
 
-// The state in which a line waits for a block, `state` being the one behind the block before, with a gap between them or
+// The state in which a line waits for a block, `state` being the one after the block before, with a gap between them or
 // none.
 fn start_behind(state: usize, is_gap: bool) -> usize
     requires { state < 128 }

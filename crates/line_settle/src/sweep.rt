@@ -4,11 +4,11 @@ ghost use Rattle.std.specs.Prelude.{◌≡◌, ℕ, ◌+◌, ◌-◌, ◌<◌, �
 ghost use Rattle.std.specs.List.{All};
 ghost use Rattle.std.specs.Mem.{type_size};
 ghost use Rattle.clues.specs.Clue.{IsClue};
-ghost use Rattle.line_settle.specs.LeavingOut.{ForcesAll, LeavesOut};
-ghost use Rattle.line_settle.specs.Spelling.{pattern_of, finishes, finish_step, reach_step};
+ghost use Rattle.line_settle.specs.LeftOut.{ForcesAll, LeavesOut};
+ghost use Rattle.line_settle.specs.Patterns.{pattern_of, finishes, finish_step, reach_step};
 ghost use Rattle.line_settle.specs.StateSets.{AreStates, MovesBy, ArePatternSets, Shares, moves_of, sets_of};
-ghost use Rattle.line_settle.specs.Marking.{finish_marked, finishes_marked, reach_marked, AreReached, AreBehind, SweepsOut, reached_of, unmarked};
-ghost use Rattle.line_settle.specs.Sweeping.{IsUndrawn, SweptTo, SweptMarked, SweptAll};
+ghost use Rattle.line_settle.specs.MarkedLists.{finish_marked, finishes_marked, reach_marked, AreReached, AreBehind, SweepsOut, reached_of, unmarked};
+ghost use Rattle.line_settle.specs.Sweeps.{IsUndrawn, SweptTo, SweptMarked, SweptAll};
 ghost use Rattle.line_settle.specs.Masks.{all_sixteen};
 ghost use Rattle.line_settle.specs.Positions.{has};
 
@@ -36,8 +36,8 @@ pub struct Reached<W> {
     pub marked: W,
 }
 
-/// What is noted of a line from its end: for each cell the states behind it from which lines, and marked lines, can go to
-/// the end, and the place behind the last drawn cell.
+/// What is noted of a line from its end: for each cell the states after it from which lines, and marked lines, can go
+/// to the end, and the place after the last drawn cell.
 #[derive(Clone, Copy)]
 pub struct Behind<'a, W> {
     pub plain: &'a [W],
@@ -63,7 +63,7 @@ fn meets_marked<W: Word>(on: Reached<W>, plain: W, marked: W) -> bool
 }
 
 impl<'a, W: Word> PatternSets<'a, W> {
-    // The states behind a cell of drawn colours; mostly none of them is the pattern's.
+    // The states after a cell of drawn colours; mostly none of them is the pattern's.
     #[inline(always)]
     fn reach_drawn(&self, colours: u16, from: W) -> W
         requires sixteen { length self.now.next.now ≡ 16 }
@@ -78,7 +78,7 @@ impl<'a, W: Word> PatternSets<'a, W> {
         self.moves_by(colours).forward(from)
     }
 
-    // The states behind a cell, `colours` being those of the mask's colours that are drawn there.
+    // The states after a cell, `colours` being those of the mask's colours that are drawn there.
     #[inline(always)]
     fn reach(&self, moves: Moves<W>, colours: u16, from: Reached<W>) -> Reached<W>
         requires sixteen { length self.now.next.now ≡ 16 }
@@ -115,7 +115,7 @@ impl<'a, W: Word> PatternSets<'a, W> {
         self.moves_by(colours).back(later)
     }
 
-    // The states before a cell from which lines, and marked lines, can go on to the states behind it.
+    // The states before a cell from which lines, and marked lines, can go on to the states after it.
     #[inline(always)]
     fn back(&self, moves: Moves<W>, colours: u16, later: Reached<W>) -> Reached<W>
         requires sixteen { length self.now.next.now ≡ 16 }
@@ -137,8 +137,8 @@ impl<'a, W: Word> PatternSets<'a, W> {
         }
     }
 
-    // Notes the states behind each cell that comes after the last drawn one. There no line is marked, since a line has the
-    // pattern's colours alone.
+    // Notes the states after each cell that comes after the last drawn one. There no line is marked, since a line has
+    // the pattern's colours alone.
     #[inline(always)]
     fn note_last(&self, drawn: &[u16], left: &[u16], plain: &mut [W], marked: &mut [W]) -> Edge<W>
         requires sixteen { length self.now.next.now ≡ 16 }
@@ -178,8 +178,8 @@ impl<'a, W: Word> PatternSets<'a, W> {
         Edge { at, states }
     }
 
-    /// Notes for each cell the states behind it from which lines, and marked lines, can go to the end, and answers the
-    /// place behind the last drawn cell.
+    /// Notes for each cell the states after it from which lines, and marked lines, can go to the end, and answers the
+    /// place after the last drawn cell.
     #[inline(always)]
     fn note_behind(&self, drawn: &[u16], left: &[u16], plain: &mut [W], marked: &mut [W]) -> usize
         requires sixteen { length self.now.next.now ≡ 16 }
@@ -251,7 +251,7 @@ impl<'a, W: Word> PatternSets<'a, W> {
         Edge { at, states }
     }
 
-    // The same for the cells up to the last drawn one, and answers the states behind it that marked lines come to.
+    // The same for the cells up to the last drawn one, and answers the states after it that marked lines come to.
     #[inline(always)]
     fn sweep_drawn(&self, drawn: &[u16], behind: &Behind<W>, left: &mut [u16], first: Edge<W>) -> W
         requires sixteen { length self.now.next.now ≡ 16 }
@@ -299,7 +299,7 @@ impl<'a, W: Word> PatternSets<'a, W> {
         from.marked
     }
 
-    // The same for the cells behind the last drawn one, where only marked lines matter.
+    // The same for the cells after the last drawn one, where only marked lines matter.
     #[inline(always)]
     fn sweep_last(&self, drawn: &[u16], behind: &Behind<W>, left: &mut [u16], before: W)
         requires sixteen { length self.now.next.now ≡ 16 }

@@ -2,7 +2,7 @@
 
 ghost use Rattle.std.specs.Prelude.{◌≡◌, ℕ, ◌+◌, ◌*◌, ◌<◌, ◌≤◌, ◌≢◌, ◌&&◌, ◌==◌, Bool, length, slice_index, drop};
 ghost use Rattle.std.specs.List.{All};
-ghost use Rattle.line_settle.specs.Spelling.{
+ghost use Rattle.line_settle.specs.Patterns.{
   allows,
   waits,
   advances,
@@ -39,7 +39,7 @@ fn rests(pattern: &[u8], mask: u16, later: &[bool], q: usize) -> bool
     waits(pattern, q) && allows(mask, 0) && later[q]
 }
 
-// Whether state `q` is reached behind a cell, where `before` says which states are reached before it.
+// Whether state `q` is reached after a cell, where `before` says which states are reached before it.
 fn reached_behind(pattern: &[u8], mask: u16, before: &[bool], q: usize) -> bool
     requires colours { All (λ colour. colour < 16) pattern.now }
     requires row { length pattern.now ≤ length before.now }
@@ -50,7 +50,7 @@ fn reached_behind(pattern: &[u8], mask: u16, before: &[bool], q: usize) -> bool
 }
 
 #[tactic(auto, using(crate::proofs::RowLemmas::rows))]
-// Turns the states that finish behind a cell into those that finish before it.
+// Turns the states that finish after a cell into those that finish before it.
 fn step_back(pattern: &[u8], mask: u16, row: &mut [bool])
     requires colours { All (λ colour. colour < 16) pattern.now }
     requires row { length pattern.now ≤ length row.old }
@@ -63,7 +63,7 @@ fn step_back(pattern: &[u8], mask: u16, row: &mut [bool])
 }
 
 #[tactic(auto, using(crate::proofs::RowLemmas::rows))]
-// Turns the states that are reached before a cell into those that are reached behind it.
+// Turns the states that are reached before a cell into those that are reached after it.
 fn step_forward(pattern: &[u8], mask: u16, row: &mut [bool])
     requires colours { All (λ colour. colour < 16) pattern.now }
     requires row { length pattern.now ≤ length row.old }

@@ -4,8 +4,8 @@ ghost use Rattle.std.specs.Prelude.{◌≡◌, ℕ, ◌+◌, ◌-◌, ◌*◌, �
 ghost use Rattle.std.proofs.Common.{lit≤};
 ghost use Rattle.line_settle.specs.Positions.{has};
 
-/// A set of positions, of which position i is bit i of a number. A line of fewer cells than the width fits in it, with the
-/// position behind its last cell.
+/// A set of positions, of which position i is bit i of a number. A line of fewer cells than the width fits in it, with
+/// the position after its last cell.
 pub trait Word: Copy + Drop {
     ghost bits: { Self → ℕ };
 

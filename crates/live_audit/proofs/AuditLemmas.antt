@@ -1,6 +1,7 @@
 -- What the clauses of the calls below come to for a bench.
-use Rattle.std.proofs.Common.{◌≡◌, ℕ, ◌-◌, List, [], ◌∷◌, length, Option, Some, None, IfSome, Result, Ok, Err, IfErr, OnOk, OnErr, inl, inr, refl, sym, ap, subst, ◌∙◌, arith}
+use Rattle.std.proofs.Common.{◌≡◌, ◌-◌, List, [], ◌∷◌, length, Option, Some, None, IfSome, Result, Ok, Err, IfErr, OnOk, OnErr, inl, inr, refl, sym, ap, subst, ◌∙◌, arith}
 use Rattle.std.proofs.lemmas.Option.{slice_get_cases}
+use Rattle.picture.specs.Rows.{Rows}
 use Rattle.clues.specs.Change.{Changes, Moves, back}
 use Rattle.edits.specs.declared.fault.EditFault.{EditFault}
 use Rattle.edits.specs.declared.fault.EditFault.TheVariants.{UndoEmpty, RedoEmpty, Memory}
@@ -23,7 +24,8 @@ no_first : (turns : List Turn) → first_turn turns ≡ None → turns ≡ []
 no_first [] e = refl
 no_first (t ∷ turns) e = cc
 
-pub back_by : (h : History) (rows : List (List ℕ)) (change : Changes) (last : Option Turn) → last ≡ last_turn h.past → undo_fault h ≡ None → IfSome last (λ t. IsChangeBy (back (moves_of t.edit t.document.rows)) h.document.rows rows change)
+pub back_by : (h : History) (rows : Rows) (change : Changes) (last : Option Turn) → last ≡ last_turn h.past → undo_fault h ≡ None
+    → IfSome last (λ t. IsChangeBy (back (moves_of t.edit t.document.rows)) h.document.rows rows change)
     → IsChangeBy (moves_back h.document.rows last) h.document.rows rows change
 back_by h rows change (Some t) e lawful is = is
 back_by h rows change None e lawful is =
@@ -31,7 +33,8 @@ back_by h rows change None e lawful is =
     let refused = ap (λ turns. fault_if_empty turns UndoEmpty) none in
     absurd cc
 
-pub forth_by : (h : History) (rows : List (List ℕ)) (change : Changes) (first : Option Turn) → first ≡ first_turn h.future → redo_fault h ≡ None → IfSome first (λ t. IsChangeBy (moves_of t.edit h.document.rows) h.document.rows rows change)
+pub forth_by : (h : History) (rows : Rows) (change : Changes) (first : Option Turn) → first ≡ first_turn h.future → redo_fault h ≡ None
+    → IfSome first (λ t. IsChangeBy (moves_of t.edit h.document.rows) h.document.rows rows change)
     → IsChangeBy (moves_forth h.document.rows first) h.document.rows rows change
 forth_by h rows change (Some t) e lawful is = is
 forth_by h rows change None e lawful is =

@@ -1,4 +1,4 @@
--- Calls put one behind the other.
+-- Calls put one after the other.
 use Rattle.std.proofs.Common.{◌≡◌, ◌≤◌, ℕ, arith, List, [], ◌∷◌, Option, Some, None, sym, ap, subst, ◌∙◌}
 use Rattle.edits.specs.History.{History}
 use Rattle.live_audit.specs.Bench.{Seen, IsAudited}

@@ -1,13 +1,14 @@
 -- What a certificate that was made is for a document.
 use Rattle.std.proofs.Common.{◌≡◌, ℕ, ◌↔◌, List, Option, None, Some, Result, Ok, Err, IfOk, ap, subst}
+use Rattle.picture.specs.Rows.{Rows}
 use Rattle.picture.specs.declared.document.Document.{Document}
 use Rattle.picture.specs.CellSet.{HasCell}
 use Rattle.picture.specs.Content.{content_of}
 use Rattle.picture.specs.Document.{AreInside, Content, ordered_of}
 use Rattle.clues.specs.ClueBook.{clues_of}
-use Rattle.clues.specs.SolutionLaws.{other_fewer}
+use Rattle.clues.proofs.SolutionLaws.{other_fewer}
 use Rattle.cert_text.specs.Cert.{Certificate}
-use Rattle.certificate.specs.Making.{Makes}
+use Rattle.certificate.specs.MadeCert.{Makes}
 use Rattle.edits.specs.Design.{Design, design_of}
 use Rattle.edits.specs.Laws.{MarksAreGivens}
 use Rattle.live_audit.specs.Bench.{IsGiven}
@@ -16,7 +17,7 @@ use Rattle.live_audit.specs.Verdict.{IsOtherFor}
 
 -- a certificate of a document, or another picture for it
 abbrev MadeFor : Design → Option Certificate → Type 0
-MadeFor d None = (other : List (List ℕ)) × IsOtherFor d other
+MadeFor d None = (other : Rows) × IsOtherFor d other
 MadeFor d (Some cert) = IsCertificateFor d cert
 
 made_for : (d : Design) (givens : List ℕ) (made : Option Certificate) → ((row col : ℕ) → HasCell givens row col ↔ IsGiven d row col) → Makes d.rows givens made → MadeFor d made

@@ -70,7 +70,8 @@ joined_recoloured : (there back : ℕ → ℕ) (x : ℕ) (cells : List ℕ) (blo
 joined_recoloured there back x [] blocks p h = refl
 joined_recoloured there back x (y ∷ cells) blocks p h = either (x == y) (there x == there y) (same_test there back x y (x == y) p h.0 refl)
   where
-    either : (s t : Bool) → t ≡ s → (if t then longer (map (recoloured there) blocks) else (block 1 (there x) ∷ map (recoloured there) blocks)) ≡ map (recoloured there) (if s then longer blocks else (block 1 x ∷ blocks))
+    either : (s t : Bool) → t ≡ s
+        → (if t then longer (map (recoloured there) blocks) else (block 1 (there x) ∷ map (recoloured there) blocks)) ≡ map (recoloured there) (if s then longer blocks else (block 1 x ∷ blocks))
     either true true e = longer_recoloured there blocks
     either false false e = refl
     either true false e = cc

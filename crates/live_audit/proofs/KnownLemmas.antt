@@ -1,6 +1,8 @@
 -- What is known of the parts, and what need not be searched then.
 use Rattle.std.proofs.Common.{◌≡◌, ◌<◌, ℕ, zero, suc, List, Option, None, length, ap, subst, ◌∙◌, inl, inr, arith}
 use Rattle.std.specs.Prelude.{◌⊎◌}
+use Rattle.line_settle.specs.Masks.{Masks}
+use Rattle.picture.specs.Rows.{Rows}
 use Rattle.clues.specs.ClueBook.{Clues}
 use Rattle.line_settle.specs.declared.meter.Meter.{Meter}
 use Rattle.second_search.specs.declared.counting.Ending.{Ending}
@@ -10,7 +12,7 @@ use Rattle.second_search.specs.declared.keeper.Answer.TheVariants.{Nothing}
 use Rattle.second_search.specs.declared.keeper.KeptPart.{KeptPart}
 use Rattle.second_search.specs.Verdict.{Verdict as Judgement}
 use Rattle.second_search.specs.Verdict as judgement
-use Rattle.second_search.specs.Judging.{EndsBy, EndsPart, HasFilling, Judges, Passes, answer_at, cells_at, kept_at}
+use Rattle.second_search.specs.JudgedParts.{EndsBy, EndsPart, HasFilling, Judges, Passes, answer_at, cells_at, kept_at}
 use Rattle.second_search.specs.Laws.{AllowancesBreakOff}
 use Rattle.live_audit.specs.declared.verdict.Verdict.{Verdict}
 use Rattle.live_audit.specs.declared.verdict.Verdict.TheVariants as verdicts
@@ -27,7 +29,7 @@ AreKnown : List KeptPart → Type 0
 AreKnown kept = ((i : ℕ) → i < length kept → answer_at kept i ≡ Nothing) ⊎ ((i : ℕ) × HasFilling kept i)
 
 -- so it is once a verdict without an allowance has searched
-are_known : AllowancesBreakOff → (clues : Clues) (facts picture : List (List ℕ)) (old new : List KeptPart) (j : Judgement) (m n : ℕ) → Judges clues facts picture None old new j m n → AreKnown new
+are_known : AllowancesBreakOff → (clues : Clues) (facts : Masks) (picture : Rows) (old new : List KeptPart) (j : Judgement) (m n : ℕ) → Judges clues facts picture None old new j m n → AreKnown new
 unfolding AreKnown
 are_known law clues facts picture old new judgement.Unique m n h = inl (λ i l. h.noted.before i (subst (λ k. i < k) h.noted.count l))
 are_known law clues facts picture old new judgement.Other m n h = inr (keeps_so clues facts picture None old new judgement.Other m n h)
@@ -37,11 +39,13 @@ are_known law clues facts picture old new judgement.Undecided m n h =
     absurd cc
 
 -- a part without another filling is passed over
-passed_over : (clues : Clues) (facts picture : List (List ℕ)) (allowance : Option ℕ) (kept : List KeptPart) (i : ℕ) (found : Ending) (m n : ℕ) → answer_at kept i ≡ Nothing → EndsPart clues facts picture allowance (kept_at kept i) found m n → (found ≡ ending.Nothing) × ((m ≡ 0) × (n ≡ 0))
+passed_over : (clues : Clues) (facts : Masks) (picture : Rows) (allowance : Option ℕ) (kept : List KeptPart) (i : ℕ) (found : Ending) (m n : ℕ) → answer_at kept i ≡ Nothing
+    → EndsPart clues facts picture allowance (kept_at kept i) found m n → (found ≡ ending.Nothing) × ((m ≡ 0) × (n ≡ 0))
 passed_over clues facts picture allowance kept i found m n e h =
     subst (λ (a : Answer). EndsBy clues facts picture allowance (cells_at kept i) a found m n) e h
 
-all_passed : (clues : Clues) (facts picture : List (List ℕ)) (allowance : Option ℕ) (kept : List KeptPart) (count m n : ℕ) → ((i : ℕ) → i < count → answer_at kept i ≡ Nothing) → Passes clues facts picture allowance kept count m n → (m ≡ 0) × (n ≡ 0)
+all_passed : (clues : Clues) (facts : Masks) (picture : Rows) (allowance : Option ℕ) (kept : List KeptPart) (count m n : ℕ) → ((i : ℕ) → i < count → answer_at kept i ≡ Nothing)
+    → Passes clues facts picture allowance kept count m n → (m ≡ 0) × (n ≡ 0)
 all_passed clues facts picture allowance kept zero m n none h = h
 all_passed clues facts picture allowance kept (suc count) m n none h =
     let p = h.0 in
@@ -59,7 +63,8 @@ record SearchesNone (j : Judgement) (m n : ℕ) : Type 0 where
   splits : n ≡ 0
   decided : j ≡ judgement.Undecided → ⊥
 
-searches_none : (clues : Clues) (facts picture : List (List ℕ)) (allowance : Option ℕ) (old new : List KeptPart) (j : Judgement) (m n : ℕ) → AreKnown old → Judges clues facts picture allowance old new j m n → SearchesNone j m n
+searches_none : (clues : Clues) (facts : Masks) (picture : Rows) (allowance : Option ℕ) (old new : List KeptPart) (j : Judgement) (m n : ℕ) → AreKnown old
+    → Judges clues facts picture allowance old new j m n → SearchesNone j m n
 unfolding AreKnown
 searches_none clues facts picture allowance old new judgement.Unique m n k h = elim k [
   | inl none ↦

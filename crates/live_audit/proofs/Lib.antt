@@ -1,5 +1,6 @@
 pub mod AuditLemmas
 pub mod CallLemmas
+pub mod StrokeLemmas
 pub mod VerdictLemmas
 pub mod CarryLemmas
 pub mod DepthLemmas

@@ -1,12 +1,13 @@
 -- The colours of a document numbered as they appear: each comes back.
-use Rattle.std.proofs.Common.{◌≡◌, ℕ, zero, suc, ◌<◌, ◌==◌, ◌⊎◌, Bool, true, false, List, [], ◌∷◌, ◌++◌, length, map, get_or, slice_index, slice_index_or, Option, Some, unwrap_or, refl, sym, ap, subst, ◌∙◌, arith, inl, inr, eqb-true, eq-eqb, ne_eqb}
+use Rattle.std.proofs.Common.{◌≡◌, ℕ, zero, suc, ◌<◌, ◌==◌, ◌⊎◌, Bool, true, false, List, [], ◌∷◌, ◌++◌, length, map, get_or, slice_index, slice_index_or, Option, Some, unwrap_or, refl, sym, ap}
+use Rattle.std.proofs.Common.{subst, ◌∙◌, arith, inl, inr, eqb-true, eq-eqb, ne_eqb}
 use Rattle.std.specs.List.{list_any, AllByRecursion, IsDistinct}
 use Rattle.std.proofs.lemmas.Bool.{cases_Bool, eqb-false}
 use Rattle.std.proofs.lemmas.Map.Keys.{IsDistinct-head, IsDistinct-tail}
 use Rattle.picture.specs.declared.rgb.Rgb.{Rgb}
 use Rattle.picture.specs.Palette.{place_of, rgb_eq, triple_at}
 use Rattle.picture.specs.Document.{first_of, number_among, renumbered_rows, rows_shown, seen_after, triples_of}
-use Rattle.picture.specs.Rows.{cell_at}
+use Rattle.picture.specs.Rows.{cell_at, Rows}
 use Rattle.live_audit.proofs.RenumberLemmas.{cell_moved, moved}
 
 same : (t : Rgb) → rgb_eq t t ≡ true
@@ -71,23 +72,26 @@ background_back triples cells l =
 
 -- ---- each cell shows its colour
 
-pub rows_moved : (among triples : List Rgb) (rows : List (List ℕ)) → renumbered_rows among triples rows ≡ moved (λ k. number_among among (triple_at triples k)) rows
+pub rows_moved : (among triples : List Rgb) (rows : Rows) → renumbered_rows among triples rows ≡ moved (λ k. number_among among (triple_at triples k)) rows
 rows_moved among triples [] = refl
 rows_moved among triples (row ∷ rows) =
-    ap (λ (x : List ℕ). x ∷ renumbered_rows among triples rows) (row_moved row) ∙ ap (λ (xs : List (List ℕ)). map (λ k. number_among among (triple_at triples k)) row ∷ xs) (rows_moved among triples rows)
+    ap (λ (x : List ℕ). x ∷ renumbered_rows among triples rows) (row_moved row)
+    ∙ ap (λ (xs : List (List ℕ)). map (λ k. number_among among (triple_at triples k)) row ∷ xs) (rows_moved among triples rows)
   where
     row_moved : (row : List ℕ) → map (number_among among) (triples_of triples row) ≡ map (λ k. number_among among (triple_at triples k)) row
     row_moved [] = refl
     row_moved (x ∷ row) = ap (λ (xs : List ℕ). number_among among (triple_at triples x) ∷ xs) (row_moved row)
 
-shown_place : (among triples : List Rgb) (one other : List ℕ) → triples_of among one ≡ triples_of triples other → (j : ℕ) → j < length other → triple_at among (slice_index one j) ≡ triple_at triples (slice_index other j)
+shown_place : (among triples : List Rgb) (one other : List ℕ) → triples_of among one ≡ triples_of triples other → (j : ℕ) → j < length other
+    → triple_at among (slice_index one j) ≡ triple_at triples (slice_index other j)
 shown_place among triples [] [] e j l = absurd (omega (arith, l))
 shown_place among triples [] (y ∷ other) e j l = absurd cc
 shown_place among triples (x ∷ one) [] e j l = absurd cc
 shown_place among triples (x ∷ one) (y ∷ other) e zero l = cc
 shown_place among triples (x ∷ one) (y ∷ other) e (suc j) l = shown_place among triples one other (cc) j (omega (arith, l))
 
-pub shown_cell : (among triples : List Rgb) (one other : List (List ℕ)) → rows_shown among one ≡ rows_shown triples other → (i j : ℕ) → i < length other → j < length (slice_index_or other i []) → triple_at among (cell_at one i j) ≡ triple_at triples (cell_at other i j)
+pub shown_cell : (among triples : List Rgb) (one : List (List ℕ)) (other : Rows) → rows_shown among one ≡ rows_shown triples other → (i j : ℕ) → i < length other
+    → j < length (slice_index_or other i []) → triple_at among (cell_at one i j) ≡ triple_at triples (cell_at other i j)
 shown_cell among triples [] [] e i j l k = absurd (omega (arith, l))
 shown_cell among triples [] (y ∷ other) e i j l k = absurd cc
 shown_cell among triples (x ∷ one) [] e i j l k = absurd cc
@@ -96,7 +100,7 @@ shown_cell among triples (x ∷ one) (y ∷ other) e (suc i) j l k = shown_cell 
 
 -- ---- a document and its ordered form
 
-cell_or_none : (rows : List (List ℕ)) (i j : ℕ) → ((i < length rows) × (j < length (slice_index_or rows i []))) ⊎ (cell_at rows i j ≡ 0)
+cell_or_none : (rows : Rows) (i j : ℕ) → ((i < length rows) × (j < length (slice_index_or rows i []))) ⊎ (cell_at rows i j ≡ 0)
 cell_or_none [] i j = inr refl
 cell_or_none (row ∷ rows) zero j = place_or_none row j
   where
@@ -110,11 +114,12 @@ abbrev pub there_of : List Rgb → List Rgb → ℕ → ℕ
 there_of among triples k = number_among among (triple_at triples k)
 
 -- each cell's number comes back from the one that it has among other colours, where it shows the same
-pub cells_back : (among triples : List Rgb) (rows : List (List ℕ)) → there_of among triples 0 ≡ 0 → there_of triples among 0 ≡ 0 → IsDistinct rgb_eq triples → ((i j : ℕ) → cell_at rows i j < length triples)
+pub cells_back : (among triples : List Rgb) (rows : Rows) → there_of among triples 0 ≡ 0 → there_of triples among 0 ≡ 0 → IsDistinct rgb_eq triples → ((i j : ℕ) → cell_at rows i j < length triples)
     → rows_shown among (renumbered_rows among triples rows) ≡ rows_shown triples rows → (i j : ℕ) → there_of triples among (there_of among triples (cell_at rows i j)) ≡ cell_at rows i j
 cells_back among triples rows t b distinct coloured shown i j = elim (cell_or_none rows i j) [
   | inl h ↦
-      let are : rows_shown among (moved (there_of among triples) rows) ≡ rows_shown triples rows = subst (λ (r : List (List ℕ)). rows_shown among r ≡ rows_shown triples rows) (rows_moved among triples rows) shown in
+      let are : rows_shown among (moved (there_of among triples) rows) ≡ rows_shown triples rows =
+      subst (λ (r : List (List ℕ)). rows_shown among r ≡ rows_shown triples rows) (rows_moved among triples rows) shown in
       let here = shown_cell among triples (moved (there_of among triples) rows) rows are i j h.0 h.1 in
       ap (λ k. number_among triples (triple_at among k)) (sym (cell_moved (there_of among triples) t rows i j))
       ∙ (ap (number_among triples) here ∙ number_back triples (cell_at rows i j) (coloured i j) distinct)

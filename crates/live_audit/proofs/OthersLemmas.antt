@@ -7,7 +7,7 @@ use Rattle.picture.specs.Content.{content_of}
 use Rattle.picture.specs.Document.{AreColoured, Content, ordered_of, ordered_triples, rows_shown, triples_of}
 use Rattle.picture.specs.Palette.{IsPalette}
 use Rattle.picture.specs.Picture.{IsPicture}
-use Rattle.picture.specs.Rows.{cell_at}
+use Rattle.picture.specs.Rows.{cell_at, Rows}
 use Rattle.clues.specs.Laws.{BooksAreTheirClues, CluesAreOfLines}
 use Rattle.cert_text.specs.Cert.{Certificate}
 use Rattle.edits.specs.Design.{Design, design_of}
@@ -18,8 +18,8 @@ use Rattle.live_audit.proofs.RenumberLemmas.{cell_moved, moved, other_moved, res
 
 -- where a document has another picture, so has its ordered form, and the other way round
 pub record SameOthers (d : Design) : Type 0 where
-  pub there : (other : List (List ℕ)) → IsOtherFor d other → (more : List (List ℕ)) × IsOtherFor (ordered d) more
-  pub back : (other : List (List ℕ)) → IsOtherFor (ordered d) other → (more : List (List ℕ)) × IsOtherFor d more
+  pub there : (other : Rows) → IsOtherFor d other → (more : List (List ℕ)) × IsOtherFor (ordered d) more
+  pub back : (other : Rows) → IsOtherFor (ordered d) other → (more : List (List ℕ)) × IsOtherFor d more
 
 pub same_others : CluesAreOfLines → BooksAreTheirClues → (d o : Document) → IsPalette d.palette → AreColoured d.picture d.palette → IsPicture d.picture → IsPicture o.picture
     → content_of o ≡ ordered_of (content_of d) → rows_shown o.palette.triples o.picture ≡ rows_shown d.palette.triples d.picture → SameOthers (design_of d)
@@ -46,8 +46,12 @@ same_others law books d o palette coloured is ordered_is content shows =
     let small_back : (i j : ℕ) → there_of triples among (cell_at next i j) < 16 = λ i j. subst (λ n. n < 16) (sym (goes_back i j)) (is.colours i j) in
     let was : rows ≡ moved (there_of triples among) next = sym (restored (there_of among triples) (there_of triples among) rows comes) ∙ ap (moved (there_of triples among)) (sym are) in
     record {
-      there = λ other h. (moved (there_of among triples) other, other_moved law books (there_of among triples) (there_of triples among) t b (design_of d) (ordered (design_of d)) are refl comes small other h);
-      back = λ other h. (moved (there_of triples among) other, other_moved law books (there_of triples among) (there_of among triples) b t (ordered (design_of d)) (design_of d) was refl comes_back small_back other h);
+      there = λ other h.
+          (moved (there_of among triples) other, other_moved law books (there_of among triples) (there_of triples among) t b (design_of d) (ordered (design_of d)) are refl comes small other h);
+      back = λ other h. (
+        moved (there_of triples among) other,
+        other_moved law books (there_of triples among) (there_of among triples) b t (ordered (design_of d)) (design_of d) was refl comes_back small_back other h,
+      );
     }
 
 pub joined : {X : Type 0} (d : Design) (result : Result (Option Certificate) X) → SameOthers d → IfOk result (CertifiesOrdered d) → IfOk result (Certifies d)

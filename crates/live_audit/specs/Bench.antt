@@ -1,5 +1,6 @@
 -- What a caller sees of a bench, and what holds of it after every call.
 use Rattle.std.specs.Prelude.{◌≡◌, ℕ, ◌+◌, ◌<◌, ◌≤◌, ◌↔◌, List, [], length, Option, None}
+use Rattle.line_settle.specs.Masks.{Masks}
 use Rattle.picture.specs.declared.picture.TheConstants.{MAX_SIDE}
 use Rattle.picture.specs.CellSet.{HasCell, IsCellSet}
 use Rattle.picture.specs.Rows.{cell_at}
@@ -8,16 +9,16 @@ use Rattle.justify.specs.Book.{Account}
 use Rattle.kept_audit.specs.Audit.{IsAnew, IsAuditOf}
 pub use Rattle.kept_audit.specs.Audit.{nothing_done}
 use Rattle.second_search.specs.declared.keeper.KeptPart.{KeptPart}
-use Rattle.second_search.specs.Judging.{AreTrue, Starts, parts_of}
+use Rattle.second_search.specs.JudgedParts.{AreTrue, Starts, parts_of}
 use Rattle.second_search.specs.Parts.{AreParts}
 use Rattle.edits.specs.Design.{Design}
 use Rattle.edits.specs.declared.studio.TheConstants.{MAX_DEPTH}
 use Rattle.edits.specs.History.{History, history}
 use Rattle.live_audit.specs.declared.work.Work.{Work}
 
--- The document with those before and after it, its clues, the book of reasons, whose facts are the settled map, the parts of
--- the map with what is known of each, how many splits the search of a part may make, the counts of work, and how often the
--- engine was called.
+-- The state of a bench: its history, clues and book, what is known of the parts of the map, the allowance, and the
+-- counts of work and of the engine's calls. The settled map is the facts of the book, and the allowance says how many
+-- splits the search of a part may make.
 pub record Seen : Type 0 where
   pub history : History
   pub clues : Clues
@@ -29,7 +30,15 @@ pub record Seen : Type 0 where
 
 abbrev pub seen : History → Clues → Account → List KeptPart → Option ℕ → Work → ℕ → Seen
 seen history clues book kept allowance work calls =
-    record { history = history; clues = clues; book = book; kept = kept; allowance = allowance; work = work; calls = calls }
+    record {
+      history = history;
+      clues = clues;
+      book = book;
+      kept = kept;
+      allowance = allowance;
+      work = work;
+      calls = calls;
+    }
 
 -- the cell is a given
 abbrev pub IsGiven : Design → ℕ → ℕ → Type 0
@@ -41,7 +50,7 @@ pub record AreGivenCells (d : Design) (givens : List ℕ) : Type 0 where
   pub are : (row col : ℕ) → HasCell givens row col ↔ IsGiven d row col
 
 -- The parts kept are those of the map, and what is known of the other fillings of each is true of the document.
-pub record AreAnswersOf (d : Design) (clues : Clues) (facts : List (List ℕ)) (kept : List KeptPart) : Type 0 where
+pub record AreAnswersOf (d : Design) (clues : Clues) (facts : Masks) (kept : List KeptPart) : Type 0 where
   pub parts : AreParts facts (parts_of kept)
   pub true_answers : (givens : List ℕ) → AreGivenCells d givens → AreTrue clues givens d.rows kept
 
@@ -50,8 +59,8 @@ pub record IsAudited (s : Seen) : Type 0 where
   pub audit : IsAuditOf s.history.document s.clues s.book
   pub answers : AreAnswersOf s.history.document s.clues s.book.facts s.kept
 
--- A history is 1 to 1,000 edits deep, and has no more of them than that before and after the present document. So there is
--- room for an edit that is made, and it can be taken back.
+-- A history is 1 to 1,000 edits deep, and has no more of them than that before and after the
+-- present document. So there is room for an edit that is made, and it can be taken back.
 pub record FitsDepth (h : History) : Type 0 where
   pub some : 0 < h.depth
   pub most : h.depth ≤ MAX_DEPTH
@@ -63,8 +72,8 @@ pub record IsBench (longest : ℕ) (s : Seen) : Type 0 where
   pub history : FitsDepth s.history
   pub long : MAX_SIDE ≤ longest
 
--- A bench that begins with a document, by an engine that was called so often: no history, a book made anew in which all lines
--- waited, nothing known of the parts, no allowance, and nothing searched.
+-- A bench that begins with a document, by an engine that was called so often: no history, a book made
+-- anew in which all lines waited, nothing known of the parts, no allowance, and nothing searched.
 pub record Begins (d : Design) (depth calls : ℕ) (s : Seen) : Type 0 where
   pub history : s.history ≡ history d [] [] depth
   pub book : IsAnew s.book.base s.book nothing_done s.work.edit calls s.calls

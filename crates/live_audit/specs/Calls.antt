@@ -5,8 +5,8 @@ use Rattle.clues.specs.Change.{Moves}
 use Rattle.kept_audit.specs.Audit.{GoesOn}
 use Rattle.second_search.specs.declared.keeper.KeptPart.{KeptPart}
 use Rattle.second_search.specs.Verdict.{Verdict as Judgement}
-use Rattle.second_search.specs.Carrying.{Carries}
-use Rattle.second_search.specs.Judging.{HasFilling, Judges}
+use Rattle.second_search.specs.CarriedParts.{Carries}
+use Rattle.second_search.specs.JudgedParts.{HasFilling, Judges}
 use Rattle.edits.specs.declared.fault.EditFault.{EditFault}
 use Rattle.edits.specs.History.{History, or_memory}
 use Rattle.live_audit.specs.declared.certifying.Finding.{Finding}
@@ -16,12 +16,13 @@ use Rattle.live_audit.specs.Certify.{Certifies}
 use Rattle.live_audit.specs.Stroke.{Stroke, after_stroke, stroke_fault, stroke_moves}
 use Rattle.live_audit.specs.Verdict.{IsVerdictOn, Tells}
 
--- The book goes on from the one before, where lines were moved so: it begins with the steps that stand, and closing it took
--- the work that is counted. A part keeps what was known of it where each line through it is the same, and of the others nothing
--- is known. The allowance stays, and what was searched before stays counted.
+-- The book goes on from the one before, where lines were moved so: it begins with the steps that stand, and
+-- closing it took the work that is counted. A part keeps what was known of it where each line through it is the
+-- same, and of the others nothing is known. The allowance stays, and what was searched before stays counted.
 pub record CarriesOn (moves : Moves) (old new : Seen) : Type 0 where
   pub book : GoesOn moves old.clues new.clues old.book new.book nothing_done new.work.edit old.calls new.calls
-  pub kept : Carries old.clues old.book.facts old.history.document.rows new.clues new.book.facts new.history.document.rows old.kept new.kept
+  pub kept : Carries old.clues old.book.facts old.history.document.rows new.clues new.book.facts
+      new.history.document.rows old.kept new.kept
   pub allowance : new.allowance ≡ old.allowance
   pub search : new.work ≡ record old.work { edit = new.work.edit }
 
@@ -31,19 +32,20 @@ IsAsBefore old new = new ≡ record old { calls = new.calls }
 
 -- What is known of the parts is what a verdict without an allowance keeps of them.
 abbrev pub IsSearchedTo : Seen → List KeptPart → Type 0
-IsSearchedTo old kept = (j : Judgement) × ((searched : ℕ) × ((splits : ℕ) × Judges old.clues old.book.facts old.history.document.rows None old.kept kept j searched splits))
+IsSearchedTo old kept = (j : Judgement) × ((searched : ℕ)
+    × ((splits : ℕ) × Judges old.clues old.book.facts old.history.document.rows None old.kept kept j searched splits))
 
 abbrev pub IsSearched : Seen → Seen → Type 0
 IsSearched old new = IsSearchedTo old new.kept
 
--- All is as before, but that the engine may have been called, and that what is known of the parts is what a verdict without an
--- allowance keeps of them.
+-- All is as before, but that the engine may have been called, and that what
+-- is known of the parts is what a verdict without an allowance keeps of them.
 pub record Learns (old new : Seen) : Type 0 where
   pub same : new ≡ record old { kept = new.kept; calls = new.calls }
   pub kept : IsSearched old new
 
--- What was found for a bench keeps of the parts either nothing new, where another filling is kept, or what a verdict without an
--- allowance keeps of them, which is true.
+-- What was found for a bench keeps of the parts either nothing new, where another
+-- filling is kept, or what a verdict without an allowance keeps of them, which is true.
 abbrev pub kept_then : List KeptPart → Option (List KeptPart) → List KeptPart
 kept_then kept None = kept
 kept_then kept (Some next) = next
@@ -57,14 +59,14 @@ pub record IsFoundOn (s : Seen) (found : Finding) : Type 0 where
 abbrev pub IsAtOnce : Seen → Seen → Type 0
 IsAtOnce old new = (i : ℕ) → HasFilling old.kept i → new ≡ old
 
--- A stroke is accepted: no fault refuses it, the history goes on by it, and the book from the one before.
+-- A stroke is accepted: no error refuses it, the history goes on by it, and the book from the one before.
 pub record Accepts (stroke : Stroke) (old new : Seen) : Type 0 where
   pub lawful : stroke_fault old.history stroke ≡ None
   pub history : new.history ≡ after_stroke old.history stroke
   pub book : CarriesOn (stroke_moves old.history stroke) old new
 
--- A stroke is refused by the first fault that holds, or for want of memory where none does, and nothing changes. Where a fault
--- holds the engine was not called either.
+-- A stroke is refused by the first error that holds, or since memory ran out where none does. Nothing changes. Where an
+-- error holds the engine was not called either.
 pub record Refuses (stroke : Stroke) (fault : EditFault) (old new : Seen) : Type 0 where
   pub first : fault ≡ or_memory (stroke_fault old.history stroke)
   pub as_before : IsAsBefore old new
@@ -72,8 +74,8 @@ pub record Refuses (stroke : Stroke) (fault : EditFault) (old new : Seen) : Type
 
 -- ---- lists
 
--- A stroke, with the fault that refused it, none where it was accepted; or a verdict, none where it was refused for want of memory;
--- or an allowance that is set; or a certificate with what was found, none where it was refused for want of memory.
+-- A call with its answer. A stroke has the error that refused it, or none. A verdict and a certificate have what was
+-- found, or none where memory ran out. An allowance is set.
 pub data Call : Type 0 where
   Strokes : Stroke → Option EditFault → Call
   Asks : Option Verdict → Call
@@ -85,15 +87,17 @@ abbrev pub Answers : Call → Seen → Seen → Type 0
 Answers (Strokes stroke None) old new = Accepts stroke old new × IsAudited new
 Answers (Strokes stroke (Some fault)) old new = Refuses stroke fault old new
 Answers (Asks None) old new = IsAsBefore old new
-Answers (Asks (Some verdict)) old new = Tells old new verdict × (IsAudited new × IsVerdictOn old.history.document old.allowance verdict)
+Answers (Asks (Some verdict)) old new =
+    Tells old new verdict × (IsAudited new × IsVerdictOn old.history.document old.allowance verdict)
 Answers (Allows allowance) old new = new ≡ record old { allowance = allowance }
 Answers (Proves None) old new = IsAsBefore old new
 Answers (Proves (Some found)) old new = Certifies old.history.document found × (Learns old new × IsAudited new)
 
--- Calls lead from one state to another, one behind the other, and the engine's calls never fall.
+-- Calls lead from one state to another, one after the other, and the engine's calls never fall.
 abbrev pub Lead : List Call → Seen → Seen → Type 0
 Lead [] old new = new ≡ old
-Lead (call ∷ calls) old new = (between : Seen) × (Answers call old between × ((old.calls ≤ between.calls) × Lead calls between new))
+Lead (call ∷ calls) old new =
+    (between : Seen) × (Answers call old between × ((old.calls ≤ between.calls) × Lead calls between new))
 
 -- the machine: a history, and the allowance
 pub record Machine : Type 0 where
@@ -103,7 +107,8 @@ pub record Machine : Type 0 where
 abbrev pub machine : History → Option ℕ → Machine
 machine history allowance = record { history = history; allowance = allowance }
 
--- an accepted stroke leads the history on, an allowance that is set is the new one, and all other calls leave the machine as it is
+-- an accepted stroke leads the history on, an allowance that is set
+-- is the new one, and all other calls leave the machine as it is
 abbrev pub after_call : Machine → Call → Machine
 after_call m (Strokes stroke None) = machine (after_stroke m.history stroke) m.allowance
 after_call m (Strokes stroke (Some fault)) = m
@@ -115,8 +120,9 @@ abbrev pub after_calls : Machine → List Call → Machine
 after_calls m [] = m
 after_calls m (call ∷ calls) = after_calls (after_call m call) calls
 
--- The answer is right: a stroke is accepted only where no fault holds, and refused by the first that does, or for memory; a verdict
--- is true of the machine's document, and Undecided names the machine's allowance; a certificate fits that document.
+-- The answer is right. A stroke is accepted only where no error holds, and refused by the first that does, or since
+-- memory ran out. A verdict is true of the machine's document, and Undecided names the machine's allowance. A
+-- certificate fits that document.
 abbrev pub IsRight : Machine → Call → Type 0
 IsRight m (Strokes stroke None) = stroke_fault m.history stroke ≡ None
 IsRight m (Strokes stroke (Some fault)) = fault ≡ or_memory (stroke_fault m.history stroke)

@@ -1,10 +1,11 @@
 -- Certificates of a document.
 use Rattle.std.specs.Prelude.{◌≡◌, ℕ, ◌↔◌, List, [], ◌∷◌, Option, None, Some}
+use Rattle.picture.specs.Rows.{Rows}
 use Rattle.picture.specs.Document.{ordered_triples, renumbered_rows}
 use Rattle.cert_text.specs.declared.tree_line.CellNumber.{CellNumber}
 use Rattle.cert_text.specs.Cert.{AreOrdered, Certificate, IsCert}
 use Rattle.certificate.specs.FirstFault.{CertFirstFault}
-use Rattle.certificate.specs.Making.{EachExcludes}
+use Rattle.certificate.specs.MadeCert.{EachExcludes}
 use Rattle.certificate.specs.Puzzle.{IsAmong, base_of, numbered}
 use Rattle.certificate.specs.Tree.{IsProof}
 use Rattle.edits.specs.Design.{Design, design}
@@ -15,31 +16,32 @@ use Rattle.live_audit.specs.Verdict.{IsOtherFor}
 abbrev pub ordered : Design → Design
 ordered d =
     let triples = ordered_triples d.colours.triples d.rows in
-    design (record { maxval = d.colours.maxval; triples = triples }) (renumbered_rows triples d.colours.triples d.rows) d.marks
+    design (record { maxval = d.colours.maxval; triples = triples })
+    (renumbered_rows triples d.colours.triples d.rows) d.marks
 
 -- exactly the givens of a document, by their numbers, in the order of rows
 pub record NamesMarks (d : Design) (cells : List CellNumber) : Type 0 where
   pub in_order : AreOrdered 0 cells
   pub named : (row col : ℕ) → IsGiven d row col ↔ IsAmong (numbered row col) cells
 
--- A certificate of a document with exactly its givens: the checker finds no fault, so the lines prove the picture, and there is no
--- other. It can be written and is read as itself. It has version 1 exactly where there are no givens. Each `line` excludes
--- something, and no `split` is of a settled cell.
+-- A certificate of a document with exactly its givens: the checker finds no error, so the lines prove the picture, and
+-- there is no other. It can be written and is read as itself. It has version 1 exactly where there are no givens. Each
+-- `line` excludes something, and no `split` is of a settled cell.
 pub record IsCertificateFor (d : Design) (cert : Certificate) : Type 0 where
   pub is_cert : IsCert cert
   pub accepted : CertFirstFault d.rows cert None
   pub proof : IsProof d.rows cert
-  pub no_other : (other : List (List ℕ)) → IsOtherFor d other → ⊥
+  pub no_other : (other : Rows) → IsOtherFor d other → ⊥
   pub givens : NamesMarks d cert.givens
   pub version : (cert.version ≡ 1) ↔ (cert.givens ≡ [])
   pub excludes : EachExcludes d.rows (base_of d.rows cert.givens ∷ []) cert.lines
 
 -- a certificate of the ordered document, or there is another picture for it
 abbrev pub CertifiesOrdered : Design → Option Certificate → Type 0
-CertifiesOrdered d None = (other : List (List ℕ)) × IsOtherFor (ordered d) other
+CertifiesOrdered d None = (other : Rows) × IsOtherFor (ordered d) other
 CertifiesOrdered d (Some cert) = IsCertificateFor (ordered d) cert
 
 -- A certificate of the ordered document, and the document itself has no other picture; or it has another one.
 abbrev pub Certifies : Design → Option Certificate → Type 0
-Certifies d None = (other : List (List ℕ)) × IsOtherFor d other
-Certifies d (Some cert) = IsCertificateFor (ordered d) cert × ((other : List (List ℕ)) → IsOtherFor d other → ⊥)
+Certifies d None = (other : Rows) × IsOtherFor d other
+Certifies d (Some cert) = IsCertificateFor (ordered d) cert × ((other : Rows) → IsOtherFor d other → ⊥)

@@ -6,8 +6,8 @@ use Rattle.live_audit.specs.Bench.{Seen}
 use Rattle.live_audit.specs.declared.why.Why.{Why}
 use Rattle.live_audit.specs.declared.why.Why.TheVariants.{Possible, Given, By}
 
--- The colour is left; or the givens alone exclude it; or they do not, and a step of the book drew that it is not there, with
--- premises of that step which its line needs to force this, and no more than it needs.
+-- The colour is left; or the givens alone exclude it; or a step of the book does. Then it is told with those premises
+-- of the step that its line needs to force this, and no more.
 abbrev pub Explains : Seen → ℕ → ℕ → ℕ → Why → Type 0
 Explains s row col k Possible = Leaves s.book.facts row col k
 Explains s row col k Given = Excludes s.book.base row col k

@@ -1,12 +1,13 @@
 -- What a designer does to a document, and how its history goes on.
-use Rattle.std.specs.Prelude.{ℕ, List, length, Option, Some, None}
-use Rattle.picture.specs.Rows.{width_of}
+use Rattle.std.specs.Prelude.{length, Option, Some, None}
+use Rattle.picture.specs.Rows.{width_of, Rows}
 use Rattle.clues.specs.Change.{Moves, back, still}
 use Rattle.edits.specs.declared.edit.Edit.{Edit}
 use Rattle.edits.specs.declared.fault.EditFault.{EditFault}
 use Rattle.edits.specs.Change.{moves_of}
 use Rattle.edits.specs.Fault.{edit_fault}
-use Rattle.edits.specs.History.{History, Turn, after_edit, first_turn, last_turn, redo_fault, redone, undo_fault, undone}
+use Rattle.edits.specs.History.{History, Turn, after_edit, first_turn, last_turn, redo_fault, redone, undo_fault}
+use Rattle.edits.specs.History.{undone}
 
 -- an edit, or a step back or forth along the edits that were made
 pub data Stroke : Type 0 where
@@ -14,7 +15,7 @@ pub data Stroke : Type 0 where
   Undoes : Stroke
   Redoes : Stroke
 
--- the fault that refuses it, if one does
+-- the error that refuses it, if one does
 abbrev pub stroke_fault : History → Stroke → Option EditFault
 stroke_fault h (Edits e) = edit_fault h.document e
 stroke_fault h Undoes = undo_fault h
@@ -27,11 +28,11 @@ after_stroke h Undoes = undone h
 after_stroke h Redoes = redone h
 
 -- where it moves the lines of the present picture: an edit that is taken back moves them back
-abbrev pub moves_back : List (List ℕ) → Option Turn → Moves
+abbrev pub moves_back : Rows → Option Turn → Moves
 moves_back rows None = still (length rows) (width_of rows)
 moves_back rows (Some t) = back (moves_of t.edit t.document.rows)
 
-abbrev pub moves_forth : List (List ℕ) → Option Turn → Moves
+abbrev pub moves_forth : Rows → Option Turn → Moves
 moves_forth rows None = still (length rows) (width_of rows)
 moves_forth rows (Some t) = moves_of t.edit rows
 

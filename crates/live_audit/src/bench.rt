@@ -12,7 +12,7 @@ ghost use Rattle.live_audit.specs.Certify.{Certifies};
 ghost use Rattle.live_audit.specs.Reason.{Explains};
 ghost use Rattle.live_audit.specs.Stroke.{Edits, Redoes, Undoes};
 ghost use Rattle.live_audit.specs.Verdict.{Tells, Decides, IsToldBy, IsVerdictOn, AnswersAs};
-ghost use Rattle.second_search.specs.Judging.{HasNoFilling};
+ghost use Rattle.second_search.specs.JudgedParts.{HasNoFilling};
 
 use crate::certifying::{Finding, certify_ordered};
 use crate::judging::{answers_next, other_kept, rule, rule_beside};
@@ -34,9 +34,9 @@ use std::marker::Model;
 /// The largest number of splits that can be allowed.
 pub const MAX_ALLOWANCE: u32 = 99_999;
 
-/// A document with its history, and all that follows from its picture: the clues, the book of reasons, the settled map and
-/// the verdict. They are true of the present picture after every call; a refused call changes nothing. Only where memory was
-/// wanting may the engine and the agenda have been used, and `calls` have risen. `calls` never falls.
+/// A document with its history, and all that follows from its picture: the clues, the book of reasons, the settled map
+/// and the verdict. They are true of the present picture after every call; a refused call changes nothing. Only where
+/// memory ran out may the engine and the agenda have been used, and `calls` have risen. `calls` never falls.
 #[derive(Drop)]
 pub struct Bench<E: LineEngine, A: Agenda> {
     alloc: Global,
@@ -101,7 +101,7 @@ impl<E: LineEngine + Drop, A: Agenda + Drop> Bench<E, A> {
     }
 
     /// Makes an edit: the history goes on, the clues are those of the new picture, and of the book the steps that still
-    /// stand are kept and closed again. On a fault nothing changes.
+    /// stand are kept and closed again. On an error nothing changes.
     pub fn apply(&mut self, edit: &Edit) -> Result<(), EditFault>
         ensures accepted { OnOk result (Accepts (Edits edit.now) self.old self.new) }
         ensures refused { IfErr result (λ fault. Refuses (Edits edit.now) fault self.old self.new) }
@@ -112,7 +112,7 @@ impl<E: LineEngine + Drop, A: Agenda + Drop> Bench<E, A> {
         self.advance(prepared)
     }
 
-    /// Takes back the last edit. `UndoEmpty` where there is none. On a fault nothing changes.
+    /// Takes back the last edit. `UndoEmpty` where there is none. On an error nothing changes.
     pub fn undo(&mut self) -> Result<(), EditFault>
         ensures accepted { OnOk result (Accepts Undoes self.old self.new) }
         ensures refused { IfErr result (λ fault. Refuses Undoes fault self.old self.new) }
@@ -123,7 +123,7 @@ impl<E: LineEngine + Drop, A: Agenda + Drop> Bench<E, A> {
         self.advance(prepared)
     }
 
-    /// Makes the edit again that was undone last. `RedoEmpty` where there is none. On a fault nothing changes.
+    /// Makes the edit again that was undone last. `RedoEmpty` where there is none. On an error nothing changes.
     pub fn redo(&mut self) -> Result<(), EditFault>
         ensures accepted { OnOk result (Accepts Redoes self.old self.new) }
         ensures refused { IfErr result (λ fault. Refuses Redoes fault self.old self.new) }

@@ -2,9 +2,10 @@
 
 ghost use Rattle.std.specs.Prelude.{◌≡◌, ◌≤◌, ℕ, length, None, IfOk, MatchOption, OnErr};
 ghost use Rattle.second_search.specs.Verdict.{Verdict};
-ghost use Rattle.second_search.specs.Carrying.{Carries};
-ghost use Rattle.second_search.specs.Judging.{Done, FirstFilling, HasNoFilling, Judges};
+ghost use Rattle.second_search.specs.CarriedParts.{Carries};
+ghost use Rattle.second_search.specs.JudgedParts.{Done, FirstFilling, HasNoFilling, Judges};
 ghost use Rattle.second_search.specs.Parts.{IsScene};
+ghost use Rattle.second_search.specs.Evaluations.{AreFew};
 ghost use Rattle.kept_audit.specs.Audit.{IsAuditOf};
 ghost use Rattle.edits.specs.Design.{design_of};
 ghost use Rattle.live_audit.specs.Bench.{AreAnswersOf, AreGivenCells, nothing_done};
@@ -82,6 +83,8 @@ pub(crate) fn rule<E: LineEngine>(
         (E.calls engine.new)
         (Judges audit.now.clues audit.now.book.facts document.now.picture allowance keeper.old
         keeper.new j))) }
+    ensures few { IfOk result (λ (_, work).
+        AreFew allowance audit.now.book.facts (length keeper.old) work.search.evaluations) }
     ensures answers { AreAnswersOf (design_of document.now) audit.now.clues audit.now.book.facts
         keeper.new }
     ensures refused { OnErr result (keeper.new ≡ keeper.old) }

@@ -1,6 +1,12 @@
-//! Laws of lists of calls, of verdicts behind a certificate and of other pictures. Each function does nothing, and its contract is the law.
+//! Laws of lists of calls, of strokes, of verdicts after a certificate and of other pictures. Each function does
+//! nothing, and its contract is the law.
 
-ghost use Rattle.live_audit.specs.Laws.{CertifiedVerdictsSearchNothing, ListsStayAudited, OthersAreColoured};
+ghost use Rattle.live_audit.specs.Laws.{
+  CertifiedVerdictsSearchNothing,
+  ListsStayAudited,
+  OthersAreColoured,
+  StrokesEvaluateFew,
+};
 
 #[tactic(auto, using(crate::proofs::CallLemmas::lists))]
 /// After any list of edits, undos and redos, verdicts, allowances and certificates, accepted or refused, the state is
@@ -8,6 +14,12 @@ ghost use Rattle.live_audit.specs.Laws.{CertifiedVerdictsSearchNothing, ListsSta
 /// was then present, and each certificate fits it. The engine's calls never fall.
 pub fn lists_stay_audited()
     ensures { ListsStayAudited }
+{}
+
+#[tactic(auto, using(crate::proofs::StrokeLemmas::strokes))]
+/// A stroke that is accepted takes as many evaluations at most as there are dirty lines, and cells on which new steps draw.
+pub fn strokes_evaluate_few()
+    ensures { StrokesEvaluateFew }
 {}
 
 /// A verdict that is asked right after a certificate's call that was not refused is decided, and searches nothing: no line

@@ -2,9 +2,10 @@
 
 use line_settle::{Meter, NOTHING_DONE};
 
-/// How much work was done: by the last edit, undo, redo or start that was accepted; by the last verdict, with the number
-/// of parts that it searched and of cells that it split in the fixed order, each count staying at the largest `u32`. What no verdict has
-/// counted yet is 0.
+/// How much work was done: by the last edit, undo, redo or start that was accepted; and by the last verdict, with the number of
+/// parts that it searched and of splits. Of each part the splits of its first search are counted, in the fixed order up to the
+/// allowance, or up to 100 where there is none; those of the searches after it are not. Both numbers stay at the largest `u32`. What no
+/// verdict has counted yet is 0.
 #[derive(Clone, Copy, Debug, PartialEq, Eq)]
 pub struct Work {
     pub edit: Meter,

@@ -1,16 +1,17 @@
 -- The clues that are read name colour 1 alone, and so pictures with such clues have no colour above 1.
-use Rattle.std.proofs.Common.{◌≡◌, ℕ, zero, suc, ◌≤◌, Bool, true, false, cond, eqb, leb, List, [], ◌∷◌, length, get_or, map, take, Option, Some, None, Result, Ok, Err, refl, sym, ap, subst, ◌∙◌, arith, inl, inr, codes}
+use Rattle.std.proofs.Common.{◌≡◌, ℕ, zero, suc, ◌≤◌, Bool, true, false, cond, eqb, leb, List, [], ◌∷◌, length, get_or, map, take, Option, Some, None, Result, Ok, Err, refl, sym, ap, subst, ◌∙◌}
+use Rattle.std.proofs.Common.{arith, inl, inr, codes}
 use Rattle.std.specs.Option.{ok_or}
 use Rattle.std.specs.List.{All, slice_split}
 use Rattle.std.proofs.lemmas.Bool.{eqb-true, cases_lt}
 use Rattle.std.proofs.lemmas.List.{get_or_past}
 use Rattle.std.proofs.lemmas.List.Elements.{All-cons, All-get_or, All-nil}
 use Rattle.picture.specs.declared.line_id.Axis.TheVariants.{Across}
-use Rattle.picture.specs.Reading.{◌>>=◌}
-use Rattle.picture.specs.Rows.{cell_at, row_at}
+use Rattle.picture.specs.Readers.{◌>>=◌}
+use Rattle.picture.specs.Rows.{cell_at, row_at, Rows}
 use Rattle.clues.specs.declared.block.Block.{Block}
 use Rattle.clues.specs.Clue.{block, clue_of, longer}
-use Rattle.clues.specs.BookLaws.{get_or-first_clues, length-first_clues}
+use Rattle.clues.proofs.BookLaws.{get_or-first_clues, length-first_clues}
 use Rattle.clues.specs.ClueBook.{Clues, clues_from, clues_of, first_clues}
 use Rattle.non_text.specs.declared.non_puzzle.NonPuzzle.{NonPuzzle}
 use Rattle.non_text.specs.declared.fault.NonFault.{NonFault}
@@ -96,7 +97,7 @@ black_row (suc x ∷ y ∷ row) are j = by_test (eqb (suc x) y) refl (black_row 
     by_test false e later h zero = let is = h.0 in omega (arith, is)
     by_test false e later h (suc k) = later h.1 k
 
-black_picture : (rows : List (List ℕ)) → All AreBlack (first_clues Across rows (length rows)) → (i j : ℕ) → cell_at rows i j ≤ 1
+black_picture : (rows : Rows) → All AreBlack (first_clues Across rows (length rows)) → (i j : ℕ) → cell_at rows i j ≤ 1
 black_picture rows are i j = elim (cases_lt i (length rows)) [
   | inl lt ↦
       let clues = first_clues Across rows (length rows) in
@@ -112,7 +113,7 @@ black_picture rows are i j = elim (cases_lt i (length rows)) [
 -- its clues are those that were read, and its goal has them
 record HasGoal (clues : Clues) (puzzle : NonPuzzle) : Type 0 where
   are : puzzle.clues ≡ clues
-  fits : (rows : List (List ℕ)) → puzzle.goal ≡ Some rows → clues_of rows ≡ clues
+  fits : (rows : Rows) → puzzle.goal ≡ Some rows → clues_of rows ≡ clues
 
 goal_agrees : (clues : Clues) (goal : Option (List (List ℕ))) (puzzle : NonPuzzle) → agreeing clues goal ≡ Ok puzzle → HasGoal clues puzzle
 unfolding agreeing
@@ -136,7 +137,7 @@ goal_agrees clues (Some goal) puzzle e = by_test (same_clues (clues_of goal) clu
         }
     by_test false same h = cc
 
--- what is read behind the height, and behind the width and all before it
+-- what is read after the height, and after the width and all before it
 abbrev read_on : ℕ → ℕ → List (List ℕ) → Result NonPuzzle NonFault
 read_on width height lines =
     clues_behind (codes "rows") height width lines >>= λ rows.
@@ -149,7 +150,8 @@ read_behind width lines = ok_or (size_behind (codes "height") lines) MissingSize
 
 two_colours_on : (width height : ℕ) (lines : List (List ℕ)) (puzzle : NonPuzzle) → read_on width height lines ≡ Ok puzzle → IsInTwoColours puzzle
 two_colours_on width height lines puzzle e =
-    let rows = bind_ok (clues_behind (codes "rows") height width lines) (λ rows. clues_behind (codes "columns") width height lines >>= λ columns. goal_behind height width lines >>= λ goal. agreeing (clues_from rows columns) goal) puzzle e in
+    let rows = bind_ok (clues_behind (codes "rows") height width lines)
+    (λ rows. clues_behind (codes "columns") width height lines >>= λ columns. goal_behind height width lines >>= λ goal. agreeing (clues_from rows columns) goal) puzzle e in
     let columns = bind_ok (clues_behind (codes "columns") width height lines) (λ columns. goal_behind height width lines >>= λ goal. agreeing (clues_from rows.0 columns) goal) puzzle rows.2 in
     let goal = bind_ok (goal_behind height width lines) (λ goal. agreeing (clues_from rows.0 columns.0) goal) puzzle columns.2 in
     let agrees = goal_agrees (clues_from rows.0 columns.0) goal.0 puzzle goal.2 in

@@ -1,5 +1,6 @@
 -- The numbers of a clue line, and the clue that they stand for.
-use Rattle.std.proofs.Common.{◌≡◌, ◌≢◌, ℕ, ◌+◌, ◌-◌, ◌<◌, ◌≤◌, Bool, true, false, cond, eqb, ltb, leb, List, [], ◌∷◌, ◌++◌, length, get_or, drop, map, sum, Option, Some, None, Result, Ok, Err, refl, sym, ap, ◌∙◌, arith, min, inl, inr, option_map, ◌||◌}
+use Rattle.std.proofs.Common.{◌≡◌, ◌≢◌, ℕ, ◌+◌, ◌-◌, ◌<◌, ◌≤◌, Bool, true, false, cond, eqb, ltb, leb, List, [], ◌∷◌, ◌++◌, length, get_or, drop, map, sum, Option, Some, None, Result, Ok, Err, refl}
+use Rattle.std.proofs.Common.{sym, ap, ◌∙◌, arith, min, inl, inr, option_map, ◌||◌}
 use Rattle.std.specs.Borrow.{Bor}
 use Rattle.std.specs.List.{slice_split}
 use Rattle.std.specs.Option.{ok_or}
@@ -7,7 +8,7 @@ use Rattle.std.proofs.lemmas.List.{at_drop_more, at_drop_all, append_assoc, appe
 use Rattle.std.proofs.lemmas.List.Sums.{sum_by-cons}
 use Rattle.std.proofs.lemmas.List.Elements.{All-nil, All-cons}
 use Rattle.std.proofs.lemmas.Bool.{lt-ltb, le-ltb, le-leb, lt-leb, eqb-false, ne_eqb, cases_lt, cases_eq, or_parts}
-use Rattle.picture.specs.Reading.{◌>>=◌}
+use Rattle.picture.specs.Readers.{◌>>=◌}
 use Rattle.clues.specs.declared.block.Block.{Block}
 use Rattle.clues.specs.Clue.{IsBlock, IsClue}
 use Rattle.non_text.specs.declared.fault.NonFault.{NonFault}
@@ -15,13 +16,13 @@ use Rattle.non_text.specs.declared.fault.NonFault.TheVariants.{BadClue, ClueTooL
 use Rattle.non_text.specs.Bytes.{trimmed}
 use Rattle.picture.specs.Numbers.{number_spelled}
 use Rattle.non_text.specs.Lines.{is_blank_line}
-use Rattle.picture.specs.Reading.{pieces_behind}
+use Rattle.picture.specs.Readers.{pieces_behind}
 use Rattle.non_text.specs.Capped.{all_capped}
 use Rattle.non_text.specs.ClueLine.{numbers_in, cells_needed, black, is_lone_zero, has_zero, clue_from, clue_in}
 
 -- ---- the numbers between commas
 
--- what is read behind a front that was read already
+-- what is read after a front that was read already
 abbrev pub behind_front : List ℕ → Result (List ℕ) NonFault → Result (List ℕ) NonFault
 behind_front front read = read >>= λ numbers. Ok (front ++ numbers)
 
@@ -46,19 +47,22 @@ unfolding left_to_read
 left_none front = ap Ok (append-nil front)
 
 -- one place is read
-pub left_more : (front : List ℕ) (places : Bor (List ℕ)) (place : List ℕ) (behind : Option (Bor (List ℕ))) (number : ℕ) → slice_split (λ b. eqb b 44) places.now ≡ place ∷ pieces_behind 44 behind → option_map (min 255) (number_spelled (trimmed place)) ≡ Some number
+pub left_more : (front : List ℕ) (places : Bor (List ℕ)) (place : List ℕ) (behind : Option (Bor (List ℕ))) (number : ℕ) → slice_split (λ b. eqb b 44) places.now ≡ place ∷ pieces_behind 44 behind
+    → option_map (min 255) (number_spelled (trimmed place)) ≡ Some number
     → left_to_read (front ++ number ∷ []) behind ≡ left_to_read front (Some places)
 unfolding left_to_read
 left_more front places place behind number split is =
     sym (ap (λ pieces. behind_front front (all_capped (numbers_in pieces))) split ∙ by_number (number_spelled (trimmed place)) (numbers_in (pieces_behind 44 behind)) is)
   where
-    by_number : (o : Option ℕ) (later : Result (List ℕ) NonFault) → option_map (min 255) o ≡ Some number → behind_front front (all_capped (ok_or o BadClue >>= λ n. later >>= λ ns. Ok (n ∷ ns))) ≡ behind_front (front ++ number ∷ []) (all_capped later)
+    by_number : (o : Option ℕ) (later : Result (List ℕ) NonFault) → option_map (min 255) o ≡ Some number
+        → behind_front front (all_capped (ok_or o BadClue >>= λ n. later >>= λ ns. Ok (n ∷ ns))) ≡ behind_front (front ++ number ∷ []) (all_capped later)
     by_number None later e = cc
     by_number (Some n) (Err f) e = refl
     by_number (Some n) (Ok ns) e = let first : min 255 n ≡ number = cc in ap Ok (ap (λ k. front ++ k ∷ map (min 255) ns) first ∙ sym (append_assoc front (number ∷ []) (map (min 255) ns)))
 
 -- a place without a number
-pub left_bad : (front : List ℕ) (places : Bor (List ℕ)) (place : List ℕ) (behind : Option (Bor (List ℕ))) → slice_split (λ b. eqb b 44) places.now ≡ place ∷ pieces_behind 44 behind → option_map (min 255) (number_spelled (trimmed place)) ≡ None
+pub left_bad : (front : List ℕ) (places : Bor (List ℕ)) (place : List ℕ) (behind : Option (Bor (List ℕ))) → slice_split (λ b. eqb b 44) places.now ≡ place ∷ pieces_behind 44 behind
+    → option_map (min 255) (number_spelled (trimmed place)) ≡ None
     → left_to_read front (Some places) ≡ Err BadClue
 unfolding left_to_read
 left_bad front places place behind split is =
@@ -81,7 +85,7 @@ leb-same a b c d there back = elim (cases_lt b a) [
     not_above : (a ≤ b → c ≤ d) → (c ≤ d → a ≤ b) → b < a → d < c
     not_above there back lt = elim (cases_lt d c) [ inl h ↦ h | inr h ↦ absurd (omega (arith, back h, lt)) ]
 
--- whether each length and a cell behind it find room
+-- whether each length and a cell after it find room
 unfoldable pub fits_in : ℕ → List ℕ → Bool
 fits_in room [] = true
 fits_in room (n ∷ lens) = cond (ltb room (n + 1)) false (fits_in (room - (n + 1)) lens)
@@ -106,7 +110,8 @@ unfolding fits_in
 fits_in_sum room [] = sym (le-leb _ _ (omega arith))
 fits_in_sum room (n ∷ lens) = elim (cases_lt room (n + 1)) [
   | inl lt ↦ ap (λ t. cond t false (fits_in (room - (n + 1)) lens)) (lt-ltb _ _ lt) ∙ sym (lt-leb _ _ (omega (arith, lt, sum-cons n lens)))
-  | inr le ↦ ap (λ t. cond t false (fits_in (room - (n + 1)) lens)) (le-ltb _ _ le) ∙ fits_in_sum (room - (n + 1)) lens ∙ leb-same _ _ _ _ (λ h. omega (arith, h, le, sum-cons n lens)) (λ h. omega (arith, h, le, sum-cons n lens))
+  | inr le ↦ ap (λ t. cond t false (fits_in (room - (n + 1)) lens)) (le-ltb _ _ le) ∙ fits_in_sum (room - (n + 1)) lens
+      ∙ leb-same _ _ _ _ (λ h. omega (arith, h, le, sum-cons n lens)) (λ h. omega (arith, h, le, sum-cons n lens))
 ]
 
 pub fits_in_is : (cells : ℕ) (lens : List ℕ) → fits_in (cells + 1) lens ≡ leb (cells_needed lens) cells

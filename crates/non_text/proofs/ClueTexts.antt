@@ -1,5 +1,6 @@
 -- Clues as they are written, read again.
-use Rattle.std.proofs.Common.{◌≡◌, ℕ, zero, suc, ◌+◌, ◌^◌, ◌<◌, ◌≤◌, Bool, true, false, cond, eqb, leb, List, [], ◌∷◌, ◌++◌, length, map, sum, Option, Some, Result, Ok, refl, sym, ap, subst, ◌∙◌, arith, ◌&&◌, ◌||◌, decimal}
+use Rattle.std.proofs.Common.{◌≡◌, ℕ, zero, suc, ◌+◌, ◌^◌, ◌<◌, ◌≤◌, Bool, true, false, cond, eqb, leb, List, [], ◌∷◌, ◌++◌, length, map, sum, Option, Some, Result, Ok, refl, sym, ap, subst, ◌∙◌}
+use Rattle.std.proofs.Common.{arith, ◌&&◌, ◌||◌, decimal}
 use Rattle.std.specs.Char.{is_ascii_digit}
 use Rattle.std.specs.Str.{all_ascii_digits}
 use Rattle.std.specs.List.{slice_split, All}
@@ -9,7 +10,7 @@ use Rattle.std.proofs.lemmas.Fmt.{decimal_nonempty}
 use Rattle.std.proofs.lemmas.List.{length-map}
 use Rattle.std.proofs.lemmas.List.Splits.{slice_split_none, slice_split_at}
 use Rattle.picture.specs.declared.picture.TheConstants.{MAX_SIDE}
-use Rattle.picture.specs.Reading.{◌>>=◌}
+use Rattle.picture.specs.Readers.{◌>>=◌}
 use Rattle.clues.specs.declared.block.Block.{Block}
 use Rattle.clues.specs.Clue.{block, longer, clue_of}
 use Rattle.non_text.specs.declared.fault.NonFault.{NonFault}
@@ -19,8 +20,8 @@ use Rattle.picture.specs.Numbers.{value_after, number_spelled}
 use Rattle.non_text.specs.Lines.{begins_comment, is_blank_line, is_comment, word_at, keyword_of}
 use Rattle.non_text.specs.ClueLine.{numbers_in, is_lone_zero, has_zero, cells_needed, black, clue_from, clue_in}
 use Rattle.non_text.specs.Written.{clue_text}
-use Rattle.picture.specs.NumberLaws.{decimal_digits, decimal_lacks, digit_range}
-use Rattle.picture.specs.SplitLaws.{none_there}
+use Rattle.picture.proofs.NumberLaws.{decimal_digits, decimal_lacks, digit_range}
+use Rattle.picture.proofs.SplitLaws.{none_there}
 use Rattle.non_text.proofs.ClueLineLemmas.{chosen, sum-cons}
 use Rattle.non_text.proofs.DigitTexts.{digit_not_blank, number_again}
 use Rattle.non_text.proofs.BytesLemmas.{past_blanks_other}
@@ -174,7 +175,7 @@ clue_black (suc x ∷ y ∷ cells) two = by_test (eqb (suc x) y) (clue_black (y 
     by_test true black = longer_black (clue_of (y ∷ cells)) black
     by_test false black = let low = two.0 in (omega arith, omega (arith, low), black)
 
--- the cells that blocks take, each with one behind it
+-- the cells that blocks take, each with one after it
 abbrev room_of : List Block → ℕ
 room_of blocks = sum (lens_of blocks) + length blocks
 

@@ -6,7 +6,7 @@ use Rattle.std.specs.List.{list_all}
 use Rattle.std.proofs.lemmas.Bool.{ne_eqb, and_parts}
 use Rattle.non_text.specs.Bytes.{is_blank, past_blanks, before_blanks, trimmed}
 use Rattle.picture.specs.Numbers.{number_spelled}
-use Rattle.picture.specs.NumberLaws.{decimal_digits, digit_range, number_spelled-decimal}
+use Rattle.picture.proofs.NumberLaws.{decimal_digits, digit_range, number_spelled-decimal}
 use Rattle.non_text.proofs.BytesLemmas.{past_blanks_other, past_blanks_none}
 
 pub not_blank : (b : ℕ) → 32 < b → is_blank b ≡ false

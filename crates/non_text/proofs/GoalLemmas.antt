@@ -1,5 +1,6 @@
 -- The digits of a goal, and the cells that they stand for.
-use Rattle.std.proofs.Common.{◌≡◌, ◌≢◌, ℕ, zero, suc, ◌-◌, ◌*◌, ◌<◌, Bool, true, false, cond, eqb, List, [], ◌∷◌, length, get_or, take, drop, map, Some, None, Ok, Err, refl, sym, ap, ◌∙◌, arith, inl, inr, ◌&&◌}
+use Rattle.std.proofs.Common.{◌≡◌, ◌≢◌, ℕ, zero, suc, ◌-◌, ◌*◌, ◌<◌, Bool, true, false, cond, eqb, List, [], ◌∷◌, length, get_or, take, drop, map, Some, None, Ok, Err, refl, sym, ap, ◌∙◌, arith, inl}
+use Rattle.std.proofs.Common.{inr, ◌&&◌}
 use Rattle.std.specs.Option.{ok_or, option_and_then}
 use Rattle.std.specs.List.{slice_split, onto_first, list_all, join_with_byte}
 use Rattle.std.proofs.lemmas.Bool.{cases_Bool, eq-eqb, eqb-true, false≢true, ne_eqb, or_cases}
@@ -36,13 +37,15 @@ blank_has_none (b ∷ bytes) e =
     ap (λ t. cond t ([] ∷ slice_split (λ b. eqb b 34) bytes) (onto_first b (slice_split (λ b. eqb b 34) bytes))) (no_quote b parts.0)
     ∙ ap (onto_first b) (blank_has_none bytes parts.1)
 
-quoted_by : (digits behind : List ℕ) (pieces : List (List ℕ)) (t : Bool) → is_blank_line behind ≡ t → join_with_byte 34 pieces ≡ behind → (t ≡ true → pieces ≡ behind ∷ []) → quoted (digits ∷ pieces) ≡ cond t (Some digits) None
+quoted_by : (digits behind : List ℕ) (pieces : List (List ℕ)) (t : Bool) → is_blank_line behind ≡ t → join_with_byte 34 pieces ≡ behind → (t ≡ true → pieces ≡ behind ∷ [])
+    → quoted (digits ∷ pieces) ≡ cond t (Some digits) None
 quoted_by digits behind pieces true e joined alone = ap (λ rest. quoted (digits ∷ rest)) (alone refl) ∙ ap (λ t. cond t (Some digits) None) e
 quoted_by digits behind [] false e joined alone = refl
 quoted_by digits behind (piece ∷ []) false e joined alone = ap (λ (rest : List ℕ). cond (is_blank_line rest) (Some digits) None) joined ∙ ap (λ t. cond t (Some digits) None) e
 quoted_by digits behind (piece ∷ next ∷ pieces) false e joined alone = refl
 
-pub quoted_is : (bytes digits behind : List ℕ) → slice_split (λ b. eqb b 34) bytes ≡ digits ∷ slice_split (λ b. eqb b 34) behind → quoted (slice_split (λ b. eqb b 34) bytes) ≡ cond (is_blank_line behind) (Some digits) None
+pub quoted_is : (bytes digits behind : List ℕ) → slice_split (λ b. eqb b 34) bytes ≡ digits ∷ slice_split (λ b. eqb b 34) behind
+    → quoted (slice_split (λ b. eqb b 34) bytes) ≡ cond (is_blank_line behind) (Some digits) None
 quoted_is bytes digits behind split =
     ap quoted split ∙ quoted_by digits behind (slice_split (λ b. eqb b 34) behind) (is_blank_line behind) refl (join_with_byte-slice_split 34 behind) (blank_has_none behind)
 
@@ -110,7 +113,8 @@ goal_bad height width value digits e bad =
     either true = refl
     either false = refl
 
-pub goal_is : (height width : ℕ) (value digits : List ℕ) → goal_digits value ≡ Some digits → length digits ≡ height * width → list_all is_cell_digit digits ≡ true → goal_in height width value ≡ Ok (rows_of height width (map cell_of digits))
+pub goal_is : (height width : ℕ) (value digits : List ℕ) → goal_digits value ≡ Some digits → length digits ≡ height * width → list_all is_cell_digit digits ≡ true
+    → goal_in height width value ≡ Ok (rows_of height width (map cell_of digits))
 unfolding goal_in
 goal_is height width value digits e count good =
     ap (λ o. ok_or (option_and_then (goal_rows height width) o) BadGoal) e

@@ -47,11 +47,13 @@ pub ruleset first_lines = (all_lines_more, all_lines_none, all_lines_last, all_l
 
 pub lines_of_shown : (text : List ℕ) (line rest : List ℕ) → all_lines text ≡ line ∷ all_lines rest → is_comment line ≡ false → lines_of text ≡ line ∷ lines_of rest
 unfolding lines_of
-lines_of_shown text line rest e shown = ap (filter (λ line. not (is_comment line))) e ∙ ap (λ t. cond (not t) (line ∷ filter (λ line. not (is_comment line)) (all_lines rest)) (filter (λ line. not (is_comment line)) (all_lines rest))) shown
+lines_of_shown text line rest e shown = ap (filter (λ line. not (is_comment line))) e
+    ∙ ap (λ t. cond (not t) (line ∷ filter (λ line. not (is_comment line)) (all_lines rest)) (filter (λ line. not (is_comment line)) (all_lines rest))) shown
 
 pub lines_of_comment : (text : List ℕ) (line rest : List ℕ) → all_lines text ≡ line ∷ all_lines rest → is_comment line ≡ true → lines_of text ≡ lines_of rest
 unfolding lines_of
-lines_of_comment text line rest e shown = ap (filter (λ line. not (is_comment line))) e ∙ ap (λ t. cond (not t) (line ∷ filter (λ line. not (is_comment line)) (all_lines rest)) (filter (λ line. not (is_comment line)) (all_lines rest))) shown
+lines_of_comment text line rest e shown = ap (filter (λ line. not (is_comment line))) e
+    ∙ ap (λ t. cond (not t) (line ∷ filter (λ line. not (is_comment line)) (all_lines rest)) (filter (λ line. not (is_comment line)) (all_lines rest))) shown
 
 pub lines_of_none : (text : List ℕ) → all_lines text ≡ [] → lines_of text ≡ []
 unfolding lines_of

@@ -4,14 +4,14 @@ use Rattle.std.specs.List.{flat_map, list_all, range_with_len}
 use Rattle.std.proofs.lemmas.Bool.{leb-true, and_from, and_parts, cond_both}
 use Rattle.std.proofs.lemmas.List.{length-append, length-map, map-append, get_or_past, take_at, drop_at}
 use Rattle.std.proofs.lemmas.List.Folds.{list_all-append}
-use Rattle.picture.specs.SplitLaws.{lacks}
-use Rattle.picture.specs.Rows.{rows_of, row_at, line_along}
+use Rattle.picture.proofs.SplitLaws.{lacks}
+use Rattle.picture.specs.Rows.{rows_of, row_at, line_along, Rows}
 use Rattle.picture.specs.declared.line_id.Axis.TheVariants.{Across, Down}
 use Rattle.clues.specs.declared.block.Block.{Block}
 use Rattle.clues.specs.Clue.{clue_of}
 use Rattle.clues.specs.ClueBook.{first_clues}
 use Rattle.non_text.specs.Goal.{is_cell_digit, cell_of}
-use Rattle.non_text.specs.Writing.{is_two_colour_row, is_two_colour}
+use Rattle.non_text.specs.WrittenNon.{is_two_colour_row, is_two_colour}
 use Rattle.non_text.specs.Written.{digit_of}
 use Rattle.non_text.proofs.ClueTexts.{IsTwoColour, IsWritable, writable}
 use Rattle.non_text.proofs.WrittenLines.{AreWritable}
@@ -27,7 +27,7 @@ two_colour_row (cell ∷ row) e =
     let parts = and_parts (leb cell 1) (is_two_colour_row row) e in
     (leb-true cell 1 parts.0, two_colour_row row parts.1)
 
-pub are_rows : (width : ℕ) (rows : List (List ℕ)) → ((i : ℕ) → i < length rows → length (row_at rows i) ≡ width) → is_two_colour rows ≡ true → AreRows width rows
+pub are_rows : (width : ℕ) (rows : Rows) → ((i : ℕ) → i < length rows → length (row_at rows i) ≡ width) → is_two_colour rows ≡ true → AreRows width rows
 are_rows width [] even e = tt
 are_rows width (row ∷ rows) even e =
     let parts = and_parts (is_two_colour_row row) (is_two_colour rows) e in
@@ -43,21 +43,22 @@ row_digits p each [] = refl
 row_digits p each (cell ∷ row) = ap (λ t. t && list_all p (map digit_of row)) (each cell) ∙ row_digits p each row
 
 -- what holds of both digits holds of all
-all_digits : (p : ℕ → Bool) → ((cell : ℕ) → p (digit_of cell) ≡ true) → (rows : List (List ℕ)) → list_all p (flat_map (map digit_of) rows) ≡ true
+all_digits : (p : ℕ → Bool) → ((cell : ℕ) → p (digit_of cell) ≡ true) → (rows : Rows) → list_all p (flat_map (map digit_of) rows) ≡ true
 all_digits p each [] = refl
 all_digits p each (row ∷ rows) =
-    list_all-append p (map digit_of row) (flat_map (map digit_of) rows) ∙ and_from (list_all p (map digit_of row)) (list_all p (flat_map (map digit_of) rows)) (row_digits p each row) (all_digits p each rows)
+    list_all-append p (map digit_of row) (flat_map (map digit_of) rows)
+    ∙ and_from (list_all p (map digit_of row)) (list_all p (flat_map (map digit_of) rows)) (row_digits p each row) (all_digits p each rows)
 
-pub cell_digits : (rows : List (List ℕ)) → list_all is_cell_digit (flat_map (map digit_of) rows) ≡ true
+pub cell_digits : (rows : Rows) → list_all is_cell_digit (flat_map (map digit_of) rows) ≡ true
 cell_digits rows = all_digits is_cell_digit (digit_by (λ d. is_cell_digit d ≡ true) refl refl) rows
 
-pub digits_printed : (rows : List (List ℕ)) → list_all (λ b. leb 32 b) (flat_map (map digit_of) rows) ≡ true
+pub digits_printed : (rows : Rows) → list_all (λ b. leb 32 b) (flat_map (map digit_of) rows) ≡ true
 digits_printed rows = all_digits (λ b. leb 32 b) (digit_by (λ d. leb 32 d ≡ true) refl refl) rows
 
-pub no_quotes : (rows : List (List ℕ)) → lacks 34 (flat_map (map digit_of) rows) ≡ true
+pub no_quotes : (rows : Rows) → lacks 34 (flat_map (map digit_of) rows) ≡ true
 no_quotes rows = all_digits (λ b. not (eqb b 34)) (digit_by (λ d. not (eqb d 34) ≡ true) refl refl) rows
 
-pub length-digits : (width : ℕ) (rows : List (List ℕ)) → AreRows width rows → length (flat_map (map digit_of) rows) ≡ length rows * width
+pub length-digits : (width : ℕ) (rows : Rows) → AreRows width rows → length (flat_map (map digit_of) rows) ≡ length rows * width
 length-digits width [] are = omega arith
 length-digits width (row ∷ rows) are =
     let first = length-map row digit_of in
@@ -76,11 +77,12 @@ cells_again [] two = refl
 cells_again (cell ∷ row) two = ap (λ x. x ∷ map cell_of (map digit_of row)) (cell_again cell two.0) ∙ ap (λ (rest : List ℕ). cell ∷ rest) (cells_again row two.1)
 
 -- the rows are cut from their digits again
-pub rows_again : (width : ℕ) (rows : List (List ℕ)) → AreRows width rows → rows_of (length rows) width (map cell_of (flat_map (map digit_of) rows)) ≡ rows
+pub rows_again : (width : ℕ) (rows : Rows) → AreRows width rows → rows_of (length rows) width (map cell_of (flat_map (map digit_of) rows)) ≡ rows
 rows_again width [] are = refl
 rows_again width (row ∷ rows) are =
     let later = map cell_of (flat_map (map digit_of) rows) in
-    let cells : map cell_of (map digit_of row ++ flat_map (map digit_of) rows) ≡ row ++ later = map-append cell_of (map digit_of row) (flat_map (map digit_of) rows) ∙ ap (λ (first : List ℕ). first ++ later) (cells_again row are.1) in
+    let cells : map cell_of (map digit_of row ++ flat_map (map digit_of) rows) ≡ row ++ later = map-append cell_of (map digit_of row) (flat_map (map digit_of) rows)
+    ∙ ap (λ (first : List ℕ). first ++ later) (cells_again row are.1) in
     ap (λ (all : List ℕ). take width all ∷ rows_of (length rows) width (drop width all)) cells
     ∙ ap (λ (first : List ℕ). first ∷ rows_of (length rows) width (drop width (row ++ later))) (take_at row later width are.0)
     ∙ ap (λ (rest : List ℕ). row ∷ rows_of (length rows) width rest) (drop_at row later width are.0)
@@ -88,7 +90,7 @@ rows_again width (row ∷ rows) are =
 
 -- ---- lines
 
-row_is : (width : ℕ) (rows : List (List ℕ)) (i : ℕ) → AreRows width rows → i < length rows → IsWritable width (clue_of (row_at rows i))
+row_is : (width : ℕ) (rows : Rows) (i : ℕ) → AreRows width rows → i < length rows → IsWritable width (clue_of (row_at rows i))
 row_is width [] i are lt = absurd (omega (arith, lt))
 row_is width (row ∷ rows) zero are lt = subst (λ n. IsWritable n (clue_of row)) are.0 (writable row are.1)
 row_is width (row ∷ rows) (suc i) are lt = row_is width rows i are.2 (omega (arith, lt))
@@ -98,11 +100,11 @@ low_cell [] j two = omega (arith, get_or_past {X = ℕ} [] j 0 (omega arith))
 low_cell (cell ∷ row) zero two = two.0
 low_cell (cell ∷ row) (suc j) two = low_cell row j two.1
 
-column_two_colour : (width : ℕ) (rows : List (List ℕ)) (j : ℕ) → AreRows width rows → IsTwoColour (map (λ (row : List ℕ). get_or row j 0) rows)
+column_two_colour : (width : ℕ) (rows : Rows) (j : ℕ) → AreRows width rows → IsTwoColour (map (λ (row : List ℕ). get_or row j 0) rows)
 column_two_colour width [] j are = tt
 column_two_colour width (row ∷ rows) j are = (low_cell row j are.1, column_two_colour width rows j are.2)
 
-column_is : (width : ℕ) (rows : List (List ℕ)) (j : ℕ) → AreRows width rows → IsWritable (length rows) (clue_of (map (λ (row : List ℕ). get_or row j 0) rows))
+column_is : (width : ℕ) (rows : Rows) (j : ℕ) → AreRows width rows → IsWritable (length rows) (clue_of (map (λ (row : List ℕ). get_or row j 0) rows))
 column_is width rows j are =
     let column = map (λ (row : List ℕ). get_or row j 0) rows in
     subst (λ n. IsWritable n (clue_of column)) (length-map rows (λ (row : List ℕ). get_or row j 0)) (writable column (column_two_colour width rows j are))
@@ -111,10 +113,10 @@ range_writable : (clue : ℕ → List Block) (cells a n : ℕ) → ((i : ℕ) �
 range_writable clue cells a zero each = tt
 range_writable clue cells a (suc n) each = (each a (omega arith), range_writable clue cells (a + 1) n (λ i lt. each i (omega (arith, lt))))
 
-pub rows_writable : (width : ℕ) (rows : List (List ℕ)) → AreRows width rows → AreWritable width (first_clues Across rows (length rows))
+pub rows_writable : (width : ℕ) (rows : Rows) → AreRows width rows → AreWritable width (first_clues Across rows (length rows))
 unfolding first_clues
 rows_writable width rows are = range_writable (λ i. clue_of (line_along Across i rows)) width 0 (length rows) (λ i lt. row_is width rows i are (omega (arith, lt)))
 
-pub columns_writable : (width n : ℕ) (rows : List (List ℕ)) → AreRows width rows → AreWritable (length rows) (first_clues Down rows n)
+pub columns_writable : (width n : ℕ) (rows : Rows) → AreRows width rows → AreWritable (length rows) (first_clues Down rows n)
 unfolding first_clues
 columns_writable width n rows are = range_writable (λ j. clue_of (line_along Down j rows)) (length rows) 0 n (λ j lt. column_is width rows j are)

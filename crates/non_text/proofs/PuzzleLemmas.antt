@@ -5,6 +5,7 @@ use Rattle.std.specs.Cmp.Lexicographic.{pointwise}
 use Rattle.std.proofs.lemmas.Bool.{leb-true}
 use Rattle.std.proofs.lemmas.Bool.Decides.{Decides-and, Decides-eqb, Decides-like}
 use Rattle.std.proofs.lemmas.Slice.Eq.{slice_eq-Decides}
+use Rattle.picture.specs.Rows.{Rows}
 use Rattle.picture.specs.declared.picture.TheConstants.{MAX_SIDE}
 use Rattle.clues.specs.declared.block.Block.{Block}
 use Rattle.clues.specs.Clue.{block}
@@ -53,7 +54,8 @@ pub ruleset parts = (size_limits, clues_count)
 
 block_decides : (a b : Block) → Decides (same_block a b) (a ≡ b)
 block_decides a b =
-    Decides-like _ (λ (e : (a.len ≡ b.len) × (a.colour ≡ b.colour)). let joined : block a.len a.colour ≡ block b.len b.colour = cc (e.0, e.1) in joined) (λ (e : a ≡ b). (ap (λ (x : Block). x.len) e, ap (λ (x : Block). x.colour) e))
+    Decides-like _ (λ (e : (a.len ≡ b.len) × (a.colour ≡ b.colour)). let joined : block a.len a.colour ≡ block b.len b.colour = cc (e.0, e.1) in joined)
+    (λ (e : a ≡ b). (ap (λ (x : Block). x.len) e, ap (λ (x : Block). x.colour) e))
     (Decides-and _ _ (Decides-eqb a.len b.len) (Decides-eqb a.colour b.colour))
 
 clue_decides : (a b : List Block) → Decides (pointwise same_block a b) (a ≡ b)
@@ -65,7 +67,8 @@ list_decides a b = slice_eq-Decides clue_decides a b _ refl
 pub clues_decides : (a b : Clues) → Decides (same_clues a b) (a ≡ b)
 unfolding same_clues
 clues_decides a b =
-    Decides-like _ (λ (e : (a.rows ≡ b.rows) × (a.columns ≡ b.columns)). let joined : clues_from a.rows a.columns ≡ clues_from b.rows b.columns = cc (e.0, e.1) in joined) (λ (e : a ≡ b). (ap (λ (x : Clues). x.rows) e, ap (λ (x : Clues). x.columns) e))
+    Decides-like _ (λ (e : (a.rows ≡ b.rows) × (a.columns ≡ b.columns)). let joined : clues_from a.rows a.columns ≡ clues_from b.rows b.columns = cc (e.0, e.1) in joined)
+    (λ (e : a ≡ b). (ap (λ (x : Clues). x.rows) e, ap (λ (x : Clues). x.columns) e))
     (Decides-and _ _ (list_decides a.rows b.rows) (list_decides a.columns b.columns))
 
 pub agreeing_none : (clues : Clues) → agreeing clues None ≡ Ok (record { clues = clues; goal = None })
@@ -75,11 +78,11 @@ agreeing_none clues = refl
 abbrev pub chosen : Bool → NonPuzzle → Result NonPuzzle NonFault
 chosen t puzzle = cond t (Ok puzzle) (Err GoalDisagrees)
 
-pub agreeing_same : (clues : Clues) (rows : List (List ℕ)) → clues_of rows ≡ clues → agreeing clues (Some rows) ≡ Ok (record { clues = clues; goal = Some rows })
+pub agreeing_same : (clues : Clues) (rows : Rows) → clues_of rows ≡ clues → agreeing clues (Some rows) ≡ Ok (record { clues = clues; goal = Some rows })
 unfolding agreeing
 agreeing_same clues rows e = ap (λ t. chosen t (record { clues = clues; goal = Some rows })) ((clues_decides (clues_of rows) clues).1 e)
 
-pub agreeing_other : (clues : Clues) (rows : List (List ℕ)) → (clues_of rows ≡ clues → ⊥) → agreeing clues (Some rows) ≡ Err GoalDisagrees
+pub agreeing_other : (clues : Clues) (rows : Rows) → (clues_of rows ≡ clues → ⊥) → agreeing clues (Some rows) ≡ Err GoalDisagrees
 unfolding agreeing
 agreeing_other clues rows other = ap (λ t. chosen t (record { clues = clues; goal = Some rows })) (not_same (same_clues (clues_of rows) clues) refl)
   where

@@ -1,19 +1,20 @@
 -- What is written of a picture is read again.
-use Rattle.std.proofs.Common.{◌≡◌, ℕ, ◌^◌, ◌<◌, ◌≤◌, Bool, true, false, cond, leb, List, [], ◌∷◌, ◌++◌, length, map, sum, Some, None, Ok, refl, sym, ap, ◌∙◌, arith, ◌&&◌, codes, decimal, is_none, nat_eq}
+use Rattle.std.proofs.Common.{◌≡◌, ℕ, ◌^◌, ◌<◌, ◌≤◌, Bool, true, false, cond, leb, List, [], ◌∷◌, ◌++◌, length, map, sum, Some, None, Ok, refl, sym, ap, ◌∙◌, arith, ◌&&◌, codes, decimal, is_none}
+use Rattle.std.proofs.Common.{nat_eq}
 use Rattle.std.specs.Option.{option_and_then}
 use Rattle.std.specs.Cmp.Lexicographic.{pointwise}
 use Rattle.std.specs.Str.{all_ascii_digits}
 use Rattle.std.specs.Char.{is_ascii_digit}
 use Rattle.std.specs.List.{flat_map}
 use Rattle.std.proofs.lemmas.Bool.{le-leb, and_parts}
-use Rattle.picture.specs.SplitLaws.{split_at}
+use Rattle.picture.proofs.SplitLaws.{split_at}
 use Rattle.picture.specs.declared.picture.TheConstants.{MAX_SIDE}
-use Rattle.picture.specs.Reading.{◌>>=◌}
-use Rattle.picture.specs.Rows.{width_of}
+use Rattle.picture.specs.Readers.{◌>>=◌}
+use Rattle.picture.specs.Rows.{width_of, Rows}
 use Rattle.picture.specs.Picture.{IsPicture}
 use Rattle.clues.specs.declared.block.Block.{Block}
 use Rattle.picture.specs.declared.line_id.Axis.TheVariants.{Across, Down}
-use Rattle.clues.specs.BookLaws.{length-first_clues}
+use Rattle.clues.proofs.BookLaws.{length-first_clues}
 use Rattle.clues.specs.ClueBook.{clues_from, clues_of}
 use Rattle.non_text.specs.declared.seen.Seen.{Seen}
 use Rattle.non_text.specs.declared.non_puzzle.NonPuzzle.{NonPuzzle}
@@ -24,10 +25,10 @@ use Rattle.non_text.specs.Section.{section_clues, found_clues, clues_behind}
 use Rattle.non_text.specs.Goal.{quoted, goal_digits, goal_in}
 use Rattle.non_text.specs.Puzzle.{size_within, size_in, first_fault, size_behind, found_goal, goal_behind, agreeing, puzzle_of}
 use Rattle.non_text.specs.RoundTrip.{IsReadAgain}
-use Rattle.non_text.specs.Writing.{is_two_colour}
+use Rattle.non_text.specs.WrittenNon.{is_two_colour}
 use Rattle.non_text.specs.Written.{clue_text, digit_of, goal_text, written_lines, non_text_of}
 use Rattle.non_text.proofs.BytesLemmas.{before_blanks_other, past_blanks_blank}
-use Rattle.picture.specs.NumberLaws.{decimal_digits, digit_range, number_spelled-decimal}
+use Rattle.picture.proofs.NumberLaws.{decimal_digits, digit_range, number_spelled-decimal}
 use Rattle.non_text.proofs.ClueLineLemmas.{sum-cons}
 use Rattle.non_text.proofs.DigitTexts.{trimmed_digits}
 use Rattle.non_text.proofs.LinesLemmas.{at_keyword_found, at_keyword_later}
@@ -35,13 +36,16 @@ use Rattle.non_text.proofs.GoalLemmas.{goal_is}
 use Rattle.non_text.proofs.SeenLemmas.{faults_first, faults_none}
 use Rattle.non_text.proofs.PuzzleLemmas.{agreeing_same}
 use Rattle.non_text.proofs.ClueTexts.{lens_of, small_sum, clue_text_begins, no_comment}
-use Rattle.non_text.proofs.WrittenLines.{is_printed, printed_append, IsShown, AreShown, lines_of-written, ArePlain, at_keyword-plain, section_of-plain, faults_step, faults-plain, AreWritable, plain_clues, section_clues-texts}
+use Rattle.non_text.proofs.WrittenLines.{is_printed, printed_append, IsShown, AreShown, lines_of-written, ArePlain, at_keyword-plain, section_of-plain, faults_step, faults-plain, AreWritable}
+use Rattle.non_text.proofs.WrittenLines.{plain_clues, section_clues-texts}
 use Rattle.non_text.proofs.PictureTexts.{AreRows, are_rows, cell_digits, digits_printed, no_quotes, length-digits, rows_again, rows_writable, columns_writable}
 
 -- ---- the steps of reading
 
-pub puzzle_from : (lines : List (List ℕ)) (width height : ℕ) (rows columns : List (List Block)) (picture : List (List ℕ)) (puzzle : NonPuzzle) → first_fault [] lines ≡ None → size_behind (codes "width") lines ≡ Some width → size_behind (codes "height") lines ≡ Some height
-    → clues_behind (codes "rows") height width lines ≡ Ok rows → clues_behind (codes "columns") width height lines ≡ Ok columns → goal_behind height width lines ≡ Ok (Some picture) → agreeing (clues_from rows columns) (Some picture) ≡ Ok puzzle → puzzle_of lines ≡ Ok puzzle
+pub puzzle_from : (lines : List (List ℕ)) (width height : ℕ) (rows columns : List (List Block)) (picture : Rows) (puzzle : NonPuzzle) → first_fault [] lines ≡ None
+    → size_behind (codes "width") lines ≡ Some width → size_behind (codes "height") lines ≡ Some height
+    → clues_behind (codes "rows") height width lines ≡ Ok rows → clues_behind (codes "columns") width height lines ≡ Ok columns → goal_behind height width lines ≡ Ok (Some picture)
+    → agreeing (clues_from rows columns) (Some picture) ≡ Ok puzzle → puzzle_of lines ≡ Ok puzzle
 unfolding puzzle_of
 puzzle_from lines width height rows columns picture puzzle good is_wide is_high are_rows are_columns is_goal agrees = rw (good, is_wide, is_high, are_rows, are_columns, is_goal) agrees
 
@@ -133,8 +137,10 @@ module _ (width height : ℕ) (rows columns : List (List Block)) (goal : List �
   no_fault : first_fault [] (lines_from width height rows columns goal) ≡ None
   no_fault =
       sym (faults_first (seen_as false false false false) (lines_from width height rows columns goal) refl refl refl refl)
-      ∙ faults_step (seen_as false false false false) (seen_as true false false false) (codes "width") (width_line width) _ (width_keyword width) (ap (λ o. cond (is_none o) (Some BadSize) None) (width_size width are.wide are.wide_fits)) refl
-      ∙ faults_step (seen_as true false false false) (seen_as true true false false) (codes "height") (height_line height) _ (height_keyword height) (ap (λ o. cond (is_none o) (Some BadSize) None) (height_size height are.high are.high_fits)) refl
+      ∙ faults_step (seen_as false false false false) (seen_as true false false false) (codes "width") (width_line width) _ (width_keyword width)
+      (ap (λ o. cond (is_none o) (Some BadSize) None) (width_size width are.wide are.wide_fits)) refl
+      ∙ faults_step (seen_as true false false false) (seen_as true true false false) (codes "height") (height_line height) _ (height_keyword height)
+      (ap (λ o. cond (is_none o) (Some BadSize) None) (height_size height are.high are.high_fits)) refl
       ∙ faults_step (seen_as true true false false) (seen_as true true true false) (codes "rows") (codes "rows") _ rows_keyword refl refl
       ∙ faults-plain (seen_as true true true false) (map clue_text rows) (lines_behind_rows columns goal) plain_rows
       ∙ faults_step (seen_as true true true false) (seen_as true true true true) (codes "columns") (codes "columns") _ columns_keyword refl refl
@@ -162,7 +168,8 @@ module _ (width height : ℕ) (rows columns : List (List Block)) (goal : List �
       (passed (codes "rows") (codes "width") (width_line width) _ (width_keyword width) refl
       ∙ passed (codes "rows") (codes "height") (height_line height) _ (height_keyword height) refl
       ∙ met (codes "rows") (codes "rows") _ rows_keyword refl)
-      ∙ ap (λ (lines : List (List ℕ)). section_clues height width lines) (section_of-plain (map clue_text rows) (codes "columns") (map clue_text columns ++ goal ∷ []) plain_rows (omega (arith, ap length columns_keyword)))
+      ∙ ap (λ (lines : List (List ℕ)). section_clues height width lines)
+      (section_of-plain (map clue_text rows) (codes "columns") (map clue_text columns ++ goal ∷ []) plain_rows (omega (arith, ap length columns_keyword)))
       ∙ section_clues-texts height width rows are.wide_fits are.rows_are are.rows_count
 
   columns_found : clues_behind (codes "columns") width height (lines_from width height rows columns goal) ≡ Ok columns
@@ -193,11 +200,11 @@ goal_value : (digits : List ℕ) → value_of (codes "goal " ++ 34 ∷ (digits +
 unfolding value_of past_blanks past_word is_blank
 goal_value digits = before_blanks_other (34 ∷ digits) 34 refl
 
-goal_digits-quoted : (rows : List (List ℕ)) → goal_digits (34 ∷ (flat_map (map digit_of) rows ++ 34 ∷ [])) ≡ Some (flat_map (map digit_of) rows)
+goal_digits-quoted : (rows : Rows) → goal_digits (34 ∷ (flat_map (map digit_of) rows ++ 34 ∷ [])) ≡ Some (flat_map (map digit_of) rows)
 unfolding goal_digits is_blank_line past_blanks
 goal_digits-quoted rows = ap quoted (split_at 34 (flat_map (map digit_of) rows) [] (no_quotes rows))
 
-goal_again : (width : ℕ) (rows : List (List ℕ)) → AreRows width rows → goal_in (length rows) width (value_of (goal_text rows)) ≡ Ok rows
+goal_again : (width : ℕ) (rows : Rows) → AreRows width rows → goal_in (length rows) width (value_of (goal_text rows)) ≡ Ok rows
 goal_again width rows are =
     let digits = flat_map (map digit_of) rows in
     ap (goal_in (length rows) width) (goal_value digits)
@@ -245,13 +252,13 @@ columns_shown : IsShown (codes "columns")
 unfolding is_comment past_blanks is_blank
 columns_shown = record { printed = refl; no_comment = refl }
 
-goal_shown : (rows : List (List ℕ)) → IsShown (goal_text rows)
+goal_shown : (rows : Rows) → IsShown (goal_text rows)
 unfolding is_comment past_blanks is_blank
 goal_shown rows = record { printed = printed_append (flat_map (map digit_of) rows) (34 ∷ []) (digits_printed rows) refl; no_comment = refl }
 
 -- ---- the whole
 
-parts_are : (rows : List (List ℕ)) → IsPicture rows → AreRows (width_of rows) rows → AreParts (width_of rows) (length rows) (clues_of rows).rows (clues_of rows).columns (goal_text rows)
+parts_are : (rows : Rows) → IsPicture rows → AreRows (width_of rows) rows → AreParts (width_of rows) (length rows) (clues_of rows).rows (clues_of rows).columns (goal_text rows)
 parts_are rows picture are = record {
   wide = picture.has_column;
   wide_fits = picture.columns_fit;
@@ -264,7 +271,7 @@ parts_are rows picture are = record {
   goal_is = goal_keyword (34 ∷ (flat_map (map digit_of) rows ++ 34 ∷ []));
 }
 
-lines_again : (rows : List (List ℕ)) → IsPicture rows → AreRows (width_of rows) rows → lines_of (non_text_of rows) ≡ written_lines rows
+lines_again : (rows : Rows) → IsPicture rows → AreRows (width_of rows) rows → lines_of (non_text_of rows) ≡ written_lines rows
 unfolding non_text_of
 lines_again rows picture are =
     let clues = clues_of rows in
@@ -276,7 +283,7 @@ lines_again rows picture are =
     lines_of-written (written_lines rows) (width_shown (width_of rows) (omega (arith, wide)), (height_shown (length rows) (omega (arith, high)), (rows_shown, all_rows)))
 
 -- where no cell has a colour above 1, reading the written text gives the picture's clues, and the picture as the goal
-pub read_again : (rows : List (List ℕ)) → IsPicture rows → is_two_colour rows ≡ true → IsReadAgain rows
+pub read_again : (rows : Rows) → IsPicture rows → is_two_colour rows ≡ true → IsReadAgain rows
 unfolding goal_behind
 read_again rows picture two =
     let width = width_of rows in
@@ -284,7 +291,8 @@ read_again rows picture two =
     let goal = goal_text rows in
     let are = are_rows width rows picture.rectangular two in
     let parts = parts_are rows picture are in
-    let goal_is = ap (found_goal (length rows) width) (goal_found width (length rows) clues.rows clues.columns goal parts) ∙ ap (λ read. read >>= λ picture. Ok (Some picture)) (goal_again width rows are) in
+    let goal_is = ap (found_goal (length rows) width) (goal_found width (length rows) clues.rows clues.columns goal parts)
+    ∙ ap (λ read. read >>= λ picture. Ok (Some picture)) (goal_again width rows are) in
     ap puzzle_of (lines_again rows picture are)
     ∙ puzzle_from (written_lines rows) width (length rows) clues.rows clues.columns rows (record { clues = clues; goal = Some rows })
     (no_fault width (length rows) clues.rows clues.columns goal parts)

@@ -1,9 +1,10 @@
 -- The lines of a section, and the clues that they give.
-use Rattle.std.proofs.Common.{◌≡◌, ℕ, zero, suc, ◌+◌, ◌-◌, ◌<◌, ◌≤◌, Bool, true, false, cond, not, eqb, leb, List, [], ◌∷◌, ◌++◌, length, take, drop, Option, Some, None, ◌⊎◌, Result, Ok, Err, refl, sym, ap, ◌∙◌, arith, inl, inr, ◌&&◌, ◌||◌, filter}
+use Rattle.std.proofs.Common.{◌≡◌, ℕ, zero, suc, ◌+◌, ◌-◌, ◌<◌, ◌≤◌, Bool, true, false, cond, not, eqb, leb, List, [], ◌∷◌, ◌++◌, length, take, drop, Option, Some, None, ◌⊎◌, Result, Ok, Err, refl}
+use Rattle.std.proofs.Common.{sym, ap, ◌∙◌, arith, inl, inr, ◌&&◌, ◌||◌, filter}
 use Rattle.std.specs.List.{list_any}
 use Rattle.std.proofs.lemmas.List.{append_assoc, append-nil, drop_all, length-take-le}
 use Rattle.std.proofs.lemmas.Bool.{lt-leb, le-leb, cases_lt, eqb-true, leb-true}
-use Rattle.picture.specs.Reading.{◌>>=◌}
+use Rattle.picture.specs.Readers.{◌>>=◌}
 use Rattle.clues.specs.declared.block.Block.{Block}
 use Rattle.non_text.specs.declared.counting.Count.{Count}
 use Rattle.non_text.specs.declared.fault.NonFault.{NonFault}
@@ -11,7 +12,7 @@ use Rattle.non_text.specs.declared.fault.NonFault.TheVariants.{BadCount, Memory}
 use Rattle.non_text.specs.Lines.{is_blank_line, section_of, at_keyword}
 use Rattle.non_text.specs.ClueLine.{clue_in, clues_in}
 use Rattle.non_text.specs.Section.{is_full_line, leaves_blanks, kept_lines, section_clues, found_clues, clues_behind}
-use Rattle.non_text.specs.Counting.{with_line, count_after, count_of}
+use Rattle.non_text.specs.SectionCounts.{with_line, count_after, count_of}
 
 -- ---- the lines that give clues
 
@@ -56,7 +57,8 @@ unfolding clues_left clues_in
 clues_left_done cells front zero lines e = ap Ok (append-nil front)
 clues_left_done cells front (suc n) lines e = absurd (omega (arith, e))
 
-clues_step : (cells : ℕ) (front : List (List Block)) (n : ℕ) (line : List ℕ) (lines : List (List ℕ)) (clue : List Block) → clue_in cells line ≡ Ok clue → clues_left cells (front ++ clue ∷ []) n lines ≡ clues_left cells front (suc n) (line ∷ lines)
+clues_step : (cells : ℕ) (front : List (List Block)) (n : ℕ) (line : List ℕ) (lines : List (List ℕ)) (clue : List Block) → clue_in cells line ≡ Ok clue
+    → clues_left cells (front ++ clue ∷ []) n lines ≡ clues_left cells front (suc n) (line ∷ lines)
 unfolding clues_left clues_in
 clues_step cells front n line lines clue e =
     sym (ap (λ read. behind_clues front (read >>= λ first. clues_in cells (take n lines) >>= λ later. Ok (first ∷ later))) e ∙ joined (clues_in cells (take n lines)))
@@ -65,12 +67,14 @@ clues_step cells front n line lines clue e =
     joined (Ok later) = ap Ok (sym (append_assoc front (clue ∷ []) later))
     joined (Err f) = refl
 
-pub clues_left_more : (cells : ℕ) (front : List (List Block)) (n i : ℕ) (line : List ℕ) (lines rest : List (List ℕ)) (clue : List Block) → i < n → rest ≡ line ∷ lines → clue_in cells line ≡ Ok clue → clues_left cells (front ++ clue ∷ []) (n - (i + 1)) lines ≡ clues_left cells front (n - i) rest
+pub clues_left_more : (cells : ℕ) (front : List (List Block)) (n i : ℕ) (line : List ℕ) (lines rest : List (List ℕ)) (clue : List Block) → i < n → rest ≡ line ∷ lines → clue_in cells line ≡ Ok clue
+    → clues_left cells (front ++ clue ∷ []) (n - (i + 1)) lines ≡ clues_left cells front (n - i) rest
 clues_left_more cells front n i line lines rest clue lt is e =
     let one_less : suc (n - (i + 1)) ≡ n - i = omega arith in
     clues_step cells front (n - (i + 1)) line lines clue e ∙ ap (λ k. clues_left cells front k (line ∷ lines)) one_less ∙ ap (clues_left cells front (n - i)) (sym is)
 
-pub clues_left_bad : (cells : ℕ) (front : List (List Block)) (n i : ℕ) (line : List ℕ) (lines rest : List (List ℕ)) (fault : NonFault) → i < n → rest ≡ line ∷ lines → clue_in cells line ≡ Err fault → clues_left cells front (n - i) rest ≡ Err fault
+pub clues_left_bad : (cells : ℕ) (front : List (List Block)) (n i : ℕ) (line : List ℕ) (lines rest : List (List ℕ)) (fault : NonFault) → i < n → rest ≡ line ∷ lines → clue_in cells line ≡ Err fault
+    → clues_left cells front (n - i) rest ≡ Err fault
 unfolding clues_left clues_in
 clues_left_bad cells front n i line lines rest fault lt is e =
     let one_less : n - i ≡ suc (n - (i + 1)) = omega arith in
@@ -78,7 +82,8 @@ clues_left_bad cells front n i line lines rest fault lt is e =
     ∙ ap (λ read. behind_clues front (read >>= λ first. clues_in cells (take (n - (i + 1)) lines) >>= λ later. Ok (first ∷ later))) e
 
 -- a clue that is refused
-pub clues_left_stop : (cells : ℕ) (front : List (List Block)) (n i : ℕ) (line : List ℕ) (lines rest : List (List ℕ)) (fault : NonFault) (total : Result (List (List Block)) NonFault) → i < n → rest ≡ line ∷ lines → (fault ≡ Memory) ⊎ (clue_in cells line ≡ Err fault)
+pub clues_left_stop : (cells : ℕ) (front : List (List Block)) (n i : ℕ) (line : List ℕ) (lines rest : List (List ℕ)) (fault : NonFault) (total : Result (List (List Block)) NonFault) → i < n
+    → rest ≡ line ∷ lines → (fault ≡ Memory) ⊎ (clue_in cells line ≡ Err fault)
     → clues_left cells front (n - i) rest ≡ total → (fault ≡ Memory) ⊎ (total ≡ Err fault)
 clues_left_stop cells front n i line lines rest fault total lt is refused so_far =
     elim refused [ inl none ↦ inl none | inr e ↦ inr (sym so_far ∙ clues_left_bad cells front n i line lines rest fault lt is e) ]
@@ -105,7 +110,8 @@ unfolding count_after
 count_full n count [] = omega arith
 count_full n count (line ∷ lines) = count_full n (with_line n count line) lines ∙ by_kind (is_full_line line)
   where
-    by_kind : (full : Bool) → cond full (count.full + 1) count.full + length (filter is_full_line lines) ≡ count.full + length (cond full (line ∷ filter is_full_line lines) (filter is_full_line lines))
+    by_kind : (full : Bool)
+        → cond full (count.full + 1) count.full + length (filter is_full_line lines) ≡ count.full + length (cond full (line ∷ filter is_full_line lines) (filter is_full_line lines))
     by_kind true = omega arith
     by_kind false = refl
 
@@ -146,7 +152,8 @@ count_late n count (line ∷ lines) =
 abbrev judged : ℕ → ℕ → ℕ → Bool → Result Bool NonFault
 judged n lines full late = cond (eqb full n) (Ok true) (cond (leb n lines && not late) (Ok false) (Err BadCount))
 
-pub count_is : (n : ℕ) (lines : List (List ℕ)) → leaves_blanks n lines ≡ cond (eqb (count_of n lines).full n) (Ok true) (cond (leb n (count_of n lines).lines && not (count_of n lines).late) (Ok false) (Err BadCount))
+pub count_is : (n : ℕ) (lines : List (List ℕ))
+    → leaves_blanks n lines ≡ cond (eqb (count_of n lines).full n) (Ok true) (cond (leb n (count_of n lines).lines && not (count_of n lines).late) (Ok false) (Err BadCount))
 unfolding leaves_blanks
 count_is n lines =
     let none : Count = record { lines = 0; full = 0; late = false } in
@@ -190,11 +197,13 @@ enough n full all late b kept e is = by_tests (eqb full n) (leb n all) refl refl
         let yes : b ≡ true = cc in
         omega (arith, eqb-true full n es, sym (ap (λ u. cond u full all) yes) ∙ is)
     by_tests false true es et =
-        let chosen : cond (not late) (Ok false) (Err BadCount) ≡ Ok b = sym (ap (λ u. cond u (Ok true) (cond (leb n all && not late) (Ok false) (Err BadCount))) es ∙ ap (λ u. cond (u && not late) (Ok false) (Err BadCount)) et) ∙ e in
+        let chosen : cond (not late) (Ok false) (Err BadCount) ≡ Ok b =
+        sym (ap (λ u. cond u (Ok true) (cond (leb n all && not late) (Ok false) (Err BadCount))) es ∙ ap (λ u. cond (u && not late) (Ok false) (Err BadCount)) et) ∙ e in
         let no : b ≡ false = not_late late chosen in
         omega (arith, leb-true n all et, sym (ap (λ u. cond u full all) no) ∙ is)
     by_tests false false es et =
-        let chosen : Err BadCount ≡ Ok b = sym (ap (λ u. cond u (Ok true) (cond (leb n all && not late) (Ok false) (Err BadCount))) es ∙ ap (λ u. cond (u && not late) (Ok false) (Err BadCount)) et) ∙ e in
+        let chosen : Err BadCount ≡ Ok b = sym (ap (λ u. cond u (Ok true) (cond (leb n all && not late) (Ok false) (Err BadCount))) es ∙ ap (λ u. cond (u && not late) (Ok false) (Err BadCount)) et)
+        ∙ e in
         cc
 
 section_count : (n cells : ℕ) (lines : List (List ℕ)) (clues : List (List Block)) → section_clues n cells lines ≡ Ok clues → length clues ≡ n

@@ -1,4 +1,4 @@
--- Sizes, and the first fault of the lines.
+-- Sizes, and the first error of the lines.
 use Rattle.std.proofs.Common.{◌≡◌, ℕ, ◌<◌, ◌≤◌, Bool, true, false, cond, leb, List, [], ◌∷◌, Option, Some, None, ◌⊎◌, min, refl, sym, ap, ◌∙◌, arith, inl, inr, ◌&&◌, option_map}
 use Rattle.std.specs.Option.{option_and_then}
 use Rattle.std.proofs.lemmas.Bool.{le-leb, lt-leb}
@@ -54,9 +54,9 @@ size_bad value n e bad = by_number (number_spelled value) e
 
 pub ruleset sizes = (size_none, size_some, size_bad)
 
--- ---- faults
+-- ---- errors
 
--- the first fault of lines below keywords
+-- the first error of lines below keywords
 unfoldable pub faults_below : Seen → List (List ℕ) → Option NonFault
 faults_below seen [] = None
 faults_below seen (line ∷ lines) = first_of_two (fault_below seen line) (faults_below (seen_with seen line) lines)

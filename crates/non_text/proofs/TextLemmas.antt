@@ -2,21 +2,21 @@
 use Rattle.std.proofs.Common.{◌≡◌, ℕ, ◌+◌, ◌-◌, ◌<◌, ◌≤◌, true, false, List, [], ◌∷◌, ◌++◌, length, get_or, take, drop, map, refl, sym, ap, ◌∙◌, arith, ◌&&◌, decimal, codes}
 use Rattle.std.specs.List.{flat_map}
 use Rattle.std.proofs.lemmas.List.{at_drop_more, at_drop_all, append_assoc, append-nil, take_all}
-use Rattle.picture.specs.Rows.{row_at, width_of}
+use Rattle.picture.specs.Rows.{row_at, width_of, Rows}
 use Rattle.clues.specs.declared.block.Block.{Block}
 use Rattle.clues.specs.ClueBook.{clues_of}
-use Rattle.non_text.specs.Writing.{is_two_colour_row, is_two_colour}
+use Rattle.non_text.specs.WrittenNon.{is_two_colour_row, is_two_colour}
 use Rattle.non_text.specs.Written.{clue_text, goal_text, ended_line, ended_clue, non_text_of}
 
 -- ---- rows one by one
 
-pub two_colour_more : (rows : List (List ℕ)) (i : ℕ) → i < length rows → is_two_colour_row (row_at rows i) ≡ true → is_two_colour (drop (i + 1) rows) ≡ is_two_colour (drop i rows)
+pub two_colour_more : (rows : Rows) (i : ℕ) → i < length rows → is_two_colour_row (row_at rows i) ≡ true → is_two_colour (drop (i + 1) rows) ≡ is_two_colour (drop i rows)
 two_colour_more rows i lt e = sym (at_drop_more is_two_colour rows i [] lt ∙ ap (λ t. t && is_two_colour (drop (i + 1) rows)) e)
 
-pub two_colour_not : (rows : List (List ℕ)) (i : ℕ) → i < length rows → is_two_colour_row (row_at rows i) ≡ false → is_two_colour (drop i rows) ≡ false
+pub two_colour_not : (rows : Rows) (i : ℕ) → i < length rows → is_two_colour_row (row_at rows i) ≡ false → is_two_colour (drop i rows) ≡ false
 two_colour_not rows i lt e = at_drop_more is_two_colour rows i [] lt ∙ ap (λ t. t && is_two_colour (drop (i + 1) rows)) e
 
-pub two_colour_all : (rows : List (List ℕ)) (i : ℕ) → length rows ≤ i → is_two_colour (drop i rows) ≡ true
+pub two_colour_all : (rows : Rows) (i : ℕ) → length rows ≤ i → is_two_colour (drop i rows) ≡ true
 two_colour_all rows i le = at_drop_all is_two_colour rows i le
 
 pub ruleset rows = (two_colour_more, two_colour_not, two_colour_all, append_assoc)
@@ -31,7 +31,8 @@ pub clue_text_none : (blocks : List Block) → length blocks ≡ 0 → clue_text
 clue_text_none [] e = refl
 clue_text_none (b ∷ blocks) e = absurd (omega (arith, e))
 
-pub clue_text_at : (blocks : List Block) (d : Block) → 0 < length blocks → clue_text blocks ≡ decimal (get_or blocks 0 d).len ++ flat_map (λ (other : Block). 44 ∷ decimal other.len) (take (length blocks - 1) (drop 1 blocks))
+pub clue_text_at : (blocks : List Block) (d : Block) → 0 < length blocks
+    → clue_text blocks ≡ decimal (get_or blocks 0 d).len ++ flat_map (λ (other : Block). 44 ∷ decimal other.len) (take (length blocks - 1) (drop 1 blocks))
 clue_text_at [] d some = absurd (omega (arith, some))
 clue_text_at (b ∷ blocks) d some =
     join-others b blocks ∙ ap (λ (others : List Block). decimal b.len ++ flat_map (λ (other : Block). 44 ∷ decimal other.len) others) (sym (take_all (length (b ∷ blocks) - 1) blocks (omega arith)))
@@ -49,7 +50,7 @@ seven : (a b c d e f g : List ℕ) → a ++ (b ++ (c ++ (d ++ (e ++ (f ++ (g ++ 
 seven a b c d e f g = simp (append_assoc, append-nil)
 
 -- the parts in the order in which they are put
-pub text_is : (rows : List (List ℕ)) → non_text_of rows
+pub text_is : (rows : Rows) → non_text_of rows
     ≡ (((((([] ++ ended_line (codes "width " ++ decimal (width_of rows))) ++ ended_line (codes "height " ++ decimal (length rows))) ++ codes "rows\n")
     ++ flat_map ended_clue (clues_of rows).rows) ++ codes "columns\n") ++ flat_map ended_clue (clues_of rows).columns) ++ ended_line (goal_text rows)
 unfolding non_text_of

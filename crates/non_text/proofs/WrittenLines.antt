@@ -1,5 +1,6 @@
 -- The lines of a written text, found again.
-use Rattle.std.proofs.Common.{◌≡◌, ◌≢◌, ℕ, zero, suc, ◌-◌, ◌<◌, ◌≤◌, Bool, true, false, cond, not, eqb, leb, List, [], ◌∷◌, ◌++◌, length, get_or, take, drop, map, Option, Some, None, Ok, Err, refl, ap, ◌∙◌, arith, ◌&&◌, ◌||◌, codes, filter, nat_eq, is_none}
+use Rattle.std.proofs.Common.{◌≡◌, ◌≢◌, ℕ, zero, suc, ◌-◌, ◌<◌, ◌≤◌, Bool, true, false, cond, not, eqb, leb, List, [], ◌∷◌, ◌++◌, length, get_or, take, drop, map, Option, Some, None, Ok, Err, refl}
+use Rattle.std.proofs.Common.{ap, ◌∙◌, arith, ◌&&◌, ◌||◌, codes, filter, nat_eq, is_none}
 use Rattle.std.specs.Cmp.Lexicographic.{pointwise}
 use Rattle.std.specs.List.{slice_split, flat_map, list_all, list_any, All}
 use Rattle.std.specs.Str.Lines.{strip_carriage_return}
@@ -9,7 +10,7 @@ use Rattle.std.proofs.lemmas.List.Elements.{All-nil, All-cons}
 use Rattle.std.proofs.lemmas.List.Folds.{list_all-append}
 use Rattle.std.proofs.lemmas.List.Splits.{slice_split_at}
 use Rattle.picture.specs.declared.picture.TheConstants.{MAX_SIDE}
-use Rattle.picture.specs.Reading.{◌>>=◌}
+use Rattle.picture.specs.Readers.{◌>>=◌}
 use Rattle.clues.specs.declared.block.Block.{Block}
 use Rattle.non_text.specs.declared.seen.Seen.{Seen}
 use Rattle.non_text.specs.declared.fault.NonFault.{NonFault}
@@ -78,13 +79,13 @@ ArePlain (line ∷ lines) = BeginsDigit line × ArePlain lines
 no_match : (first : ℕ) (word line : List ℕ) → BeginsDigit line → has_keyword (first ∷ word) line ≡ false
 no_match first word line plain = ap (λ (found : List ℕ). pointwise nat_eq found (first ∷ word)) (no_keyword line plain)
 
--- a keyword is found behind them
+-- a keyword is found after them
 pub at_keyword-plain : (first : ℕ) (word : List ℕ) (lines rest : List (List ℕ)) → ArePlain lines → at_keyword (first ∷ word) (lines ++ rest) ≡ at_keyword (first ∷ word) rest
 at_keyword-plain first word [] rest plain = refl
 at_keyword-plain first word (line ∷ lines) rest plain =
     at_keyword_later (first ∷ word) line (lines ++ rest) (no_match first word line plain.0) ∙ at_keyword-plain first word lines rest plain.1
 
--- a section ends behind them
+-- a section ends after them
 pub section_of-plain : (lines : List (List ℕ)) (line : List ℕ) (rest : List (List ℕ)) → ArePlain lines → 0 < length (keyword_of line) → section_of (lines ++ line ∷ rest) ≡ lines
 section_of-plain [] line rest plain keyword = section_end line rest keyword
 section_of-plain (clue ∷ lines) line rest plain keyword =
@@ -93,7 +94,8 @@ section_of-plain (clue ∷ lines) line rest plain keyword =
 -- what is wrong with a line by its keyword, and by whether its value is no size
 abbrev pub fault_by : List ℕ → Bool → Seen → Option NonFault
 fault_by word bad seen =
-    cond (((pointwise nat_eq word (codes "width") && seen.width) || (pointwise nat_eq word (codes "height") && seen.height)) || ((pointwise nat_eq word (codes "rows") && seen.rows) || (pointwise nat_eq word (codes "columns") && seen.columns)))
+    cond (((pointwise nat_eq word (codes "width") && seen.width) || (pointwise nat_eq word (codes "height") && seen.height))
+    || ((pointwise nat_eq word (codes "rows") && seen.rows) || (pointwise nat_eq word (codes "columns") && seen.columns)))
     (Some Repeated) (cond ((pointwise nat_eq word (codes "width") || pointwise nat_eq word (codes "height")) && bad) (Some BadSize) None)
 
 -- the keywords with one more
@@ -105,14 +107,15 @@ seen_by word seen = record {
   columns = pointwise nat_eq word (codes "columns") || seen.columns;
 }
 
--- a line without a fault
-pub faults_step : (seen next : Seen) (word line : List ℕ) (lines : List (List ℕ)) → keyword_of line ≡ word → fault_by word (is_none (size_in (value_of line))) seen ≡ None → seen_by word seen ≡ next → faults_below seen (line ∷ lines) ≡ faults_below next lines
+-- a line without an error
+pub faults_step : (seen next : Seen) (word line : List ℕ) (lines : List (List ℕ)) → keyword_of line ≡ word → fault_by word (is_none (size_in (value_of line))) seen ≡ None → seen_by word seen ≡ next
+    → faults_below seen (line ∷ lines) ≡ faults_below next lines
 unfolding faults_below fault_below
 faults_step seen next word line lines keyword good more =
     ap (λ fault. first_of_two fault (faults_below (seen_with seen line) lines)) (ap (λ (w : List ℕ). fault_by w (is_none (size_in (value_of line))) seen) keyword ∙ good)
     ∙ ap (λ (s : Seen). faults_below s lines) (ap (λ (w : List ℕ). seen_by w seen) keyword ∙ more)
 
--- clue lines have no fault, and no keyword stands on them
+-- clue lines have no error, and no keyword stands on them
 pub faults-plain : (seen : Seen) (lines rest : List (List ℕ)) → ArePlain lines → faults_below seen (lines ++ rest) ≡ faults_below seen rest
 faults-plain seen [] rest plain = refl
 faults-plain seen (line ∷ lines) rest plain =

@@ -1,5 +1,6 @@
 -- Bytes of a line: blanks, digits, words and numbers.
-use Rattle.std.specs.Prelude.{ℕ, Bool, true, false, not, ◌&&◌, ◌||◌, List, [], ◌∷◌, take, drop, nat_le, ◌==◌, if◌then◌else◌}
+use Rattle.std.specs.Prelude.{ℕ, Bool, true, false, not, ◌&&◌, ◌||◌, List, [], ◌∷◌, take, drop, nat_le, ◌==◌}
+use Rattle.std.specs.Prelude.{if◌then◌else◌}
 use Rattle.std.specs.List.{list_all, position_or_len}
 
 -- a space or a TAB
@@ -25,7 +26,7 @@ unfoldable pub before_blanks : List ℕ → List ℕ
 before_blanks [] = []
 before_blanks (b ∷ bytes) = if is_blank b && list_all is_blank bytes then [] else b ∷ before_blanks bytes
 
--- the bytes with the blanks taken off both ends
+-- the bytes without the blanks at both ends
 abbrev pub trimmed : List ℕ → List ℕ
 trimmed bytes = before_blanks (past_blanks bytes)
 
@@ -33,6 +34,6 @@ trimmed bytes = before_blanks (past_blanks bytes)
 unfoldable pub first_word : List ℕ → List ℕ
 first_word bytes = take (position_or_len is_blank bytes) bytes
 
--- what stands behind that word
+-- what follows that word
 unfoldable pub past_word : List ℕ → List ℕ
 past_word bytes = drop (position_or_len is_blank bytes) bytes

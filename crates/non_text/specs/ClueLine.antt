@@ -1,8 +1,9 @@
 -- A clue as a line of numbers.
-use Rattle.std.specs.Prelude.{ℕ, Bool, false, ◌+◌, ◌-◌, List, [], ◌∷◌, length, map, sum, Result, Ok, Err, nat_le, ◌==◌, if◌then◌else◌}
+use Rattle.std.specs.Prelude.{ℕ, Bool, false, ◌+◌, ◌-◌, List, [], ◌∷◌, length, map, sum, Result, Ok, Err, nat_le, ◌==◌}
+use Rattle.std.specs.Prelude.{if◌then◌else◌}
 use Rattle.std.specs.Option.{ok_or}
 use Rattle.std.specs.List.{slice_split, list_any}
-use Rattle.picture.specs.Reading.{◌>>=◌}
+use Rattle.picture.specs.Readers.{◌>>=◌}
 use Rattle.clues.specs.declared.block.Block.{Block}
 use Rattle.clues.specs.Clue.{block}
 use Rattle.non_text.specs.declared.fault.NonFault.{NonFault}
@@ -47,7 +48,7 @@ clue_in cells line = if is_blank_line line then Ok [] else (do
   numbers ← numbers_in (slice_split (λ b. b == 44) line)
   clue_from cells numbers)
 
--- the clues that the lines give, the first fault from the top
+-- the clues that the lines give, the first error from the top
 unfoldable pub clues_in : ℕ → List (List ℕ) → Result (List (List Block)) NonFault
 clues_in cells [] = Ok []
 clues_in cells (line ∷ lines) = do

@@ -12,6 +12,6 @@ IsFirstOf lines text (Some x) = (lines text ≡ x.0.now ∷ lines x.1.now) × (l
 abbrev pub section_lines : List ℕ → List (List ℕ)
 section_lines text = section_of (lines_of text)
 
--- a line, and the lines of the text behind it
+-- a line, and the lines of the text after it
 abbrev pub lines_found : Bor (List ℕ) × Bor (List ℕ) → List ℕ × List (List ℕ)
 lines_found x = (x.0.now, lines_of x.1.now)

@@ -1,7 +1,8 @@
--- The names of the faults.
+-- The names of the errors.
 use Rattle.std.specs.Prelude.{ℕ, List, codes}
 use Rattle.non_text.specs.declared.fault.NonFault.{NonFault}
-use Rattle.non_text.specs.declared.fault.NonFault.TheVariants.{MissingSize, BadSize, Repeated, BadClue, BadCount, ClueTooLong, BadGoal, GoalDisagrees, Memory}
+use Rattle.non_text.specs.declared.fault.NonFault.TheVariants.{MissingSize, BadSize, Repeated, BadClue, BadCount}
+use Rattle.non_text.specs.declared.fault.NonFault.TheVariants.{ClueTooLong, BadGoal, GoalDisagrees, Memory}
 
 abbrev pub name_of : NonFault → List ℕ
 name_of MissingSize = codes "MissingSize"

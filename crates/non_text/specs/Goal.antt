@@ -1,5 +1,6 @@
 -- The goal of a puzzle: a string of digits, row by row.
-use Rattle.std.specs.Prelude.{ℕ, ◌*◌, Bool, ◌&&◌, ◌||◌, List, [], ◌∷◌, length, map, Option, None, Some, Result, ◌==◌, if◌then◌else◌}
+use Rattle.std.specs.Prelude.{ℕ, ◌*◌, Bool, ◌&&◌, ◌||◌, List, [], ◌∷◌, length, map, Option, None, Some, Result, ◌==◌}
+use Rattle.std.specs.Prelude.{if◌then◌else◌}
 use Rattle.std.specs.List.{slice_split, list_all}
 use Rattle.std.specs.Option.{ok_or, option_and_then}
 use Rattle.picture.specs.Rows.{rows_of}
@@ -7,7 +8,7 @@ use Rattle.non_text.specs.declared.fault.NonFault.{NonFault}
 use Rattle.non_text.specs.declared.fault.NonFault.TheVariants.{BadGoal}
 use Rattle.non_text.specs.Lines.{is_blank_line}
 
--- of the pieces between quotes behind the first quote: the first one, where nothing but blanks stands behind the second quote
+-- of the pieces between quotes after the first quote: the first one, where nothing but blanks follows the second quote
 abbrev pub quoted : List (List ℕ) → Option (List ℕ)
 quoted (digits ∷ rest ∷ []) = if is_blank_line rest then Some digits else None
 quoted pieces = None
@@ -28,7 +29,8 @@ cell_of digit = if digit == 49 then 1 else 0
 -- the rows that so many digits give
 abbrev pub goal_rows : ℕ → ℕ → List ℕ → Option (List (List ℕ))
 goal_rows height width digits =
-    if (length digits == height * width) && list_all is_cell_digit digits then Some (rows_of height width (map cell_of digits)) else None
+    if (length digits == height * width) && list_all is_cell_digit digits
+    then Some (rows_of height width (map cell_of digits)) else None
 
 -- the picture of a goal line's value
 unfoldable pub goal_in : ℕ → ℕ → List ℕ → Result (List (List ℕ)) NonFault

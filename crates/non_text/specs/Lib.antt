@@ -9,8 +9,8 @@ pub mod RoundTrip
 pub mod Section
 pub mod Seen
 pub mod TwoColours
-pub mod Writing
+pub mod WrittenNon
 pub mod Written
-pub mod Counting
+pub mod SectionCounts
 pub mod Cut
 pub mod Examples

@@ -1,11 +1,13 @@
 -- The lines of a text, and what kinds of lines there are.
-use Rattle.std.specs.Prelude.{ℕ, Bool, false, not, List, [], ◌∷◌, Option, None, Some, filter, ◌==◌, nat_eq, if◌then◌else◌}
+use Rattle.std.specs.Prelude.{ℕ, Bool, false, not, List, [], ◌∷◌, Option, None, Some, filter, ◌==◌, nat_eq}
+use Rattle.std.specs.Prelude.{if◌then◌else◌}
 use Rattle.std.specs.List.{slice_split}
 use Rattle.std.specs.Str.Lines.{strip_carriage_return}
 use Rattle.std.specs.Cmp.Lexicographic.{pointwise}
 use Rattle.non_text.specs.Bytes.{is_lower, is_empty, past_blanks, first_word, past_word, trimmed}
 
--- the lines of the pieces between line feeds, each without a carriage return at its end: the last piece is a line where it has a byte
+-- the lines of the pieces between line feeds, each without a carriage
+-- return at its end: the last piece is a line where it has a byte
 abbrev pub lines_of_pieces : List (List ℕ) → List (List ℕ)
 lines_of_pieces [] = []
 lines_of_pieces (piece ∷ []) = if is_empty (strip_carriage_return piece) then [] else strip_carriage_return piece ∷ []
@@ -35,11 +37,12 @@ abbrev pub word_at : List ℕ → List ℕ
 word_at [] = []
 word_at (b ∷ bytes) = if is_lower b then first_word (b ∷ bytes) else []
 
--- the keyword of a line whose first byte past blanks is a lower-case letter: the run of bytes from there up to the next blank. Other lines have none
+-- the keyword of a line whose first byte past blanks is a lower-case letter:
+-- the run of bytes from there up to the next blank. Other lines have none
 unfoldable pub keyword_of : List ℕ → List ℕ
 keyword_of line = word_at (past_blanks line)
 
--- what stands behind the keyword, with the blanks taken off both ends
+-- what follows the keyword, without the blanks at both ends
 unfoldable pub value_of : List ℕ → List ℕ
 value_of line = trimmed (past_word (past_blanks line))
 
@@ -50,7 +53,7 @@ is_keyword_line line = not (is_empty (keyword_of line))
 abbrev pub has_keyword : List ℕ → List ℕ → Bool
 has_keyword keyword line = pointwise nat_eq (keyword_of line) keyword
 
--- the first line with a keyword, and the lines behind it
+-- the first line with a keyword, and the lines after it
 unfoldable pub at_keyword : List ℕ → List (List ℕ) → Option (List ℕ × List (List ℕ))
 at_keyword keyword [] = None
 at_keyword keyword (line ∷ lines) = if has_keyword keyword line then Some (line, lines) else at_keyword keyword lines

@@ -1,10 +1,11 @@
 -- The puzzle of a .non text.
-use Rattle.std.specs.Prelude.{ℕ, Bool, ◌&&◌, ◌||◌, List, [], ◌∷◌, Option, None, Some, is_none, Result, Ok, Err, codes, nat_le, ◌==◌, if◌then◌else◌, option_and_then}
+use Rattle.std.specs.Prelude.{ℕ, Bool, ◌&&◌, ◌||◌, List, [], ◌∷◌, Option, None, Some, is_none, Result, Ok, Err, codes}
+use Rattle.std.specs.Prelude.{nat_le, ◌==◌, if◌then◌else◌, option_and_then}
 use Rattle.std.specs.List.{list_any}
 use Rattle.std.specs.Option.{ok_or}
 use Rattle.std.specs.Cmp.Lexicographic.{pointwise}
 use Rattle.picture.specs.declared.picture.TheConstants.{MAX_SIDE}
-use Rattle.picture.specs.Reading.{◌>>=◌}
+use Rattle.picture.specs.Readers.{◌>>=◌}
 use Rattle.clues.specs.declared.block.Block.{Block}
 use Rattle.clues.specs.ClueBook.{Clues, clues_from, clues_of}
 use Rattle.non_text.specs.declared.non_puzzle.NonPuzzle.{NonPuzzle}
@@ -33,7 +34,8 @@ repeats keyword above line = has_keyword keyword line && list_any (has_keyword k
 -- the line is a second `width`, `height`, `rows` or `columns`
 abbrev pub is_repeated : List (List ℕ) → List ℕ → Bool
 is_repeated above line =
-    (repeats (codes "width") above line || repeats (codes "height") above line) || (repeats (codes "rows") above line || repeats (codes "columns") above line)
+    (repeats (codes "width") above line || repeats (codes "height") above line)
+    || (repeats (codes "rows") above line || repeats (codes "columns") above line)
 
 -- what is wrong with a line below those above it
 unfoldable pub line_fault : List (List ℕ) → List ℕ → Option NonFault
@@ -41,7 +43,7 @@ line_fault above line =
     if is_repeated above line then Some Repeated
     else (if is_size_line line && is_none (size_in (value_of line)) then Some BadSize else None)
 
--- the fault, or else the later one
+-- the error, or else the later one
 abbrev pub first_of_two : Option NonFault → Option NonFault → Option NonFault
 first_of_two None later = later
 first_of_two (Some e) later = Some e
@@ -51,7 +53,7 @@ unfoldable pub first_fault : List (List ℕ) → List (List ℕ) → Option NonF
 first_fault above [] = None
 first_fault above (line ∷ lines) = first_of_two (line_fault above line) (first_fault (line ∷ above) lines)
 
--- the size behind a keyword
+-- the size after a keyword
 unfoldable pub size_behind : List ℕ → List (List ℕ) → Option ℕ
 size_behind keyword lines = option_and_then (λ found. size_in (value_of found.0)) (at_keyword keyword lines)
 
@@ -81,7 +83,8 @@ same_clues a b =
 -- the puzzle with these clues, which a goal has to have
 unfoldable pub agreeing : Clues → Option (List (List ℕ)) → Result NonPuzzle NonFault
 agreeing clues None = Ok (record { clues = clues; goal = None })
-agreeing clues (Some rows) = if same_clues (clues_of rows) clues then Ok (record { clues = clues; goal = Some rows }) else Err GoalDisagrees
+agreeing clues (Some rows) =
+    if same_clues (clues_of rows) clues then Ok (record { clues = clues; goal = Some rows }) else Err GoalDisagrees
 
 -- the puzzle of these lines
 unfoldable pub puzzle_of : List (List ℕ) → Result NonPuzzle NonFault

@@ -1,7 +1,8 @@
 -- The clue lines of a section.
-use Rattle.std.specs.Prelude.{ℕ, Bool, true, false, ◌&&◌, not, List, length, take, drop, Option, None, Some, Result, Ok, Err, filter, nat_le, ◌==◌, if◌then◌else◌}
+use Rattle.std.specs.Prelude.{ℕ, Bool, true, false, ◌&&◌, not, List, length, take, drop, Option, None, Some, Result, Ok}
+use Rattle.std.specs.Prelude.{Err, filter, nat_le, ◌==◌, if◌then◌else◌}
 use Rattle.std.specs.List.{list_any}
-use Rattle.picture.specs.Reading.{◌>>=◌}
+use Rattle.picture.specs.Readers.{◌>>=◌}
 use Rattle.clues.specs.declared.block.Block.{Block}
 use Rattle.non_text.specs.declared.fault.NonFault.{NonFault}
 use Rattle.non_text.specs.declared.fault.NonFault.TheVariants.{BadCount}
@@ -13,7 +14,7 @@ abbrev pub is_full_line : List ℕ → Bool
 is_full_line line = not (is_blank_line line)
 
 -- Whether the blank lines of a section for n lines are left out, as they are where exactly n others stand there.
--- Otherwise all lines behind the first n have to be blank.
+-- Otherwise all lines after the first n have to be blank.
 unfoldable pub leaves_blanks : ℕ → List (List ℕ) → Result Bool NonFault
 leaves_blanks n lines =
     if length (filter is_full_line lines) == n then Ok true
@@ -30,12 +31,12 @@ section_clues n cells lines = do
   leaves ← leaves_blanks n lines
   clues_in cells (take n (kept_lines leaves lines))
 
--- the n clues of the section behind a keyword line: there is none where the line is missing
+-- the n clues of the section after a keyword line: there is none where the line is missing
 abbrev pub found_clues : ℕ → ℕ → Option (List ℕ × List (List ℕ)) → Result (List (List Block)) NonFault
 found_clues n cells None = Err BadCount
 found_clues n cells (Some found) = section_clues n cells (section_of found.1)
 
--- the n clues behind a keyword
+-- the n clues after a keyword
 unfoldable pub clues_behind : List ℕ → ℕ → ℕ → List (List ℕ) → Result (List (List Block)) NonFault
 clues_behind keyword n cells lines = found_clues n cells (at_keyword keyword lines)
 

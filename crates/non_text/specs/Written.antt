@@ -1,7 +1,7 @@
 -- The text that is written of a picture.
 use Rattle.std.specs.Prelude.{ℕ, ◌++◌, List, [], ◌∷◌, length, map, codes, decimal, ◌==◌, if◌then◌else◌}
 use Rattle.std.specs.List.{flat_map, join_with_byte}
-use Rattle.picture.specs.Rows.{width_of}
+use Rattle.picture.specs.Rows.{width_of, Rows}
 use Rattle.clues.specs.declared.block.Block.{Block}
 use Rattle.clues.specs.ClueBook.{clues_of}
 
@@ -14,11 +14,11 @@ abbrev pub digit_of : ℕ → ℕ
 digit_of cell = if cell == 0 then 48 else 49
 
 -- the digits of all cells, between quotes
-abbrev pub goal_text : List (List ℕ) → List ℕ
+abbrev pub goal_text : Rows → List ℕ
 goal_text rows = codes "goal " ++ 34 ∷ (flat_map (map digit_of) rows ++ 34 ∷ [])
 
 -- the lines that are written
-abbrev pub written_lines : List (List ℕ) → List (List ℕ)
+abbrev pub written_lines : Rows → List (List ℕ)
 written_lines rows =
     let clues = clues_of rows in
     (codes "width " ++ decimal (width_of rows))
@@ -35,5 +35,5 @@ ended_line line = line ++ 10 ∷ []
 abbrev pub ended_clue : List Block → List ℕ
 ended_clue clue = ended_line (clue_text clue)
 
-unfoldable pub non_text_of : List (List ℕ) → List ℕ
+unfoldable pub non_text_of : Rows → List ℕ
 non_text_of rows = flat_map ended_line (written_lines rows)

@@ -3,7 +3,7 @@
 ghost use Rattle.std.specs.Prelude.{◌≡◌, ◌<◌, ◌==◌, map, min, option_map, IfOk, nat_le};
 ghost use Rattle.std.specs.List.{slice_split};
 ghost use Rattle.picture.specs.Numbers.{number_spelled};
-ghost use Rattle.picture.specs.Reading.{Gives};
+ghost use Rattle.picture.specs.Readers.{Gives};
 ghost use Rattle.non_text.specs.ClueLine.{numbers_in, cells_needed, black, clue_from, clue_in};
 ghost use Rattle.non_text.specs.Capped.{all_capped};
 

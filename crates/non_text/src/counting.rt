@@ -1,14 +1,14 @@
 //! Whether the lines of a section are as many as its clues.
 
 ghost use Rattle.std.specs.Prelude.{◌≡◌, ◌+◌, ◌<◌, ◌^◌};
-ghost use Rattle.non_text.specs.Counting.{with_line};
+ghost use Rattle.non_text.specs.SectionCounts.{with_line};
 ghost use Rattle.non_text.specs.Cut.{section_lines};
 ghost use Rattle.non_text.specs.Section.{leaves_blanks};
 
 use crate::fault::{NonFault, Read};
 use crate::lines::{is_blank_line, next_in_section};
 
-// How many lines there are, how many of them are not blank, and whether one of those stands behind the first n.
+// How many lines there are, how many of them are not blank, and whether one of those follows the first n.
 #[derive(Clone, Copy, Default)]
 struct Count {
     lines: usize,

@@ -7,7 +7,7 @@ ghost use Rattle.non_text.specs.declared.fault.NonFault.TheVariants.{Memory};
 use std::alloc::AllocError;
 use thiserror::Error;
 
-/// Why a text is no puzzle. The first fault in the order of reading is answered.
+/// Why a text is no puzzle. The first error in the order of reading is answered.
 #[derive(Clone, Copy, Debug, PartialEq, Eq, Error)]
 pub enum NonFault {
     /// There is no `width` or no `height` line.
@@ -43,7 +43,7 @@ pub enum NonFault {
 pub(crate) type Read<T> = Result<T, NonFault>;
 
 impl NonFault {
-    /// The fault's name, as the variant is called.
+    /// The error's name, as the variant is called.
     pub fn name(&self) -> &'static str
         ensures { result.now ≡ name_of self.now }
     {

@@ -3,7 +3,7 @@
 ghost use Rattle.std.specs.Prelude.{◌≡◌, ◌<◌, ◌≤◌, map, IfOk};
 ghost use Rattle.std.specs.List.{list_all};
 ghost use Rattle.std.specs.Option.{option_copied};
-ghost use Rattle.picture.specs.Reading.{Gives};
+ghost use Rattle.picture.specs.Readers.{Gives};
 ghost use Rattle.non_text.specs.Goal.{goal_digits, is_cell_digit, cell_of, goal_in};
 
 use crate::fault::{NonFault, Read};
@@ -12,7 +12,7 @@ use picture::{MAX_SIDE, Picture, split_first};
 use std::alloc::{AllocError, Global};
 
 #[tactic(auto, using(crate::proofs::GoalLemmas::values, crate::proofs::GoalLemmas::quotes))]
-// The digits of a value: what stands between quotes with nothing but blanks behind them, or all of it.
+// The digits of a value: what stands between quotes with nothing but blanks after them, or all of it.
 fn goal_digits(value: &[u8]) -> Option<&[u8]>
     ensures { option_copied result ≡ goal_digits value.now }
 {

@@ -4,7 +4,7 @@ ghost use Rattle.std.specs.Prelude.{◌≡◌, ℕ, List, true};
 ghost use Rattle.picture.specs.Picture.{IsPicture};
 ghost use Rattle.non_text.specs.RoundTrip.{IsReadAgain};
 ghost use Rattle.non_text.specs.TwoColours.{PuzzlesAreInTwoColours};
-ghost use Rattle.non_text.specs.Writing.{is_two_colour};
+ghost use Rattle.non_text.specs.WrittenNon.{is_two_colour};
 
 use picture::Picture;
 

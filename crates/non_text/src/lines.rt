@@ -55,7 +55,7 @@ fn before_blanks(bytes: &[u8]) -> &[u8]
     &[]
 }
 
-// The bytes with the blanks taken off both ends.
+// The bytes without the blanks at both ends.
 pub(crate) fn trim(bytes: &[u8]) -> &[u8]
     ensures { result.now ≡ trimmed bytes.now }
 {
@@ -85,7 +85,7 @@ fn without_return(piece: &[u8]) -> &[u8]
 }
 
 #[tactic(auto, using(crate::proofs::LinesLemmas::first_lines))]
-// The first line, and the text behind it.
+// The first line, and the text after it.
 fn first_line(text: &[u8]) -> Option<(&[u8], &[u8])>
     ensures { IsFirstOf all_lines text.now result }
 {
@@ -115,7 +115,7 @@ fn is_comment(line: &[u8]) -> bool
 }
 
 #[tactic(auto, using(crate::proofs::LinesLemmas::shown_lines))]
-// The first line that is no comment, and the text behind it.
+// The first line that is no comment, and the text after it.
 pub(crate) fn next_line(text: &[u8]) -> Option<(&[u8], &[u8])>
     ensures { IsFirstOf lines_of text.now result }
 {
@@ -142,7 +142,7 @@ pub(crate) fn keyword(line: &[u8]) -> &[u8]
 }
 
 #[tactic(auto, unfolding(crate::specs::Lines::value_of))]
-// What stands behind the keyword of a line.
+// What follows the keyword of a line.
 pub(crate) fn value(line: &[u8]) -> &[u8]
     ensures { result.now ≡ value_of line.now }
 {
@@ -150,7 +150,7 @@ pub(crate) fn value(line: &[u8]) -> &[u8]
 }
 
 #[tactic(auto, using(crate::proofs::LinesLemmas::section_steps))]
-// The first line of the section that a text begins with, and the text behind it.
+// The first line of the section that a text begins with, and the text after it.
 pub(crate) fn next_in_section(text: &[u8]) -> Option<(&[u8], &[u8])>
     ensures { IsFirstOf section_lines text.now result }
 {
@@ -159,7 +159,7 @@ pub(crate) fn next_in_section(text: &[u8]) -> Option<(&[u8], &[u8])>
 }
 
 #[tactic(auto, using(crate::proofs::LinesLemmas::finding))]
-// The first line with a keyword, and the text behind it.
+// The first line with a keyword, and the text after it.
 pub(crate) fn find<'a>(text: &'a [u8], word: &[u8]) -> Option<(&'a [u8], &'a [u8])>
     ensures { option_map lines_found result ≡ at_keyword word.now (lines_of text.now) }
 {

@@ -1,7 +1,7 @@
 //! The clues of a section.
 
 ghost use Rattle.std.specs.Prelude.{◌&&◌, ◌<◌, take};
-ghost use Rattle.picture.specs.Reading.{Gives};
+ghost use Rattle.picture.specs.Readers.{Gives};
 ghost use Rattle.non_text.specs.Lines.{lines_of, is_blank_line};
 ghost use Rattle.non_text.specs.Cut.{IsFirstOf};
 ghost use Rattle.non_text.specs.ClueLine.{clues_in};
@@ -15,7 +15,7 @@ use clues::Clue;
 use std::alloc::Global;
 
 #[tactic(auto, using(crate::proofs::SectionLemmas::keeping))]
-// The first line of a section that gives a clue, and the text behind it.
+// The first line of a section that gives a clue, and the text after it.
 fn next_kept(text: &[u8], leaves_blanks: bool) -> Option<(&[u8], &[u8])>
     ensures { IsFirstOf (kept_in leaves_blanks) text.now result }
 {
@@ -50,7 +50,7 @@ fn clues(alloc: Global, text: &[u8], leaves_blanks: bool, n: u8, cells: u8) -> R
 }
 
 #[tactic(auto, unfolding(crate::specs::Section::clues_behind))]
-// The n clues behind a keyword, for lines of so many cells.
+// The n clues after a keyword, for lines of so many cells.
 pub fn clues_behind(alloc: Global, text: &[u8], word: &[u8], n: u8, cells: u8) -> Read<Vec<Clue>>
     requires { cells < 255 }
     ensures { Gives NonFault.Memory (λ v. v.items) result

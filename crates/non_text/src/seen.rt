@@ -93,7 +93,7 @@ pub(crate) fn first_fault(text: &[u8]) -> Option<NonFault>
 }
 
 #[tactic(auto, unfolding(crate::specs::Puzzle::size_behind))]
-// The size behind a keyword.
+// The size after a keyword.
 pub(crate) fn size_behind(text: &[u8], word: &[u8]) -> Option<u8>
     ensures { result ≡ size_behind word.now (lines_of text.now) }
 {

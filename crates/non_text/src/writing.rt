@@ -1,7 +1,7 @@
 //! The writer of .non texts.
 
 ghost use Rattle.std.specs.Prelude.{◌≡◌};
-ghost use Rattle.non_text.specs.Writing.{is_two_colour_row, is_two_colour, WritesNon};
+ghost use Rattle.non_text.specs.WrittenNon.{is_two_colour_row, is_two_colour, WritesNon};
 
 use crate::fault::NonWriteFault;
 use crate::text::non_text_of;
@@ -11,7 +11,8 @@ use std::io::Write;
 
 /// Writes the .non text of a picture in two colours: its size, its clues and itself as the goal.
 ///
-/// The whole text is made before the first byte is written. So a refusal or want of memory leaves the writer as it was.
+/// The whole text is made before the first byte is written. So a refusal or running out of memory leaves the writer as
+/// it was.
 pub fn write_non<W: Write>(
     alloc: Global,
     picture: &Picture,

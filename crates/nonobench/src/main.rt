@@ -38,7 +38,7 @@ fn main(rt: HostRuntime) -> ExitCode {
     .code
 }
 
-// The arguments behind the program's own name.
+// The arguments after the program's own name.
 fn arguments(rt: &(impl AllocGlobal + Env)) -> Result<Vec<String>, ProgramFault> {
     let arguments = env::args(rt).map_err(|error| match error.kind() {
         io::ErrorKind::OutOfMemory => ProgramFault::Memory,

@@ -5,7 +5,7 @@ use Rattle.std.proofs.lemmas.Bool.{cases_lt, cases_eq}
 use Rattle.std.proofs.lemmas.Nat.{pow_below, and_le_l, or_lt}
 use Rattle.std.proofs.lemmas.Nat.Bits.{bit_at_set_same, bit_at_set_other, bit_at_clear_same, bit_at_clear_other, bit_at_above}
 use Rattle.picture.specs.declared.picture.TheConstants.{MAX_SIDE}
-use Rattle.picture.specs.BitLaws.{set_bit, bit_is_set}
+use Rattle.picture.proofs.BitLaws.{set_bit, bit_is_set}
 
 -- a bit that two numbers share
 same_bit : (m n i : ℕ) → bit_at m i ≡ bit_at n i → IsBitSet m i ↔ IsBitSet n i

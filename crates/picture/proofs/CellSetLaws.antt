@@ -9,7 +9,7 @@ use Rattle.std.proofs.lemmas.Nat.{zero_from_ones, ones_le_self}
 use Rattle.picture.specs.declared.picture.TheConstants.{MAX_SIDE}
 use Rattle.picture.specs.CellSet.{IsCellSet, HasCell, cell_count, no_cells}
 use Rattle.picture.specs.Laws.{SameCellsAreEqual, CellsAreMembers, CellsComeBack}
-use Rattle.picture.specs.BitLaws.{no_bit, bit_or_not, bit_below, same_bits_below}
+use Rattle.picture.proofs.BitLaws.{no_bit, bit_or_not, bit_below, same_bits_below}
 
 pub same_cells : SameCellsAreEqual
 same_cells one other is_one is_other same =

@@ -7,7 +7,7 @@ use Rattle.std.proofs.lemmas.List.Sums.{sum_by-set}
 use Rattle.std.proofs.lemmas.Nat.{ones-le}
 use Rattle.picture.specs.declared.picture.TheConstants.{MAX_SIDE}
 use Rattle.picture.specs.CellSet.{IsCellSet, HasCell, PutsCell, TakesOutCell, cell_count}
-use Rattle.picture.specs.BitLaws.{same_bits, bits_more, bits_fewer}
+use Rattle.picture.proofs.BitLaws.{same_bits, bits_more, bits_fewer}
 use Rattle.picture.proofs.BitLemmas.{cleared, raised, raised_small}
 
 module _ (masks : List ℕ) (row col : ℕ) (is : IsCellSet masks) (lt : row < length masks) (inside : col < MAX_SIDE) where

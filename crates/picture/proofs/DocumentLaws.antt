@@ -2,14 +2,15 @@
 use Rattle.std.proofs.Common.{ℕ, List}
 use Rattle.std.proofs.Math.Bridge.{le_prop}
 use Rattle.std.proofs.Math.Path.{to_path_p}
+use Rattle.picture.specs.Rows.{Rows}
 use Rattle.picture.specs.Document.{AreColoured, AreInside}
 use Rattle.picture.specs.Palette.{Colours}
 use Rattle.picture.specs.Laws.{SameContentsAreEqual}
 
-coloured_one : (rows : List (List ℕ)) (colours : Colours) → IsProp (AreColoured rows colours)
+coloured_one : (rows : Rows) (colours : Colours) → IsProp (AreColoured rows colours)
 coloured_one rows colours = λ a b i row col. le_prop (a row col) (b row col) i
 
-inside_one : (givens : List ℕ) (rows : List (List ℕ)) → IsProp (AreInside givens rows)
+inside_one : (givens : List ℕ) (rows : Rows) → IsProp (AreInside givens rows)
 inside_one givens rows = λ a b i row col has. (le_prop (a row col has).0 (b row col has).0 i, le_prop (a row col has).1 (b row col has).1 i)
 
 pub same_contents : SameContentsAreEqual

@@ -5,7 +5,7 @@ use Rattle.std.proofs.lemmas.Nat.{shr-shr, shr_le}
 use Rattle.std.proofs.lemmas.Nat.Bits.{bit_at-trailing_zeros, bit_at-zero}
 use Rattle.picture.specs.declared.picture.TheConstants.{MAX_SIDE}
 use Rattle.picture.specs.LineSet.{IsClearFrom, IsFirstBit}
-use Rattle.picture.specs.BitLaws.{set_bit, bit_is_set, bit_below}
+use Rattle.picture.proofs.BitLaws.{set_bit, bit_is_set, bit_below}
 
 -- a bit of what is left of a mask without its lowest ones
 onward_bit : (mask from i : ℕ) → bit_at (mask / 2 ^ from) i ≡ bit_at mask (from + i)
@@ -22,7 +22,8 @@ clear_from mask from none at on is =
     absurd (omega arith)
 
 module _ (mask from : ℕ) (small : mask < 2 ^ MAX_SIDE) (some : 0 < mask / 2 ^ from) where
-  lowest : (trailing_zeros w128 (mask / 2 ^ from) < 128) × (bit_at (mask / 2 ^ from) (trailing_zeros w128 (mask / 2 ^ from)) ≡ 1) × ((i : ℕ) → i < trailing_zeros w128 (mask / 2 ^ from) → bit_at (mask / 2 ^ from) i ≡ 0)
+  lowest : (trailing_zeros w128 (mask / 2 ^ from) < 128) × (bit_at (mask / 2 ^ from) (trailing_zeros w128 (mask / 2 ^ from)) ≡ 1) × ((i : ℕ) → i < trailing_zeros w128 (mask / 2 ^ from)
+      → bit_at (mask / 2 ^ from) i ≡ 0)
   lowest = bit_at-trailing_zeros w128 (mask / 2 ^ from) some (omega (arith, small, shr_le mask from))
 
   is_lowest : IsBitSet mask (from + trailing_zeros w128 (mask / 2 ^ from))

@@ -6,11 +6,11 @@ use Rattle.std.proofs.lemmas.Slice.Eq.{slice_eq-Decides}
 use Rattle.std.proofs.lemmas.Bool.Decides.{Decides-eqb}
 use Rattle.picture.specs.declared.line_id.Axis.TheVariants.{Across, Down}
 use Rattle.picture.specs.declared.line_id.LineId.{LineId}
-use Rattle.picture.specs.Rows.{rows_of, width_of, row_at, cell_at, line_along, line_of, lines_along, HasLine}
+use Rattle.picture.specs.Rows.{rows_of, width_of, row_at, cell_at, line_along, line_of, lines_along, HasLine, Rows}
 use Rattle.picture.specs.Picture.{IsPicture, AreCells}
 use Rattle.picture.specs.Line.{spaced}
 use Rattle.picture.proofs.LineLemmas.{length-spaced, get_or-spaced}
-use Rattle.picture.specs.FlatLaws.{length-rows_of, place_inside, length-row, cell_at-rows_of, cell_at_below}
+use Rattle.picture.proofs.FlatLaws.{length-rows_of, place_inside, length-row, cell_at-rows_of, cell_at_below}
 
 pub is_picture : (height width : ℕ) (cells : List ℕ) → AreCells height width cells → IsPicture (rows_of height width cells)
 is_picture height width cells is =
@@ -27,13 +27,13 @@ is_picture height width cells is =
     }
 
 -- what is known of rows that a flat list makes
-pub record Facts (height width : ℕ) (cells : List ℕ) (rows : List (List ℕ)) : Type 0 where
+pub record Facts (height width : ℕ) (cells : List ℕ) (rows : Rows) : Type 0 where
   pub tall : length rows ≡ height
   pub wide : width_of rows ≡ width
   pub picture : IsPicture rows
   pub cell : (i j : ℕ) → i < height → j < width → cell_at rows i j ≡ get_or cells (i * width + j) 0
 
-pub facts : (height width : ℕ) (cells : List ℕ) (rows : List (List ℕ)) → rows_of height width cells ≡ rows → AreCells height width cells → Facts height width cells rows
+pub facts : (height width : ℕ) (cells : List ℕ) (rows : Rows) → rows_of height width cells ≡ rows → AreCells height width cells → Facts height width cells rows
 facts height width cells rows e is = subst (Facts height width cells) e (record {
   tall = length-rows_of height width cells;
   wide = length-row height width cells 0 is.count is.has_row;
@@ -67,7 +67,7 @@ rows_of-replicate (suc height) width =
     let room : width ≤ width + height * width = omega arith in
     let rest : width + height * width - width ≡ height * width = omega arith in
     rw (more, take-replicate {X = ℕ} width (width + height * width) 0 room, drop-replicate {X = ℕ} width (width + height * width) 0, rest)
-    (ap (λ (rows : List (List ℕ)). replicate width 0 ∷ rows) (rows_of-replicate height width))
+    (ap (λ (rows : Rows). replicate width 0 ∷ rows) (rows_of-replicate height width))
 
 pub same_cells : (height width : ℕ) (a b : List ℕ) → length a ≡ height * width → length b ≡ height * width → rows_of height width a ≡ rows_of height width b → a ≡ b
 same_cells zero width [] [] la lb e = refl
@@ -81,7 +81,7 @@ same_cells (suc height) width a b la lb e =
 
 -- ---- equal pictures
 
-module _ (h w h' w' : ℕ) (a b : List ℕ) (rows rows' : List (List ℕ)) (e : rows_of h w a ≡ rows) (e' : rows_of h' w' b ≡ rows') (is : AreCells h w a) (is' : AreCells h' w' b) where
+module _ (h w h' w' : ℕ) (a b : List ℕ) (rows rows' : Rows) (e : rows_of h w a ≡ rows) (e' : rows_of h' w' b ≡ rows') (is : AreCells h w a) (is' : AreCells h' w' b) where
   -- equal sizes: the cells decide
   pub same_when : h ≡ h' → w ≡ w' → (r : Bool) → r ≡ pointwise eqb a b → (IsTrue r → rows ≡ rows') × (rows ≡ rows' → IsTrue r)
   same_when p q r test = grind (arith, rows_of, same_cells, slice_eq-Decides)
@@ -94,7 +94,7 @@ module _ (h w h' w' : ℕ) (a b : List ℕ) (rows rows' : List (List ℕ)) (e : 
       (sym f.tall ∙ ap length s ∙ f'.tall, sym f.wide ∙ ap width_of s ∙ f'.wide)
 
 -- a line of a picture whose rows lie in a flat list
-pub row_of_picture : (height width : ℕ) (cells : List ℕ) (rows : List (List ℕ)) (line : LineId) → rows_of height width cells ≡ rows → AreCells height width cells → line.axis ≡ Across → HasLine rows line
+pub row_of_picture : (height width : ℕ) (cells : List ℕ) (rows : Rows) (line : LineId) → rows_of height width cells ≡ rows → AreCells height width cells → line.axis ≡ Across → HasLine rows line
     → spaced cells (line.at * width) 1 width ≡ line_of rows line
 row_of_picture height width cells rows line e is across has =
     let f = facts height width cells rows e is in
@@ -103,7 +103,7 @@ row_of_picture height width cells rows line e is across has =
     ∙ ap (λ grid. line_along Across line.at grid) e
     ∙ ap (λ axis. line_along axis line.at rows) (sym across)
 
-pub column_of_picture : (height width : ℕ) (cells : List ℕ) (rows : List (List ℕ)) (line : LineId) → rows_of height width cells ≡ rows → AreCells height width cells → line.axis ≡ Down → HasLine rows line
+pub column_of_picture : (height width : ℕ) (cells : List ℕ) (rows : Rows) (line : LineId) → rows_of height width cells ≡ rows → AreCells height width cells → line.axis ≡ Down → HasLine rows line
     → spaced cells line.at width height ≡ line_of rows line
 column_of_picture height width cells rows line e is down has =
     let f = facts height width cells rows e is in

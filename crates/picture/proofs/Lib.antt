@@ -14,3 +14,10 @@ pub mod PaletteLemmas
 pub mod RoomLemmas
 pub mod UnionLemmas
 pub mod WritingLemmas
+pub mod BitLaws
+pub mod ColourLaws
+pub mod FlatLaws
+pub mod LineSetLaws
+pub mod NumberLaws
+pub mod SendingLaws
+pub mod SplitLaws

@@ -11,10 +11,11 @@ use Rattle.picture.specs.declared.line_id.Axis.{Axis}
 use Rattle.picture.specs.declared.line_id.Axis.TheVariants.{Across, Down}
 use Rattle.picture.specs.declared.line_id.LineId.{LineId}
 use Rattle.picture.specs.Picture.{AreCells, part, with_part}
-use Rattle.picture.specs.Rows.{rows_of, width_of, row_at, lines_along, with_line, without_line, line_inserted, line_deleted, lines_swapped}
-use Rattle.picture.specs.FlatLaws.{length-rows_of, row_at-rows_of}
+use Rattle.picture.specs.Rows.{rows_of, width_of, row_at, lines_along, with_line, without_line, line_inserted, line_deleted, lines_swapped, Rows}
+use Rattle.picture.proofs.FlatLaws.{length-rows_of, row_at-rows_of}
 use Rattle.picture.proofs.FlatLemmas.{facts}
-use Rattle.picture.proofs.GridLemmas.{IsRow, IsGrid, concat-rows_of, rows_of-concat, grid_of, cells_of, grid-row_inserted, grid-row_removed, grid-rows_swapped, grid-mapped, inserts_cell, removes_cell, swaps_cells, with_gap, without_cell, with_exchange}
+use Rattle.picture.proofs.GridLemmas.{IsRow, IsGrid, concat-rows_of, rows_of-concat, grid_of, cells_of, grid-row_inserted, grid-row_removed, grid-rows_swapped, grid-mapped, inserts_cell, removes_cell}
+use Rattle.picture.proofs.GridLemmas.{swaps_cells, with_gap, without_cell, with_exchange}
 
 -- ---- whole rows in the flat list
 
@@ -24,21 +25,21 @@ take_past xs ys n k e = rw e (take-append-add xs ys n)
 drop_past : (xs ys : List ℕ) (n k : ℕ) → k ≡ length xs + n → drop k (xs ++ ys) ≡ drop n ys
 drop_past xs ys n k e = rw e (drop-append-add xs ys n)
 
-take-concat : (width n : ℕ) (rows : List (List ℕ)) → All (IsRow width) rows → n ≤ length rows → take (n * width) (concat rows) ≡ concat (take n rows)
+take-concat : (width n : ℕ) (rows : Rows) → All (IsRow width) rows → n ≤ length rows → take (n * width) (concat rows) ≡ concat (take n rows)
 take-concat width zero rows all within = let none : 0 * width ≡ 0 = omega arith in rw none refl
 take-concat width (suc n) [] all within = absurd (omega (arith, within))
 take-concat width (suc n) (row ∷ rows) all within =
     let wide = (All-head (IsRow width) row rows all).wide in
     take_past row (concat rows) (n * width) (suc n * width) (omega arith) ∙ ap (λ xs. row ++ xs) (take-concat width n rows (All-tail (IsRow width) row rows all) (omega (arith, within)))
 
-drop-concat : (width n : ℕ) (rows : List (List ℕ)) → All (IsRow width) rows → n ≤ length rows → drop (n * width) (concat rows) ≡ concat (drop n rows)
+drop-concat : (width n : ℕ) (rows : Rows) → All (IsRow width) rows → n ≤ length rows → drop (n * width) (concat rows) ≡ concat (drop n rows)
 drop-concat width zero rows all within = let none : 0 * width ≡ 0 = omega arith in rw none refl
 drop-concat width (suc n) [] all within = absurd (omega (arith, within))
 drop-concat width (suc n) (row ∷ rows) all within =
     let wide = (All-head (IsRow width) row rows all).wide in
     drop_past row (concat rows) (n * width) (suc n * width) (omega arith) ∙ drop-concat width n rows (All-tail (IsRow width) row rows all) (omega (arith, within))
 
-concat-set : (width : ℕ) (rows : List (List ℕ)) (i : ℕ) (row : List ℕ) → All (IsRow width) rows → length row ≡ width → i < length rows → concat (set rows i row) ≡ with_part (concat rows) (i * width) row
+concat-set : (width : ℕ) (rows : Rows) (i : ℕ) (row : List ℕ) → All (IsRow width) rows → length row ≡ width → i < length rows → concat (set rows i row) ≡ with_part (concat rows) (i * width) row
 concat-set width [] i row all wide lt = absurd (omega (arith, lt))
 concat-set width (first ∷ rows) zero row all wide lt =
     let none : 0 * width ≡ 0 = omega arith in
@@ -101,15 +102,16 @@ module _ (height width : ℕ) (old : List ℕ) (is : AreCells height width old) 
       ∙ ap concat (swap_is rows i j [] lt_i lt_j)
 
 -- cells that lie as these rows
-pub record Lies (height width : ℕ) (cells : List ℕ) (rows : List (List ℕ)) : Type 0 where
+pub record Lies (height width : ℕ) (cells : List ℕ) (rows : Rows) : Type 0 where
   pub reads : rows_of height width cells ≡ rows
   pub are : AreCells height width cells
 
-lies_of : (height width : ℕ) (cells : List ℕ) (rows : List (List ℕ)) → 0 < height → height ≤ MAX_SIDE → 0 < width → width ≤ MAX_SIDE → IsGrid height width rows → cells ≡ concat rows → Lies height width cells rows
+lies_of : (height width : ℕ) (cells : List ℕ) (rows : Rows) → 0 < height → height ≤ MAX_SIDE → 0 < width → width ≤ MAX_SIDE → IsGrid height width rows → cells ≡ concat rows
+    → Lies height width cells rows
 lies_of height width cells rows some_rows rows_fit some_columns columns_fit is e =
     subst (λ xs. Lies height width xs rows) (sym e) (record { reads = rows_of-concat height width rows is; are = cells_of height width rows some_rows rows_fit some_columns columns_fit is })
 
-module _ (height width : ℕ) (old new : List ℕ) (now : List (List ℕ)) (e : rows_of height width old ≡ now) (is : AreCells height width old) where
+module _ (height width : ℕ) (old new : List ℕ) (now : Rows) (e : rows_of height width old ≡ now) (is : AreCells height width old) where
   abbrev before : List (List ℕ)
   before = rows_of height width old
 
@@ -172,7 +174,8 @@ module _ (height width : ℕ) (old new : List ℕ) (now : List (List ℕ)) (e : 
       let in_j : j < height = omega (arith, is_tall, subst (λ along. j < lines_along along now) across second) in
       let target : swap before i j ≡ lines_swapped axis i j now = ap (λ grid. swap grid i j) e ∙ ap (λ along. lines_swapped along i j now) (sym across) in
       subst (Lies height width new) target
-      (lies_of height width new (swap before i j) is.has_row is.rows_fit is.has_column is.columns_fit (grid-rows_swapped height width before i j grid in_i in_j) (made ∙ rows_exchanged height width old is i j in_i in_j))
+      (lies_of height width new (swap before i j) is.has_row is.rows_fit is.has_column is.columns_fit (grid-rows_swapped height width before i j grid in_i in_j)
+      (made ∙ rows_exchanged height width old is i j in_i in_j))
 
   pub columns_swapped : (axis : Axis) (i j : ℕ) → axis ≡ Down → i < lines_along axis now → j < lines_along axis now
       → new ≡ concat (lines_swapped Down i j (rows_of height width old)) → Lies height width new (lines_swapped axis i j now)
@@ -181,4 +184,5 @@ module _ (height width : ℕ) (old new : List ℕ) (now : List (List ℕ)) (e : 
       let in_j : j < width = omega (arith, is_wide, subst (λ along. j < lines_along along now) down second) in
       let target : lines_swapped Down i j before ≡ lines_swapped axis i j now = ap (λ grid. lines_swapped Down i j grid) e ∙ ap (λ along. lines_swapped along i j now) (sym down) in
       subst (Lies height width new) target
-      (lies_of height width new (lines_swapped Down i j before) is.has_row is.rows_fit is.has_column is.columns_fit (grid-mapped height width width (with_exchange i j) before (swaps_cells width i j in_i in_j) grid) made)
+      (lies_of height width new (lines_swapped Down i j before) is.has_row is.rows_fit is.has_column is.columns_fit
+      (grid-mapped height width width (with_exchange i j) before (swaps_cells width i j in_i in_j) grid) made)

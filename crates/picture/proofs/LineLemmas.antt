@@ -17,7 +17,8 @@ get_or-spaced cells start step (suc count) (suc i) lt =
 -- one cell more at the end
 pub spaced_last : (cells : List ℕ) (start step count : ℕ) → spaced cells start step (suc count) ≡ spaced cells start step count ++ get_or cells (start + count * step) 0 ∷ []
 spaced_last cells start step zero = ap (λ k. get_or cells k 0 ∷ []) (omega arith)
-spaced_last cells start step (suc count) = ap (λ (xs : List ℕ). get_or cells start 0 ∷ xs) (spaced_last cells (start + step) step count ∙ ap (λ k. spaced cells (start + step) step count ++ get_or cells k 0 ∷ []) (omega arith))
+spaced_last cells start step (suc count) =
+    ap (λ (xs : List ℕ). get_or cells start 0 ∷ xs) (spaced_last cells (start + step) step count ∙ ap (λ k. spaced cells (start + step) step count ++ get_or cells k 0 ∷ []) (omega arith))
 
 pub spaced_is_line : (cells : List ℕ) (start step count : ℕ) → 0 < count → IsSpaced cells start step count → IsLine (spaced cells start step count)
 spaced_is_line cells start step count some is = grind (arith, get_or-spaced, get_or_past, length-spaced, spaced)

@@ -7,7 +7,7 @@ use Rattle.picture.specs.declared.line_id.Axis.TheVariants.{Across, Down}
 use Rattle.picture.specs.declared.line_id.LineId.{LineId}
 use Rattle.picture.specs.LineSet.{Lines, IsLineSet, mask_along, PutsName, TakesOutName}
 use Rattle.picture.proofs.BitLemmas.{cleared, raised, raised_small, cleared_small}
-use Rattle.picture.specs.LineSetLaws.{same_axis, same_name, small_along}
+use Rattle.picture.proofs.LineSetLaws.{same_axis, same_name, small_along}
 
 -- ---- one axis has another mask
 
@@ -45,8 +45,10 @@ module _ (axis : Axis) (lines : Lines) (at : ℕ) (is : IsLineSet lines) (inside
   name_in other = elim (same_axis other.axis axis) [
     | inl e ↦
         let by = raised mask at other.at inside in
-        rw (e, its_mask axis lines (bit_in mask at))
-        ((λ has. elim (by.0 has) [ inl had ↦ inl had | inr same ↦ inr (ap (λ n. record { axis = axis; at = n }) same) ]), (λ either. elim either [ inl had ↦ by.1 (inl had) | inr same ↦ by.1 (inr (ap (λ l. l.at) same)) ]))
+        rw (e, its_mask axis lines (bit_in mask at)) (
+          (λ has. elim (by.0 has) [ inl had ↦ inl had | inr same ↦ inr (ap (λ n. record { axis = axis; at = n }) same) ]),
+          (λ either. elim either [ inl had ↦ by.1 (inl had) | inr same ↦ by.1 (inr (ap (λ l. l.at) same)) ]),
+        )
     | inr differs ↦
         rw (other_mask axis other.axis lines (bit_in mask at) differs)
         ((λ has. inl has), (λ either. elim either [ inl had ↦ had | inr same ↦ absurd (differs (ap (λ l. l.axis) same)) ]))

@@ -1,5 +1,6 @@
 -- Digits and their value, which is counted up to a limit.
-use Rattle.std.proofs.Common.{◌≡◌, ℕ, ◌+◌, ◌-◌, ◌*◌, ◌^◌, ◌<◌, ◌≤◌, Bool, true, false, cond, List, [], ◌∷◌, length, get_or, drop, Option, Some, None, IfSome, refl, sym, ap, ◌∙◌, arith, min, option_map, ◌&&◌}
+use Rattle.std.proofs.Common.{◌≡◌, ℕ, ◌+◌, ◌-◌, ◌*◌, ◌^◌, ◌<◌, ◌≤◌, Bool, true, false, cond, List, [], ◌∷◌, length, get_or, drop, Option, Some, None, IfSome, refl, sym, ap, ◌∙◌, arith, min}
+use Rattle.std.proofs.Common.{option_map, ◌&&◌}
 use Rattle.std.specs.Char.{is_ascii_digit}
 use Rattle.std.specs.Str.{all_ascii_digits}
 use Rattle.std.proofs.lemmas.Bool.{le-leb, lt-leb}
@@ -7,9 +8,9 @@ use Rattle.std.proofs.lemmas.List.{at_drop_more, at_drop_all}
 use Rattle.std.proofs.lemmas.Str.Parse.{digits_value_short}
 use Rattle.std.proofs.Math.Nat.{pow-le-pow_right}
 use Rattle.picture.specs.Numbers.{value_after, number_spelled, short_number}
-use Rattle.picture.specs.NumberLaws.{own, number_from}
+use Rattle.picture.proofs.NumberLaws.{own, number_from}
 
--- the value of digits behind a number, never above the limit
+-- the value of digits after a number, never above the limit
 unfoldable pub capped_after : ℕ → List ℕ → ℕ
 capped_after n [] = n
 capped_after n (d ∷ digits) = capped_after (min (n * 10 + (d - 48)) 100000) digits

@@ -1,5 +1,6 @@
 -- Colours in a palette's list, and the first reason against one more.
-use Rattle.std.proofs.Common.{◌≡◌, ℕ, zero, suc, ◌+◌, ◌-◌, ◌<◌, ◌≤◌, Bool, true, false, cond, ltb, not, ◌||◌, List, [], ◌∷◌, ◌++◌, length, get_or, set, Option, Some, None, refl, sym, subst, ap, ◌∙◌, inl, inr, arith, position, nat_le, slice_get, IfSome, option_to_list}
+use Rattle.std.proofs.Common.{◌≡◌, ℕ, zero, suc, ◌+◌, ◌-◌, ◌<◌, ◌≤◌, Bool, true, false, cond, ltb, not, ◌||◌, List, [], ◌∷◌, ◌++◌, length, get_or, set, Option, Some, None, refl, sym, subst, ap, ◌∙◌}
+use Rattle.std.proofs.Common.{inl, inr, arith, position, nat_le, slice_get, IfSome, option_to_list}
 use Rattle.std.specs.Option.{option_map}
 use Rattle.std.specs.List.{list_any, position_or_len, AllByRecursion, IsDistinct, swap_remove, remove}
 use Rattle.std.proofs.lemmas.Bool.{cases_lt, lt-ltb, le-ltb, not-true, not-false}
@@ -10,7 +11,7 @@ use Rattle.std.proofs.lemmas.List.Elements.{All-from_recursion, All-get_or, All-
 use Rattle.std.proofs.lemmas.Bool.Decides.{nat_tests}
 use Rattle.picture.specs.declared.rgb.Rgb.{Rgb}
 use Rattle.picture.specs.declared.palette.PaletteFault.TheVariants.{Duplicate, SampleOver}
-use Rattle.picture.specs.ColourLaws.{same_rgb, rgb_eq-sym}
+use Rattle.picture.proofs.ColourLaws.{same_rgb, rgb_eq-sym}
 use Rattle.picture.specs.Palette.{Colours, rgb_eq, fits, place_of, add_fault, with_triple, stands_elsewhere, IsPalette}
 
 later : (k n : ℕ) → cond (ltb (1 + k) (suc n)) (Some (1 + k)) None ≡ option_map (λ j. j + 1) (cond (ltb k n) (Some k) None)
@@ -54,7 +55,8 @@ none_equal rgb [] all = refl
 none_equal rgb (t ∷ triples) all = rw all.0 (none_equal rgb triples all.1)
 
 -- a colour that stands at k stands nowhere else
-pub at_no_other : (rgb d : Rgb) (triples : List Rgb) (k : ℕ) → k < length triples → IsDistinct rgb_eq triples → rgb_eq (get_or triples k d) rgb ≡ true → list_any (rgb_eq rgb) (remove triples k) ≡ false
+pub at_no_other : (rgb d : Rgb) (triples : List Rgb) (k : ℕ) → k < length triples → IsDistinct rgb_eq triples → rgb_eq (get_or triples k d) rgb ≡ true
+    → list_any (rgb_eq rgb) (remove triples k) ≡ false
 at_no_other rgb d [] k lt distinct at = absurd (omega (arith, lt))
 at_no_other rgb d (t ∷ triples) zero lt distinct at =
     none_equal rgb triples (subst (λ u. AllByRecursion (λ y. rgb_eq u y ≡ false) triples) (same_rgb t rgb at) (IsDistinct-head rgb_eq t triples distinct))
@@ -78,7 +80,8 @@ moved_over triples t d k lt =
     let long : length (set triples k t) ≡ length triples = length-set triples k t in
     rw (last, get_or_push triples t d (length triples) refl, set-append_left triples (t ∷ []) k t lt) (take_at (set triples k t) (t ∷ []) (length triples) long)
 
-pub replaced : (maxval : ℕ) (triples new : List Rgb) (k : ℕ) (t : Rgb) → IsPalette (record { maxval = maxval; triples = triples }) → fits maxval t ≡ true → new ≡ set triples k t → IsDistinct rgb_eq new → IsPalette (record { maxval = maxval; triples = new })
+pub replaced : (maxval : ℕ) (triples new : List Rgb) (k : ℕ) (t : Rgb) → IsPalette (record { maxval = maxval; triples = triples }) → fits maxval t ≡ true → new ≡ set triples k t
+    → IsDistinct rgb_eq new → IsPalette (record { maxval = maxval; triples = new })
 replaced maxval triples new k t is fit e distinct =
     let n : length new ≡ length triples = ap length e ∙ length-set triples k t in
     record {
@@ -94,7 +97,8 @@ at_most_one : (gone : Option Rgb) → length (option_to_list gone) ≤ 1
 at_most_one (Some t) = omega arith
 at_most_one None = omega arith
 
-pub popped : (maxval : ℕ) (triples new : List Rgb) (gone : Option Rgb) → IsPalette (record { maxval = maxval; triples = triples }) → triples ≡ new ++ option_to_list gone → 1 < length triples → IsDistinct rgb_eq new → IsPalette (record { maxval = maxval; triples = new })
+pub popped : (maxval : ℕ) (triples new : List Rgb) (gone : Option Rgb) → IsPalette (record { maxval = maxval; triples = triples }) → triples ≡ new ++ option_to_list gone → 1 < length triples
+    → IsDistinct rgb_eq new → IsPalette (record { maxval = maxval; triples = new })
 popped maxval triples new gone is e some distinct =
     let n : length triples ≡ length new + length (option_to_list gone) = ap length e ∙ length-append new (option_to_list gone) in
     let few = at_most_one gone in
@@ -115,7 +119,8 @@ module _ (rgb d : Rgb) (triples shown : List Rgb) (k : ℕ) (ne : Bool) (read : 
   pub stands_if_same : IsDistinct rgb_eq triples → ne ≡ false → ne ≡ stands_elsewhere triples k rgb
   stands_if_same distinct isnt = isnt ∙ sym (at_no_other rgb d triples k lt distinct (subst (λ xs. rgb_eq (get_or xs k d) rgb ≡ true) read (not-false _ (sym is ∙ isnt))))
 
-pub stands_nowhere : (rgb t : Rgb) (triples : List Rgb) (k : ℕ) (eq : Bool) → slice_get triples k ≡ Some t → eq ≡ rgb_eq t rgb → eq ≡ false → stands_elsewhere triples k rgb ≡ false → list_any (rgb_eq rgb) triples ≡ false
+pub stands_nowhere : (rgb t : Rgb) (triples : List Rgb) (k : ℕ) (eq : Bool) → slice_get triples k ≡ Some t → eq ≡ rgb_eq t rgb → eq ≡ false → stands_elsewhere triples k rgb ≡ false
+    → list_any (rgb_eq rgb) triples ≡ false
 stands_nowhere rgb t triples k eq at is isnt nowhere =
     sym (at_others rgb t triples k (slice_get_within triples k t at) (rw (get_or_from_slice_get triples k t t at) (sym is ∙ isnt))) ∙ nowhere
 

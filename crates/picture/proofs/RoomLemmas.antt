@@ -9,7 +9,7 @@ use Rattle.picture.specs.declared.palette.PaletteFault.{PaletteFault}
 use Rattle.picture.specs.declared.palette.PaletteFault.TheVariants.{Memory}
 use Rattle.picture.specs.Palette.{Colours, rgb_eq, fits, first_of, triple_at, place_of, add_fault, stands_elsewhere, IsPalette, AreAmong, HasPlaceFor}
 use Rattle.picture.specs.Document.{with_seen}
-use Rattle.picture.specs.ColourLaws.{same, absent, every_append, rgb_equiv, Among, few_among, fits_there}
+use Rattle.picture.proofs.ColourLaws.{same, absent, every_append, rgb_equiv, Among, few_among, fits_there}
 use Rattle.picture.proofs.PaletteLemmas.{not_full, at_no_other}
 
 -- different colours that all are some palette's are no more than it has
@@ -39,6 +39,6 @@ module _ (colours : Colours) (k : ℕ) (rgb : Rgb) (palette : IsPalette colours)
   pub own_nowhere : stands_elsewhere colours.triples k rgb ≡ false
   own_nowhere = at_no_other rgb (first_of colours.triples) colours.triples k lt palette.distinct (subst (λ t. rgb_eq t rgb ≡ true) (sym own) (same rgb))
 
--- where no fault stands against a colour, the one that is answered is want of memory
+-- where no error stands against a colour, the one that is answered is out of memory
 pub only_memory : (fault : Option PaletteFault) (e : PaletteFault) → fault ≡ None → (fault ≡ Some e) ⊎ ((fault ≡ None) × (e ≡ Memory)) → e ≡ Memory
 only_memory fault e none refused = grind arith

@@ -6,7 +6,7 @@ use Rattle.picture.specs.declared.picture.TheConstants.{MAX_SIDE}
 use Rattle.picture.specs.declared.line_id.Axis.{Axis}
 use Rattle.picture.specs.declared.line_id.Axis.TheVariants.{Across, Down}
 use Rattle.picture.specs.LineSet.{Lines, IsLineSet, PutsNames, mask_along}
-use Rattle.picture.specs.BitLaws.{set_bit, bit_is_set, bit_or_not, unset}
+use Rattle.picture.proofs.BitLaws.{set_bit, bit_is_set, bit_or_not, unset}
 
 -- ---- both masks together
 

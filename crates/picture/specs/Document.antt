@@ -4,21 +4,21 @@ use Rattle.std.specs.List.{list_any, flat_map}
 use Rattle.picture.specs.declared.rgb.Rgb.{Rgb}
 use Rattle.picture.specs.Palette.{Colours, rgb_eq, place_of, triple_at}
 pub use Rattle.picture.specs.Palette.{first_of}
-use Rattle.picture.specs.Rows.{width_of, cell_at}
+use Rattle.picture.specs.Rows.{width_of, cell_at, Rows}
 use Rattle.picture.specs.CellSet.{HasCell}
 
 -- each cell has a number that the palette has
-abbrev pub AreColoured : List (List ℕ) → Colours → Type 0
+abbrev pub AreColoured : Rows → Colours → Type 0
 AreColoured rows colours = (i j : ℕ) → cell_at rows i j < length colours.triples
 
 -- each given is a cell of the picture
-abbrev pub AreInside : List ℕ → List (List ℕ) → Type 0
+abbrev pub AreInside : List ℕ → Rows → Type 0
 AreInside givens rows = (i j : ℕ) → HasCell givens i j → (i < length rows) × (j < width_of rows)
 
 -- a document as its parts: the colours by number, the rows of cells, and the set of givens
 pub record Content : Type 0 where
   pub colours : Colours
-  pub rows : List (List ℕ)
+  pub rows : Rows
   pub givens : List ℕ
 
 -- the triples of a list of cells
@@ -26,13 +26,14 @@ abbrev pub triples_of : List Rgb → List ℕ → List Rgb
 triples_of triples cells = map (triple_at triples) cells
 
 -- what a picture shows: the triple of each cell
-abbrev pub rows_shown : List Rgb → List (List ℕ) → List (List Rgb)
+abbrev pub rows_shown : List Rgb → Rows → List (List Rgb)
 rows_shown triples rows = map (triples_of triples) rows
 
 -- the colours known, and then those of a list of cells that are not yet among them, by first appearance
 abbrev pub seen_after : List Rgb → List Rgb → List Rgb
 seen_after known [] = known
-seen_after known (t ∷ cells) = if list_any (rgb_eq t) known then seen_after known cells else seen_after (known ++ t ∷ []) cells
+seen_after known (t ∷ cells) =
+    if list_any (rgb_eq t) known then seen_after known cells else seen_after (known ++ t ∷ []) cells
 
 -- a palette after colours have come, each added where it is not yet there
 abbrev pub with_seen : Colours → List Rgb → Colours
@@ -43,14 +44,14 @@ abbrev pub number_among : List Rgb → Rgb → ℕ
 number_among triples t = unwrap_or (place_of t triples) 0
 
 -- the rows of a picture with each cell's colour by its number among other colours
-abbrev pub renumbered_rows : List Rgb → List Rgb → List (List ℕ) → List (List ℕ)
+abbrev pub renumbered_rows : List Rgb → List Rgb → Rows → Rows
 renumbered_rows among triples rows = map (λ row. map (number_among among) (triples_of triples row)) rows
 
--- the colours of a picture by first appearance in row order behind the background, with no colour that no cell has
-abbrev pub ordered_triples : List Rgb → List (List ℕ) → List Rgb
+-- the colours of a picture by first appearance in row order after the background, with no colour that no cell has
+abbrev pub ordered_triples : List Rgb → Rows → List Rgb
 ordered_triples triples rows = seen_after (first_of triples ∷ []) (flat_map (triples_of triples) rows)
 
--- the same picture with its colours numbered so
+-- a document with its colours in that order, and its cells numbered by it
 abbrev pub ordered_of : Content → Content
 ordered_of d =
     let triples = ordered_triples d.colours.triples d.rows in

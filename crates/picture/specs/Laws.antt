@@ -9,23 +9,29 @@ use Rattle.picture.specs.LineSet.{Lines, IsLineSet, HasName, PutsName, TakesOutN
 
 -- sets with the same cells are one
 abbrev pub SameCellsAreEqual : Type 0
-SameCellsAreEqual = (one other : List ℕ) → IsCellSet one → IsCellSet other → ((row col : ℕ) → row < MAX_SIDE → col < MAX_SIDE → HasCell one row col ↔ HasCell other row col) → one ≡ other
+SameCellsAreEqual = (one other : List ℕ) → IsCellSet one → IsCellSet other
+    → ((row col : ℕ) → row < MAX_SIDE → col < MAX_SIDE → HasCell one row col ↔ HasCell other row col) → one ≡ other
 
 -- what is in a set of cells: each cell is or is not, and lies in the table; a set that counts none has none
 pub record CellsAreMembers : Type 0 where
   pub decided : (cells : List ℕ) (row col : ℕ) → HasCell cells row col ⊎ ¬ HasCell cells row col
-  pub inside : (cells : List ℕ) (row col : ℕ) → IsCellSet cells → HasCell cells row col → (row < MAX_SIDE) × (col < MAX_SIDE)
+  pub inside : (cells : List ℕ) (row col : ℕ) → IsCellSet cells → HasCell cells row col
+      → (row < MAX_SIDE) × (col < MAX_SIDE)
   pub empty : (row col : ℕ) → ¬ HasCell no_cells row col
   pub counted : (cells : List ℕ) → IsCellSet cells → (cell_count cells ≡ 0) ↔ (cells ≡ no_cells)
 
--- a cell put into a set that did not have it and then taken out leaves the set as it was, and so does one that is taken out and put back
+-- a cell put into a set that did not have it and then taken out leaves
+-- the set as it was, and so does one that is taken out and put back
 pub record CellsComeBack : Type 0 where
-  pub put_first : (old with_it new : List ℕ) (row col : ℕ) → IsCellSet old → IsCellSet new → ¬ HasCell old row col → PutsCell old with_it row col → TakesOutCell with_it new row col → new ≡ old
-  pub taken_first : (old without_it new : List ℕ) (row col : ℕ) → IsCellSet old → IsCellSet new → HasCell old row col → TakesOutCell old without_it row col → PutsCell without_it new row col → new ≡ old
+  pub put_first : (old with_it new : List ℕ) (row col : ℕ) → IsCellSet old → IsCellSet new → ¬ HasCell old row col
+      → PutsCell old with_it row col → TakesOutCell with_it new row col → new ≡ old
+  pub taken_first : (old without_it new : List ℕ) (row col : ℕ) → IsCellSet old → IsCellSet new → HasCell old row col
+      → TakesOutCell old without_it row col → PutsCell without_it new row col → new ≡ old
 
 -- sets with the same names are one
 abbrev pub SameNamesAreEqual : Type 0
-SameNamesAreEqual = (one other : Lines) → IsLineSet one → IsLineSet other → ((line : LineId) → line.at < MAX_SIDE → HasName one line ↔ HasName other line) → one ≡ other
+SameNamesAreEqual = (one other : Lines) → IsLineSet one → IsLineSet other
+    → ((line : LineId) → line.at < MAX_SIDE → HasName one line ↔ HasName other line) → one ≡ other
 
 -- what is in a set of names: each name is or is not, and has a place in the table; a set that counts none has none
 pub record NamesAreMembers : Type 0 where
@@ -34,10 +40,13 @@ pub record NamesAreMembers : Type 0 where
   pub empty : (line : LineId) → ¬ HasName no_names line
   pub counted : (lines : Lines) → (name_count lines ≡ 0) ↔ (lines ≡ no_names)
 
--- a name put into a set that did not have it and then taken out leaves the set as it was, and so does one that is taken out and put back
+-- a name put into a set that did not have it and then taken out leaves
+-- the set as it was, and so does one that is taken out and put back
 pub record NamesComeBack : Type 0 where
-  pub put_first : (old with_it new : Lines) (line : LineId) → IsLineSet old → IsLineSet new → ¬ HasName old line → PutsName old with_it line → TakesOutName with_it new line → new ≡ old
-  pub taken_first : (old without_it new : Lines) (line : LineId) → IsLineSet old → IsLineSet new → HasName old line → TakesOutName old without_it line → PutsName without_it new line → new ≡ old
+  pub put_first : (old with_it new : Lines) (line : LineId) → IsLineSet old → IsLineSet new → ¬ HasName old line
+      → PutsName old with_it line → TakesOutName with_it new line → new ≡ old
+  pub taken_first : (old without_it new : Lines) (line : LineId) → IsLineSet old → IsLineSet new → HasName old line
+      → TakesOutName old without_it line → PutsName without_it new line → new ≡ old
 
 -- documents with the same colours, cells and givens are one
 abbrev pub SameContentsAreEqual : Type 0

@@ -1,6 +1,6 @@
 pub mod CellSet
 pub mod Content
-pub mod Crossing
+pub mod CrossingLines
 pub mod Document
 pub mod Laws
 pub mod Line
@@ -8,13 +8,6 @@ pub mod LineSet
 pub mod Numbers
 pub mod Palette
 pub mod Picture
-pub mod Reading
+pub mod Readers
 pub mod Rows
-pub mod Writing
-pub mod BitLaws
-pub mod ColourLaws
-pub mod FlatLaws
-pub mod LineSetLaws
-pub mod NumberLaws
-pub mod SendingLaws
-pub mod SplitLaws
+pub mod Writers

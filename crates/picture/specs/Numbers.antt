@@ -1,12 +1,13 @@
 -- Numbers as their digits spell them.
-use Rattle.std.specs.Prelude.{ℕ, ◌+◌, ◌-◌, ◌*◌, Bool, true, false, ◌&&◌, List, [], ◌∷◌, length, Option, None, Some, nat_le, if◌then◌else◌}
+use Rattle.std.specs.Prelude.{ℕ, ◌+◌, ◌-◌, ◌*◌, Bool, true, false, ◌&&◌, List, [], ◌∷◌, length, Option, None, Some}
+use Rattle.std.specs.Prelude.{nat_le, if◌then◌else◌}
 use Rattle.std.specs.Str.{all_ascii_digits}
 
 abbrev pub has_byte : List ℕ → Bool
 has_byte [] = false
 has_byte (b ∷ bytes) = true
 
--- the value of digits that stand behind a number
+-- the value of digits that follow a number
 unfoldable pub value_after : ℕ → List ℕ → ℕ
 value_after n [] = n
 value_after n (d ∷ digits) = value_after (n * 10 + (d - 48)) digits

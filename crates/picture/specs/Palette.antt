@@ -1,5 +1,6 @@
 -- A palette as its maxval and its colours, and what can be added to it.
-use Rattle.std.specs.Prelude.{◌≡◌, ℕ, ◌+◌, ◌-◌, ◌<◌, ◌≤◌, Bool, ◌&&◌, List, [], ◌∷◌, ◌++◌, length, take, remove, slice_set, slice_index_or, Option, None, Some, nat_le, ◌==◌, if◌then◌else◌, IsTrue}
+use Rattle.std.specs.Prelude.{◌≡◌, ℕ, ◌+◌, ◌-◌, ◌<◌, ◌≤◌, Bool, ◌&&◌, List, [], ◌∷◌, ◌++◌, length, take, remove}
+use Rattle.std.specs.Prelude.{slice_set, slice_index_or, Option, None, Some, nat_le, ◌==◌, if◌then◌else◌, IsTrue}
 use Rattle.std.specs.List.{list_any, AllByRecursion, IsDistinct}
 use Rattle.std.specs.Option.{option_map}
 use Rattle.picture.specs.declared.rgb.Rgb.{Rgb}
@@ -55,7 +56,7 @@ add_fault colours rgb =
 abbrev pub with_triple : Colours → ℕ → Rgb → Colours
 with_triple colours k rgb = record { maxval = colours.maxval; triples = slice_set colours.triples k rgb }
 
--- the colour stands at another number than k
+-- the colour has another number than k
 abbrev pub stands_elsewhere : List Rgb → ℕ → Rgb → Bool
 stands_elsewhere triples k rgb = list_any (rgb_eq rgb) (remove triples k)
 

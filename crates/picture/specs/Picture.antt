@@ -1,10 +1,10 @@
 -- A picture as its list of rows, and how the rows lie in one flat list of cells.
 use Rattle.std.specs.Prelude.{◌≡◌, ℕ, ◌+◌, ◌*◌, ◌<◌, ◌≤◌, List, ◌++◌, length, take, drop, slice_index}
 use Rattle.picture.specs.declared.picture.TheConstants.{MAX_SIDE, MAX_COLOURS}
-use Rattle.picture.specs.Rows.{width_of, row_at, cell_at}
+use Rattle.picture.specs.Rows.{width_of, row_at, cell_at, Rows}
 
 -- what every picture is: at least one row and one column and no more than MAX_SIDE, each cell with one of the colours
-pub record IsPicture (rows : List (List ℕ)) : Type 0 where
+pub record IsPicture (rows : Rows) : Type 0 where
   pub has_row : 0 < length rows
   pub rows_fit : length rows ≤ MAX_SIDE
   pub has_column : 0 < width_of rows

@@ -2,9 +2,9 @@
 
 ghost use Rattle.std.specs.Prelude.{◌≡◌, ◌<◌, ◌==◌, ◌∷◌, length, position, IfNone, IfSome};
 ghost use Rattle.std.specs.List.{slice_split};
-ghost use Rattle.picture.specs.Reading.{pieces_behind};
+ghost use Rattle.picture.specs.Readers.{pieces_behind};
 
-/// The bytes up to the first separator, and what stands behind it, where there is one.
+/// The bytes up to the first separator, and what follows it, where there is one.
 pub fn split_first(bytes: &[u8], separator: u8) -> (&[u8], Option<&[u8]>)
     ensures pieces { slice_split (λ b. b == separator) bytes.now
         ≡ result.0.now ∷ pieces_behind separator result.1 }

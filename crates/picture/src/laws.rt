@@ -20,19 +20,19 @@ pub fn cells_come_back()
     ensures { CellsComeBack }
 {}
 
-#[tactic(auto, using(crate::specs::LineSetLaws::laws))]
+#[tactic(auto, using(crate::proofs::LineSetLaws::laws))]
 /// Sets of names that have the same names are equal.
 pub fn same_names_are_equal()
     ensures { SameNamesAreEqual }
 {}
 
-#[tactic(auto, using(crate::specs::LineSetLaws::laws))]
+#[tactic(auto, using(crate::proofs::LineSetLaws::laws))]
 /// Each name is in a set or not, a name in it has a place in the table, and a set that counts none is the empty one.
 pub fn names_are_members()
     ensures { NamesAreMembers }
 {}
 
-#[tactic(auto, using(crate::specs::LineSetLaws::laws))]
+#[tactic(auto, using(crate::proofs::LineSetLaws::laws))]
 /// Putting a name that was absent is undone by taking it out, and the other way round.
 pub fn names_come_back()
     ensures { NamesComeBack }

@@ -12,7 +12,7 @@ use std::alloc::AllocError;
 // How many cells a row has at the most.
 const MOST_CELLS: usize = MAX_SIDE as usize;
 
-/// Puts a row of background at a place. After a fault the cells are as before.
+/// Puts a row of background at a place. After an error the cells are as before.
 pub(crate) fn insert_row(cells: &mut Vec<u8>, width: usize, at: usize) -> Result<(), AllocError>
     requires place { at * width ≤ vec_len cells.old }
     requires fits { vec_len cells.old + width ≤ 65536 }
@@ -25,7 +25,7 @@ pub(crate) fn insert_row(cells: &mut Vec<u8>, width: usize, at: usize) -> Result
     Ok(())
 }
 
-/// Puts a column of background at a place. After a fault the cells are as before.
+/// Puts a column of background at a place. After an error the cells are as before.
 pub(crate) fn insert_column(
     cells: &mut Vec<u8>,
     height: usize,
@@ -93,7 +93,7 @@ pub(crate) fn swap_rows(cells: &mut [u8], width: usize, i: usize, j: usize)
     cells[j * width..j * width + width].copy_from_slice(&first[..width]);
 }
 
-// The cells of a row, and zeros behind them.
+// The cells of a row, and zeros after them.
 fn row_copy(row: &[u8]) -> [u8; MOST_CELLS]
     requires { length row.now ≤ MAX_SIDE }
     ensures { take (length row.now) result ≡ row.now }

@@ -1,7 +1,7 @@
 //! Rows and columns by name: an axis and a place.
 
 ghost use Rattle.std.specs.Prelude.{◌≡◌};
-ghost use Rattle.picture.specs.Crossing.{crossing, crossing_at};
+ghost use Rattle.picture.specs.CrossingLines.{crossing, crossing_at};
 
 /// The way in which a line runs.
 #[derive(Clone, Copy, Debug, PartialEq, Eq)]

@@ -8,7 +8,7 @@ use crate::document::Document;
 use std::alloc::AllocError;
 
 impl Document {
-    /// The same picture with its colours numbered by first appearance, row after row from the top and behind the
+    /// The same picture with its colours numbered by first appearance, row after row from the top and after the
     /// background, and with no colour that no cell has. Each cell keeps its colour, and the givens stay.
     pub fn ordered(&self) -> Result<Document, AllocError>
         ensures content { IfOk result (λ d. content_of d ≡ ordered_of (content_of self.now)) }

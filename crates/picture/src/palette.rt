@@ -5,7 +5,7 @@ ghost use Rattle.std.specs.List.{list_any};
 ghost use Rattle.picture.specs.declared.palette.PaletteFault.TheVariants.{Memory};
 ghost use Rattle.picture.specs.Palette.{first_of, triple_at, place_of, with_colour, with_triple, without_last, only_background, start_fault, add_fault, set_fault, stands_elsewhere, rgb_eq, fits, IsPalette, HasPlaceFor};
 ghost use Rattle.picture.specs.Document.{with_seen, number_among};
-ghost use Rattle.picture.specs.Reading.{Refuses};
+ghost use Rattle.picture.specs.Readers.{Refuses};
 
 use crate::picture::MAX_COLOURS;
 use crate::rgb::Rgb;
@@ -20,7 +20,7 @@ pub enum PaletteFault {
     /// There are 16 colours already.
     #[error("the palette has 16 colours already")]
     Full,
-    /// The colour stands at another number.
+    /// The colour has another number.
     #[error("the colour stands at another number")]
     Duplicate,
     /// A sample is above the maxval.
@@ -109,7 +109,7 @@ impl Palette {
         Some(index as u8)
     }
 
-    /// Adds a colour and answers its number. After a fault the palette is as before.
+    /// Adds a colour and answers its number. After an error the palette is as before.
     pub fn add(&mut self, rgb: Rgb) -> Result<u8, PaletteFault>
         ensures number { IfOk result (λ number. number ≡ length self.old.triples) }
         ensures ok { OnOk result (self.new ≡ with_colour self.old rgb) }
@@ -131,7 +131,7 @@ impl Palette {
     }
 
     /// Gives a number another colour. A number above 0 may get the colour that it has: then nothing changes and no
-    /// memory is wanted. The background's number is refused. After a fault the palette is as before.
+    /// memory is wanted. The background's number is refused. After an error the palette is as before.
     pub fn set(&mut self, number: u8, rgb: Rgb) -> Result<(), PaletteFault>
         requires { number < length self.old.triples }
         ensures ok { OnOk result (self.new ≡ with_triple self.old number rgb) }

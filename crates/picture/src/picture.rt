@@ -131,7 +131,7 @@ impl Picture {
         }
     }
 
-    /// Puts a line of background at a place. Later lines move up by one. After a fault the picture is as before.
+    /// Puts a line of background at a place. Later lines move up by one. After an error the picture is as before.
     pub fn insert_line(&mut self, line: LineId) -> Result<(), AllocError>
         requires place { line.at ≤ lines_along line.axis self.old }
         requires room { lines_along line.axis self.old < MAX_SIDE }

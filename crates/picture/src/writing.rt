@@ -1,8 +1,8 @@
-//! Writing all bytes to a writer, or a front of them.
+//! Writing all bytes to a writer, or a prefix of them.
 
 ghost use Rattle.std.specs.Prelude.{◌<◌, ◌≤◌, length, take, IfOk, OnOk, OnErr};
 ghost use Rattle.std.specs.Io.KnownBytes.{Appends, Keeps};
-ghost use Rattle.picture.specs.Writing.{AppendsFront, number_text};
+ghost use Rattle.picture.specs.Writers.{AppendsFront, number_text};
 
 use itoa::Buffer;
 use std::io::Write;
@@ -14,7 +14,7 @@ use thiserror::Error;
 pub struct WriteFault;
 
 #[tactic(auto, using(crate::proofs::WritingLemmas::sending))]
-/// Writes all the bytes, or after a fault a front of them.
+/// Writes all the bytes, or after an error a prefix of them.
 pub fn send<W: Write>(bytes: &[u8], writer: &mut W) -> Result<(), WriteFault>
     ensures ok { OnOk result (Appends (W.contents writer.old) (W.contents writer.new) bytes.now) }
     ensures err { OnErr result
@@ -27,8 +27,8 @@ pub fn send<W: Write>(bytes: &[u8], writer: &mut W) -> Result<(), WriteFault>
     Ok(())
 }
 
-#[tactic(auto, using(crate::specs::SendingLaws::sending))]
-/// Writes a number and the byte that closes it, or after a fault a front of them.
+#[tactic(auto, using(crate::proofs::SendingLaws::sending))]
+/// Writes a number and the byte that closes it, or after an error a prefix of them.
 pub fn send_number<W: Write>(number: u16, close: u8, writer: &mut W) -> Result<(), WriteFault>
     ensures ok { OnOk result
         (Appends (W.contents writer.old) (W.contents writer.new) (number_text number close)) }

@@ -1,16 +1,16 @@
--- A new triple with lawful samples is refused where the palette is full, and else only for want of memory.
+-- A new triple with lawful samples is refused where the palette is full, and else only since memory ran out.
 use Rattle.std.proofs.Common.{◌≡◌, ℕ, Bool, true, false, cond, ltb, leb, length, Option, Some, None, Result, Ok, Err, refl, sym, ap, ◌∙◌, ◌⊎◌, inl, inr}
 use Rattle.std.proofs.lemmas.Bool.{cases_lt, le-leb, le-ltb, lt-leb, lt-ltb}
 use Rattle.picture.specs.declared.palette.PaletteFault.{PaletteFault}
 use Rattle.picture.specs.declared.palette.PaletteFault.TheVariants as palette
 use Rattle.picture.specs.declared.picture.TheConstants.{MAX_COLOURS}
-use Rattle.picture.specs.ColourLaws.{absent}
+use Rattle.picture.proofs.ColourLaws.{absent}
 use Rattle.picture.specs.Palette.{Colours, fits, place_of, with_colour, add_fault}
 use Rattle.ppm_text.specs.declared.fault.PpmFault.{PpmFault}
 use Rattle.ppm_text.specs.declared.fault.PpmFault.TheVariants.{Memory, TooManyColours}
 use Rattle.ppm_text.specs.declared.fields.Triple.{Triple}
 use Rattle.ppm_text.specs.Ppm.{numbered, numbered_by}
-use Rattle.ppm_text.specs.Adding.{adding_fault}
+use Rattle.ppm_text.specs.NewTriples.{adding_fault}
 
 abbrev IsRefused : PaletteFault → Option PaletteFault → Type 0
 IsRefused e fault = (fault ≡ Some e) ⊎ ((fault ≡ None) × (e ≡ palette.Memory))

@@ -2,7 +2,7 @@
 use Rattle.std.proofs.Common.{◌≡◌, ℕ, ◌<◌, ◌≤◌, min, true, cond, ◌||◌, eqb, ltb, List, Option, Result, Ok, Err, refl, sym, ap, arith, inl, inr}
 use Rattle.std.proofs.lemmas.Bool.{cases_lt}
 use Rattle.std.proofs.lemmas.Bool.Decides.{nat_tests}
-use Rattle.picture.specs.Reading.{◌>>=◌}
+use Rattle.picture.specs.Readers.{◌>>=◌}
 use Rattle.picture.specs.declared.picture.TheConstants.{MAX_SIDE}
 use Rattle.ppm_text.specs.declared.fault.PpmFault.{PpmFault}
 use Rattle.ppm_text.specs.declared.fault.PpmFault.TheVariants.{EmptySize, TooLarge, SampleOver, BadMaxval}
@@ -56,7 +56,8 @@ unfolding sample_at
 sample_by_cap end maxval tokens lt = sym (by_cap (sample_from maxval) (sample_same maxval lt) (numeral_at end tokens))
 
 abbrev palette_from : Option Rgb → Numeral × List Token → Result (Colours × List Token) PpmFault
-palette_from background maxval = cond (eqb maxval.0.value 0 || ltb 65535 maxval.0.value) (Err (BadMaxval maxval.0.place)) (first_palette background maxval.0.value maxval.0.place >>= λ colours. Ok (colours, maxval.1))
+palette_from background maxval =
+    cond (eqb maxval.0.value 0 || ltb 65535 maxval.0.value) (Err (BadMaxval maxval.0.place)) (first_palette background maxval.0.value maxval.0.place >>= λ colours. Ok (colours, maxval.1))
 
 palette_same : (background : Option Rgb) (n : Numeral × List Token) → palette_from background (under_cap n) ≡ palette_from background n
 palette_same background n =

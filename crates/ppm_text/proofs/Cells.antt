@@ -1,11 +1,12 @@
 -- Cells read one after the other, as a loop does, and what is true of cells that were read.
-use Rattle.std.proofs.Common.{◌≡◌, ℕ, zero, suc, ◌-◌, ◌+◌, ◌≤◌, ◌<◌, ltb, List, [], ◌∷◌, ◌++◌, length, get_or, Option, Some, None, Result, Ok, Err, refl, sym, ap, subst, ◌∙◌, append_assoc, length-append, arith, ◌⊎◌, inl, inr}
+use Rattle.std.proofs.Common.{◌≡◌, ℕ, zero, suc, ◌-◌, ◌+◌, ◌≤◌, ◌<◌, ltb, List, [], ◌∷◌, ◌++◌, length, get_or, Option, Some, None, Result, Ok, Err, refl, sym, ap, subst, ◌∙◌, append_assoc}
+use Rattle.std.proofs.Common.{length-append, arith, ◌⊎◌, inl, inr}
 use Rattle.std.proofs.lemmas.List.{append-nil, get_or_past}
 use Rattle.std.proofs.lemmas.Bool.{cases_lt}
-use Rattle.picture.specs.Reading.{◌>>=◌}
+use Rattle.picture.specs.Readers.{◌>>=◌}
 use Rattle.picture.specs.declared.rgb.Rgb.{Rgb}
 use Rattle.picture.specs.declared.picture.TheConstants.{MAX_COLOURS}
-use Rattle.picture.specs.ColourLaws.{number_small, placed}
+use Rattle.picture.proofs.ColourLaws.{number_small, placed}
 use Rattle.picture.specs.Palette.{Colours, place_of, with_colour}
 use Rattle.ppm_text.specs.declared.fault.PpmFault.{PpmFault}
 use Rattle.ppm_text.specs.declared.fault.PpmFault.TheVariants.{Memory, TooManyColours}
@@ -26,13 +27,15 @@ regroup : (front : List ℕ) (cell : ℕ) (read : Result Cells PpmFault) → wit
 regroup front cell (Ok x) = ap (λ (cells : List ℕ). Ok (cells, x.1, x.2)) (simp append_assoc)
 regroup front cell (Err e) = refl
 
-pub cells_go_on : (front : List ℕ) (end count i : ℕ) (colours : Colours) (tokens : List Token) (cell : ℕ) (after : Colours) (rest : List Token) (total : Result (List ℕ × Colours × List Token) PpmFault)
+pub cells_go_on :
+    (front : List ℕ) (end count i : ℕ) (colours : Colours) (tokens : List Token) (cell : ℕ) (after : Colours) (rest : List Token) (total : Result (List ℕ × Colours × List Token) PpmFault)
     → i < count → cell_at end colours tokens ≡ Ok (cell, after, rest)
     → with_front front (cells_at end (count - i) colours tokens) ≡ total → with_front (front ++ cell ∷ []) (cells_at end (count - (i + 1)) after rest) ≡ total
 unfolding cells_at
 cells_go_on front end count i colours tokens cell after rest total lt h so_far =
     let k : count - i ≡ suc (count - (i + 1)) = omega arith in
-    let one : with_front front (cells_at end (count - i) colours tokens) ≡ with_front (front ++ cell ∷ []) (cells_at end (count - (i + 1)) after rest) = rw (k, h) (regroup front cell (cells_at end (count - (i + 1)) after rest)) in
+    let one : with_front front (cells_at end (count - i) colours tokens) ≡ with_front (front ++ cell ∷ []) (cells_at end (count - (i + 1)) after rest) =
+    rw (k, h) (regroup front cell (cells_at end (count - (i + 1)) after rest)) in
     sym one ∙ so_far
 
 pub cells_stop : (e : PpmFault) (front : List ℕ) (end count i : ℕ) (colours : Colours) (tokens : List Token) (total : Result (List ℕ × Colours × List Token) PpmFault)
@@ -107,7 +110,8 @@ with_first first rest n h others (suc k) lt = others k (omega arith)
 pub cells_are : (end count : ℕ) (colours : Colours) (tokens : List Token) (cells : List ℕ × Colours × List Token) → cells_at end count colours tokens ≡ Ok cells → AreRead count colours cells.0 cells.1
 unfolding cells_at
 cells_are end zero colours tokens cells e =
-    subst (λ (c : Cells). AreRead zero colours c.0 c.1) (ok_is Memory ([], colours, tokens) cells e) (record { all = refl; grows = record { maxval = refl; longer = omega arith }; coloured = λ k lt. absurd (omega arith) })
+    subst (λ (c : Cells). AreRead zero colours c.0 c.1) (ok_is Memory ([], colours, tokens) cells e)
+    (record { all = refl; grows = record { maxval = refl; longer = omega arith }; coloured = λ k lt. absurd (omega arith) })
 cells_are end (suc count) colours tokens cells e =
     let a = bind_ok (cell_at end colours tokens) (λ first. cells_at end count first.1 first.2 >>= λ others. Ok (first.0 ∷ others.0, others.1, others.2)) cells e in
     let b = bind_ok (cells_at end count a.0.1 a.0.2) (λ others. Ok (a.0.0 ∷ others.0, others.1, others.2)) cells a.2 in
@@ -120,10 +124,12 @@ cells_are end (suc count) colours tokens cells e =
       coloured = with_first a.0.0 b.0.0 (length b.0.1.triples) (omega (arith, first.1, others.grows.longer)) others.coloured;
     })
 
-pub all_read : (end count : ℕ) (colours : Colours) (tokens : List Token) (cells : List ℕ) (after : Colours) (rest : List Token) → cells_at end count colours tokens ≡ Ok (cells, after, rest) → length cells ≡ count
+pub all_read : (end count : ℕ) (colours : Colours) (tokens : List Token) (cells : List ℕ) (after : Colours) (rest : List Token) → cells_at end count colours tokens ≡ Ok (cells, after, rest)
+    → length cells ≡ count
 all_read end count colours tokens cells after rest e = (cells_are end count colours tokens (cells, after, rest) e).all
 
-pub coloured_read : (end count : ℕ) (colours : Colours) (tokens : List Token) (cells : List ℕ) (after : Colours) (rest : List Token) → cells_at end count colours tokens ≡ Ok (cells, after, rest) → 0 < length colours.triples
+pub coloured_read : (end count : ℕ) (colours : Colours) (tokens : List Token) (cells : List ℕ) (after : Colours) (rest : List Token) → cells_at end count colours tokens ≡ Ok (cells, after, rest)
+    → 0 < length colours.triples
     → (k : ℕ) → get_or cells k 0 < length after.triples
 coloured_read end count colours tokens cells after rest e some k =
     let are = cells_are end count colours tokens (cells, after, rest) e in

@@ -1,4 +1,4 @@
--- Numbers with white space right behind them.
+-- Numbers with white space right after them.
 use Rattle.std.proofs.Common.{◌≡◌, ℕ, suc, ◌+◌, ◌*◌, ◌≤◌, min, true, false, List, [], ◌∷◌, length, drop, drop-drop, ◌-◌, Some, refl, sym, ap, subst, ◌∙◌, add-one, arith}
 use Rattle.std.proofs.lemmas.Bool.Decides.{nat_tests}
 use Rattle.ppm_text.specs.Tokens.{tokens_from, without_comments, is_gap, is_space, in_comment}
@@ -33,7 +33,8 @@ goes_on : (n d value count : ℕ) (text rest : List ℕ) → text ≡ (48 + d) �
 goes_on n d value count text rest e le small more =
     let gap = no_gap (48 + d) (is_digit d le) in
     let kept : min (n * 10 + d) 65536 ≡ n * 10 + d = omega arith in
-    let one : (place : ℕ) → tokens_from true place (without_comments false ((48 + d) ∷ rest)) ≡ tokens_from true (suc place) (without_comments false rest) = λ place. rw (no_comment _ gap, (gap_parts _ gap).0) refl in
+    let one : (place : ℕ)
+    → tokens_from true place (without_comments false ((48 + d) ∷ rest)) ≡ tokens_from true (suc place) (without_comments false rest) = λ place. rw (no_comment _ gap, (gap_parts _ gap).0) refl in
     let later : (place : ℕ) → suc place + count ≡ place + suc count = λ place. omega arith in
     record {
       within = omega (arith, more.within, ap length e);
@@ -62,8 +63,9 @@ two_digits text rest more a b e le f lf h =
     let n = a * 10 + b in
     closed text rest a n 2 e le (goes_on a b n 1 rest more f lf (omega arith) (ends n more h))
 
--- the digits that were counted on, and white space behind them
-counted_on : (n value : ℕ) (text rest : List ℕ) → number_on (Some value) rest ≡ number_on (Some n) text → IsBehind text rest → begins_white rest ≡ true → GoesOn n text value (length text - length rest + 1)
+-- the digits that were counted on, and white space after them
+counted_on : (n value : ℕ) (text rest : List ℕ) → number_on (Some value) rest ≡ number_on (Some n) text → IsBehind text rest → begins_white rest ≡ true
+    → GoesOn n text value (length text - length rest + 1)
 counted_on n value text rest number behind h =
     let last = ends value rest h in
     let at = length text - length rest in
@@ -84,7 +86,8 @@ more_digits text rest more last behind a b c value e le f lf g lg number is h =
     let tens = a * 10 + b in
     let count = length last - length behind + 1 in
     let all : suc (suc (suc count)) ≡ length text - length behind + 1 = omega (arith, is.within, ap length e, ap length f, ap length g) in
-    let many = closed text rest a value (suc (suc count)) e le (goes_on a b value (suc count) rest more f lf (omega arith) (goes_on tens c value count more last g lg (omega arith) (counted_on (tens * 10 + c) value last behind number is h))) in
+    let many = closed text rest a value (suc (suc count)) e le
+    (goes_on a b value (suc count) rest more f lf (omega arith) (goes_on tens c value count more last g lg (omega arith) (counted_on (tens * 10 + c) value last behind number is h))) in
     subst (λ (n : ℕ). IsClosedNumber text value n) all many
 
 pub more_within : (text rest more last behind : List ℕ) (a b c : ℕ) → text ≡ (48 + a) ∷ rest → rest ≡ (48 + b) ∷ more → more ≡ (48 + c) ∷ last → IsBehind last behind → length behind ≤ length text

@@ -1,5 +1,6 @@
 -- How the digits of a token are counted, byte by byte and no further than the cap.
-use Rattle.std.proofs.Common.{◌≡◌, ℕ, suc, take, inl, inr, ◌+◌, ◌-◌, ◌*◌, ◌<◌, ◌≤◌, min, Bool, true, false, not, ◌&&◌, cond, List, [], ◌∷◌, length, get_or, drop, drop-drop, length-drop, Option, Some, None, refl, sym, ap, ◌∙◌, arith}
+use Rattle.std.proofs.Common.{◌≡◌, ℕ, suc, take, inl, inr, ◌+◌, ◌-◌, ◌*◌, ◌<◌, ◌≤◌, min, Bool, true, false, not, ◌&&◌, cond, List, [], ◌∷◌, length, get_or, drop, drop-drop, length-drop, Option, Some}
+use Rattle.std.proofs.Common.{None, refl, sym, ap, ◌∙◌, arith}
 use Rattle.std.specs.Char.{is_ascii_digit, digit_value}
 use Rattle.std.specs.Str.{all_ascii_digits}
 use Rattle.std.specs.Str.Parse.{digits_value_after}
@@ -25,7 +26,7 @@ digit_counts rest more d n e le =
     let one : number_on (Some n) ((48 + d) ∷ more) ≡ number_on (Some (min (n * 10 + d) 65536)) more = rw (gap, digit, value) refl in
     sym (ap (number_on (Some n)) e ∙ one)
 
--- a text stands behind nothing of its own
+-- a text follows nothing of its own
 pub behind_none : (text : List ℕ) → IsBehind text text
 behind_none text =
     let none : 0 ≡ length text - length text = omega arith in
@@ -43,7 +44,7 @@ digit_passes place d more le =
     let one : tokens_from true place (without_comments false ((48 + d) ∷ more)) ≡ tokens_from true (suc place) (without_comments false more) = rw (no_comment _ gap, (gap_parts _ gap).0) refl in
     sym one
 
--- what stands behind one digit more
+-- what follows one digit more
 pub behind_digit : (text rest more : List ℕ) (d : ℕ) → rest ≡ (48 + d) ∷ more → d ≤ 9 → IsBehind text rest → IsBehind text more
 behind_digit text rest more d e le is =
     let at = length text - length rest in
@@ -59,7 +60,7 @@ behind_digit text rest more d e le is =
           ∙ ap (λ bs. tokens_from true (place + at) (without_comments false bs)) (sym e) ∙ is.tokens place;
     }
 
--- what stands behind a tail is behind it in the text too
+-- what follows a tail is after it in the text too
 pub behind_from : (bytes rest : List ℕ) (from : ℕ) → from ≤ length bytes → IsBehind (drop from bytes) rest → rest ≡ drop (length bytes - length rest) bytes
 behind_from bytes rest from le is =
     let later : from + (length (drop from bytes) - length rest) ≡ length bytes - length rest = omega (arith, is.within, length-drop from bytes) in
@@ -126,18 +127,23 @@ by_digit : (n b : ℕ) (rest : List ℕ) (digit : Bool) → is_ascii_digit b ≡
     → number_on (with_byte (Some (min n 65536)) b) rest ≡ capped_after n (b ∷ digits_of_token rest)
 by_digit n b rest true h others =
     let m = n * 10 + digit_value b in
-    let one : with_byte (Some (min n 65536)) b ≡ Some (min m 65536) = ap (λ t. cond t (Some (min (min n 65536 * 10 + (b - 48)) 65536)) None) h ∙ ap (λ (d : ℕ). Some (min (min n 65536 * 10 + d) 65536)) (sym (digit_value_is b h)) ∙ ap (λ (v : ℕ). Some v) (min_again n (digit_value b)) in
-    ap (λ (v : Option ℕ). number_on v rest) one ∙ others m ∙ sym (ap (λ t. cond (t && all_ascii_digits (digits_of_token rest)) (Some (min (digits_value_after 10 m (digits_of_token rest)) 65536)) None) h)
+    let one : with_byte (Some (min n 65536)) b ≡ Some (min m 65536) = ap (λ t. cond t (Some (min (min n 65536 * 10 + (b - 48)) 65536)) None) h
+    ∙ ap (λ (d : ℕ). Some (min (min n 65536 * 10 + d) 65536)) (sym (digit_value_is b h)) ∙ ap (λ (v : ℕ). Some v) (min_again n (digit_value b)) in
+    ap (λ (v : Option ℕ). number_on v rest) one ∙ others m
+    ∙ sym (ap (λ t. cond (t && all_ascii_digits (digits_of_token rest)) (Some (min (digits_value_after 10 m (digits_of_token rest)) 65536)) None) h)
 by_digit n b rest false h others =
     let one : with_byte (Some (min n 65536)) b ≡ None = ap (λ t. cond t (Some (min (min n 65536 * 10 + (b - 48)) 65536)) None) h in
-    ap (λ (v : Option ℕ). number_on v rest) one ∙ number_on-none rest ∙ sym (ap (λ t. cond (t && all_ascii_digits (digits_of_token rest)) (Some (min (digits_value_after 10 (n * 10 + digit_value b) (digits_of_token rest)) 65536)) None) h)
+    ap (λ (v : Option ℕ). number_on v rest) one ∙ number_on-none rest
+    ∙ sym (ap (λ t. cond (t && all_ascii_digits (digits_of_token rest)) (Some (min (digits_value_after 10 (n * 10 + digit_value b) (digits_of_token rest)) 65536)) None) h)
 
 by_gap : (n b : ℕ) (rest : List ℕ) (gap : Bool) → is_gap b ≡ gap → ((m : ℕ) → number_on (Some (min m 65536)) rest ≡ capped_after m (digits_of_token rest))
     → number_on (Some (min n 65536)) (b ∷ rest) ≡ capped_after n (digits_of_token (b ∷ rest))
 by_gap n b rest true h others =
-    ap (λ t. cond t (Some (min n 65536)) (number_on (with_byte (Some (min n 65536)) b) rest)) h ∙ sym (ap (capped_after n) (take_while-cons (λ x. not (is_gap x)) b rest ∙ ap (λ t. cond (not t) (b ∷ digits_of_token rest) []) h))
+    ap (λ t. cond t (Some (min n 65536)) (number_on (with_byte (Some (min n 65536)) b) rest)) h
+    ∙ sym (ap (capped_after n) (take_while-cons (λ x. not (is_gap x)) b rest ∙ ap (λ t. cond (not t) (b ∷ digits_of_token rest) []) h))
 by_gap n b rest false h others =
-    ap (λ t. cond t (Some (min n 65536)) (number_on (with_byte (Some (min n 65536)) b) rest)) h ∙ by_digit n b rest (is_ascii_digit b) refl others ∙ sym (ap (capped_after n) (take_while-cons (λ x. not (is_gap x)) b rest ∙ ap (λ t. cond (not t) (b ∷ digits_of_token rest) []) h))
+    ap (λ t. cond t (Some (min n 65536)) (number_on (with_byte (Some (min n 65536)) b) rest)) h ∙ by_digit n b rest (is_ascii_digit b) refl others
+    ∙ sym (ap (capped_after n) (take_while-cons (λ x. not (is_gap x)) b rest ∙ ap (λ t. cond (not t) (b ∷ digits_of_token rest) []) h))
 
 number_after : (bytes : List ℕ) (n : ℕ) → number_on (Some (min n 65536)) bytes ≡ capped_after n (digits_of_token bytes)
 number_after [] n = refl

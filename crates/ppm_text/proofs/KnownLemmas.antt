@@ -11,13 +11,14 @@ use Rattle.ppm_text.specs.Known.{AreKnown}
 use Rattle.ppm_text.specs.Ppm.{numbered, numbered_by}
 use Rattle.ppm_text.proofs.Binds.{test_ok, ok_is}
 use Rattle.ppm_text.proofs.Numbering.{place_stays, place_new}
-use Rattle.picture.specs.ColourLaws.{same}
+use Rattle.picture.proofs.ColourLaws.{same}
 
 abbrev IsKnown : List Rgb → Known → Type 0
 IsKnown triples k = place_of k.colour triples ≡ Some k.number
 
 -- a known colour has its number
-pub known_number : (colours : Colours) (triple : Triple) (known : List Known) (slot : ℕ) (d : Known) → slot < length known → AreKnown colours.triples known → (get_or known slot d).colour ≡ triple.colour
+pub known_number : (colours : Colours) (triple : Triple) (known : List Known) (slot : ℕ) (d : Known) → slot < length known → AreKnown colours.triples known
+    → (get_or known slot d).colour ≡ triple.colour
     → numbered colours triple ≡ Ok ((get_or known slot d).number, colours)
 known_number colours triple known slot d lt all same =
     let one : place_of (get_or known slot d).colour colours.triples ≡ Some (get_or known slot d).number = All-get_or (IsKnown colours.triples) known slot d lt all.each in

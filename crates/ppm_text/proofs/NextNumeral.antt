@@ -50,7 +50,8 @@ pub number_token : (bytes : List ℕ) (from place end value behind : ℕ) → to
 number_token bytes from place end value behind same lt stops rest goes given ends =
     let token = token_of bytes place in
     let found = given_some (all_ascii_digits token.bytes) value (min (digits_value 10 token.bytes) 65536) (sym (ends value) ∙ given ∙ counted (drop place bytes)) in
-    ap (capped_at (length bytes)) (some_token bytes from place behind same lt stops (sym rest ∙ goes)) ∙ read_token (length bytes) token (tokens_at bytes behind) true found.0 ∙ ap (λ (n : ℕ). Ok (record { place = place; value = n }, tokens_at bytes behind)) (sym found.1)
+    ap (capped_at (length bytes)) (some_token bytes from place behind same lt stops (sym rest ∙ goes)) ∙ read_token (length bytes) token (tokens_at bytes behind) true found.0
+    ∙ ap (λ (n : ℕ). Ok (record { place = place; value = n }, tokens_at bytes behind)) (sym found.1)
 
 -- a token whose digits go up to another byte
 pub other_token : (bytes : List ℕ) (from place end value : ℕ) → tokens_at bytes place ≡ tokens_at bytes from → place < length bytes → is_gap (get_or bytes place 0) ≡ false
@@ -59,22 +60,25 @@ pub other_token : (bytes : List ℕ) (from place end value : ℕ) → tokens_at 
 other_token bytes from place end value same lt stops given inside gap digit =
     let token = token_of bytes place in
     let rest = tokens_from true place (without_comments false (drop place bytes)) in
-    let no_digits = given_none (all_ascii_digits token.bytes) (min (digits_value 10 token.bytes) 65536) (sym (other_byte bytes end value inside gap (number_begins_not bytes end digit inside)) ∙ given ∙ counted (drop place bytes)) in
+    let no_digits = given_none (all_ascii_digits token.bytes) (min (digits_value 10 token.bytes) 65536)
+    (sym (other_byte bytes end value inside gap (number_begins_not bytes end digit inside)) ∙ given ∙ counted (drop place bytes)) in
     ap (capped_at (length bytes)) (sym same ∙ token_begins bytes place lt stops) ∙ read_token (length bytes) token rest false no_digits
 
 pub ruleset next_numeral = (no_token, number_token, other_token, number_begins)
 
--- a token of digits with white space behind it
+-- a token of digits with white space after it
 pub closed_number : (bytes : List ℕ) (from value count : ℕ) → IsClosedNumber (drop from bytes) value count
     → capped_at (length bytes) (tokens_at bytes from) ≡ Ok (record { place = from; value = value }, tokens_at bytes (from + count))
 closed_number bytes from value count is =
     let token = token_of bytes from in
     let begins = number_begins bytes from is.begins in
     let found = given_some (all_ascii_digits token.bytes) value (min (digits_value 10 token.bytes) 65536) (sym is.number ∙ counted (drop from bytes)) in
-    let goes : tokens_from true from (without_comments false (drop from bytes)) ≡ tokens_at bytes (from + count) = is.rest from ∙ ap (λ bs. tokens_from false (from + count) (without_comments false bs)) (drop-drop count from bytes) in
-    ap (capped_at (length bytes)) (some_token bytes from from (from + count) refl begins.0 begins.1 goes) ∙ read_token (length bytes) token (tokens_at bytes (from + count)) true found.0 ∙ ap (λ (n : ℕ). Ok (record { place = from; value = n }, tokens_at bytes (from + count))) (sym found.1)
+    let goes : tokens_from true from (without_comments false (drop from bytes)) ≡ tokens_at bytes (from + count) = is.rest from
+    ∙ ap (λ bs. tokens_from false (from + count) (without_comments false bs)) (drop-drop count from bytes) in
+    ap (capped_at (length bytes)) (some_token bytes from from (from + count) refl begins.0 begins.1 goes) ∙ read_token (length bytes) token (tokens_at bytes (from + count)) true found.0
+    ∙ ap (λ (n : ℕ). Ok (record { place = from; value = n }, tokens_at bytes (from + count))) (sym found.1)
 
--- and the place behind it
+-- and the place after it
 pub closed_within : (bytes : List ℕ) (from value count : ℕ) → from ≤ length bytes → IsClosedNumber (drop from bytes) value count → from + count ≤ length bytes
 closed_within bytes from value count le is = omega (arith, is.within, length-drop from bytes)
 
@@ -84,7 +88,8 @@ pub no_next : (bytes : List ℕ) (from place : ℕ) → tokens_at bytes place �
 no_next bytes from place same last =
     ap next_place (sym same ∙ at_drop_all (λ bs. tokens_from false place (without_comments false bs)) bytes place last)
 
-pub some_next : (bytes : List ℕ) (from place : ℕ) → tokens_at bytes place ≡ tokens_at bytes from → place < length bytes → is_gap (get_or bytes place 0) ≡ false → next_place (tokens_at bytes from) ≡ Some place
+pub some_next : (bytes : List ℕ) (from place : ℕ) → tokens_at bytes place ≡ tokens_at bytes from → place < length bytes → is_gap (get_or bytes place 0) ≡ false
+    → next_place (tokens_at bytes from) ≡ Some place
 some_next bytes from place same lt stops = ap next_place (sym same ∙ token_begins bytes place lt stops)
 
 pub ruleset next_token = (no_next, some_next)

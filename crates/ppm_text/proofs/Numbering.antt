@@ -1,9 +1,10 @@
 -- Colours that are numbered as they are read are numbered by first appearance.
-use Rattle.std.proofs.Common.{◌≡◌, ℕ, suc, ◌+◌, ◌<◌, ◌≤◌, true, cond, ltb, List, [], ◌∷◌, ◌++◌, length, map, Option, Some, None, Ok, Err, refl, sym, ap, ◌∙◌, append_assoc, length-append, arith, unwrap_or}
+use Rattle.std.proofs.Common.{◌≡◌, ℕ, suc, ◌+◌, ◌<◌, ◌≤◌, true, cond, ltb, List, [], ◌∷◌, ◌++◌, length, map, Option, Some, None, Ok, Err, refl, sym, ap, ◌∙◌, append_assoc, length-append, arith}
+use Rattle.std.proofs.Common.{unwrap_or}
 use Rattle.std.specs.List.{flat_map, AllByRecursion}
 use Rattle.std.proofs.lemmas.Bool.Decides.{nat_tests}
-use Rattle.picture.specs.ColourLaws.{absent, any_last, place-front, place-last, placed, seen-front}
-use Rattle.picture.specs.Reading.{◌>>=◌}
+use Rattle.picture.proofs.ColourLaws.{absent, any_last, place-front, place-last, placed, seen-front}
+use Rattle.picture.specs.Readers.{◌>>=◌}
 use Rattle.picture.specs.declared.rgb.Rgb.{Rgb}
 use Rattle.picture.specs.declared.picture.TheConstants.{MAX_COLOURS}
 use Rattle.picture.specs.Palette.{Colours, fits, place_of}
@@ -35,7 +36,8 @@ abbrev IsNumbered : ℕ → ℕ → List Rgb → Rgb → List Rgb → List Rgb �
 IsNumbered maxval place known t ts final =
     (now : List Rgb) × (numbered (palette_of maxval known) (record { place = place; colour = t }) ≡ Ok (number_among final t, palette_of maxval now)) × (seen_after now ts ≡ final)
 
-by_place : (maxval place : ℕ) (known : List Rgb) (t : Rgb) (ts final : List Rgb) (o : Option ℕ) → place_of t known ≡ o → seen_after known (t ∷ ts) ≡ final → length final ≤ MAX_COLOURS → IsNumbered maxval place known t ts final
+by_place : (maxval place : ℕ) (known : List Rgb) (t : Rgb) (ts final : List Rgb) (o : Option ℕ) → place_of t known ≡ o → seen_after known (t ∷ ts) ≡ final → length final ≤ MAX_COLOURS
+    → IsNumbered maxval place known t ts final
 by_place maxval place known t ts final (Some k) e seen room =
     let stays : seen_after known ts ≡ final = ap (λ b. cond b (seen_after known ts) (seen_after (known ++ t ∷ []) ts)) (sym (placed t known k (sym e))) ∙ seen in
     let ext = seen-front known ts in
@@ -63,9 +65,11 @@ AreLawful maxval ts = AllByRecursion (λ t. fits maxval t ≡ true) ts
 -- cells that are read with these numbers, where the text goes on with the rest
 abbrev ReadsCells : ℕ → ℕ → ℕ → List Rgb → List Rgb → List Rgb → List ℕ → Type 0
 ReadsCells end place maxval known ts final rest =
-    (next : ℕ) × (cells_at end (length ts) (palette_of maxval known) (text_tokens place (flat_map triple_text ts ++ rest)) ≡ Ok (map (number_among final) ts, palette_of maxval final, text_tokens next rest))
+    (next : ℕ)
+    × (cells_at end (length ts) (palette_of maxval known) (text_tokens place (flat_map triple_text ts ++ rest)) ≡ Ok (map (number_among final) ts, palette_of maxval final, text_tokens next rest))
 
-pub cells_again : (end maxval : ℕ) (ts : List Rgb) (place : ℕ) (known final : List Rgb) (rest : List ℕ) → maxval ≤ 65535 → AreLawful maxval ts → seen_after known ts ≡ final → length final ≤ MAX_COLOURS
+pub cells_again : (end maxval : ℕ) (ts : List Rgb) (place : ℕ) (known final : List Rgb) (rest : List ℕ) → maxval ≤ 65535 → AreLawful maxval ts → seen_after known ts ≡ final
+    → length final ≤ MAX_COLOURS
     → ReadsCells end place maxval known ts final rest
 unfolding cells_at cell_at
 cells_again end maxval [] place known final rest most lawful seen room =
@@ -81,7 +85,8 @@ cells_again end maxval (t ∷ ts) place known final rest most lawful seen room =
     let now = palette_of maxval one.0 in
     let number = number_among final t in
     let first : cell_at end colours (text_tokens place (triple_text t ++ tail)) ≡ Ok (number, now, after) =
-    bind_is (triple_at end maxval (text_tokens place (triple_text t ++ tail))) (triple, after) (λ read. numbered colours read.0 >>= λ cell. Ok (cell.0, cell.1, read.1)) (triple_again end maxval place t tail lawful.0 most)
+    bind_is (triple_at end maxval (text_tokens place (triple_text t ++ tail))) (triple, after) (λ read. numbered colours read.0 >>= λ cell. Ok (cell.0, cell.1, read.1))
+    (triple_again end maxval place t tail lawful.0 most)
     ∙ bind_is (numbered colours triple) (number, now) (λ cell. Ok (cell.0, cell.1, after)) one.1 in (
       others.0,
       ap (λ (text : List ℕ). cells_at end (suc (length ts)) colours (text_tokens place text)) regrouped

@@ -29,7 +29,8 @@ space_there : (commented : Bool) (b : ℕ) → (commented || is_gap b) ≡ true 
 space_there commented b h =
     is_space-cond (in_comment commented b) b ∙ some_true commented (eqb b 35) (is_line_end b) (is_space b) (line_ends_are_space b) h
 
-skips : (commented : Bool) (place b : ℕ) (rest : List ℕ) → (commented || is_gap b) ≡ true → tokens_from false place (without_comments commented (b ∷ rest)) ≡ tokens_from false (place + 1) (without_comments (in_comment commented b) rest)
+skips : (commented : Bool) (place b : ℕ) (rest : List ℕ) → (commented || is_gap b) ≡ true
+    → tokens_from false place (without_comments commented (b ∷ rest)) ≡ tokens_from false (place + 1) (without_comments (in_comment commented b) rest)
 skips commented place b rest h = rw (space_there commented b h, add-one) refl
 
 -- a byte of a gap is stepped over
@@ -88,13 +89,16 @@ by_gap : (b : ℕ) (rest : List ℕ) (gap : Bool) → is_gap b ≡ gap → take_
     → take_while (λ x. not (is_space x)) (without_comments false (b ∷ rest)) ≡ take_while (λ x. not (is_gap x)) (b ∷ rest)
 by_gap b rest true h others =
     let head = cond (in_comment false b) 32 b in
-    let left : take_while (λ x. not (is_space x)) (without_comments false (b ∷ rest)) ≡ [] = take_while-cons (λ x. not (is_space x)) head (without_comments (in_comment false b) rest) ∙ ap (λ t. cond (not t) (head ∷ take_while (λ x. not (is_space x)) (without_comments (in_comment false b) rest)) []) (space_there false b h) in
+    let left : take_while (λ x. not (is_space x)) (without_comments false (b ∷ rest)) ≡ [] = take_while-cons (λ x. not (is_space x)) head (without_comments (in_comment false b) rest)
+    ∙ ap (λ t. cond (not t) (head ∷ take_while (λ x. not (is_space x)) (without_comments (in_comment false b) rest)) []) (space_there false b h) in
     let right : take_while (λ x. not (is_gap x)) (b ∷ rest) ≡ [] = take_while-cons (λ x. not (is_gap x)) b rest ∙ ap (λ t. cond (not t) (b ∷ take_while (λ x. not (is_gap x)) rest) []) h in
     left ∙ sym right
 by_gap b rest false h others =
     let outside : without_comments false (b ∷ rest) ≡ b ∷ without_comments false rest = ap (λ t. cond t 32 b ∷ without_comments t rest) (no_comment b h) in
-    let left : take_while (λ x. not (is_space x)) (b ∷ without_comments false rest) ≡ b ∷ take_while (λ x. not (is_space x)) (without_comments false rest) = take_while-cons (λ x. not (is_space x)) b (without_comments false rest) ∙ ap (λ t. cond (not t) (b ∷ take_while (λ x. not (is_space x)) (without_comments false rest)) []) (gap_parts b h).0 in
-    let right : take_while (λ x. not (is_gap x)) (b ∷ rest) ≡ b ∷ take_while (λ x. not (is_gap x)) rest = take_while-cons (λ x. not (is_gap x)) b rest ∙ ap (λ t. cond (not t) (b ∷ take_while (λ x. not (is_gap x)) rest) []) h in
+    let left : take_while (λ x. not (is_space x)) (b ∷ without_comments false rest) ≡ b ∷ take_while (λ x. not (is_space x)) (without_comments false rest) =
+    take_while-cons (λ x. not (is_space x)) b (without_comments false rest) ∙ ap (λ t. cond (not t) (b ∷ take_while (λ x. not (is_space x)) (without_comments false rest)) []) (gap_parts b h).0 in
+    let right : take_while (λ x. not (is_gap x)) (b ∷ rest) ≡ b ∷ take_while (λ x. not (is_gap x)) rest = take_while-cons (λ x. not (is_gap x)) b rest
+    ∙ ap (λ t. cond (not t) (b ∷ take_while (λ x. not (is_gap x)) rest) []) h in
     ap (take_while (λ x. not (is_space x))) outside ∙ left ∙ ap (λ (xs : List ℕ). b ∷ xs) others ∙ sym right
 
 token_bytes : (bytes : List ℕ) → take_while (λ b. not (is_space b)) (without_comments false bytes) ≡ take_while (λ b. not (is_gap b)) bytes
@@ -109,16 +113,20 @@ token_begins bytes place lt h =
     let rest = drop (place + 1) bytes in
     let whole = at_drop_more (λ bs. tokens_from false place (without_comments false bs)) bytes place 0 lt in
     let outside : without_comments false (b ∷ rest) ≡ b ∷ without_comments false rest = ap (λ t. cond t 32 b ∷ without_comments t rest) (no_comment b h) in
-    let one : tokens_from false place (b ∷ without_comments false rest) ≡ record { place = place; bytes = take_while (λ x. not (is_space x)) (b ∷ without_comments false rest) } ∷ tokens_from true place (b ∷ without_comments false rest) = rw (gap_parts b h).0 refl in
-    let same : tokens_from false place (without_comments false (b ∷ rest)) ≡ record { place = place; bytes = take_while (λ x. not (is_gap x)) (b ∷ rest) } ∷ tokens_from true place (without_comments false (b ∷ rest)) =
-    ap (tokens_from false place) outside ∙ one ∙ ap (λ (bs : List ℕ). record { place = place; bytes = take_while (λ x. not (is_space x)) bs } ∷ tokens_from true place bs) (sym outside) ∙ ap (λ (bs : List ℕ). record { place = place; bytes = bs } ∷ tokens_from true place (without_comments false (b ∷ rest))) (token_bytes (b ∷ rest)) in
+    let one : tokens_from false place (b ∷ without_comments false rest) ≡ record { place = place; bytes = take_while (λ x. not (is_space x)) (b ∷ without_comments false rest) }
+    ∷ tokens_from true place (b ∷ without_comments false rest) = rw (gap_parts b h).0 refl in
+    let same : tokens_from false place (without_comments false (b ∷ rest))
+    ≡ record { place = place; bytes = take_while (λ x. not (is_gap x)) (b ∷ rest) } ∷ tokens_from true place (without_comments false (b ∷ rest)) =
+    ap (tokens_from false place) outside ∙ one ∙ ap (λ (bs : List ℕ). record { place = place; bytes = take_while (λ x. not (is_space x)) bs } ∷ tokens_from true place bs) (sym outside)
+    ∙ ap (λ (bs : List ℕ). record { place = place; bytes = bs } ∷ tokens_from true place (without_comments false (b ∷ rest))) (token_bytes (b ∷ rest)) in
     whole ∙ same ∙ sym (at_drop_more (λ bs. record { place = place; bytes = take_while (λ x. not (is_gap x)) bs } ∷ tokens_from true place (without_comments false bs)) bytes place 0 lt)
 
 -- a token ends at a gap, and at the end of the text
 pub token_ends : (bytes : List ℕ) (at : ℕ) → at < length bytes → is_gap (get_or bytes at 0) ≡ true → tokens_from true at (without_comments false (drop at bytes)) ≡ tokens_at bytes at
 token_ends bytes at lt h =
     let space = space_there false (get_or bytes at 0) h in
-    let one : tokens_from true at (without_comments false (get_or bytes at 0 ∷ drop (at + 1) bytes)) ≡ tokens_from false at (without_comments false (get_or bytes at 0 ∷ drop (at + 1) bytes)) = rw space refl in
+    let one : tokens_from true at (without_comments false (get_or bytes at 0 ∷ drop (at + 1) bytes)) ≡ tokens_from false at (without_comments false (get_or bytes at 0 ∷ drop (at + 1) bytes)) =
+    rw space refl in
     at_drop_more (λ bs. tokens_from true at (without_comments false bs)) bytes at 0 lt ∙ one ∙ sym (at_drop_more (λ bs. tokens_from false at (without_comments false bs)) bytes at 0 lt)
 
 pub last_token_ends : (bytes : List ℕ) (at : ℕ) → length bytes ≤ at → tokens_from true at (without_comments false (drop at bytes)) ≡ tokens_at bytes at

@@ -4,8 +4,9 @@ use Rattle.std.specs.List.{list_any, flat_map}
 use Rattle.std.proofs.lemmas.Bool.{cases_lt, or_left}
 use Rattle.std.proofs.lemmas.List.{get_or_past}
 use Rattle.std.proofs.lemmas.List.Folds.{list_any_at}
+use Rattle.picture.specs.Rows.{Rows}
 use Rattle.picture.specs.declared.rgb.Rgb.{Rgb}
-use Rattle.picture.specs.ColourLaws.{Among, every_append, fits_there, same}
+use Rattle.picture.proofs.ColourLaws.{Among, every_append, fits_there, same}
 use Rattle.picture.specs.Palette.{rgb_eq}
 use Rattle.picture.specs.Document.{first_of, triples_of}
 use Rattle.ppm_text.proofs.Numbering.{AreLawful}
@@ -24,7 +25,7 @@ row_among : (triples : List Rgb) (row : List ℕ) → 0 < length triples → Amo
 row_among triples [] some = tt
 row_among triples (k ∷ row) some = (looked_up_among triples k some, row_among triples row some)
 
-pub rows_among : (triples : List Rgb) (rows : List (List ℕ)) → 0 < length triples → Among triples (flat_map (triples_of triples) rows)
+pub rows_among : (triples : List Rgb) (rows : Rows) → 0 < length triples → Among triples (flat_map (triples_of triples) rows)
 rows_among triples [] some = tt
 rows_among triples (row ∷ rows) some =
     every_append (λ t. list_any (rgb_eq t) triples ≡ true) (triples_of triples row) (flat_map (triples_of triples) rows) (row_among triples row some) (rows_among triples rows some)

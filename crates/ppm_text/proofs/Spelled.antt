@@ -1,5 +1,6 @@
--- Numbers that are written with a space or a line end behind them are read again.
-use Rattle.std.proofs.Common.{◌≡◌, ℕ, suc, ◌+◌, ◌^◌, ◌<◌, ◌≤◌, Bool, true, false, not, ◌&&◌, ◌||◌, cond, eqb, ltb, leb, List, [], ◌∷◌, ◌++◌, length, Result, Ok, Err, Some, refl, ap, ◌∙◌, append_assoc, arith, rules, decimal}
+-- Numbers that are written with a space or a line end after them are read again.
+use Rattle.std.proofs.Common.{◌≡◌, ℕ, suc, ◌+◌, ◌^◌, ◌<◌, ◌≤◌, Bool, true, false, not, ◌&&◌, ◌||◌, cond, eqb, ltb, leb, List, [], ◌∷◌, ◌++◌, length, Result, Ok, Err, Some, refl, ap, ◌∙◌, append_assoc}
+use Rattle.std.proofs.Common.{arith, rules, decimal}
 use Rattle.std.specs.Char.{is_ascii_digit}
 use Rattle.std.specs.Str.{all_ascii_digits}
 use Rattle.std.specs.Str.Parse.{digits_value, digits_value_after}
@@ -10,7 +11,7 @@ use Rattle.std.proofs.lemmas.List.Sums.{take_while-cons}
 use Rattle.std.proofs.lemmas.Str.Parse.{IsNumeralModel, numerals_by_fold}
 use Rattle.std.proofs.lemmas.Fmt.{digits_decimal, digits_value-decimal, decimal_nonempty}
 use Rattle.picture.specs.declared.picture.TheConstants.{MAX_SIDE}
-use Rattle.picture.specs.Reading.{◌>>=◌}
+use Rattle.picture.specs.Readers.{◌>>=◌}
 use Rattle.picture.specs.declared.rgb.Rgb.{Rgb}
 use Rattle.picture.specs.Palette.{fits, only_background}
 use Rattle.ppm_text.specs.declared.fault.PpmFault.{PpmFault}
@@ -20,7 +21,7 @@ use Rattle.ppm_text.specs.Tokens.{Token, tokens_from, without_comments, is_space
 use Rattle.ppm_text.specs.Numerals.{numeral_at}
 use Rattle.ppm_text.specs.Samples.{side_at, sample_at, triple_at}
 use Rattle.ppm_text.specs.Ppm.{palette_at}
-use Rattle.picture.specs.Writing.{number_text}
+use Rattle.picture.specs.Writers.{number_text}
 use Rattle.ppm_text.specs.Text.{triple_text}
 use Rattle.ppm_text.proofs.Binds.{bind_is}
 use Rattle.ppm_text.proofs.Scanning.{no_comment, no_gap, gap_parts}
@@ -53,14 +54,16 @@ digits_over [] ys place close h space =
 digits_over (d ∷ ds) ys place close h space =
     let p = and_parts (is_ascii_digit d) (all_ascii_digits ds) h in
     let count : suc place + length ds + 1 ≡ place + suc (length ds) + 1 = omega arith in
-    ap (λ t. cond t (tokens_from false (suc place) (ds ++ close ∷ ys)) (tokens_from true (suc place) (ds ++ close ∷ ys))) (gap_parts d (no_gap d p.0)).0 ∙ digits_over ds ys (suc place) close p.1 space ∙ ap (λ (n : ℕ). tokens_from false n ys) count
+    ap (λ t. cond t (tokens_from false (suc place) (ds ++ close ∷ ys)) (tokens_from true (suc place) (ds ++ close ∷ ys))) (gap_parts d (no_gap d p.0)).0 ∙ digits_over ds ys (suc place) close p.1 space
+    ∙ ap (λ (n : ℕ). tokens_from false n ys) count
 
 digits_taken : (ds ys : List ℕ) (close : ℕ) → all_ascii_digits ds ≡ true → is_space close ≡ true → take_while (λ x. not (is_space x)) (ds ++ close ∷ ys) ≡ ds
 digits_taken [] ys close h space =
     take_while-cons (λ x. not (is_space x)) close ys ∙ ap (λ t. cond (not t) (close ∷ take_while (λ x. not (is_space x)) ys) []) space
 digits_taken (d ∷ ds) ys close h space =
     let p = and_parts (is_ascii_digit d) (all_ascii_digits ds) h in
-    take_while-cons (λ x. not (is_space x)) d (ds ++ close ∷ ys) ∙ ap (λ t. cond (not t) (d ∷ take_while (λ x. not (is_space x)) (ds ++ close ∷ ys)) []) (gap_parts d (no_gap d p.0)).0 ∙ ap (λ (xs : List ℕ). d ∷ xs) (digits_taken ds ys close p.1 space)
+    take_while-cons (λ x. not (is_space x)) d (ds ++ close ∷ ys) ∙ ap (λ t. cond (not t) (d ∷ take_while (λ x. not (is_space x)) (ds ++ close ∷ ys)) []) (gap_parts d (no_gap d p.0)).0
+    ∙ ap (λ (xs : List ℕ). d ∷ xs) (digits_taken ds ys close p.1 space)
 
 first_digit : (ds ys : List ℕ) (place close : ℕ) → 0 < length ds → all_ascii_digits ds ≡ true → is_space close ≡ true
     → tokens_from false place (ds ++ close ∷ ys) ≡ record { place = place; bytes = ds } ∷ tokens_from false (place + length ds + 1) ys
@@ -69,7 +72,8 @@ first_digit (d ∷ ds) ys place close some h space =
     let p = and_parts (is_ascii_digit d) (all_ascii_digits ds) h in
     let count : suc place + length ds + 1 ≡ place + suc (length ds) + 1 = omega arith in
     let token : List ℕ → Token = λ bs. record { place = place; bytes = bs } in
-    ap (λ t. cond t (tokens_from false (suc place) (ds ++ close ∷ ys)) (token (take_while (λ x. not (is_space x)) (d ∷ (ds ++ close ∷ ys))) ∷ tokens_from true (suc place) (ds ++ close ∷ ys))) (gap_parts d (no_gap d p.0)).0
+    ap (λ t. cond t (tokens_from false (suc place) (ds ++ close ∷ ys)) (token (take_while (λ x. not (is_space x)) (d ∷ (ds ++ close ∷ ys))) ∷ tokens_from true (suc place) (ds ++ close ∷ ys)))
+    (gap_parts d (no_gap d p.0)).0
     ∙ ap (λ (bs : List ℕ). token bs ∷ tokens_from true (suc place) (ds ++ close ∷ ys)) (digits_taken (d ∷ ds) ys close h space)
     ∙ ap (λ (ts : List Token). token (d ∷ ds) ∷ ts) (digits_over ds ys (suc place) close p.1 space ∙ ap (λ (n : ℕ). tokens_from false n ys) count)
 
@@ -85,7 +89,7 @@ own = numerals_by_fold _ (search rules) (digits_value_after 10) (search (rules, 
 number_text_is : (n close : ℕ) (rest : List ℕ) → number_text n close ++ rest ≡ decimal n ++ close ∷ rest
 number_text_is n close rest = append_assoc (decimal n) (close ∷ []) rest
 
--- where the text goes on behind a number
+-- where the text goes on after a number
 abbrev pub behind : ℕ → ℕ → ℕ
 behind place n = place + length (decimal n) + 1
 
@@ -124,7 +128,7 @@ fits_parts maxval rgb h =
     let q = and_parts (leb rgb.g maxval) (leb rgb.b maxval) p.1 in
     (leb-true rgb.r maxval p.0, leb-true rgb.g maxval q.0, leb-true rgb.b maxval q.1)
 
--- where the text goes on behind a triple
+-- where the text goes on after a triple
 abbrev pub behind_triple : ℕ → Rgb → ℕ
 behind_triple place rgb = behind (behind (behind place rgb.r) rgb.g) rgb.b
 
@@ -135,7 +139,8 @@ triple_again end maxval place rgb rest lawful most =
     let below = fits_parts maxval rgb lawful in
     let third : List ℕ = number_text rgb.b 10 ++ rest in
     let second : List ℕ = number_text rgb.g 32 ++ third in
-    let regrouped : triple_text rgb ++ rest ≡ number_text rgb.r 32 ++ second = append_assoc (number_text rgb.r 32) (number_text rgb.g 32 ++ number_text rgb.b 10) rest ∙ ap (λ (x : List ℕ). number_text rgb.r 32 ++ x) (append_assoc (number_text rgb.g 32) (number_text rgb.b 10) rest) in
+    let regrouped : triple_text rgb ++ rest ≡ number_text rgb.r 32 ++ second = append_assoc (number_text rgb.r 32) (number_text rgb.g 32 ++ number_text rgb.b 10) rest
+    ∙ ap (λ (x : List ℕ). number_text rgb.r 32 ++ x) (append_assoc (number_text rgb.g 32) (number_text rgb.b 10) rest) in
     ap (λ (text : List ℕ). triple_at end maxval (text_tokens place text)) regrouped
     ∙ bind_is (sample_at end maxval (text_tokens place (number_text rgb.r 32 ++ second))) (record { place = place; value = rgb.r }, text_tokens (behind place rgb.r) second)
     (λ r. sample_at end maxval r.1 >>= λ g. sample_at end maxval g.1 >>= λ b. Ok (record { place = r.0.place; colour = record { r = r.0.value; g = g.0.value; b = b.0.value } }, b.1))
@@ -143,7 +148,8 @@ triple_again end maxval place rgb rest lawful most =
     ∙ bind_is (sample_at end maxval (text_tokens (behind place rgb.r) second)) (record { place = behind place rgb.r; value = rgb.g }, text_tokens (behind (behind place rgb.r) rgb.g) third)
     (λ g. sample_at end maxval g.1 >>= λ b. Ok (record { place = place; colour = record { r = rgb.r; g = g.0.value; b = b.0.value } }, b.1))
     (sample_again end maxval (behind place rgb.r) rgb.g 32 third below.1 most space_closes)
-    ∙ bind_is (sample_at end maxval (text_tokens (behind (behind place rgb.r) rgb.g) third)) (record { place = behind (behind place rgb.r) rgb.g; value = rgb.b }, text_tokens (behind_triple place rgb) rest)
+    ∙ bind_is (sample_at end maxval (text_tokens (behind (behind place rgb.r) rgb.g) third))
+    (record { place = behind (behind place rgb.r) rgb.g; value = rgb.b }, text_tokens (behind_triple place rgb) rest)
     (λ b. Ok (record { place = place; colour = record { r = rgb.r; g = rgb.g; b = b.0.value } }, b.1))
     (sample_again end maxval (behind (behind place rgb.r) rgb.g) rgb.b 10 rest below.2 most line_end_closes)
 

@@ -1,9 +1,11 @@
--- The names of the faults, and the places that they carry.
+-- The names of the errors, and the places that they carry.
 use Rattle.std.specs.Prelude.{ℕ, List, codes, Option, Some, None}
 use Rattle.ppm_text.specs.declared.fault.PpmFault.{PpmFault}
-use Rattle.ppm_text.specs.declared.fault.PpmFault.TheVariants.{NotP3, BadNumber, Truncated, BadMaxval, EmptySize, TooLarge, SampleOver, TooManyColours, TrailingToken, Memory}
+use Rattle.ppm_text.specs.declared.fault.PpmFault.TheVariants.{NotP3, BadNumber, Truncated, BadMaxval, EmptySize}
+use Rattle.ppm_text.specs.declared.fault.PpmFault.TheVariants.{TooLarge, SampleOver, TooManyColours, TrailingToken}
+use Rattle.ppm_text.specs.declared.fault.PpmFault.TheVariants.{Memory}
 
--- the name, and the byte at which the fault was met, where it has one
+-- the name, and the byte at which the error was met, where it has one
 abbrev pub told_of : PpmFault → List ℕ × Option ℕ
 told_of (NotP3 at) = (codes "NotP3", Some at)
 told_of (BadNumber at) = (codes "BadNumber", Some at)

@@ -4,6 +4,6 @@ use Rattle.picture.specs.declared.rgb.Rgb.{Rgb}
 use Rattle.picture.specs.Palette.{place_of}
 use Rattle.ppm_text.specs.declared.known.Known.{Known}
 
--- each colour stands in the palette at its number
+-- each colour is in the palette at its number
 pub record AreKnown (triples : List Rgb) (known : List Known) : Type 0 where
   pub each : All (λ k. place_of k.colour triples ≡ Some k.number) known

@@ -5,6 +5,6 @@ pub mod ClosedNumbers
 pub mod Samples
 pub mod Ppm
 pub mod Text
-pub mod Adding
+pub mod NewTriples
 pub mod Known
 pub mod RoundTrip

@@ -1,6 +1,7 @@
--- What a P3 text says, and the first fault in one that says nothing.
-use Rattle.std.specs.Prelude.{ℕ, zero, suc, ◌*◌, ◌||◌, nat_lt, ◌==◌, if◌then◌else◌, List, [], ◌∷◌, length, Option, Some, None, Result, Ok, Err}
-use Rattle.picture.specs.Reading.{◌>>=◌}
+-- What a P3 text says, and the first error in one that says nothing.
+use Rattle.std.specs.Prelude.{ℕ, zero, suc, ◌*◌, ◌||◌, nat_lt, ◌==◌, if◌then◌else◌, List, [], ◌∷◌, length, Option, Some}
+use Rattle.std.specs.Prelude.{None, Result, Ok, Err}
+use Rattle.picture.specs.Readers.{◌>>=◌}
 use Rattle.picture.specs.Rows.{rows_of}
 use Rattle.picture.specs.declared.rgb.Rgb.{Rgb}
 use Rattle.picture.specs.declared.picture.TheConstants.{MAX_COLOURS}
@@ -14,7 +15,7 @@ use Rattle.ppm_text.specs.Tokens.{Token, Unread, magic_of}
 use Rattle.ppm_text.specs.Numerals.{numeral_at}
 use Rattle.ppm_text.specs.Samples.{side_at, triple_at}
 
--- the background that was handed in, or else white
+-- the background that was passed, or else white
 abbrev pub background_of : Option Rgb → ℕ → Rgb
 background_of None maxval = record { r = maxval; g = maxval; b = maxval }
 background_of (Some rgb) maxval = rgb
@@ -32,7 +33,7 @@ palette_at background end tokens = do
   if maxval.0.value == 0 || nat_lt 65535 maxval.0.value then Err (BadMaxval maxval.0.place)
       else (first_palette background maxval.0.value maxval.0.place >>= λ colours. Ok (colours, maxval.1))
 
--- the number of a triple that stands in the palette at a place, or is added to it
+-- the number of a triple that is in the palette at a place, or is added to it
 abbrev pub numbered_by : Option ℕ → Colours → Triple → Result (ℕ × Colours) PpmFault
 numbered_by (Some number) colours triple = Ok (number, colours)
 numbered_by None colours triple =
@@ -43,7 +44,7 @@ numbered_by None colours triple =
 abbrev pub numbered : Colours → Triple → Result (ℕ × Colours) PpmFault
 numbered colours triple = numbered_by (place_of triple.colour colours.triples) colours triple
 
--- one cell: its number, the palette behind it and the tokens behind it
+-- one cell: its number, the palette after it and the tokens after it
 unfoldable pub cell_at : ℕ → Colours → List Token → Result (ℕ × Colours × List Token) PpmFault
 cell_at end colours tokens = do
   triple ← triple_at end colours.maxval tokens
@@ -77,11 +78,17 @@ header_of text background = do
   width ← side_at start.end start.tokens
   height ← side_at start.end width.1
   palette ← palette_at background start.end height.1
-  Ok (record { width = width.0; height = height.0; colours = palette.0; rest = record { end = start.end; tokens = palette.1 } })
+  Ok (record {
+    width = width.0;
+    height = height.0;
+    colours = palette.0;
+    rest = record { end = start.end; tokens = palette.1 };
+  })
 
 -- What the whole text says: the header, a triple for each cell, and no more. Nothing in it is a given.
 unfoldable pub ppm_of : List ℕ → Option Rgb → Result Content PpmFault
 ppm_of text background = do
   header ← header_of text background
   cells ← cells_at header.rest.end (header.height * header.width) header.colours header.rest.tokens
-  at_the_end (record { colours = cells.1; rows = rows_of header.height header.width cells.0; givens = no_cells }) cells.2
+  at_the_end
+      (record { colours = cells.1; rows = rows_of header.height header.width cells.0; givens = no_cells }) cells.2

@@ -13,6 +13,6 @@ pub record IsUngiven (d : Content) : Type 0 where
   pub picture : IsPicture d.rows
   pub givens : d.givens ≡ no_cells
 
--- What is written, read with the background handed in, is the ordered form.
+-- What is written, read with the background passed, is the ordered form.
 abbrev pub IsReadAgain : Content → Type 0
 IsReadAgain d = ppm_of (ppm_text d) (Some (first_of d.colours.triples)) ≡ Ok (ordered_of d)

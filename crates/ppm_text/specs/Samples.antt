@@ -1,6 +1,6 @@
 -- The fields of a P3 text one by one: the sides, the samples and the triples.
 use Rattle.std.specs.Prelude.{ℕ, nat_lt, ◌==◌, if◌then◌else◌, List, Result, Ok, Err}
-use Rattle.picture.specs.Reading.{◌>>=◌}
+use Rattle.picture.specs.Readers.{◌>>=◌}
 use Rattle.picture.specs.declared.picture.TheConstants.{MAX_SIDE}
 use Rattle.ppm_text.specs.declared.fault.PpmFault.{PpmFault}
 use Rattle.ppm_text.specs.declared.fault.PpmFault.TheVariants.{EmptySize, TooLarge, SampleOver}
@@ -13,7 +13,8 @@ use Rattle.ppm_text.specs.Numerals.{numeral_at}
 unfoldable pub side_at : ℕ → List Token → Result (ℕ × List Token) PpmFault
 side_at end tokens = do
   side ← numeral_at end tokens
-  if side.0.value == 0 then Err (EmptySize side.0.place) else (if nat_lt MAX_SIDE side.0.value then Err (TooLarge side.0.place) else Ok (side.0.value, side.1))
+  if side.0.value == 0 then Err (EmptySize side.0.place)
+      else (if nat_lt MAX_SIDE side.0.value then Err (TooLarge side.0.place) else Ok (side.0.value, side.1))
 
 -- one of the three numbers of a colour
 unfoldable pub sample_at : ℕ → ℕ → List Token → Result (Numeral × List Token) PpmFault

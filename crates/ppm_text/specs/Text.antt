@@ -2,8 +2,8 @@
 use Rattle.std.specs.Prelude.{ℕ, List, ◌++◌, length, codes}
 use Rattle.std.specs.List.{flat_map}
 use Rattle.picture.specs.declared.rgb.Rgb.{Rgb}
-use Rattle.picture.specs.Rows.{width_of}
-use Rattle.picture.specs.Writing.{number_text}
+use Rattle.picture.specs.Rows.{width_of, Rows}
+use Rattle.picture.specs.Writers.{number_text}
 use Rattle.picture.specs.Palette.{triple_at}
 use Rattle.picture.specs.Document.{Content}
 
@@ -20,7 +20,7 @@ abbrev pub row_text : List Rgb → List ℕ → List ℕ
 row_text triples row = flat_map (cell_text triples) row
 
 -- the rows from the top
-abbrev pub rows_text : List Rgb → List (List ℕ) → List ℕ
+abbrev pub rows_text : List Rgb → Rows → List ℕ
 rows_text triples rows = flat_map (row_text triples) rows
 
 -- the width and the height on a line, and the maxval on a line
@@ -29,4 +29,5 @@ sizes_text width height maxval = number_text width 32 ++ (number_text height 10 
 
 -- the magic on a line, the sizes and the rows
 abbrev pub ppm_text : Content → List ℕ
-ppm_text d = codes "P3\n" ++ (sizes_text (width_of d.rows) (length d.rows) d.colours.maxval ++ rows_text d.colours.triples d.rows)
+ppm_text d = codes "P3\n"
+    ++ (sizes_text (width_of d.rows) (length d.rows) d.colours.maxval ++ rows_text d.colours.triples d.rows)

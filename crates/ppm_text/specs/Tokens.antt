@@ -1,5 +1,6 @@
 -- A P3 text taken apart: the magic, the comments, and the tokens with their places.
-use Rattle.std.specs.Prelude.{ℕ, suc, Bool, true, false, not, ◌&&◌, ◌||◌, ◌==◌, nat_le, nat_eq, if◌then◌else◌, List, [], ◌∷◌, length, drop, slice_index, codes, Option, Some, None, Result, Ok, Err}
+use Rattle.std.specs.Prelude.{ℕ, suc, Bool, true, false, not, ◌&&◌, ◌||◌, ◌==◌, nat_le, nat_eq, if◌then◌else◌, List, []}
+use Rattle.std.specs.Prelude.{◌∷◌, length, drop, slice_index, codes, Option, Some, None, Result, Ok, Err}
 use Rattle.std.specs.List.{starts_with, take_while}
 use Rattle.ppm_text.specs.declared.fault.PpmFault.{PpmFault}
 use Rattle.ppm_text.specs.declared.fault.PpmFault.TheVariants.{NotP3}
@@ -24,7 +25,8 @@ in_comment commented b = (commented || b == 35) && not (is_line_end b)
 -- `commented` says that a comment was opened before them.
 abbrev pub without_comments : Bool → List ℕ → List ℕ
 without_comments commented [] = []
-without_comments commented (b ∷ rest) = (if in_comment commented b then 32 else b) ∷ without_comments (in_comment commented b) rest
+without_comments commented (b ∷ rest) =
+    (if in_comment commented b then 32 else b) ∷ without_comments (in_comment commented b) rest
 
 -- a token, and where its first byte stands
 pub record Token : Type 0 where
@@ -57,7 +59,7 @@ pub record Unread : Type 0 where
 abbrev pub tokens_at : List ℕ → ℕ → List Token
 tokens_at text place = tokens_from false place (without_comments false (drop place text))
 
--- what is to be read behind the magic
+-- what is to be read after the magic
 abbrev pub magic_of : List ℕ → Result Unread PpmFault
 magic_of text = if has_magic text then Ok (record { end = length text; tokens = tokens_at text 2 }) else Err (NotP3 0)
 

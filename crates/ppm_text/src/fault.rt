@@ -7,8 +7,8 @@ ghost use Rattle.ppm_text.specs.declared.fault.PpmFault.TheVariants.{Memory};
 use std::alloc::AllocError;
 use thiserror::Error;
 
-/// What is wrong with a P3 text: the first fault that reading it from the front meets, with the
-/// number of bytes before the place that it names.
+/// What is wrong with a P3 text: the first error that reading it from the front meets, with the number of bytes before
+/// the place that it names.
 #[derive(Clone, Copy, Debug, PartialEq, Eq, Error)]
 pub enum PpmFault {
     /// The text doesn't begin with `P3` and then end or go on with white space or a comment.
@@ -29,7 +29,7 @@ pub enum PpmFault {
     /// The width or the height is above 120.
     #[error("byte {0}: the size is above 120")]
     TooLarge(usize),
-    /// A sample is above the maxval; at the maxval, one of the background that was handed in.
+    /// A sample is above the maxval; at the maxval, one of the background that was passed.
     #[error("byte {0}: a sample is above the maxval")]
     SampleOver(usize),
     /// The triple that begins here would be the seventeenth colour.
@@ -47,14 +47,14 @@ pub enum PpmFault {
 pub(crate) type Read<T> = Result<T, PpmFault>;
 
 impl PpmFault {
-    /// The fault's name, as the variant is called.
+    /// The error's name, as the variant is called.
     pub fn name(&self) -> &'static str
         ensures { result.now ≡ name_of self.now }
     {
         self.told().0
     }
 
-    /// The number of bytes before the place that the fault names.
+    /// The number of bytes before the place that the error names.
     pub fn place(&self) -> Option<usize>
         ensures { result ≡ place_of self.now }
     {

@@ -2,7 +2,7 @@
 
 ghost use Rattle.std.specs.Prelude.{◌≡◌, ◌<◌, ◌≤◌, IfOk, IsTrue};
 ghost use Rattle.picture.specs.Palette.{fits};
-ghost use Rattle.picture.specs.Reading.{Reads};
+ghost use Rattle.picture.specs.Readers.{Reads};
 ghost use Rattle.ppm_text.specs.Samples.{side_at, sample_at, triple_at};
 
 use crate::fault::{PpmFault, Read};
@@ -51,7 +51,7 @@ fn read_sample(scanner: &mut Scanner, maxval: u16) -> Read<(usize, u16)>
 }
 
 #[tactic(auto, unfolding(crate::specs::Samples::triple_at))]
-/// Reads a colour.
+/// Reads three samples. After an error the scanner's place is unspecified.
 pub fn read_triple(scanner: &mut Scanner, maxval: u16) -> Read<Triple>
     ensures read { Reads (λ t. (t, scanner.new.tokens)) result
         (triple_at scanner.old.end maxval scanner.old.tokens) }

@@ -2,9 +2,9 @@
 
 ghost use Rattle.std.specs.Prelude.{◌≡◌, ◌<◌, IsTrue, OnOk};
 ghost use Rattle.picture.specs.Palette.{fits};
-ghost use Rattle.picture.specs.Reading.{Gives};
+ghost use Rattle.picture.specs.Readers.{Gives};
 ghost use Rattle.ppm_text.specs.declared.fault.PpmFault.TheVariants.{Memory};
-ghost use Rattle.ppm_text.specs.Adding.{adding_fault};
+ghost use Rattle.ppm_text.specs.NewTriples.{adding_fault};
 ghost use Rattle.ppm_text.specs.Known.{AreKnown};
 ghost use Rattle.ppm_text.specs.Ppm.{numbered};
 

@@ -9,8 +9,8 @@ ghost use Rattle.ppm_text.specs.RoundTrip.{IsUngiven, IsReadAgain};
 use picture::Document;
 
 #[tactic(auto, using(crate::proofs::Again::is_read_again))]
-/// The law of the round trip: the text that is written for a document without givens, read with the
-/// document's background handed in, gives the document's ordered form.
+/// The law of the round trip: the text that is written for a document without givens, read with the document's
+/// background passed, gives the document's ordered form.
 pub fn round_trip()
     ensures { (d : Content) → IsUngiven d → IsReadAgain d }
 {}

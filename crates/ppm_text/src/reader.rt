@@ -5,7 +5,7 @@ ghost use Rattle.std.specs.Result.{result_err};
 ghost use Rattle.picture.specs.CellSet.{no_cells};
 ghost use Rattle.picture.specs.Rows.{rows_of};
 ghost use Rattle.picture.specs.Content.{content_of};
-ghost use Rattle.picture.specs.Reading.{Gives, Refuses};
+ghost use Rattle.picture.specs.Readers.{Gives, Refuses};
 ghost use Rattle.ppm_text.specs.declared.fault.PpmFault.TheVariants.{Memory};
 ghost use Rattle.ppm_text.specs.Known.{AreKnown};
 ghost use Rattle.ppm_text.specs.Ppm.{palette_at, cell_at, cells_at, header_of, ppm_of};
@@ -18,7 +18,7 @@ use picture::{CellSet, Document, MAX_SIDE, Palette, PaletteFault, Picture, Rgb};
 use std::alloc::Global;
 
 #[tactic(auto, using(crate::proofs::Caps::palette_caps))]
-// Reads the maxval, and begins the palette with the background that was handed in, or else with white.
+// Reads the maxval, and begins the palette with the background that was passed, or else with white.
 fn read_palette(alloc: Global, scanner: &mut Scanner, background: Option<Rgb>) -> Read<Palette>
     ensures read { Gives Memory (λ p. (p, scanner.new.tokens)) result
         (palette_at background scanner.old.end scanner.old.tokens) }
@@ -78,19 +78,19 @@ fn read_cells(
     Ok(cells)
 }
 
-#[tactic(auto, using(crate::proofs::Cells::read_cells, picture::specs::FlatLaws::cell_at_below), unfolding(crate::specs::Ppm::ppm_of, crate::specs::Ppm::header_of))]
+#[tactic(auto, using(crate::proofs::Cells::read_cells, picture::proofs::FlatLaws::cell_at_below), unfolding(crate::specs::Ppm::ppm_of, crate::specs::Ppm::header_of))]
 /// Reads a plain PPM text (P3) whole: the magic, the width and the height from 1 to 120, the maxval
 /// from 1 to 65535, and the samples of each cell in row order, each a decimal number of any length.
 ///
-/// White space is space, TAB, LF, VT, FF and CR. A comment from `#` to the next LF or CR, or to the
-/// end of the text, counts as white space anywhere behind the magic. Lines may have any length.
+/// White space is space, TAB, LF, VT, FF and CR. A comment from `#` to the next LF or CR, or to the end of the text,
+/// counts as white space anywhere after the magic. Lines may have any length.
 ///
-/// The first colour, number 0, is the background that was handed in, or else white. The others are
-/// numbered by first appearance in row order, up to 16 in all. No cell is a given.
+/// The first colour, number 0, is the background that was passed, or else white. The others are numbered by first
+/// appearance in row order, up to 16 in all. No cell is a given.
 ///
-/// The text is read from the front, and the first fault is answered, with the byte at which it was
-/// met. A background with a sample above the maxval is refused at the maxval. No memory is taken
-/// before the maxval has been read, so a fault up to there is answered whatever memory there is.
+/// The text is read from the front, and the first error is answered, with the byte at which it was met. A background
+/// with a sample above the maxval is refused at the maxval. No memory is taken before the maxval has been read, so an
+/// error up to there is answered whatever memory there is.
 pub fn read_ppm(alloc: Global, bytes: &[u8], background: Option<Rgb>) -> Result<Document, PpmFault>
     ensures read { Gives Memory content_of result (ppm_of bytes.now background) }
     ensures header { IfErr (header_of bytes.now background) (λ fault. result ≡ Err fault) }

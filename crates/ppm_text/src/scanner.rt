@@ -1,7 +1,7 @@
 //! The tokens of a P3 text: numbers with their places, past white space and comments.
 
 ghost use Rattle.std.specs.Prelude.{◌≡◌, ℕ, ◌+◌, ◌∷◌, ◌<◌, ◌≤◌, length, slice_index, drop, is_some, true, false, IfNone, IfSome, IfOk};
-ghost use Rattle.picture.specs.Reading.{Reads};
+ghost use Rattle.picture.specs.Readers.{Reads};
 ghost use Rattle.ppm_text.specs.Tokens.{is_gap, tokens_from, tokens_at, without_comments, magic_of, next_place};
 ghost use Rattle.ppm_text.specs.Numerals.{ReadsNumber, begins_number, capped_at, number_on};
 ghost use Rattle.ppm_text.specs.ClosedNumbers.{IsBehind, IsClosedNumber, begins_white};
@@ -73,7 +73,7 @@ impl<'a> Scanner<'a> {
 
 #[tactic(auto, using(crate::proofs::NextNumeral::closed_token))]
 #[inline(always)]
-// The next number from a place on, and a place behind its token. Mostly it begins at once, and white space ends it.
+// The next number from a place on, and a place after its token. Mostly it begins at once, and white space ends it.
 fn numeral_after(bytes: &[u8], from: usize) -> Read<(Numeral, usize)>
     requires { from ≤ length bytes.now }
     ensures read { ReadsNumber bytes.now from result }
@@ -152,7 +152,7 @@ fn token_start(bytes: &[u8], from: usize) -> usize
 
 #[tactic(auto, using(crate::proofs::Scanning::scanning))]
 #[inline(always)]
-// A place behind the white space byte or the comment that begins here, if one does.
+// A place after the white space byte or the comment that begins here, if one does.
 fn behind_gap(bytes: &[u8], at: usize) -> Option<usize>
     requires { at < length bytes.now }
     ensures further { IfSome result (λ behind. at < behind) }
@@ -202,7 +202,7 @@ fn count_digits(bytes: &[u8], from: usize) -> (u32, usize)
 
 #[tactic(auto, using(crate::proofs::Counting::counting))]
 #[inline(always)]
-// What a number becomes by the digits that begin a text, and what stands behind them.
+// What a number becomes by the digits that begin a text, and what follows them.
 fn count_on(number: u32, text: &[u8]) -> (u32, &[u8])
     requires { number ≤ 65536 }
     ensures value { number_on (Some result.0) result.1.now ≡ number_on (Some number) text.now }
@@ -219,7 +219,7 @@ fn count_on(number: u32, text: &[u8]) -> (u32, &[u8])
 }
 
 #[inline(always)]
-// The value of the digit that begins a text, and what stands behind it, if one does.
+// The value of the digit that begins a text, and what follows it, if one does.
 fn first_digit(text: &[u8]) -> Option<(u32, &[u8])>
     ensures some { IfSome result (λ x. text.now ≡ (48 + x.0) ∷ x.1.now) }
     ensures value { IfSome result (λ x. x.0 ≤ 9) }
@@ -233,7 +233,7 @@ fn first_digit(text: &[u8]) -> Option<(u32, &[u8])>
 
 #[tactic(auto, using(crate::proofs::Counting::token_end))]
 #[inline(always)]
-// A place behind a token whose digits end here, or nothing where it goes on with another byte.
+// A place after a token whose digits end here, or nothing where it goes on with another byte.
 fn behind_token(bytes: &[u8], end: usize) -> Option<usize>
     requires { end ≤ length bytes.now }
     ensures within { IfSome result (λ behind. behind ≤ length bytes.now) }

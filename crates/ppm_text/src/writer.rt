@@ -4,14 +4,14 @@ ghost use Rattle.std.specs.Prelude.{◌<◌, length, OnOk, OnErr};
 ghost use Rattle.std.specs.Io.KnownBytes.{Appends};
 ghost use Rattle.picture.specs.Content.{content_of};
 ghost use Rattle.picture.specs.Rows.{cell_at, row_at, width_of};
-ghost use Rattle.picture.specs.Writing.{AppendsFront};
+ghost use Rattle.picture.specs.Writers.{AppendsFront};
 ghost use Rattle.ppm_text.specs.Text.{triple_text, cell_text, row_text, rows_text};
 ghost use Rattle.ppm_text.specs.Text.{sizes_text, ppm_text};
 
 use picture::{Document, Rgb, WriteFault, send, send_number};
 use std::io::Write;
 
-#[tactic(auto, using(picture::specs::SendingLaws::sending))]
+#[tactic(auto, using(picture::proofs::SendingLaws::sending))]
 // Writes a cell's samples as a line.
 fn send_triple<W: Write>(rgb: Rgb, writer: &mut W) -> Result<(), WriteFault>
     ensures ok { OnOk result (Appends (W.contents writer.old) (W.contents writer.new)
@@ -24,7 +24,7 @@ fn send_triple<W: Write>(rgb: Rgb, writer: &mut W) -> Result<(), WriteFault>
     send_number(rgb.b, b'\n', writer)
 }
 
-#[tactic(auto, using(picture::specs::SendingLaws::pieces))]
+#[tactic(auto, using(picture::proofs::SendingLaws::pieces))]
 // Writes a row.
 fn send_row<W: Write>(document: &Document, row: u8, writer: &mut W) -> Result<(), WriteFault>
     requires { row < length document.now.picture }
@@ -56,10 +56,9 @@ fn send_sizes<W: Write>(document: &Document, writer: &mut W) -> Result<(), Write
 }
 
 #[tactic(auto, using(crate::proofs::Sending::whole))]
-/// Writes the document's picture as a plain PPM text: `P3` on a line, the width and the height on a
-/// line, the maxval on a line, and then each cell's samples on a line, in row order. Numbers have no
-/// leading zeros. After a fault a front of the text is written. The givens are not written, and
-/// neither are colours that no cell has.
+/// Writes the document's picture as a plain PPM text: `P3` on a line, the width and the height on a line, the maxval on
+/// a line, and then each cell's samples on a line, in row order. Numbers have no leading zeros. After an error a prefix
+/// of the text is written. The givens are not written, and neither are colours that no cell has.
 pub fn write_ppm<W: Write>(document: &Document, writer: &mut W) -> Result<(), WriteFault>
     ensures ok { OnOk result (Appends (W.contents writer.old) (W.contents writer.new)
         (ppm_text (content_of document.now))) }
@@ -71,7 +70,7 @@ pub fn write_ppm<W: Write>(document: &Document, writer: &mut W) -> Result<(), Wr
     send_rows(document, writer)
 }
 
-#[tactic(auto, using(picture::specs::SendingLaws::pieces))]
+#[tactic(auto, using(picture::proofs::SendingLaws::pieces))]
 // Writes all the rows.
 fn send_rows<W: Write>(document: &Document, writer: &mut W) -> Result<(), WriteFault>
     ensures ok { OnOk result (Appends (W.contents writer.old) (W.contents writer.new)

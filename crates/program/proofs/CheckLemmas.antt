@@ -20,7 +20,8 @@ pub record AreBoth (held later : List ℕ → Held) (opened between after : Opti
   pub keeps : (name : List ℕ) → later name ≡ held name
   pub next : Names between after (cert ∷ [])
 
-pub half_read : (held later : List ℕ → Held) (opened between after : Option (List (List ℕ))) (input output : Option (List ℕ)) (task : Task) (path cert : Bor (List ℕ)) (background : Option Rgb) (file : List ℕ) (fault : ProgramFault) (r : Result (Unit {0}) ProgramFault)
+pub half_read : (held later : List ℕ → Held) (opened between after : Option (List (List ℕ))) (input output : Option (List ℕ)) (task : Task) (path cert : Bor (List ℕ)) (background : Option Rgb)
+    (file : List ℕ) (fault : ProgramFault) (r : Result (Unit {0}) ProgramFault)
     → task ≡ Check path cert background → AreBoth held later opened between after path.now cert.now file → IsUnreadFile (later cert.now) fault → r ≡ Err fault
     → CarriesOut held (world opened input output) (world after input output) task r
 half_read held later opened between after input output task path cert background file fault r is both unread failed =
@@ -38,9 +39,11 @@ half_read held later opened between after input output task path cert background
     })) in
     subst (λ (t : Task). CarriesOut held before behind t r) (sym is) here
 
-pub checked : (held later : List ℕ → Held) (opened between after : Option (List (List ℕ))) (input output written : Option (List ℕ)) (task : Task) (path cert : Bor (List ℕ)) (background : Option Rgb) (file cert_bytes seen cert_seen : List ℕ) (r : Result (Unit {0}) ProgramFault)
+pub checked : (held later : List ℕ → Held) (opened between after : Option (List (List ℕ))) (input output written : Option (List ℕ)) (task : Task) (path cert : Bor (List ℕ)) (background : Option Rgb)
+    (file cert_bytes seen cert_seen : List ℕ) (r : Result (Unit {0}) ProgramFault)
     → task ≡ Check path cert background → AreBoth held later opened between after path.now cert.now file → IsContent (later cert.now) cert_bytes → seen ≡ file → cert_seen ≡ cert_bytes
-    → WritesBy output written r (IsCheckOf seen background cert_seen) → (IsProofOf seen background cert_seen → IfErr r (λ e. (e ≡ Memory) ⊎ (e ≡ Write))) → OnOk r (IsOnlyPicture seen background cert_seen)
+    → WritesBy output written r (IsCheckOf seen background cert_seen) → (IsProofOf seen background cert_seen → IfErr r (λ e. (e ≡ Memory) ⊎ (e ≡ Write)))
+    → OnOk r (IsOnlyPicture seen background cert_seen)
     → CarriesOut held (world opened input output) (world after input written) task r
 checked held later opened between after input output written task path cert background file cert_bytes seen cert_seen r is both certificate same cert_same writes only unique =
     let before : World = world opened input output in

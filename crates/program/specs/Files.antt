@@ -30,7 +30,8 @@ Names (Some before) (Some after) paths = after ≡ before ++ paths
 
 -- why an input is not read to its end: it is too long, a read failed, or memory ran out
 abbrev pub IsUnread : Option (List ℕ) → ProgramFault → Type 0
-IsUnread had fault = ((fault ≡ TooLong) × IfSome had (λ input. 16777216 < length input)) ⊎ ((fault ≡ Read) ⊎ (fault ≡ Memory))
+IsUnread had fault =
+    ((fault ≡ TooLong) × IfSome had (λ input. 16777216 < length input)) ⊎ ((fault ≡ Read) ⊎ (fault ≡ Memory))
 
 -- the bytes of a name's file
 abbrev pub IsContent : Held → List ℕ → Type 0

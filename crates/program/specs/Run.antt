@@ -9,7 +9,7 @@ use Rattle.command_line.specs.declared.words.Task.{Task}
 use Rattle.command_line.specs.declared.words.Task.TheVariants.{Clues}
 use Rattle.command_line.specs.Words.{IsTaskOf}
 use Rattle.program.specs.declared.ending.Ended.{Ended}
-use Rattle.program.specs.Ending.{line_after, status_after}
+use Rattle.program.specs.Endings.{line_after, status_after}
 use Rattle.program.specs.Files.{Held}
 use Rattle.program.specs.Work.{CarriesOut}
 use Rattle.program.specs.World.{OnlyOpens, World}
@@ -18,12 +18,13 @@ use Rattle.program.specs.World.{OnlyOpens, World}
 abbrev pub texts : List (Bor (List ℕ)) → List (List ℕ)
 texts words = map (λ (word : Bor (List ℕ)). word.now) words
 
--- what the words ask for: the clues where there is none, and else as the definition of the program's command line reads them
+-- what the words ask for: the clues where there is none, and else
+-- as the definition of the program's command line reads them
 abbrev pub IsTask : List (List ℕ) → Result Task ProgramFault → Type 0
 IsTask [] r = r ≡ Ok Clues
 IsTask (word ∷ words) r = IsTaskOf (word ∷ words) r
 
--- it ends with a fault before a file was opened, anything of the input read or anything written
+-- it ends with an error before a file was opened, anything of the input read or anything written
 pub record IsRefused (fault : ProgramFault) (before after : World) (r : Result (Unit {0}) ProgramFault) : Type 0 where
   pub is : r ≡ Err fault
   pub only : OnlyOpens before after []
@@ -34,13 +35,14 @@ Answers words held before after r =
     ((fault : ProgramFault) × (IsTask words (Err fault) × IsRefused fault before after r))
     ⊎ ((task : Task) × (IsTask words (Ok task) × CarriesOut held before after task r))
 
--- the same of arguments, which are texts unless they were refused before: memory may run out before they are read
+-- What is done for arguments: what is done for their texts, or nothing, where memory ran out before they were read.
 abbrev pub AnswersAll : List (List ℕ) → (List ℕ → Held) → World → World → Result (Unit {0}) ProgramFault → Type 0
 AnswersAll words held before after r = IsRefused Memory before after r ⊎ Answers words held before after r
 
--- How the program ends: what came of the arguments, the status that this has, and, where the write of it did not fail, what went to
--- standard error.
-pub record Ends (Comes : Result (Unit {0}) ProgramFault → Type 0) (had has : Option (List ℕ)) (ended : Ended) : Type 0 where
+-- How the program ends: what came of the arguments, the status that this
+-- has, and, where the write of it did not fail, what went to standard error.
+pub record Ends (Comes : Result (Unit {0}) ProgramFault → Type 0) (had has : Option (List ℕ))
+    (ended : Ended) : Type 0 where
   pub outcome : Result (Unit {0}) ProgramFault
   pub comes : Comes outcome
   pub status : exit_status ended.code ≡ status_after outcome

@@ -1,8 +1,9 @@
 -- What comes of what the words ask for, with what the files hold that they name.
-use Rattle.std.specs.Prelude.{◌≡◌, ◌⊎◌, ℕ, List, [], ◌∷◌, Option, None, Result, Ok, Err, IfErr, IfSome, OnOk, string_bytes}
+use Rattle.std.specs.Prelude.{◌≡◌, ◌⊎◌, ℕ, List, [], ◌∷◌, Option, None, Result, Ok, Err, IfErr, IfSome, OnOk}
+use Rattle.std.specs.Prelude.{string_bytes}
 use Rattle.std.specs.Io.KnownBytes.{Appends, Keeps}
 use Rattle.picture.specs.declared.rgb.Rgb.{Rgb}
-use Rattle.picture.specs.Writing.{AppendsFront}
+use Rattle.picture.specs.Writers.{AppendsFront}
 use Rattle.live_audit.specs.Bench.{Seen}
 use Rattle.command_text.specs.declared.session_fault.SessionFault.{SessionFault}
 use Rattle.session.specs.Session.{Runs}
@@ -22,14 +23,16 @@ use Rattle.program.specs.World.{IsStopped, World}
 -- ---- a session
 
 -- A session that ends so runs on a bench that was started with the file.
-pub record RunsOn (had have held holds : Option (List ℕ)) (file : List ℕ) (options : Options) (ended : Result (Unit {0}) SessionFault) : Type 0 where
+pub record RunsOn (had have held holds : Option (List ℕ)) (file : List ℕ) (options : Options)
+    (ended : Result (Unit {0}) SessionFault) : Type 0 where
   pub fresh : Seen
   pub started : IsStarted file options fresh
   pub last : Seen
   pub runs : Runs had have held holds fresh last ended
 
 -- What comes of the work: a session ran; or the file was refused or memory ran out, and nothing was read or written.
-abbrev pub Works : Option (List ℕ) → Option (List ℕ) → Option (List ℕ) → Option (List ℕ) → List ℕ → Options → Result (Unit {0}) ProgramFault → Type 0
+abbrev pub Works : Option (List ℕ) → Option (List ℕ) → Option (List ℕ) → Option (List ℕ) → List ℕ → Options
+    → Result (Unit {0}) ProgramFault → Type 0
 Works had have held holds file options (Ok done) = RunsOn had have held holds file options (Ok done)
 Works had have held holds file options (Err fault) =
     ((ended : SessionFault) × ((fault ≡ session_fault_of ended) × RunsOn had have held holds file options (Err ended)))
@@ -45,30 +48,34 @@ IsLeft had held holds (Err fault) = IsUnread had fault × Keeps held holds
 -- What is written for the whole input, where that is known.
 abbrev pub ShowsClues : Option (List ℕ) → Option (List ℕ) → Option (List ℕ) → Result (Unit {0}) ProgramFault → Type 0
 ShowsClues had held holds r =
-    ((bytes : List ℕ) × (IfSome had (λ input. bytes ≡ input) × Writes held holds r (shown bytes None))) ⊎ IsLeft had held holds r
+    ((bytes : List ℕ) × (IfSome had (λ input. bytes ≡ input) × Writes held holds r (shown bytes None)))
+    ⊎ IsLeft had held holds r
 
 -- ---- what the words ask for
 
--- a text goes out, or after a write fault a front of it
+-- a text goes out, or after a write error a prefix of it
 abbrev pub Sends : Option (List ℕ) → Option (List ℕ) → List ℕ → Result (Unit {0}) ProgramFault → Type 0
 Sends held holds text (Ok done) = Appends held holds text
 Sends held holds text (Err fault) = (fault ≡ Write) × AppendsFront held holds text
 
 -- a session on the file of a name, by its bytes
-pub record IsWorked (held : Held) (path : List ℕ) (options : Options) (before after : World) (r : Result (Unit {0}) ProgramFault) : Type 0 where
+pub record IsWorked (held : Held) (path : List ℕ) (options : Options) (before after : World)
+    (r : Result (Unit {0}) ProgramFault) : Type 0 where
   pub file : List ℕ
   pub content : IsContent held file
   pub names : Names before.opened after.opened (path ∷ [])
   pub works : Works before.input after.input before.output after.output file options r
 
 -- the picture's file is read, and then the certificate's is not
-pub record IsHalfRead (picture certificate : Held) (path cert_path : List ℕ) (before after : World) (r : Result (Unit {0}) ProgramFault) : Type 0 where
+pub record IsHalfRead (picture certificate : Held) (path cert_path : List ℕ) (before after : World)
+    (r : Result (Unit {0}) ProgramFault) : Type 0 where
   pub file : List ℕ
   pub content : IsContent picture file
   pub stopped : IsStopped certificate (path ∷ cert_path ∷ []) before after r
 
 -- The check of two files by their bytes, the picture's first. The input is left alone.
-pub record IsChecked (picture certificate : Held) (path cert_path : List ℕ) (background : Option Rgb) (before after : World) (r : Result (Unit {0}) ProgramFault) : Type 0 where
+pub record IsChecked (picture certificate : Held) (path cert_path : List ℕ) (background : Option Rgb)
+    (before after : World) (r : Result (Unit {0}) ProgramFault) : Type 0 where
   pub file : List ℕ
   pub cert : List ℕ
   pub content : IsContent picture file
@@ -85,10 +92,11 @@ pub record IsShown (text : List ℕ) (before after : World) (r : Result (Unit {0
   pub input : Keeps before.input after.input
   pub sends : Sends before.output after.output text r
 
--- Each task by what its own files hold, with its own options and background: a file that is not read is the fault, and then the
--- input was left alone and nothing went out.
+-- Each task by what its own files hold, with its own options and background: a file that is not read is the error, and
+-- then the input was left alone and nothing went out.
 abbrev pub CarriesOut : (List ℕ → Held) → World → World → Task → Result (Unit {0}) ProgramFault → Type 0
-CarriesOut held before after Clues r = Names before.opened after.opened [] × ShowsClues before.input before.output after.output r
+CarriesOut held before after Clues r =
+    Names before.opened after.opened [] × ShowsClues before.input before.output after.output r
 CarriesOut held before after (Work path options) r =
     IsStopped (held path.now) (path.now ∷ []) before after r ⊎ IsWorked (held path.now) path.now options before after r
 CarriesOut held before after (Check path certificate background) r =

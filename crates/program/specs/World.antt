@@ -19,8 +19,9 @@ pub record OnlyOpens (before after : World) (paths : List (List ℕ)) : Type 0 w
   pub input : Keeps before.input after.input
   pub output : Keeps before.output after.output
 
--- The file of the last of these names was not read, and that is the fault.
-pub record IsStopped (held : Held) (paths : List (List ℕ)) (before after : World) (r : Result (Unit {0}) ProgramFault) : Type 0 where
+-- The file of the last of these names was not read, and that is the error.
+pub record IsStopped (held : Held) (paths : List (List ℕ)) (before after : World)
+    (r : Result (Unit {0}) ProgramFault) : Type 0 where
   pub fault : ProgramFault
   pub is : r ≡ Err fault
   pub unread : IsUnreadFile held fault

@@ -1,9 +1,9 @@
-//! How the program ends: what it says of a fault, and its status.
+//! How the program ends: what it says of an error, and its status.
 
 ghost use Rattle.std.specs.Prelude.{◌≡◌, true, OnOk};
 ghost use Rattle.std.specs.Io.KnownBytes.{Appends};
 ghost use Rattle.std.specs.Process.{exit_status};
-ghost use Rattle.program.specs.Ending.{fault_line, line_after, status_after};
+ghost use Rattle.program.specs.Endings.{fault_line, line_after, status_after};
 
 use answers::ProgramFault;
 use std::io;
@@ -17,7 +17,7 @@ pub struct Ended {
     pub told: bool,
 }
 
-/// Says a fault on standard error, and gives the status: 0 where there is none, else the fault's.
+/// Says an error on standard error, and gives the status: 0 where there is none, else the error's.
 pub fn end_with<W: Write>(outcome: Result<(), ProgramFault>, errors: &mut W) -> Ended
     ensures code { exit_status result.code ≡ status_after outcome }
     ensures line { result.told ≡ true
@@ -36,7 +36,7 @@ pub fn end_with<W: Write>(outcome: Result<(), ProgramFault>, errors: &mut W) -> 
     }
 }
 
-// What the parser of the words says is said as it is, every other fault in a line.
+// What the parser of the words says is said as it is, every other error in a line.
 fn tell<W: Write>(fault: &ProgramFault, errors: &mut W) -> io::Result<()>
     ensures { OnOk result
         (Appends (W.contents errors.old) (W.contents errors.new) (fault_line fault.now)) }

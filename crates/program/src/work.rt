@@ -14,9 +14,9 @@ use session::run_session;
 use std::alloc::Global;
 use std::io::{Read, Write};
 
-/// Does what the words ask for, with what the files hold that they name; a check reads the picture's file first. The fault is
-/// that of the file, the certificate or the input, of reading or writing, or `Memory`. Where a file is not read, the input was
-/// left alone and nothing was written.
+/// Does what the words ask for, with what the files hold that they name; a check reads the picture's file first. The
+/// error is that of the file, the certificate or the input, of reading or writing, or `Memory`. Where a file is not
+/// read, the input was left alone and nothing was written.
 pub fn carry_out<F: Files, R: Read, W: Write>(
     alloc: Global,
     task: &Task<'_>,
@@ -64,7 +64,7 @@ fn show_clues<R: Read, W: Write>(
 
 /// Opens a file and runs a session on it: each line of the reader's input is answered on the writer.
 ///
-/// A file that is refused is answered with its fault, and then nothing was read or written. Inside the session lack of
+/// A file that is refused is answered with its error, and then nothing was read or written. Inside the session lack of
 /// memory is a refused command.
 pub fn run_work<R: Read, W: Write>(
     alloc: Global,

@@ -1,12 +1,13 @@
 -- A background's colour as a word: three samples with commas between them, as `255,0,0`.
-use Rattle.std.specs.Prelude.{◌≡◌, ℕ, ◌+◌, ◌==◌, Bool, List, take, drop, codes, Option, None, Some, option_map, position}
+use Rattle.std.specs.Prelude.{◌≡◌, ℕ, ◌+◌, ◌==◌, Bool, List, take, drop, codes, Option, None, Some, option_map}
+use Rattle.std.specs.Prelude.{position}
 use Rattle.std.proofs.Common.{refl}
 use Rattle.std.specs.Borrow.{Bor}
 use Rattle.picture.specs.declared.rgb.Rgb.{Rgb}
 use Rattle.picture.specs.Numbers.{number_spelled, value_after}
 use Rattle.command_text.specs.Numbers.{number_of, sample_of}
 
--- a sample, and what stands behind the comma at its end
+-- a sample, and what follows the comma at its end
 abbrev pub sample_until : Option ℕ → List ℕ → Option (ℕ × List ℕ)
 sample_until None text = None
 sample_until (Some end) text = option_map (λ n. (n, drop (end + 1) text)) (sample_of (take end text))
@@ -31,7 +32,7 @@ with_green (Some red) = with_blue red.0 (sample_before red.1)
 abbrev pub background_of : List ℕ → Option Rgb
 background_of text = with_green (sample_before text)
 
--- a sample and what stands behind it, as a function answers them
+-- a sample and what follows it, as a function answers them
 abbrev pub sample_seen : ℕ × Bor (List ℕ) → ℕ × List ℕ
 sample_seen x = (x.0, x.1.now)
 

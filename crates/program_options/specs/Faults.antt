@@ -1,4 +1,4 @@
--- The program's line and status for each fault.
+-- The program's line and status for each error.
 use Rattle.std.specs.Prelude.{ℕ, List, ◌++◌, codes, decimal, string_bytes, unwrap_or}
 use Rattle.ppm_text.specs.declared.fault.PpmFault.{PpmFault}
 use Rattle.ppm_text.specs.declared.fault.PpmFault.TheVariants as ppm
@@ -13,19 +13,21 @@ use Rattle.cert_text.specs.Faults as certs
 use Rattle.command_text.specs.declared.session_fault.SessionFault.{SessionFault}
 use Rattle.command_text.specs.declared.session_fault.SessionFault.TheVariants as session
 use Rattle.program_options.specs.declared.fault.ProgramFault.{ProgramFault}
-use Rattle.program_options.specs.declared.fault.ProgramFault.TheVariants.{Ppm, Non, Edit, NoPicture, Cert, Memory, TooLong, Words, NotText, Background, BackgroundOfNon, Read, Write}
+use Rattle.program_options.specs.declared.fault.ProgramFault.TheVariants.{Ppm, Non, Edit, NoPicture, Cert, Memory}
+use Rattle.program_options.specs.declared.fault.ProgramFault.TheVariants.{TooLong, Words, NotText, Background}
+use Rattle.program_options.specs.declared.fault.ProgramFault.TheVariants.{BackgroundOfNon, Read, Write}
 
--- a fault of the P3 text, but want of memory is one fault wherever it comes
+-- an error of the P3 text; out of memory is one error wherever it comes from
 abbrev pub fault_of : PpmFault → ProgramFault
 fault_of ppm.Memory = Memory
 fault_of fault = Ppm fault
 
--- a fault of the .non text, in the same way
+-- an error of the .non text, or out of memory
 abbrev pub non_fault_of : NonFault → ProgramFault
 non_fault_of non.Memory = Memory
 non_fault_of fault = Non fault
 
--- a fault of a certificate, in the same way
+-- an error of a certificate, or out of memory
 abbrev pub cert_fault_of : CertFault → ProgramFault
 cert_fault_of cert.Memory = Memory
 cert_fault_of fault = Cert fault
@@ -35,7 +37,7 @@ abbrev pub session_fault_of : SessionFault → ProgramFault
 session_fault_of session.Read = Read
 session_fault_of session.Write = Write
 
--- what stands behind `nonobench: ` on standard error; of the parser's own texts, the whole of it
+-- what follows `nonobench: ` on standard error; of the parser's own texts, the whole of it
 abbrev pub fault_text : ProgramFault → List ℕ
 fault_text (Ppm fault) = codes "ppm " ++ name_of fault ++ codes " at byte " ++ decimal (unwrap_or (place_of fault) 0)
 fault_text (Non fault) = codes "non " ++ nons.name_of fault

@@ -18,7 +18,7 @@ pub fn background_in(text: &[u8]) -> Option<Rgb>
 }
 
 #[tactic(auto, using(std::proofs::lemmas::List::take_rest))]
-// The sample before the first comma, and what stands behind that.
+// The sample before the first comma, and what follows that.
 fn sample_before(text: &[u8]) -> Option<(u16, &[u8])>
     ensures { option_map sample_seen result ≡ sample_before text.now }
 {

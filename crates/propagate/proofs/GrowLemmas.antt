@@ -11,29 +11,30 @@ use Rattle.picture.specs.Rows.{line_of}
 use Rattle.clues.specs.ClueBook.{Clues, clue_at}
 use Rattle.line_settle.specs.declared.line_engine.Outcome.TheVariants.{Narrowed}
 use Rattle.line_settle.specs.declared.meter.Meter.{Meter}
-use Rattle.line_settle.specs.Counting.{Counts}
+use Rattle.line_settle.specs.Counts.{Counts}
 use Rattle.line_settle.specs.FactSets.{IsFacts, IsWithin}
-use Rattle.line_settle.specs.Fitting.{CanFit}
+use Rattle.line_settle.specs.Fits.{CanFit}
 use Rattle.justify.specs.declared.step.Step.{Step}
 use Rattle.justify.specs.Steps.{step_at, IsTrimmed}
 use Rattle.justify.specs.Book.{Account, AreTrimmed, IsAccount, IsDerivation}
 use Rattle.justify.proofs.LawLemmas.{stay_inside}
-use Rattle.fixpoint.specs.Closing.{HasDeadLine, PutsCrossing}
+use Rattle.fixpoint.specs.ClosedFacts.{HasDeadLine, PutsCrossing}
 use Rattle.fixpoint.specs.declared.fault.CloseFault.{CloseFault}
 use Rattle.fixpoint.specs.declared.fault.CloseFault.TheVariants.{Dead, Memory}
 use Rattle.propagate.specs.ClosingBooks.{ClosesBook, IsClosedBook}
 use Rattle.propagate.specs.Turns.{cells_drawn, steps_added, Grows, Turn}
-use Rattle.picture.specs.LineSetLaws.{put_all_counts}
-use Rattle.line_settle.specs.GridLaws.{same_has_line, shape_sym, shape_trans}
-use Rattle.line_settle.specs.FitLaws.{counting_adds, tighter_fits, within_tighter}
-use Rattle.fixpoint.specs.ClosingLaws.{Closing, closing_ends, closing_goes_on, within_trans}
-use Rattle.worklist.specs.NameLaws.{take_counts}
-use Rattle.fixpoint.specs.WorkLaws.{crossing_put, left_to_do, less_to_do, nothing_counted}
+use Rattle.picture.proofs.LineSetLaws.{put_all_counts}
+use Rattle.line_settle.proofs.GridLaws.{same_has_line, shape_sym, shape_trans}
+use Rattle.line_settle.proofs.FitLaws.{counting_adds, tighter_fits, within_tighter}
+use Rattle.fixpoint.proofs.ClosingLaws.{Closing, closing_ends, closing_goes_on, within_trans}
+use Rattle.worklist.proofs.NameLaws.{take_counts}
+use Rattle.fixpoint.proofs.WorkLaws.{crossing_put, left_to_do, less_to_do, nothing_counted}
 
 -- ---- growing
 
 -- what holds of each step of two lists holds of each step of both together
-each_joined : (R : Step → Type 0) (first last : List Step) → ((n : ℕ) → n < length first → R (step_at first n)) → ((n : ℕ) → n < length last → R (step_at last n)) → (n : ℕ) → n < length (first ++ last) → R (step_at (first ++ last) n)
+each_joined : (R : Step → Type 0) (first last : List Step) → ((n : ℕ) → n < length first → R (step_at first n)) → ((n : ℕ) → n < length last → R (step_at last n)) → (n : ℕ)
+    → n < length (first ++ last) → R (step_at (first ++ last) n)
 each_joined R first last a b n l = elim (cases_lt n (length first)) [
   | inl m ↦ subst R (sym (get_or-append first last _ n m)) (a n m)
   | inr past ↦
@@ -58,7 +59,7 @@ all_trimmed clues old new added g t =
     let R : Step → Type 0 = λ s. IsTrimmed (clue_at clues s.line) (length (line_of old.base s.line)) s in
     rw g.base (subst (λ (steps : List Step). (n : ℕ) → n < length steps → R (step_at steps n)) (sym g.steps) (each_joined R old.steps added t g.trimmed))
 
--- the steps that were added are those behind the old ones
+-- the steps that were added are those after the old ones
 pub added_behind : (clues : Clues) (old new : Account) (added : List Step) → Grows clues old new added → steps_added old new ≡ added
 added_behind clues old new added g = ap (drop (length old.steps)) g.steps ∙ drop-append_seam old.steps added
 
@@ -86,7 +87,8 @@ pub record ClosingBook (clues : Clues) (longest : ℕ) (dirty : Lines) (start no
   pub counts : Counts evaluations 0 old new before after
   pub working : BookWorking dirty added agenda evaluations
 
-pub book_starts : (clues : Clues) (longest : ℕ) (dirty agenda : Lines) (start : Account) (meter : Meter) (calls : ℕ) → IsDerivation clues start → agenda ≡ dirty → Closing clues longest start.facts start.facts agenda
+pub book_starts : (clues : Clues) (longest : ℕ) (dirty agenda : Lines) (start : Account) (meter : Meter) (calls : ℕ) → IsDerivation clues start → agenda ≡ dirty
+    → Closing clues longest start.facts start.facts agenda
     → meter.evaluations < 2 ^ 64 → meter.trials < 2 ^ 64 → calls < 2 ^ 64 → ClosingBook clues longest dirty start start agenda meter meter calls calls
 book_starts clues longest dirty agenda start meter calls d same c e t n =
     let count = ap name_count same in
@@ -99,7 +101,9 @@ book_starts clues longest dirty agenda start meter calls d same c e t n =
       working = record { at_most = omega arith; at_least = omega arith; steps = omega arith };
     }
 
-module _ (clues : Clues) (longest : ℕ) (dirty : Lines) (start old new : Account) (agenda rest changed after : Lines) (line : LineId) (m0 m1 m2 : Meter) (c0 c1 c2 : ℕ) (b : ClosingBook clues longest dirty start old agenda m0 m1 c0 c1) (h : HasName agenda line) (t : TakesOutName agenda rest line) (is : IsFacts old.facts) (turn : Turn clues line old new changed) (puts : PutsNames rest after changed) (counts : Counts 1 0 m1 m2 c1 c2) where
+module _ (clues : Clues) (longest : ℕ) (dirty : Lines) (start old new : Account) (agenda rest changed after : Lines) (line : LineId) (m0 m1 m2 : Meter) (c0 c1 c2 : ℕ)
+    (b : ClosingBook clues longest dirty start old agenda m0 m1 c0 c1) (h : HasName agenda line) (t : TakesOutName agenda rest line) (is : IsFacts old.facts) (turn : Turn clues line old new changed)
+    (puts : PutsNames rest after changed) (counts : Counts 1 0 m1 m2 c1 c2) where
   crossing : PutsCrossing line (line_of old.facts line) (line_of new.facts line) rest after
   crossing = crossing_put line (line_of old.facts line) (line_of new.facts line) changed turn.names rest after puts
 
@@ -154,7 +158,7 @@ book_dies clues longest start now agenda line is d c h dead =
           dead (f.0, tighter_fits (clue_at clues line) (line_of now.facts line) (line_of others line) f.0 (within_tighter now.facts others within line) f.1);
     }
 
--- a fault of closing: either some line is dead, or memory was refused
+-- an error of closing: either some line is dead, or memory was refused
 pub book_fails : (clues : Clues) (start : Account) (fault : CloseFault) → (fault ≡ Dead → HasDeadLine clues start.base) → ClosesBook clues start (Err fault)
 book_fails clues start Dead dead = dead refl
 book_fails clues start Memory dead = tt {0}

@@ -1,11 +1,12 @@
 -- Books whose lines take their turns as a schedule names them.
 use Rattle.std.proofs.Common.{◌≡◌, ℕ, ◌+◌, ◌<◌, List, [], ◌∷◌, ◌++◌, length, drop, get_or, refl, sym, subst, inl, inr, Err, drop-cons, add-one}
 use Rattle.std.specs.List.{All}
+use Rattle.line_settle.specs.Masks.{Masks}
 use Rattle.picture.specs.declared.line_id.LineId.{LineId}
 use Rattle.picture.specs.LineSet.{Lines}
 use Rattle.picture.specs.Rows.{line_of, HasLine}
 use Rattle.clues.specs.ClueBook.{Clues, clue_at}
-use Rattle.line_settle.specs.Fitting.{CanFit}
+use Rattle.line_settle.specs.Fits.{CanFit}
 use Rattle.line_settle.specs.FactSets.{IsClosed, IsLeast, IsWithin, SameShape}
 use Rattle.line_settle.proofs.LawLemmas.{one_least}
 use Rattle.justify.specs.declared.step.Step.{Step}
@@ -13,16 +14,16 @@ use Rattle.justify.specs.Book.{Account, IsAccount, IsDerivation}
 use Rattle.justify.proofs.LawLemmas.{stay_inside}
 use Rattle.fixpoint.specs.declared.fault.CloseFault.{CloseFault}
 use Rattle.fixpoint.specs.declared.fault.CloseFault.TheVariants.{Dead, Memory}
-use Rattle.fixpoint.specs.Closing.{AreClosable}
+use Rattle.fixpoint.specs.ClosedFacts.{AreClosable}
 use Rattle.propagate.specs.Schedule.{AreAfter, IsDeadInTurn, RunsSchedule}
 use Rattle.propagate.specs.Turns.{Grows, TakesTurn, TakeTurns, Turn}
 use Rattle.propagate.specs.Laws.{SchedulesFillBooks}
-use Rattle.line_settle.specs.GridLaws.{same_has_line, shape_refl, shape_trans}
-use Rattle.fixpoint.specs.ClosingLaws.{same_sizes, within_trans}
+use Rattle.line_settle.proofs.GridLaws.{same_has_line, shape_refl, shape_trans}
+use Rattle.fixpoint.proofs.ClosingLaws.{same_sizes, within_trans}
 use Rattle.propagate.proofs.ScheduleLemmas.{schedules_lead_inside}
 use Rattle.propagate.proofs.GrowLemmas.{grows_none, grows_on}
 
--- Behind some lines of a schedule: what the rest of it comes to from here, the whole of it comes to from the start.
+-- After some lines of a schedule: what the rest of it comes to from here, the whole of it comes to from the start.
 pub record Scheduled (clues : Clues) (longest : ℕ) (start now : Account) (lines rest : List LineId) : Type 0 where
   pub added : List Step
   pub grows : Grows clues start now added
@@ -32,7 +33,8 @@ pub record Scheduled (clues : Clues) (longest : ℕ) (start now : Account) (line
   pub facts : (end : List (List ℕ)) → AreAfter clues now.facts rest end → AreAfter clues start.facts lines end
   pub dead : IsDeadInTurn clues now.facts rest → IsDeadInTurn clues start.facts lines
 
-pub schedule_starts : (clues : Clues) (longest : ℕ) (start : Account) (lines : List LineId) → IsDerivation clues start → AreClosable clues longest start.facts → Scheduled clues longest start start lines lines
+pub schedule_starts : (clues : Clues) (longest : ℕ) (start : Account) (lines : List LineId) → IsDerivation clues start → AreClosable clues longest start.facts
+    → Scheduled clues longest start start lines lines
 schedule_starts clues longest start lines d c = record {
   added = [];
   grows = grows_none clues start d;
@@ -64,11 +66,13 @@ module _ (clues : Clues) (longest : ℕ) (start old : Account) (lines rest : Lis
   schedule_has_line has = same_has_line start.facts old.facts line s.same_shape has
 
 -- the next line of a list
-pub next_in_turn : (clues : Clues) (longest : ℕ) (start now : Account) (lines : List LineId) (n : ℕ) (none : LineId) → n < length lines → Scheduled clues longest start now lines (drop n lines) → Scheduled clues longest start now lines (get_or lines n none ∷ drop (n + 1) lines)
+pub next_in_turn : (clues : Clues) (longest : ℕ) (start now : Account) (lines : List LineId) (n : ℕ) (none : LineId) → n < length lines → Scheduled clues longest start now lines (drop n lines)
+    → Scheduled clues longest start now lines (get_or lines n none ∷ drop (n + 1) lines)
 next_in_turn clues longest start now lines n none l s =
-    subst (λ (m : ℕ). Scheduled clues longest start now lines (get_or lines n none ∷ drop m lines)) (sym (add-one n)) (subst (λ (rest : List LineId). Scheduled clues longest start now lines rest) (drop-cons lines n none l) s)
+    subst (λ (m : ℕ). Scheduled clues longest start now lines (get_or lines n none ∷ drop m lines)) (sym (add-one n))
+    (subst (λ (rest : List LineId). Scheduled clues longest start now lines rest) (drop-cons lines n none l) s)
 
--- a fault of a schedule: either a line is dead in its turn, or memory was refused
+-- an error of a schedule: either a line is dead in its turn, or memory was refused
 pub schedule_fails : (clues : Clues) (start : Account) (lines : List LineId) (fault : CloseFault) → (fault ≡ Dead → IsDeadInTurn clues start.facts lines) → RunsSchedule clues start lines (Err fault)
 schedule_fails clues start lines Dead dead = dead refl
 schedule_fails clues start lines Memory dead = tt {0}
@@ -76,10 +80,11 @@ schedule_fails clues start lines Memory dead = tt {0}
 -- ---- what schedules come to, over the base of a book
 
 module _ (clues : Clues) (book : Account) (is : IsAccount book) (d : IsDerivation clues book) where
-  fills_inside : (lines : List LineId) (facts : List (List ℕ)) → All (HasLine book.facts) lines → AreAfter clues book.facts lines facts → (others : List (List ℕ)) → IsClosed clues others → IsWithin book.base others → IsWithin facts others
+  fills_inside : (lines : List LineId) (facts : Masks) → All (HasLine book.facts) lines → AreAfter clues book.facts lines facts → (others : Masks) → IsClosed clues others → IsWithin book.base others
+      → IsWithin facts others
   fills_inside lines facts all a others closed w = schedules_lead_inside.inside clues book.facts lines facts all a others closed (stay_inside.inside clues book is d others closed w)
 
-  fills_least : (lines : List LineId) (facts : List (List ℕ)) → All (HasLine book.facts) lines → AreAfter clues book.facts lines facts → IsClosed clues facts → IsLeast clues book.base facts
+  fills_least : (lines : List LineId) (facts : Masks) → All (HasLine book.facts) lines → AreAfter clues book.facts lines facts → IsClosed clues facts → IsLeast clues book.base facts
   fills_least lines facts all a closed = record {
     closed = closed;
     holds = within_trans book.base book.facts facts (stay_inside.holds book is) (schedules_lead_inside.holds clues book.facts lines facts a);

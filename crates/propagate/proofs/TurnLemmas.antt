@@ -3,15 +3,16 @@ use Rattle.std.proofs.Common.{Err, Option, Result, ◌≡◌, ◌≢◌, ℕ, ze
 use Rattle.std.specs.Prelude.{IsBitSet}
 use Rattle.std.proofs.lemmas.Bool.{cases_eq}
 use Rattle.std.proofs.lemmas.List.{append-nil}
+use Rattle.line_settle.specs.Masks.{Masks}
 use Rattle.picture.specs.declared.line_id.LineId.{LineId}
 use Rattle.picture.specs.LineSet.{Lines, HasName, PutsName, name_count}
 use Rattle.picture.specs.Rows.{line_of, HasLine}
 use Rattle.clues.specs.declared.block.Block.{Block}
 use Rattle.clues.specs.ClueBook.{Clues, clue_at}
 use Rattle.line_settle.specs.declared.line_engine.Outcome.TheVariants.{Narrowed, Dead}
-use Rattle.line_settle.specs.Crossing.{CrossesChange}
-use Rattle.line_settle.specs.Fitting.{CanFit}
-use Rattle.picture.specs.Crossing.{crossing_at}
+use Rattle.line_settle.specs.CrossedLines.{CrossesChange}
+use Rattle.line_settle.specs.Fits.{CanFit}
+use Rattle.picture.specs.CrossingLines.{crossing_at}
 use Rattle.line_settle.specs.FactSets.{Gains, Leaves, row_on, col_on}
 use Rattle.justify.specs.declared.fault.StepFault.{StepFault}
 use Rattle.justify.specs.declared.fault.StepFault.TheVariants as step_fault
@@ -20,11 +21,11 @@ use Rattle.justify.specs.declared.step.Step.{Step}
 use Rattle.justify.specs.Premises.{premise_at, ArePremises, Mentions, Says}
 use Rattle.justify.specs.Steps.{step_at, IsTrimmed}
 use Rattle.justify.specs.Book.{Account, Adds, GainDrawn, IsAccount, IsDerivation}
-use Rattle.justify.specs.Making.{DrawsNothing, IsNewStep, Makes}
+use Rattle.justify.specs.NewSteps.{DrawsNothing, IsNewStep, Makes}
 use Rattle.propagate.specs.Turns.{CrossesDrawn, GivesNext, Turn}
-use Rattle.line_settle.specs.GridLaws.{shape_refl, cell_on}
-use Rattle.line_settle.specs.FitLaws.{have_left}
-use Rattle.picture.specs.BitLaws.{same_bits}
+use Rattle.line_settle.proofs.GridLaws.{shape_refl, cell_on}
+use Rattle.line_settle.proofs.FitLaws.{have_left}
+use Rattle.picture.proofs.BitLaws.{same_bits}
 use Rattle.justify.proofs.LawLemmas.{derivations_grow, new_derive, new_follow}
 use Rattle.justify.proofs.LineMaskLemmas.{some_bit}
 use Rattle.justify.proofs.PlaceLemmas.{one_along}
@@ -62,7 +63,8 @@ crosses_more line premises n old new name is known same more puts c = record {
   ]);
 }
 
-pub crosses_all : (step : Step) (items : List Premise) (n : ℕ) (lines : Lines) → items ≡ step.drawn → length items ≡ n → CrossesSoFar step.line items n lines → (other : LineId) → HasName lines other ↔ CrossesDrawn step other
+pub crosses_all : (step : Step) (items : List Premise) (n : ℕ) (lines : Lines) → items ≡ step.drawn → length items ≡ n → CrossesSoFar step.line items n lines → (other : LineId)
+    → HasName lines other ↔ CrossesDrawn step other
 crosses_all step items n lines same count is other =
     let len = subst (λ (ps : List Premise). length ps ≡ n) same count in
     let c = subst (λ (ps : List Premise). CrossesSoFar step.line ps n lines) same is in (
@@ -80,11 +82,11 @@ crosses_all step items n lines same count is other =
 
 -- ---- where a new step draws, the facts change
 
-module _ (clue : List Block) (step : Step) (old new : List (List ℕ)) (n : IsNewStep clue step.line (line_of old step.line) step) (g : GainDrawn step old new) where
-  line_bit : (facts : List (List ℕ)) (i k : ℕ) → IsBitSet (get_or (line_of facts step.line) i 0) k → Leaves facts (row_on step.line.axis step.line.at i) (col_on step.line.axis step.line.at i) k
+module _ (clue : List Block) (step : Step) (old new : Masks) (n : IsNewStep clue step.line (line_of old step.line) step) (g : GainDrawn step old new) where
+  line_bit : (facts : Masks) (i k : ℕ) → IsBitSet (get_or (line_of facts step.line) i 0) k → Leaves facts (row_on step.line.axis step.line.at i) (col_on step.line.axis step.line.at i) k
   line_bit facts i k s = let P : ℕ → Type 0 = λ m. IsBitSet m k in subst P (cell_on facts step.line i) s
 
-  cell_bit : (facts : List (List ℕ)) (i k : ℕ) → Leaves facts (row_on step.line.axis step.line.at i) (col_on step.line.axis step.line.at i) k → IsBitSet (get_or (line_of facts step.line) i 0) k
+  cell_bit : (facts : Masks) (i k : ℕ) → Leaves facts (row_on step.line.axis step.line.at i) (col_on step.line.axis step.line.at i) k → IsBitSet (get_or (line_of facts step.line) i 0) k
   cell_bit facts i k s = let P : ℕ → Type 0 = λ m. IsBitSet m k in subst P (sym (cell_on facts step.line i)) s
 
   mentioned_differs : ArePremises step.drawn → (i : ℕ) → Mentions step.drawn i → get_or (line_of old step.line) i 0 ≢ get_or (line_of new step.line) i 0
@@ -115,7 +117,7 @@ module _ (clue : List Block) (step : Step) (old new : List (List ℕ)) (n : IsNe
 -- ---- a turn
 
 -- a line that draws nothing gains nothing
-gains_nothing : (clue : List Block) (line : LineId) (facts : List (List ℕ)) → DrawsNothing clue (line_of facts line) → Gains clue line facts facts Narrowed
+gains_nothing : (clue : List Block) (line : LineId) (facts : Masks) → DrawsNothing clue (line_of facts line) → Gains clue line facts facts Narrowed
 gains_nothing clue line facts d = record {
   same_shape = shape_refl facts;
   narrows = record {
@@ -156,17 +158,20 @@ turn_for_step clues line old new step lines is d has n a are names few = record 
   one = omega arith;
   gains = new_follow.gains old new (clue_at clues line) line step a has n;
   names =
-      let P : LineId → Type 0 = λ l. IsNewStep (clue_at clues line) l (line_of old.facts l) step → (other : LineId) → CrossesDrawn step other ↔ CrossesChange l (line_of old.facts l) (line_of new.facts l) other in
+      let P : LineId → Type 0 =
+      λ l. IsNewStep (clue_at clues line) l (line_of old.facts l) step → (other : LineId) → CrossesDrawn step other ↔ CrossesChange l (line_of old.facts l) (line_of new.facts l) other in
       let changed = subst P n.of_line (λ m. drawn_is_changed (clue_at clues line) step old.facts new.facts m a.facts are) n in
       λ other. ((λ s. (changed other).0 ((names other).0 s)), (λ x. (names other).1 ((changed other).1 x)));
   few = omega arith;
 }
 
-pub made_over : (clues : Clues) (line : LineId) (book : Account) (made : Result (Option Step) StepFault) (clue : List Block) → clue ≡ clue_at clues line → IsDerivation clues book → Makes clue line (line_of book.facts line) made → GivesNext clues line book made
+pub made_over : (clues : Clues) (line : LineId) (book : Account) (made : Result (Option Step) StepFault) (clue : List Block) → clue ≡ clue_at clues line → IsDerivation clues book
+    → Makes clue line (line_of book.facts line) made → GivesNext clues line book made
 made_over clues line book made clue e derivation makes =
     record { derivation = derivation; makes = subst (λ (blocks : List Block). Makes blocks line (line_of book.facts line) made) e makes }
 
 -- a line that gave no step because no list fits it
-pub dead_made : (clues : Clues) (line : LineId) (book : Account) (made : Result (Option Step) StepFault) → GivesNext clues line book made → made ≡ Err step_fault.Dead → ¬ CanFit (clue_at clues line) (line_of book.facts line)
+pub dead_made : (clues : Clues) (line : LineId) (book : Account) (made : Result (Option Step) StepFault) → GivesNext clues line book made → made ≡ Err step_fault.Dead
+    → ¬ CanFit (clue_at clues line) (line_of book.facts line)
 dead_made clues line book made is e =
     subst (λ (r : Result (Option Step) StepFault). Makes (clue_at clues line) line (line_of book.facts line) r) e is.makes

@@ -1,30 +1,35 @@
 -- Lines forced in turn, as a schedule names them.
 use Rattle.std.specs.Prelude.{◌≡◌, ◌⊎◌, ◌≤◌, List, [], ◌∷◌, ℕ, length, Result, Ok, Err}
+use Rattle.line_settle.specs.Masks.{Masks}
 use Rattle.picture.specs.declared.line_id.LineId.{LineId}
 use Rattle.picture.specs.Rows.{line_of}
 use Rattle.clues.specs.ClueBook.{Clues, clue_at}
 use Rattle.line_settle.specs.declared.line_engine.Outcome.TheVariants.{Narrowed}
 use Rattle.line_settle.specs.declared.meter.Meter.{Meter}
-use Rattle.line_settle.specs.Counting.{Counts}
-use Rattle.line_settle.specs.Fitting.{CanFit}
+use Rattle.line_settle.specs.Counts.{Counts}
+use Rattle.line_settle.specs.Fits.{CanFit}
 use Rattle.line_settle.specs.FactSets.{Gains}
 use Rattle.justify.specs.Book.{Account}
 use Rattle.fixpoint.specs.declared.fault.CloseFault.{CloseFault}
 use Rattle.fixpoint.specs.declared.fault.CloseFault.TheVariants as fault
 use Rattle.propagate.specs.Turns.{steps_added, Grows, TakeTurns}
 
--- the facts after a schedule: in turn, each line that it names forces all that it can, and some list fits each in its turn
-abbrev pub AreAfter : Clues → List (List ℕ) → List LineId → List (List ℕ) → Type 0
+-- the facts after a schedule: in turn, each line that it names
+-- forces all that it can, and some list fits each in its turn
+abbrev pub AreAfter : Clues → Masks → List LineId → Masks → Type 0
 AreAfter clues base [] facts = facts ≡ base
-AreAfter clues base (line ∷ lines) facts = (between : List (List ℕ)) × (Gains (clue_at clues line) line base between Narrowed × AreAfter clues between lines facts)
+AreAfter clues base (line ∷ lines) facts =
+    (between : Masks) × (Gains (clue_at clues line) line base between Narrowed × AreAfter clues between lines facts)
 
 -- no list fits some line of a schedule, in its turn
-abbrev pub IsDeadInTurn : Clues → List (List ℕ) → List LineId → Type 0
+abbrev pub IsDeadInTurn : Clues → Masks → List LineId → Type 0
 IsDeadInTurn clues base [] = ⊥
 IsDeadInTurn clues base (line ∷ lines) =
-    (¬ CanFit (clue_at clues line) (line_of base line)) ⊎ ((between : List (List ℕ)) × (Gains (clue_at clues line) line base between Narrowed × IsDeadInTurn clues between lines))
+    (¬ CanFit (clue_at clues line) (line_of base line)) ⊎ ((between : Masks)
+    × (Gains (clue_at clues line) line base between Narrowed × IsDeadInTurn clues between lines))
 
--- The old book grown by a step for each named line that drew something, in turn; its facts are those after the schedule.
+-- The old book grown by a step for each named line that drew
+-- something, in turn; its facts are those after the schedule.
 pub record IsAfterSchedule (clues : Clues) (old : Account) (lines : List LineId) (new : Account) : Type 0 where
   pub grows : Grows clues old new (steps_added old new)
   pub in_turn : TakeTurns clues lines old new
@@ -39,4 +44,5 @@ RunsSchedule clues old lines (Err fault.Memory) = Unit {0}
 -- each named line is evaluated once, up to the one at which the schedule ends early; nothing is tried
 abbrev pub ScheduleWorks : List LineId → Result Account CloseFault → Meter → Meter → ℕ → ℕ → Type 0
 ScheduleWorks lines (Ok _) start end before after = Counts (length lines) 0 start end before after
-ScheduleWorks lines (Err _) start end before after = (evaluations : ℕ) × (evaluations ≤ length lines) × Counts evaluations 0 start end before after
+ScheduleWorks lines (Err _) start end before after =
+    (evaluations : ℕ) × (evaluations ≤ length lines) × Counts evaluations 0 start end before after

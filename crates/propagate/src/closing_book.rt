@@ -2,7 +2,7 @@
 
 ghost use Rattle.std.specs.Prelude.{◌≡◌, IfOk};
 ghost use Rattle.justify.specs.Book.{AreTrimmed, IsDerivation};
-ghost use Rattle.fixpoint.specs.Closing.{AreClosable, QuietOutside};
+ghost use Rattle.fixpoint.specs.ClosedFacts.{AreClosable, QuietOutside};
 ghost use Rattle.propagate.specs.ClosingBooks.{BookWorks, ClosesBook};
 ghost use Rattle.fixpoint.specs.LineNames.{AreLinesOf};
 
@@ -14,7 +14,7 @@ use line_settle::{LineEngine, Meter};
 use picture::LineSet;
 use worklist::Agenda;
 
-/// Puts steps behind those of a book until no line forces more: its facts are then the least closed ones over its base.
+/// Puts steps after those of a book until no line forces more: its facts are then the least closed ones over its base.
 /// The book is a derivation from the clues, and every line that is not in `dirty` has to be quiet under its facts: it
 /// forces nothing new, and some list fits it. Dead says that under the least closed facts some line has no list that
 /// fits; the book is dropped then, and where memory is refused. The lines that the agenda had are forgotten.

@@ -4,7 +4,7 @@ ghost use Rattle.std.specs.Prelude.{◌≡◌, IfOk};
 ghost use Rattle.std.specs.List.{All};
 ghost use Rattle.picture.specs.Rows.{HasLine};
 ghost use Rattle.justify.specs.Book.{AreTrimmed, IsDerivation};
-ghost use Rattle.fixpoint.specs.Closing.{AreClosable};
+ghost use Rattle.fixpoint.specs.ClosedFacts.{AreClosable};
 ghost use Rattle.propagate.specs.Schedule.{RunsSchedule, ScheduleWorks};
 
 use crate::turn::take_turn;
@@ -14,9 +14,9 @@ use justify::Book;
 use line_settle::{LineEngine, Meter};
 use picture::LineId;
 
-/// Evaluates the lines of a schedule in turn, each as often as it is named, and puts behind the book's steps one for each
-/// named line that drew something. The book is a derivation from the clues. Dead says that no list fits a named line in
-/// its turn; the book is dropped then, and where memory is refused.
+/// Evaluates the lines of a schedule in turn, each as often as it is named, and appends to the book's steps one for
+/// each named line that drew something. The book is a derivation from the clues. Dead says that no list fits a named
+/// line in its turn; the book is dropped then, and where memory is refused.
 pub fn run_schedule<E: LineEngine>(
     engine: &mut E,
     book: Book,

@@ -8,7 +8,7 @@ ghost use Rattle.clues.specs.ClueBook.{Clues};
 ghost use Rattle.line_settle.specs.FactSets.{IsFacts};
 ghost use Rattle.justify.specs.declared.fault.StepFault.TheVariants as step;
 ghost use Rattle.justify.specs.Book.{IsAccount};
-ghost use Rattle.justify.specs.Making.{Makes};
+ghost use Rattle.justify.specs.NewSteps.{Makes};
 ghost use Rattle.justify.specs.Premises.{ArePremises, Mentions};
 ghost use Rattle.propagate.specs.Turns.{CrossesDrawn, GivesNext, TakesTurn, Turn};
 ghost use Rattle.fixpoint.specs.declared.fault.CloseFault.TheVariants as fault;
@@ -17,7 +17,7 @@ use fixpoint::CloseFault;
 use justify::{Book, Step, StepFault};
 use picture::{LineId, LineSet, MAX_SIDE};
 
-// Puts the step that a line gave behind those of the book, and says which lines cross it where it draws.
+// Appends the line's step to the book, and says which lines cross it where it draws.
 pub(crate) fn take_turn(
     book: &mut Book,
     line: LineId,

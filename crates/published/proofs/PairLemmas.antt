@@ -1,5 +1,6 @@
 -- What `write ppm` and `certify` print, read again.
 use Rattle.std.proofs.Common.{◌≡◌, ℕ, List, Option, Some, None, Ok, Result, refl, sym, ap, subst, ◌∙◌, codes}
+use Rattle.picture.specs.Rows.{Rows}
 use Rattle.picture.specs.declared.document.Document.{Document}
 use Rattle.picture.specs.CellSet.{no_cells}
 use Rattle.picture.specs.Document.{Content, ordered_of}
@@ -12,13 +13,13 @@ use Rattle.ppm_text.specs.Text.{ppm_text}
 use Rattle.cert_text.specs.declared.fault.CertFault.{CertFault}
 use Rattle.cert_text.specs.Cert.{Certificate, IsCert}
 use Rattle.cert_text.specs.Text.{cert_of}
-use Rattle.cert_text.specs.Writing as certificates
+use Rattle.cert_text.specs.WrittenCert as certificates
 use Rattle.edits.specs.Design.{Design, design_of}
 use Rattle.edits.specs.History.{History}
 use Rattle.live_audit.specs.Bench.{Seen}
 use Rattle.live_audit.specs.Certify.{Certifies, NamesMarks}
 use Rattle.live_audit.specs.Verdict.{IsOtherFor}
-use Rattle.session.specs.Session.{certified_text, content}
+use Rattle.session.specs.Texts.{certified_text, content}
 use Rattle.answers.specs.Check.{IsCheck, IsCheckOf, accepted_text}
 use Rattle.published.specs.Laws.{AreAccepted, ArePublished, PairsAreAccepted, background_in}
 use Rattle.published.specs.Printed.{UniqueArePublished}
@@ -30,7 +31,8 @@ abbrev ungiven : Design → Content
 ungiven d = record { colours = d.colours; rows = d.rows; givens = no_cells }
 
 -- the pair of a design whose palette and picture are right
-pair : ((d : Content) → pictures.IsUngiven d → pictures.IsReadAgain d) → ((cert : Certificate) → IsCert cert → certificates.IsReadAgain cert) → (d : Design) (picture cert : List ℕ) (found : Certificate) → IsPalette d.colours → IsPicture d.rows
+pair : ((d : Content) → pictures.IsUngiven d → pictures.IsReadAgain d) → ((cert : Certificate) → IsCert cert → certificates.IsReadAgain cert)
+    → (d : Design) (picture cert : List ℕ) (found : Certificate) → IsPalette d.colours → IsPicture d.rows
     → picture ≡ ppm_text (content d) → cert ≡ certificates.cert_text found → Certifies d (Some found) → AreAccepted d picture cert × IsSolved d picture cert
 pair seen read d picture cert found palette is p t c =
     let of = c.0 in
@@ -52,12 +54,14 @@ pair seen read d picture cert found palette is p t c =
     (accepted, solved_pair d picture cert found file again check of marks)
 
 -- where something was found, it is a certificate
-certified : ((d : Content) → pictures.IsUngiven d → pictures.IsReadAgain d) → ((cert : Certificate) → IsCert cert → certificates.IsReadAgain cert) → (d : Design) (picture cert : List ℕ) (found : Option Certificate) → IsPalette d.colours → IsPicture d.rows
+certified : ((d : Content) → pictures.IsUngiven d → pictures.IsReadAgain d) → ((cert : Certificate) → IsCert cert → certificates.IsReadAgain cert)
+    → (d : Design) (picture cert : List ℕ) (found : Option Certificate) → IsPalette d.colours → IsPicture d.rows
     → picture ≡ ppm_text (content d) → cert ≡ certified_text found → Certifies d found → (cert ≡ codes "ambiguous\n" → ⊥) → AreAccepted d picture cert × IsSolved d picture cert
 certified seen read d picture cert None palette is p t c not = absurd (not t)
 certified seen read d picture cert (Some found) palette is p t c not = pair seen read d picture cert found palette is p t c
 
-both : ((d : Content) → pictures.IsUngiven d → pictures.IsReadAgain d) → ((cert : Certificate) → IsCert cert → certificates.IsReadAgain cert) → (s : Seen) (document : Document) → design_of document ≡ s.history.document → IsPalette document.palette → IsPicture document.picture
+both : ((d : Content) → pictures.IsUngiven d → pictures.IsReadAgain d) → ((cert : Certificate) → IsCert cert → certificates.IsReadAgain cert) → (s : Seen) (document : Document)
+    → design_of document ≡ s.history.document → IsPalette document.palette → IsPicture document.picture
     → (picture cert : List ℕ) → ArePublished s picture cert → AreAccepted s.history.document picture cert × IsSolved s.history.document picture cert
 both seen read s document e palette is picture cert p =
     let d = s.history.document in
@@ -68,20 +72,24 @@ both seen read s document e palette is picture cert p =
     let right : Certifies d c.0 = subst (λ (h : History). Certifies h.document c.0) p.same_cert c.1.0 in
     certified seen read d picture cert c.0 colours rows shown c.1.1.0 right p.not_ambiguous
 
-pub accepted : ((d : Content) → pictures.IsUngiven d → pictures.IsReadAgain d) → ((cert : Certificate) → IsCert cert → certificates.IsReadAgain cert) → (s : Seen) (document : Document) → design_of document ≡ s.history.document → IsPalette document.palette → IsPicture document.picture → PairsAreAccepted s
+pub accepted : ((d : Content) → pictures.IsUngiven d → pictures.IsReadAgain d) → ((cert : Certificate) → IsCert cert → certificates.IsReadAgain cert) → (s : Seen) (document : Document)
+    → design_of document ≡ s.history.document → IsPalette document.palette → IsPicture document.picture → PairsAreAccepted s
 accepted seen read s document e palette is picture cert p = (both seen read s document e palette is picture cert p).0
 
-pub made : ((d : Content) → pictures.IsUngiven d → pictures.IsReadAgain d) → ((cert : Certificate) → IsCert cert → certificates.IsReadAgain cert) → (s : Seen) (document : Document) → design_of document ≡ s.history.document → IsPalette document.palette → IsPicture document.picture → PublishedAreSolved s
+pub made : ((d : Content) → pictures.IsUngiven d → pictures.IsReadAgain d) → ((cert : Certificate) → IsCert cert → certificates.IsReadAgain cert) → (s : Seen) (document : Document)
+    → design_of document ≡ s.history.document → IsPalette document.palette → IsPicture document.picture → PublishedAreSolved s
 made seen read s document e palette is picture cert p = (both seen read s document e palette is picture cert p).1
 
 -- ---- where there is no other picture
 
-found_unique : ((d : Content) → pictures.IsUngiven d → pictures.IsReadAgain d) → ((cert : Certificate) → IsCert cert → certificates.IsReadAgain cert) → (d : Design) (picture cert : List ℕ) (found : Option Certificate) → IsPalette d.colours → IsPicture d.rows
-    → picture ≡ ppm_text (content d) → cert ≡ certified_text found → Certifies d found → ((other : List (List ℕ)) → IsOtherFor d other → ⊥) → AreAccepted d picture cert
+found_unique : ((d : Content) → pictures.IsUngiven d → pictures.IsReadAgain d) → ((cert : Certificate) → IsCert cert → certificates.IsReadAgain cert)
+    → (d : Design) (picture cert : List ℕ) (found : Option Certificate) → IsPalette d.colours → IsPicture d.rows
+    → picture ≡ ppm_text (content d) → cert ≡ certified_text found → Certifies d found → ((other : Rows) → IsOtherFor d other → ⊥) → AreAccepted d picture cert
 found_unique seen read d picture cert None palette is p t c alone = absurd (alone c.0 c.1)
 found_unique seen read d picture cert (Some found) palette is p t c alone = (pair seen read d picture cert found palette is p t c).0
 
-pub unique : ((d : Content) → pictures.IsUngiven d → pictures.IsReadAgain d) → ((cert : Certificate) → IsCert cert → certificates.IsReadAgain cert) → (s : Seen) (document : Document) → design_of document ≡ s.history.document → IsPalette document.palette → IsPicture document.picture → UniqueArePublished s
+pub unique : ((d : Content) → pictures.IsUngiven d → pictures.IsReadAgain d) → ((cert : Certificate) → IsCert cert → certificates.IsReadAgain cert) → (s : Seen) (document : Document)
+    → design_of document ≡ s.history.document → IsPalette document.palette → IsPicture document.picture → UniqueArePublished s
 unique seen read s document e palette is alone at_picture behind_picture at_cert behind_cert picture cert same_picture writes same_cert c =
     let d = s.history.document in
     let colours : IsPalette d.colours = subst (λ (x : Design). IsPalette x.colours) e palette in

@@ -29,7 +29,8 @@ all_read input read None consumes ended = absurd consumes
 all_read input read (Some rest) consumes ended = sym (consumes ∙ (ap (λ (xs : List ℕ). read ++ xs) ended ∙ append-nil read))
 
 -- a command's text, where memory did not run out
-said : (c : Command) (s between : Seen) (text : List ℕ) → (IsShort c s text between → text ≡ memory_line) → (text ≡ memory_line → ⊥) → SaysTo s c text between ⊎ IsShort c s text between → SaysTo s c text between
+said : (c : Command) (s between : Seen) (text : List ℕ) → (IsShort c s text between → text ≡ memory_line) → (text ≡ memory_line → ⊥) → SaysTo s c text between ⊎ IsShort c s text between
+    → SaysTo s c text between
 said c s between text short made (inl says) = says
 said c s between text short made (inr lacks) = absurd (made (short lacks))
 
@@ -38,7 +39,8 @@ pub record IsOneText (c : Command) (s last : Seen) (bytes : List ℕ) : Type 0 w
   pub between : Seen
   pub says : SaysTo s c bytes between
 
-one_text : (c : Command) (line : List ℕ) (s last : Seen) (text bytes : List ℕ) → request_of line ≡ request.Command c → ((old new : Seen) (t : List ℕ) → IsShort c old t new → t ≡ memory_line) → (bytes ≡ memory_line → ⊥) → bytes ≡ text → SaysToAll (line ∷ []) s text last → IsOneText c s last bytes
+one_text : (c : Command) (line : List ℕ) (s last : Seen) (text bytes : List ℕ) → request_of line ≡ request.Command c → ((old new : Seen) (t : List ℕ) → IsShort c old t new → t ≡ memory_line)
+    → (bytes ≡ memory_line → ⊥) → bytes ≡ text → SaysToAll (line ∷ []) s text last → IsOneText c s last bytes
 unfolding Says Replies
 one_text c line s last text bytes asks short made is (between, (first, (rest, (whole, (says, (none, same)))))) =
     let all : bytes ≡ first = is ∙ (whole ∙ (ap (λ (xs : List ℕ). first ++ xs) none ∙ append-nil first)) in
@@ -46,7 +48,8 @@ one_text c line s last text bytes asks short made is (between, (first, (rest, (w
     let there : Says s (request.Command c) bytes between = subst (λ (t : List ℕ). Says s (request.Command c) t between) (sym all) here in
     record { between = between; says = said c s between bytes (short s between bytes) made there.0 }
 
-pub wrote : (c : Command) (input line : List ℕ) (s : Seen) (bytes : List ℕ) → lines_of input ≡ line ∷ [] → request_of line ≡ request.Command c → ((old new : Seen) (t : List ℕ) → IsShort c old t new → t ≡ memory_line) → (w : HasWritten input s bytes) → IsOneText c s w.last bytes
+pub wrote : (c : Command) (input line : List ℕ) (s : Seen) (bytes : List ℕ) → lines_of input ≡ line ∷ [] → request_of line ≡ request.Command c
+    → ((old new : Seen) (t : List ℕ) → IsShort c old t new → t ≡ memory_line) → (w : HasWritten input s bytes) → IsOneText c s w.last bytes
 unfolding Runs
 wrote c input line s bytes lines asks short w =
     let h = w.runs in

@@ -1,6 +1,7 @@
 -- A check's line without givens, and what is published where nothing is given.
 use Rattle.std.proofs.Common.{◌≡◌, ℕ, ◌+◌, ◌-◌, ◌⊎◌, List, [], ◌∷◌, ◌++◌, length, codes, decimal, Some, Ok, Result, refl, ap, subst, ◌∙◌, arith, inl, inr, length-append}
 use Rattle.std.proofs.lemmas.Bool.{cases_eq}
+use Rattle.picture.specs.Rows.{Rows}
 use Rattle.picture.specs.CellSet.{no_cells}
 use Rattle.picture.specs.Document.{Content, ordered_of}
 use Rattle.clues.specs.ClueBook.{clues_of}
@@ -86,7 +87,7 @@ is_unique d cert of other s = elim (same_grid other (ordered d).rows) [
 ]
 
 -- cells of a picture are none where no place is among them
-none_named : (picture : List (List ℕ)) (cells : List CellNumber) → HasCellNumbers picture cells → ((row col : ℕ) → IsAmong (numbered row col) cells → ⊥) → cells ≡ []
+none_named : (picture : Rows) (cells : List CellNumber) → HasCellNumbers picture cells → ((row col : ℕ) → IsAmong (numbered row col) cells → ⊥) → cells ≡ []
 none_named picture [] has none = refl
 none_named picture (cell ∷ cells) has none =
     let row = cell.row - 1 in
@@ -99,7 +100,9 @@ none_named picture (cell ∷ cells) has none =
     ∙ ap (λ (x : ℕ). let y : CellNumber = record { row = cell.row; col = x } in y) c in
     absurd (none row col (inl e))
 
-pub solved_pair : (d : Design) (picture cert : List ℕ) (found : Certificate) → ppm_of picture (Some (background_in d)) ≡ Ok (ordered_of (record { colours = d.colours; rows = d.rows; givens = no_cells })) → cert_of cert ≡ Ok found → IsCheckOf picture (Some (background_in d)) cert (Ok (accepted_text found.givens)) → IsCertificateFor (ordered d) found → NamesMarks d found.givens → IsSolved d picture cert
+pub solved_pair : (d : Design) (picture cert : List ℕ) (found : Certificate)
+    → ppm_of picture (Some (background_in d)) ≡ Ok (ordered_of (record { colours = d.colours; rows = d.rows; givens = no_cells })) → cert_of cert ≡ Ok found
+    → IsCheckOf picture (Some (background_in d)) cert (Ok (accepted_text found.givens)) → IsCertificateFor (ordered d) found → NamesMarks d found.givens → IsSolved d picture cert
 solved_pair d picture cert found file again check of marks =
     let document = ordered_of (record { colours = d.colours; rows = d.rows; givens = no_cells }) in
     let only : IsOnlyPicture picture (Some (background_in d)) cert = record { document = document; certificate = found; reads_file = file; reads_cert = again; is_unique = is_unique d found of } in

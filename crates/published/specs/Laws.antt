@@ -1,5 +1,6 @@
 -- The law of published pairs: what a designer prints is what a site accepts.
 use Rattle.std.specs.Prelude.{◌≡◌, ℕ, List, codes, Some, Ok}
+use Rattle.picture.specs.Rows.{Rows}
 use Rattle.picture.specs.declared.rgb.Rgb.{Rgb}
 use Rattle.picture.specs.Document.{first_of}
 use Rattle.cert_text.specs.Cert.{Certificate}
@@ -15,7 +16,8 @@ use Rattle.answers.specs.Check.{IsCheckOf, IsProofOf, accepted_text}
 abbrev pub background_in : Design → Rgb
 background_in d = first_of d.colours.triples
 
--- Of one document, `write ppm` printed the picture, and `certify` the certificate: it did not say that there is another picture.
+-- Of one document, `write ppm` printed the picture, and `certify`
+-- the certificate: it did not say that there is another picture.
 pub record ArePublished (s : Seen) (picture cert : List ℕ) : Type 0 where
   pub at_picture : Seen
   pub behind_picture : Seen
@@ -27,14 +29,14 @@ pub record ArePublished (s : Seen) (picture cert : List ℕ) : Type 0 where
   pub certifies : SaysTo at_cert command.Certify cert behind_cert
   pub not_ambiguous : cert ≡ codes "ambiguous\n" → ⊥
 
--- The two are read, with the document's background, and the certificate proves the picture: a check shows the line that it is
--- accepted, with the number of the document's givens. There is no other picture for the document.
+-- The two are read, with the document's background, and the certificate proves the picture: a check shows the
+-- line that it is accepted, with the number of the document's givens. There is no other picture for the document.
 pub record AreAccepted (d : Design) (picture cert : List ℕ) : Type 0 where
   pub found : Certificate
   pub givens : NamesMarks d found.givens
   pub check : IsCheckOf picture (Some (background_in d)) cert (Ok (accepted_text found.givens))
   pub proof : IsProofOf picture (Some (background_in d)) cert
-  pub no_other : (other : List (List ℕ)) → IsOtherFor d other → ⊥
+  pub no_other : (other : Rows) → IsOtherFor d other → ⊥
 
 -- What is published of a bench's document is accepted.
 abbrev pub PairsAreAccepted : Seen → Type 0

@@ -1,5 +1,6 @@
 -- The law of printed bytes: what two sessions write, byte for byte, is what a check accepts.
 use Rattle.std.specs.Prelude.{◌≡◌, ℕ, false, List, [], Option, Some, codes, Ok}
+use Rattle.picture.specs.Rows.{Rows}
 use Rattle.live_audit.specs.Bench.{Seen}
 use Rattle.session.specs.Refusal.{memory_line}
 use Rattle.live_audit.specs.Verdict.{IsOtherFor}
@@ -9,16 +10,16 @@ use Rattle.program_options.specs.declared.options.Options.{Options}
 use Rattle.answers.specs.Start.{IsStarted}
 use Rattle.published.specs.Laws.{AreAccepted}
 
--- A session that was given this input alone, on a bench in a state, ended without a fault, and wrote these bytes: not that
--- memory ran out.
+-- A session that was given this input alone, on a bench in a state, ended without an error, and wrote these bytes: not
+-- that memory ran out.
 pub record HasWritten (input : List ℕ) (at : Seen) (bytes : List ℕ) : Type 0 where
   pub left : Option (List ℕ)
   pub last : Seen
   pub runs : Runs (Some input) left (Some []) (Some bytes) at last (Ok tt)
   pub made : bytes ≡ memory_line → ⊥
 
--- Of one document, the session `write ppm` wrote the picture, and the session `certify` the certificate: it did not say that
--- there is another picture.
+-- Of one document, the session `write ppm` wrote the picture, and the session
+-- `certify` the certificate: it did not say that there is another picture.
 pub record ArePrinted (s : Seen) (picture cert : List ℕ) : Type 0 where
   pub at_picture : Seen
   pub same_picture : at_picture.history ≡ s.history
@@ -34,13 +35,14 @@ PrintedAreAccepted s = (picture cert : List ℕ) → ArePrinted s picture cert �
 
 -- Benches that are started with one P3 file and the same options have one history, so one document.
 abbrev pub OneFileIsOneDocument : Type 0
-OneFileIsOneDocument = (file : List ℕ) (options : Options) (one other : Seen) → options.non ≡ false → IsStarted file options one → IsStarted file options other → one.history ≡ other.history
+OneFileIsOneDocument = (file : List ℕ) (options : Options) (one other : Seen) → options.non ≡ false
+    → IsStarted file options one → IsStarted file options other → one.history ≡ other.history
 
--- Where there is no other picture for a bench's document, what `certify` and `write ppm` say of it is accepted, so there is a
--- certificate.
+-- Where there is no other picture for a bench's document, what `certify`
+-- and `write ppm` say of it is accepted, so there is a certificate.
 abbrev pub UniqueArePublished : Seen → Type 0
 UniqueArePublished s =
-    ((other : List (List ℕ)) → IsOtherFor s.history.document other → ⊥)
+    ((other : Rows) → IsOtherFor s.history.document other → ⊥)
     → (at_picture behind_picture at_cert behind_cert : Seen) (picture cert : List ℕ)
     → at_picture.history ≡ s.history → SaysTo at_picture command.WritePpm picture behind_picture
     → at_cert.history ≡ s.history → SaysTo at_cert command.Certify cert behind_cert

@@ -14,7 +14,8 @@ use Rattle.published.specs.Laws.{ArePublished, background_in}
 abbrev pub nowhere : ℕ → ℕ → Type 0
 nowhere row col = ⊥
 
--- The text is read, and no other picture of that size has the clues of its picture: they are enough, and nothing is given.
+-- The text is read, and no other picture of that size has the
+-- clues of its picture: they are enough, and nothing is given.
 pub record HasOneSolution (file : List ℕ) (background : Option Rgb) : Type 0 where
   pub document : Content
   pub reads_file : ppm_of file background ≡ Ok document
@@ -27,14 +28,16 @@ plain_line = codes "certificate accepted\n"
 -- Where a check answers Ok, and its line is `certificate accepted` alone, the clues have one solution.
 abbrev pub PlainLinesAreOneSolution : Type 0
 PlainLinesAreOneSolution = (file : List ℕ) (background : Option Rgb) (cert : List ℕ)
-    → IsOnlyPicture file background cert → IsCheckOf file background cert (Ok plain_line) → HasOneSolution file background
+    → IsOnlyPicture file background cert → IsCheckOf file background cert (Ok plain_line)
+    → HasOneSolution file background
 
 -- a document with no given
 abbrev pub GivesNothing : Design → Type 0
 GivesNothing d = (row col : ℕ) → IsGiven d row col → ⊥
 
--- What is published of a bench's document is a picture that is the only one with its clues and its colours in the certificate's
--- givens. Where the document has no given, the line of a check is `certificate accepted` alone, and the clues have one solution.
+-- What is published of a bench's document is a picture that is the only one with its
+-- clues and its colours in the certificate's givens. Where the document has no given,
+-- the line of a check is `certificate accepted` alone, and the clues have one solution.
 pub record IsSolved (d : Design) (picture cert : List ℕ) : Type 0 where
   pub only : IsOnlyPicture picture (Some (background_in d)) cert
   pub plain : GivesNothing d → IsCheckOf picture (Some (background_in d)) cert (Ok plain_line)

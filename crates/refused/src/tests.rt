@@ -26,13 +26,14 @@ fn equal<T: PartialEq + Debug + Drop>(rt: &impl Abort, what: &str, got: T, want:
     assert_eq!(rt; got, want, "{what}");
 }
 
-// Stops where a call failed otherwise than by want of memory, or though memory is ample.
+// Stops where a call failed other than by running out of memory, or though memory is ample.
 fn refused<F: PartialEq + Debug + Drop>(rt: &impl Abort, memory: Memory, got: F, want: F) {
     assert!(rt; memory == Memory::Refused);
     equal(rt, "a fault", got, want);
 }
 
-// What the first try gives, or the second one where it was refused by this fault. Where memory is ample both give something.
+// What the first try gives, or the second one where it was refused by this error. Where memory is ample both give
+// something.
 fn first_of<T: Drop, F: PartialEq + Debug + Drop>(
     rt: &impl Abort,
     memory: Memory,

@@ -32,7 +32,8 @@ one_letter : (k : ℕ) (s t : Bool) → s ≡ t → map letter (cond s (k ∷ []
 one_letter k s true is = ap (λ t. map letter (cond t (k ∷ []) [])) is
 one_letter k s false is = ap (λ t. map letter (cond t (k ∷ []) [])) is
 
-among_append : (excluded : ℕ) (front : List ℕ) (k : ℕ) (t : Bool) → not (bit_at excluded k == 1) ≡ t → letters_among excluded (front ++ k ∷ []) ≡ letters_among excluded front ++ cond t (letter k ∷ []) []
+among_append : (excluded : ℕ) (front : List ℕ) (k : ℕ) (t : Bool) → not (bit_at excluded k == 1) ≡ t
+    → letters_among excluded (front ++ k ∷ []) ≡ letters_among excluded front ++ cond t (letter k ∷ []) []
 unfolding letters_among
 among_append excluded front k t is =
     let p : ℕ → Bool = λ i. not (bit_at excluded i == 1) in

@@ -9,8 +9,9 @@ pub clue_text-cons : (b : Block) (blocks : List Block) → clue_text (b ∷ bloc
 clue_text-cons b [] = sym (append-nil (block_text b))
 clue_text-cons b (c ∷ blocks) = ap (λ (rest : List ℕ). block_text b ++ 32 ∷ rest) (clue_text-cons c blocks)
 
--- the first block, and the others behind it, as a slice has them
-pub clue_text_first : (blocks : List Block) → 1 ≤ length blocks → clue_text blocks ≡ block_text (get_or blocks 0 (record { len = 0; colour = 0 })) ++ flat_map behind (take (length blocks - 1) (drop 1 blocks))
+-- the first block, and the others after it, as a slice has them
+pub clue_text_first : (blocks : List Block) → 1 ≤ length blocks
+    → clue_text blocks ≡ block_text (get_or blocks 0 (record { len = 0; colour = 0 })) ++ flat_map behind (take (length blocks - 1) (drop 1 blocks))
 clue_text_first [] some = absurd (omega (arith, some))
 clue_text_first (b ∷ blocks) some = clue_text-cons b blocks ∙ ap (λ bs. block_text b ++ flat_map behind bs) (sym (take_rest (b ∷ blocks) 1))
 
@@ -23,7 +24,8 @@ pushed_all before between after blocks some first others =
     others ∙ ap (λ (front : List ℕ). front ++ rest) first ∙ append_assoc before b rest ∙ ap (λ (text : List ℕ). before ++ text) (sym (clue_text_first blocks some))
 
 -- the lines of the first clues, and of one more
-pub lines_text-push : (letter number : ℕ) (clues : List (List Block)) (clue : List Block) → lines_text letter number (clues ++ clue ∷ []) ≡ lines_text letter number clues ++ line_text letter (number + length clues) clue
+pub lines_text-push : (letter number : ℕ) (clues : List (List Block)) (clue : List Block)
+    → lines_text letter number (clues ++ clue ∷ []) ≡ lines_text letter number clues ++ line_text letter (number + length clues) clue
 unfolding lines_text
 lines_text-push letter number [] clue =
     let same : number + 0 ≡ number = omega arith in
@@ -37,7 +39,8 @@ pub lines_text-nil : (letter number : ℕ) → lines_text letter number [] ≡ [
 unfolding lines_text
 lines_text-nil letter number = refl
 
-pub lines_text-more : (letter : ℕ) (clues : List (List Block)) (i : ℕ) → i < length clues → lines_text letter 1 (take (i + 1) clues) ≡ lines_text letter 1 (take i clues) ++ line_text letter (i + 1) (get_or clues i [])
+pub lines_text-more : (letter : ℕ) (clues : List (List Block)) (i : ℕ) → i < length clues
+    → lines_text letter 1 (take (i + 1) clues) ≡ lines_text letter 1 (take i clues) ++ line_text letter (i + 1) (get_or clues i [])
 lines_text-more letter clues i lt =
     rw (take_more clues i [] lt) (lines_text-push letter 1 (take i clues) (get_or clues i [])
     ∙ ap (λ n. lines_text letter 1 (take i clues) ++ line_text letter n (get_or clues i [])) (omega (arith, length-take-le i clues (omega arith))))

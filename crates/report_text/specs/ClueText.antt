@@ -11,7 +11,7 @@ use Rattle.clues.specs.ClueBook.{Clues}
 abbrev pub block_text : Block → List ℕ
 block_text b = decimal b.len ++ (96 + b.colour) ∷ []
 
--- a block behind another
+-- a block after another
 abbrev pub behind : Block → List ℕ
 behind b = 32 ∷ block_text b
 

@@ -12,7 +12,7 @@ use Rattle.report_text.specs.Shown.{letter}
 unfoldable pub letters_among : ℕ → List ℕ → List ℕ
 letters_among excluded colours = map letter (filter (λ k. not (bit_at excluded k == 1)) colours)
 
--- the letters of the colours that are not excluded, in rising number
+-- the letters of the colours that are not excluded, in ascending order
 abbrev pub letters_left : ℕ → List ℕ
 letters_left excluded = letters_among excluded (range_with_len 0 16)
 
@@ -27,7 +27,8 @@ premises_text (p ∷ premises) = codes " given" ++ flat_map premise_text (p ∷ 
 
 -- the line that forces the exclusion, and from what
 abbrev pub reason_text : LineId → List Premise → List ℕ
-reason_text line premises = codes "by " ++ (letter_of line.axis ∷ 32 ∷ (decimal (line.at + 1) ++ (premises_text premises ++ 10 ∷ [])))
+reason_text line premises =
+    codes "by " ++ (letter_of line.axis ∷ 32 ∷ (decimal (line.at + 1) ++ (premises_text premises ++ 10 ∷ [])))
 
 -- ---- worked premises
 

@@ -1,15 +1,17 @@
 -- The report of a bench.
-use Rattle.std.specs.Prelude.{ℕ, ◌+◌, Bool, List, [], ◌∷◌, ◌++◌, length, codes, count_ones, count_by, decimal, nat_lt, ◌==◌, if◌then◌else◌}
+use Rattle.std.specs.Prelude.{ℕ, ◌+◌, Bool, List, [], ◌∷◌, ◌++◌, length, codes, count_ones, count_by, decimal, nat_lt}
+use Rattle.std.specs.Prelude.{◌==◌, if◌then◌else◌}
 use Rattle.std.specs.List.{flat_map, range_with_len, sum_by}
+use Rattle.line_settle.specs.Masks.{Masks}
 use Rattle.picture.specs.declared.rgb.Rgb.{Rgb}
 use Rattle.picture.specs.Palette.{Colours, triple_at}
-use Rattle.picture.specs.Rows.{cell_at, width_of}
+use Rattle.picture.specs.Rows.{cell_at, width_of, Rows}
 use Rattle.clues.specs.ClueBook.{Clues}
 use Rattle.edits.specs.Design.{Design}
 use Rattle.report_text.specs.ClueText.{clues_text}
 use Rattle.report_text.specs.Shown.{letter, map_text, picture_text}
 
--- a number and the byte behind it
+-- a number and the byte after it
 abbrev pub number_before : ℕ → ℕ → List ℕ
 number_before end n = decimal n ++ end ∷ []
 
@@ -20,7 +22,7 @@ first_number n = number_before 32 n
 abbrev pub last_number : ℕ → List ℕ
 last_number n = number_before 10 n
 
-abbrev pub size_text : List (List ℕ) → List ℕ
+abbrev pub size_text : Rows → List ℕ
 size_text rows = codes "size " ++ (first_number (length rows) ++ last_number (width_of rows))
 
 -- a colour's letter and its triple
@@ -33,7 +35,8 @@ colour_lines triples n = flat_map (λ k. colour_line k (triple_at triples k)) (r
 
 -- how many colours there are, the largest sample, and a line for each colour
 abbrev pub colours_text : Colours → List ℕ
-colours_text c = codes "colours " ++ (first_number (length c.triples) ++ (codes "maxval " ++ (last_number c.maxval ++ colour_lines c.triples (length c.triples))))
+colours_text c = codes "colours " ++ (first_number (length c.triples)
+    ++ (codes "maxval " ++ (last_number c.maxval ++ colour_lines c.triples (length c.triples))))
 
 -- a line for a given, by its row and its column from 1
 abbrev pub given_line : ℕ → ℕ → List ℕ
@@ -60,24 +63,27 @@ is_open mask = nat_lt 1 (count_ones mask)
 abbrev pub open_in_row : List ℕ → ℕ
 open_in_row masks = count_by is_open masks
 
-abbrev pub open_cells : List (List ℕ) → ℕ
+abbrev pub open_cells : Rows → ℕ
 open_cells rows = sum_by open_in_row rows
 
 -- the document: its size, its colours, its picture and its givens
 abbrev pub document_text : Design → List ℕ
-document_text d = size_text d.rows ++ (colours_text d.colours ++ (codes "picture\n" ++ (picture_text d.rows ++ givens_text d)))
+document_text d =
+    size_text d.rows ++ (colours_text d.colours ++ (codes "picture\n" ++ (picture_text d.rows ++ givens_text d)))
 
 -- what follows from it: the clues, the map, and how many cells are open
-abbrev pub audit_text : Clues → List (List ℕ) → List ℕ
-audit_text clues facts = codes "clues\n" ++ (clues_text clues ++ (codes "map\n" ++ (map_text facts ++ (codes "open " ++ last_number (open_cells facts)))))
+abbrev pub audit_text : Clues → Masks → List ℕ
+audit_text clues facts = codes "clues\n"
+    ++ (clues_text clues ++ (codes "map\n" ++ (map_text facts ++ (codes "open " ++ last_number (open_cells facts)))))
 
 -- the verdict's word, and how many edits can be undone and made again
 abbrev pub ending_text : List ℕ → ℕ → ℕ → List ℕ
-ending_text word past future = codes "verdict " ++ (word ++ (codes "\nhistory " ++ (first_number past ++ last_number future)))
+ending_text word past future =
+    codes "verdict " ++ (word ++ (codes "\nhistory " ++ (first_number past ++ last_number future)))
 
 -- all that stands before the ending
-abbrev pub front_text : Design → Clues → List (List ℕ) → List ℕ
+abbrev pub front_text : Design → Clues → Masks → List ℕ
 front_text d clues facts = document_text d ++ audit_text clues facts
 
-abbrev pub report_text : Design → Clues → List (List ℕ) → List ℕ → ℕ → ℕ → List ℕ
+abbrev pub report_text : Design → Clues → Masks → List ℕ → ℕ → ℕ → List ℕ
 report_text d clues facts word past future = front_text d clues facts ++ ending_text word past future

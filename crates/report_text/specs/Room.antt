@@ -1,15 +1,16 @@
 -- How much room texts take, so that a caller can have it before it asks for what they tell.
-use Rattle.std.specs.Prelude.{ℕ, ◌+◌, ◌*◌, ◌<◌, ◌≤◌, List, length, OnErr, OnOk, Result, vec_capacity, vec_len}
+use Rattle.std.specs.Prelude.{ℕ, ◌+◌, ◌*◌, ◌<◌, ◌≤◌, length, OnErr, OnOk, Result, vec_capacity, vec_len}
 use Rattle.std.specs.declared.vec.Vec.{Vec}
 use Rattle.std.specs.declared.alloc.Global.{Global}
-use Rattle.picture.specs.Rows.{width_of}
+use Rattle.picture.specs.Rows.{width_of, Rows}
 
--- A call that puts at most so many bytes behind a text. Where there is that much room it is not refused, and no room is lost.
+-- A call that puts at most so many bytes after a text. Where there is that much room it is not refused, and no room is
+-- lost.
 pub record TakesRoom (old new : Vec ℕ Global) (most : ℕ) {X E : Type 0} (result : Result X E) : Type 0 where
   pub kept : vec_capacity old ≤ vec_capacity new
   pub taken : OnOk result (vec_len new ≤ vec_len old + most)
   pub short : OnErr result (vec_capacity old < vec_len old + most)
 
--- the letters of a picture, with a line feed behind each row
-abbrev pub picture_room : List (List ℕ) → ℕ
+-- the letters of a picture, with a line feed after each row
+abbrev pub picture_room : Rows → ℕ
 picture_room rows = length rows * (width_of rows + 1)

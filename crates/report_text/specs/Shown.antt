@@ -3,6 +3,7 @@ use Rattle.std.specs.Prelude.{◌≡◌, ℕ, ◌+◌, List, [], ◌∷◌, ◌+
 use Rattle.std.proofs.Common.{refl}
 use Rattle.std.specs.Int.{trailing_zeros, w16}
 use Rattle.std.specs.List.{flat_map}
+use Rattle.picture.specs.Rows.{Rows}
 
 -- `.` for the background, and `a` to `o` for 1 to 15
 abbrev pub letter : ℕ → ℕ
@@ -13,7 +14,7 @@ abbrev pub row_text : (ℕ → ℕ) → List ℕ → List ℕ
 row_text shown row = map shown row ++ 10 ∷ []
 
 -- the rows of a picture
-abbrev pub picture_text : List (List ℕ) → List ℕ
+abbrev pub picture_text : Rows → List ℕ
 picture_text rows = flat_map (row_text letter) rows
 
 -- the letter of the colour that a mask leaves alone, or `?`

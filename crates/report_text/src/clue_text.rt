@@ -21,7 +21,7 @@ pub fn clues_text(alloc: Global, book: &ClueBook) -> Result<Vec<u8>, AllocError>
     Ok(text)
 }
 
-// The same, behind what is there.
+// The same, after what is there.
 pub(crate) fn push_clues(text: &mut Vec<u8>, book: &ClueBook) -> Result<(), AllocError>
     ensures { OnOk result (text.new.items ≡ text.old.items ++ clues_text book.now) }
 {
@@ -88,7 +88,7 @@ fn push_clue(text: &mut Vec<u8>, blocks: &[Block]) -> Result<(), AllocError>
     Ok(())
 }
 
-// Each block behind a space.
+// Each block after a space.
 fn push_others(text: &mut Vec<u8>, blocks: &[Block]) -> Result<(), AllocError>
     requires { IsClue blocks.now }
     ensures { OnOk result (text.new.items ≡ text.old.items ++ flat_map behind blocks.now) }
@@ -110,7 +110,8 @@ fn push_block(text: &mut Vec<u8>, block: Block) -> Result<(), AllocError>
 }
 
 #[tactic(auto, using(std::proofs::lemmas::Fmt::decimal_digit))]
-/// Puts a number behind a text, in decimal without leading zeros. Where memory is refused, a part may stand behind the text.
+/// Appends a number to a text, in decimal without leading zeros. Where memory is refused, a part may have been
+/// appended.
 // Most have one digit, and the others are kept out of their way.
 pub fn push_number(text: &mut Vec<u8>, number: usize) -> Result<(), AllocError>
     ensures items { OnOk result (text.new.items ≡ text.old.items ++ decimal number) }

@@ -11,8 +11,8 @@ use picture::MAX_COLOURS;
 use std::alloc::AllocError;
 
 #[tactic(auto, using(std::proofs::lemmas::List::append_assoc))]
-/// Puts a reason as a line behind a text: its row or column, and of each premise the place, from 1, and the letters left there,
-/// as `by r 1 given 1=a`. Where memory is refused, a part may stand behind the text.
+/// Appends a reason as a line to a text: its row or column, and of each premise the place, from 1, and the letters left
+/// there, as `by r 1 given 1=a`. Where memory is refused, a part may have been appended.
 pub fn push_reason(text: &mut Vec<u8>, reason: &Reason) -> Result<(), AllocError>
     ensures { OnOk result (text.new.items
         ≡ text.old.items ++ reason_text reason.now.line reason.now.premises) }

@@ -18,8 +18,8 @@ use std::alloc::AllocError;
 pub const ENDING_ROOM: usize = 68;
 
 #[tactic(auto, using(std::proofs::lemmas::List::append_assoc))]
-/// Puts a report without its ending behind a text: size, palette, picture, givens, clues, map, and how many cells are open.
-/// Where memory is refused, a part may stand behind the text.
+/// Appends a report without its ending to a text: size, palette, picture, givens, clues, map, and how many cells are
+/// open. Where memory is refused, a part may have been appended.
 pub fn push_front(
     text: &mut Vec<u8>,
     document: &Document,
@@ -34,7 +34,7 @@ pub fn push_front(
 }
 
 #[tactic(auto, using(crate::proofs::RoomLemmas::long_numbers))]
-// A number, and the byte behind it: a space, or the end of the line.
+// A number, and the byte after it: a space, or the end of the line.
 fn push_before(text: &mut Vec<u8>, number: usize, end: u8) -> Result<(), AllocError>
     ensures items { OnOk result (text.new.items ≡ text.old.items ++ number_before end number) }
     ensures room { TakesRoom text.old text.new 21 result }
@@ -185,8 +185,8 @@ fn open_in_row(map: &Facts, row: u8) -> usize
 }
 
 #[tactic(auto, using(std::proofs::lemmas::List::append_assoc))]
-/// Puts the ending of a report behind a text: the verdict's word, and how many edits can be undone and made again. Where the
-/// room is there it takes no memory; where memory is refused, a part may stand behind the text.
+/// Appends the ending of a report to a text: the verdict's word, and how many edits can be undone and made again. Where
+/// the room is there it takes no memory; where memory is refused, a part may have been appended.
 pub fn push_ending(
     text: &mut Vec<u8>,
     verdict: &[u8],

@@ -39,8 +39,8 @@ pub(crate) fn has_colour(mask: u16, colour: u8) -> bool
     (mask >> colour) & 1 == 1
 }
 
-/// Puts the rows of a picture behind a text, a letter for each cell and a line feed behind each row. Where the room is there
-/// it takes no memory; where memory is refused, a part may stand behind the text.
+/// Appends the rows of a picture to a text, a letter for each cell and a line feed after each row. Where the room is
+/// there it takes no memory; where memory is refused, a part may have been appended.
 pub fn push_picture(text: &mut Vec<u8>, picture: &Picture) -> Result<(), AllocError>
     ensures items { OnOk result (text.new.items ≡ text.old.items ++ picture_text picture.now) }
     ensures room { TakesRoom text.old text.new (picture_room picture.now) result }
@@ -64,8 +64,8 @@ fn push_row(text: &mut Vec<u8>, picture: &Picture, row: u8) -> Result<(), AllocE
     Ok(text.push(b'\n')?)
 }
 
-/// Puts the rows of a map behind a text: the letter of the one colour that is left in a cell, or `?`. Where memory is refused, a
-/// part may stand behind the text.
+/// Appends the rows of a map to a text: the letter of the one colour that is left in a cell, or `?`. Where memory is
+/// refused, a part may have been appended.
 pub fn push_map(text: &mut Vec<u8>, facts: &Facts) -> Result<(), AllocError>
     ensures { OnOk result (text.new.items ≡ text.old.items ++ map_text facts.now) }
 {
@@ -75,7 +75,7 @@ pub fn push_map(text: &mut Vec<u8>, facts: &Facts) -> Result<(), AllocError>
     Ok(())
 }
 
-// A row of a map, whose letters are put behind the text together.
+// A row of a map, whose letters are appended together.
 fn push_masks(text: &mut Vec<u8>, facts: &Facts, row: u8) -> Result<(), AllocError>
     requires { row < length facts.now }
     ensures { OnOk result (text.new.items

@@ -3,7 +3,7 @@ use Rattle.std.proofs.Common.{◌≡◌, ℕ, ◌<◌, Some, List, length, refl,
 use Rattle.picture.specs.declared.line_id.Axis.{Axis}
 use Rattle.picture.specs.declared.line_id.Axis.TheVariants.{Across, Down}
 use Rattle.picture.specs.declared.line_id.LineId.{LineId}
-use Rattle.picture.specs.LineSetLaws.{same_name}
+use Rattle.picture.proofs.LineSetLaws.{same_name}
 use Rattle.clues.specs.Change.{Moves, Stays, image_of, line_at}
 use Rattle.clues.proofs.LawLemmas.{images}
 use Rattle.line_settle.specs.FactSets.{row_on, col_on}
@@ -12,24 +12,27 @@ use Rattle.justify.specs.declared.step.Step.{Step}
 use Rattle.justify.specs.Premises.{Mentions, Says}
 use Rattle.justify.specs.Steps.{step_at}
 use Rattle.justify.specs.Book.{IsDrawnBefore}
-use Rattle.retract.specs.Standing.{StayInPlace}
+use Rattle.retract.specs.StandingSteps.{StayInPlace}
 
 -- the cell at a row and a column has gone to another row and column
 pub record IsMovedCell (moves : Moves) (row col to_row to_col : ℕ) : Type 0 where
   pub row_moves : image_of moves (line_at Across row) ≡ Some (line_at Across to_row)
   pub col_moves : image_of moves (line_at Down col) ≡ Some (line_at Down to_col)
 
-pub one_cell : (moves : Moves) (row col other_row other_col to_row to_col : ℕ) → IsMovedCell moves row col to_row to_col → IsMovedCell moves other_row other_col to_row to_col → (row ≡ other_row) × (col ≡ other_col)
+pub one_cell : (moves : Moves) (row col other_row other_col to_row to_col : ℕ) → IsMovedCell moves row col to_row to_col → IsMovedCell moves other_row other_col to_row to_col
+    → (row ≡ other_row) × (col ≡ other_col)
 one_cell moves row col other_row other_col to_row to_col one other =
     let same_row = images.one_to_one moves (line_at Across row) (line_at Across other_row) (line_at Across to_row) one.row_moves other.row_moves in
     let same_col = images.one_to_one moves (line_at Down col) (line_at Down other_col) (line_at Down to_col) one.col_moves other.col_moves in
     (ap (λ (l : LineId). l.at) same_row, ap (λ (l : LineId). l.at) same_col)
 
-moved_along : (moves : Moves) (axis : Axis) (at to i : ℕ) → image_of moves (line_at axis at) ≡ Some (line_at axis to) → Stays moves axis i → IsMovedCell moves (row_on axis at i) (col_on axis at i) (row_on axis to i) (col_on axis to i)
+moved_along : (moves : Moves) (axis : Axis) (at to i : ℕ) → image_of moves (line_at axis at) ≡ Some (line_at axis to) → Stays moves axis i
+    → IsMovedCell moves (row_on axis at i) (col_on axis at i) (row_on axis to i) (col_on axis to i)
 moved_along moves Across at to i image stays = record { row_moves = image; col_moves = stays }
 moved_along moves Down at to i image stays = record { row_moves = stays; col_moves = image }
 
-pub moved_cell : (moves : Moves) (from to : LineId) (i : ℕ) → image_of moves from ≡ Some to → Stays moves from.axis i → IsMovedCell moves (row_on from.axis from.at i) (col_on from.axis from.at i) (row_on to.axis to.at i) (col_on to.axis to.at i)
+pub moved_cell : (moves : Moves) (from to : LineId) (i : ℕ) → image_of moves from ≡ Some to → Stays moves from.axis i
+    → IsMovedCell moves (row_on from.axis from.at i) (col_on from.axis from.at i) (row_on to.axis to.at i) (col_on to.axis to.at i)
 moved_cell moves from to i image stays =
     let axis = images.same_axis moves from to image in
     rw axis (moved_along moves from.axis from.at to.at i (image ∙ ap Some (same_name to (line_at from.axis to.at) axis refl)) stays)

@@ -3,12 +3,13 @@ use Rattle.std.proofs.Common.{◌≡◌, ℕ, ◌+◌, ◌<◌, inl, inr, Some, 
 use Rattle.std.proofs.lemmas.Bool.{cases_lt}
 use Rattle.std.proofs.lemmas.List.{get_or_default, get_or_push, length-map}
 use Rattle.std.proofs.Math.ListN.{get_or-append}
+use Rattle.line_settle.specs.Masks.{Masks}
 use Rattle.picture.specs.declared.line_id.Axis.{Axis}
 use Rattle.picture.specs.declared.line_id.Axis.TheVariants.{Across, Down}
 use Rattle.picture.specs.declared.line_id.LineId.{LineId}
 use Rattle.picture.specs.Rows.{HasLine, line_along, line_of, lines_along}
 use Rattle.clues.specs.Change.{AreMoves, Moves, image_of, lines_after, lines_before}
-use Rattle.picture.specs.Crossing.{crossing}
+use Rattle.picture.specs.CrossingLines.{crossing}
 use Rattle.clues.specs.ClueBook.{Clues, clue_at}
 use Rattle.clues.proofs.LawLemmas.{images}
 use Rattle.line_settle.specs.FactSets.{IsFacts, row_on, col_on}
@@ -16,11 +17,11 @@ use Rattle.justify.specs.declared.step.Step.{Step}
 use Rattle.justify.specs.Premises.{Mentions, Says}
 use Rattle.justify.specs.Steps.{IsForced, IsTrimmed, step_at}
 use Rattle.justify.specs.Book.{Account, CanFollow, IsAccount, IsDerivation, IsDrawnBefore, IsKnownBefore}
-use Rattle.retract.specs.Standing.{HaveBooks, KeepsLength, Stands, moved}
+use Rattle.retract.specs.StandingSteps.{HaveBooks, KeepsLength, Stands, moved}
 use Rattle.retract.proofs.CellLemmas.{CameBefore, CameFrom, mentioned, moved_cell, one_cell, was_drawn}
 
 -- how long the lines of facts are
-length-line_along : (axis : Axis) (at : ℕ) (facts : List (List ℕ)) → IsFacts facts → at < lines_along axis facts → length (line_along axis at facts) ≡ lines_along (crossing axis) facts
+length-line_along : (axis : Axis) (at : ℕ) (facts : Masks) → IsFacts facts → at < lines_along axis facts → length (line_along axis at facts) ≡ lines_along (crossing axis) facts
 length-line_along Across at facts is within = is.rectangular at within
 length-line_along Down at facts is within = length-map facts (λ row. get_or row at 0)
 
@@ -29,7 +30,9 @@ pub old_sizes : (moves : Moves) (old new : Clues) (book : Account) → IsDerivat
 old_sizes moves old new book derivation books Across = derivation.rows ∙ books.before Across
 old_sizes moves old new book derivation books Down = derivation.columns ∙ books.before Down
 
-module _ (moves : Moves) (old new : Clues) (book : Account) (base : List (List ℕ)) (kept : List Step) (n : ℕ) (to : LineId) (Known : ℕ → ℕ → ℕ → Type 0) (are : AreMoves moves) (is : IsAccount book) (derivation : IsDerivation old book) (books : HaveBooks moves old new) (base_facts : IsFacts base) (new_sizes : (axis : Axis) → lines_along axis base ≡ lines_after axis moves) (within : n < length book.steps) (stands : Stands moves old new Known (step_at book.steps n) to) where
+module _ (moves : Moves) (old new : Clues) (book : Account) (base : Masks) (kept : List Step) (n : ℕ) (to : LineId) (Known : ℕ → ℕ → ℕ → Type 0) (are : AreMoves moves) (is : IsAccount book)
+    (derivation : IsDerivation old book) (books : HaveBooks moves old new) (base_facts : IsFacts base) (new_sizes : (axis : Axis) → lines_along axis base ≡ lines_after axis moves)
+    (within : n < length book.steps) (stands : Stands moves old new Known (step_at book.steps n) to) where
   abbrev step : Step
   step = step_at book.steps n
 
@@ -85,7 +88,8 @@ came_weaker moves steps kept n came m h = let from = came m h in (from.0, omega 
 abbrev pub no_step : Step
 no_step = record { line = record { axis = Across; at = 0 }; premises = []; drawn = [] }
 
-pub came_more : (moves : Moves) (steps kept : List Step) (n : ℕ) (step : Step) → CameBefore moves steps n kept → CameFrom moves (step_at steps n) step → CameBefore moves steps (n + 1) (kept ++ step ∷ [])
+pub came_more : (moves : Moves) (steps kept : List Step) (n : ℕ) (step : Step) → CameBefore moves steps n kept → CameFrom moves (step_at steps n) step
+    → CameBefore moves steps (n + 1) (kept ++ step ∷ [])
 came_more moves steps kept n step came last m h =
     elim (cases_lt m (length kept)) [
       | inl below ↦
@@ -97,7 +101,8 @@ came_more moves steps kept n step came last m h =
     ]
 
 -- a line that keeps its length has as many cells in the new facts
-pub kept_length : (moves : Moves) (from to : LineId) (facts : List (List ℕ)) → IsFacts facts → ((axis : Axis) → lines_along axis facts ≡ lines_after axis moves) → Some to ≡ image_of moves from → to.at < lines_after to.axis moves → KeepsLength moves from.axis → length (line_of facts to) ≡ lines_before (crossing from.axis) moves
+pub kept_length : (moves : Moves) (from to : LineId) (facts : Masks) → IsFacts facts → ((axis : Axis) → lines_along axis facts ≡ lines_after axis moves) → Some to ≡ image_of moves from
+    → to.at < lines_after to.axis moves → KeepsLength moves from.axis → length (line_of facts to) ≡ lines_before (crossing from.axis) moves
 kept_length moves from to facts is sizes image inside keeps =
     length-line_along to.axis to.at facts is (rw (sizes to.axis) inside)
     ∙ (sizes (crossing to.axis) ∙ (ap (λ axis. lines_after (crossing axis) moves) (images.same_axis moves from to (sym image)) ∙ sym keeps))

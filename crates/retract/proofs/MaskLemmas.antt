@@ -1,13 +1,14 @@
 -- Colours of a mask that are excluded in a cell.
-use Rattle.std.proofs.Common.{◌≡◌, ℕ, ◌^◌, ◌<◌, List, length, get_or, bit_and, subst, ◌∙◌, arith, inl, inr, ◌↔◌, IsBitSet}
+use Rattle.std.proofs.Common.{◌≡◌, ℕ, ◌^◌, ◌<◌, length, get_or, bit_and, subst, ◌∙◌, arith, inl, inr, ◌↔◌, IsBitSet}
 use Rattle.std.proofs.lemmas.Bool.{cases_eq}
 use Rattle.std.proofs.lemmas.Nat.{and_le_r}
+use Rattle.line_settle.specs.Masks.{Masks}
 use Rattle.picture.specs.declared.line_id.LineId.{LineId}
-use Rattle.picture.specs.BitLaws.{no_bit}
+use Rattle.picture.proofs.BitLaws.{no_bit}
 use Rattle.picture.specs.Rows.{line_of}
-use Rattle.line_settle.specs.GridLaws.{cell_on}
+use Rattle.line_settle.proofs.GridLaws.{cell_on}
 use Rattle.justify.proofs.LineMaskLemmas.{both_bits, some_bit}
-use Rattle.retract.specs.Standing.{ExcludesAll}
+use Rattle.retract.specs.StandingSteps.{ExcludesAll}
 
 -- a mask has no common colour with the one left where it has each of its colours excluded
 nothing_common : (left colours : ℕ) → colours < 2 ^ 16 → (bit_and left colours ≡ 0) ↔ ((k : ℕ) → IsBitSet colours k → IsBitSet left k → ⊥)
@@ -23,7 +24,8 @@ nothing_common left colours small = (
   ]),
 )
 
-pub excludes_colours : (facts : List (List ℕ)) (line : LineId) (place left colours : ℕ) → colours < 2 ^ 16 → place < length (line_of facts line) → left ≡ get_or (line_of facts line) place 0 → (bit_and left colours ≡ 0) ↔ ExcludesAll facts line place colours
+pub excludes_colours : (facts : Masks) (line : LineId) (place left colours : ℕ) → colours < 2 ^ 16 → place < length (line_of facts line) → left ≡ get_or (line_of facts line) place 0
+    → (bit_and left colours ≡ 0) ↔ ExcludesAll facts line place colours
 excludes_colours facts line place left colours small within is =
     subst (λ (mask : ℕ). (bit_and left colours ≡ 0) ↔ ((k : ℕ) → IsBitSet colours k → IsBitSet mask k → ⊥)) (is ∙ cell_on facts line place) (nothing_common left colours small)
 

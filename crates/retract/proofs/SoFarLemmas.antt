@@ -2,6 +2,7 @@
 use Rattle.std.proofs.Common.{◌≡◌, ℕ, suc, ◌+◌, ◌<◌, ◌≤◌, List, [], ◌∷◌, length, drop, refl, sym, ap, subst, ◌∙◌, arith, ◌↔◌}
 use Rattle.std.proofs.lemmas.List.{drop_all}
 use Rattle.std.proofs.Math.Seq.{drop-cons}
+use Rattle.line_settle.specs.Masks.{Masks}
 use Rattle.picture.specs.declared.line_id.Axis.{Axis}
 use Rattle.picture.specs.declared.line_id.Axis.TheVariants.{Across, Down}
 use Rattle.picture.specs.declared.line_id.LineId.{LineId}
@@ -13,7 +14,7 @@ use Rattle.justify.specs.declared.step.Step.{Step}
 use Rattle.justify.specs.Steps.{step_at}
 use Rattle.justify.specs.Book.{Account, Adds, AreTrimmed, CanAdd, IsAccount, IsDerivation, IsKnownBefore, account}
 use Rattle.justify.proofs.LawLemmas.{derivations_grow, facts_known}
-use Rattle.retract.specs.Standing.{AreStanding, HaveBooks, Leave, Stands, moved}
+use Rattle.retract.specs.StandingSteps.{AreStanding, HaveBooks, Leave, Stands, moved}
 use Rattle.retract.proofs.CellLemmas.{CameBefore}
 use Rattle.retract.proofs.KeepLemmas.{came_from, came_more, came_weaker, can_follow, is_forced, is_trimmed, no_step}
 use Rattle.retract.proofs.LeaveLemmas.{none_left, one_gone, one_kept, stands_alike}
@@ -21,14 +22,15 @@ use Rattle.retract.proofs.LeaveLemmas.{none_left, one_gone, one_kept, stands_ali
 drop_here : (steps : List Step) (n : ℕ) → n < length steps → drop n steps ≡ step_at steps n ∷ drop (n + 1) steps
 drop_here steps n within = let next : suc n ≡ n + 1 = omega arith in drop-cons steps n no_step within ∙ ap (λ m. step_at steps n ∷ drop m steps) next
 
-pub record KeepsSoFar (moves : Moves) (old new : Clues) (book : Account) (base : List (List ℕ)) (n : ℕ) (kept : Account) : Type 0 where
+pub record KeepsSoFar (moves : Moves) (old new : Clues) (book : Account) (base : Masks) (n : ℕ) (kept : Account) : Type 0 where
   pub base_is : kept.base ≡ base
   pub came : CameBefore moves book.steps n kept.steps
   pub left : (all : List Step) → Leave moves old new base (drop n book.steps) kept.steps all → Leave moves old new base book.steps [] all
   pub derivation : IsDerivation new kept
   pub trimmed : AreTrimmed old book → AreTrimmed new kept
 
-pub so_far_none : (moves : Moves) (old new : Clues) (book : Account) (base : List (List ℕ)) → HaveBooks moves old new → ((axis : Axis) → lines_along axis base ≡ lines_after axis moves) → KeepsSoFar moves old new book base 0 (account base [] base)
+pub so_far_none : (moves : Moves) (old new : Clues) (book : Account) (base : Masks) → HaveBooks moves old new → ((axis : Axis) → lines_along axis base ≡ lines_after axis moves)
+    → KeepsSoFar moves old new book base 0 (account base [] base)
 so_far_none moves old new book base books sizes = record {
   base_is = refl;
   came = λ m h. absurd (omega arith);
@@ -41,7 +43,8 @@ so_far_none moves old new book base books sizes = record {
   trimmed = λ t n h. absurd (omega arith);
 }
 
-module _ (moves : Moves) (old new : Clues) (book : Account) (base : List (List ℕ)) (n : ℕ) (kept : Account) (within : n < length book.steps) (so_far : KeepsSoFar moves old new book base n kept) (is_kept : IsAccount kept) where
+module _ (moves : Moves) (old new : Clues) (book : Account) (base : Masks) (n : ℕ) (kept : Account) (within : n < length book.steps) (so_far : KeepsSoFar moves old new book base n kept)
+    (is_kept : IsAccount kept) where
   -- what the facts exclude is what is known
   excluded_known : (row col k : ℕ) → Excludes kept.facts row col k ↔ IsKnownBefore kept.base kept.steps (length kept.steps) row col k
   excluded_known row col k = facts_known kept.base kept.facts kept.steps (length kept.steps) is_kept.behind row col k
@@ -54,12 +57,14 @@ module _ (moves : Moves) (old new : Clues) (book : Account) (base : List (List �
         so_far.left all
         (subst (λ steps. Leave moves old new base steps kept.steps all) (sym (drop_here book.steps n within))
         (one_gone moves old new base (step_at book.steps n) (drop (n + 1) book.steps) kept.steps all
-        (λ to stands. gone to (stands_alike moves old new (IsKnownBefore base kept.steps (length kept.steps)) (Excludes kept.facts) (step_at book.steps n) to (λ row col k is. (excluded_known row col k).1 (rw so_far.base_is is)) stands)) rest));
+        (λ to stands. gone to (stands_alike moves old new (IsKnownBefore base kept.steps (length kept.steps)) (Excludes kept.facts) (step_at book.steps n) to
+        (λ row col k is. (excluded_known row col k).1 (rw so_far.base_is is)) stands)) rest));
     derivation = so_far.derivation;
     trimmed = so_far.trimmed;
   }
 
-  module _ (to : LineId) (are : AreMoves moves) (is : IsAccount book) (derivation : IsDerivation old book) (books : HaveBooks moves old new) (new_sizes : (axis : Axis) → lines_along axis base ≡ lines_after axis moves) (stands : Stands moves old new (Excludes kept.facts) (step_at book.steps n) to) where
+  module _ (to : LineId) (are : AreMoves moves) (is : IsAccount book) (derivation : IsDerivation old book) (books : HaveBooks moves old new)
+      (new_sizes : (axis : Axis) → lines_along axis base ≡ lines_after axis moves) (stands : Stands moves old new (Excludes kept.facts) (step_at book.steps n) to) where
     base_facts : IsFacts base
     base_facts = rw (← so_far.base_is) is_kept.base_facts
 
@@ -75,7 +80,8 @@ module _ (moves : Moves) (old new : Clues) (book : Account) (base : List (List �
         let forced = is_forced moves old new book base kept.steps n to (Excludes kept.facts) are is derivation books base_facts new_sizes within stands in
         record {
           base_is = adds.base ∙ so_far.base_is;
-          came = rw adds.steps (came_more moves book.steps kept.steps n (moved step to) so_far.came (came_from moves old new book base kept.steps n to (Excludes kept.facts) are is derivation books base_facts new_sizes within stands));
+          came = rw adds.steps (came_more moves book.steps kept.steps n (moved step to) so_far.came
+              (came_from moves old new book base kept.steps n to (Excludes kept.facts) are is derivation books base_facts new_sizes within stands));
           left = λ all rest.
               so_far.left all
               (subst (λ steps. Leave moves old new base steps kept.steps all) (sym (drop_here book.steps n within))
@@ -89,6 +95,7 @@ module _ (moves : Moves) (old new : Clues) (book : Account) (base : List (List �
               (so_far.trimmed t);
         }
 
-pub so_far_all : (moves : Moves) (old new : Clues) (book : Account) (base : List (List ℕ)) (n : ℕ) (kept : Account) → length book.steps ≤ n → KeepsSoFar moves old new book base n kept → AreStanding moves old new base book.steps kept.steps
+pub so_far_all : (moves : Moves) (old new : Clues) (book : Account) (base : Masks) (n : ℕ) (kept : Account) → length book.steps ≤ n → KeepsSoFar moves old new book base n kept
+    → AreStanding moves old new base book.steps kept.steps
 so_far_all moves old new book base n kept all so_far =
     so_far.left kept.steps (subst (λ steps. Leave moves old new base steps kept.steps kept.steps) (sym (drop_all n book.steps all)) (none_left moves old new base kept.steps))

@@ -5,9 +5,9 @@ use Rattle.picture.specs.declared.line_id.LineId.{LineId}
 use Rattle.picture.specs.LineSet.{Lines, HasName}
 use Rattle.picture.specs.Rows.{line_of, lines_along, HasLine}
 use Rattle.clues.specs.Change.{Moves, Stays, image_of, lines_after, lines_before}
-use Rattle.picture.specs.Crossing.{crossing}
+use Rattle.picture.specs.CrossingLines.{crossing}
 use Rattle.clues.specs.ClueBook.{Clues, clue_at}
-use Rattle.retract.specs.Standing.{KeepsLength}
+use Rattle.retract.specs.StandingSteps.{KeepsLength}
 
 -- facts of the sizes before and after
 pub record HaveFacts (moves : Moves) (before after : List (List ℕ)) : Type 0 where
@@ -30,8 +30,8 @@ pub record SaysTheSame (moves : Moves) (old new : Clues) (before after : List (L
   pub same_clue : clue_at new line ≡ clue_at old from
   pub same_facts : line_of after line ≡ line_of before from
 
--- A new line is clean when it is an old line of equal length and equal clue along which each position stays, and what is
--- known on it now is what was known on that line before. Every other line is dirty.
+-- A new line is clean when it is an old line of equal length and equal clue along which each position
+-- stays, and what is known on it now is what was known on that line before. Every other line is dirty.
 pub record IsClean (moves : Moves) (old new : Clues) (before after : List (List ℕ)) (line : LineId) : Type 0 where
   pub in_place : IsInPlace moves line.axis
   pub says_the_same : SaysTheSame moves old new before after line
@@ -47,7 +47,9 @@ pub record AreDirty (moves : Moves) (old new : Clues) (before after : List (List
   pub inside : (line : LineId) → HasName dirty line → HasLine after line
   pub decided : (line : LineId) → HasLine after line → IsDecided moves old new before after dirty line
 
--- the same for the lines along one axis
-pub record AreDirtyAlong (axis : Axis) (moves : Moves) (old new : Clues) (before after : List (List ℕ)) (dirty : Lines) : Type 0 where
+-- the set has exactly the names of the dirty lines along one axis
+pub record AreDirtyAlong (axis : Axis) (moves : Moves) (old new : Clues) (before after : List (List ℕ))
+    (dirty : Lines) : Type 0 where
   pub inside : (line : LineId) → line.axis ≡ axis → HasName dirty line → HasLine after line
-  pub decided : (line : LineId) → line.axis ≡ axis → HasLine after line → IsDecided moves old new before after dirty line
+  pub decided : (line : LineId) → line.axis ≡ axis → HasLine after line
+      → IsDecided moves old new before after dirty line

@@ -1,2 +1,2 @@
 pub mod Dirty
-pub mod Standing
+pub mod StandingSteps

@@ -6,7 +6,7 @@ ghost use Rattle.picture.specs.declared.line_id.LineId.{LineId};
 ghost use Rattle.picture.specs.LineSet.{HasName};
 ghost use Rattle.picture.specs.Rows.{line_of, lines_along, HasLine};
 ghost use Rattle.clues.specs.Change.{lines_after, lines_before};
-ghost use Rattle.retract.specs.Standing.{HaveBooks, HaveSameClues};
+ghost use Rattle.retract.specs.StandingSteps.{HaveBooks, HaveSameClues};
 ghost use Rattle.retract.specs.Dirty.{AreDirty, AreDirtyAlong, HaveFacts, IsClean, IsInPlace, SaysTheSame};
 
 use crate::sizes::is_in_place;

@@ -5,10 +5,10 @@ ghost use Rattle.picture.specs.declared.line_id.Axis.{Axis};
 ghost use Rattle.picture.specs.Rows.{lines_along};
 ghost use Rattle.clues.specs.Change.{lines_after};
 ghost use Rattle.line_settle.specs.FactSets.{IsClosed, IsClosedLine};
-ghost use Rattle.line_settle.specs.Fitting.{CanFit};
+ghost use Rattle.line_settle.specs.Fits.{CanFit};
 ghost use Rattle.line_settle.specs.Outside.{EachFits, EachOutside};
 ghost use Rattle.justify.specs.Book.{AreTrimmed, IsDerivation};
-ghost use Rattle.retract.specs.Standing.{AreStanding, HaveBooks};
+ghost use Rattle.retract.specs.StandingSteps.{AreStanding, HaveBooks};
 ghost use Rattle.retract.specs.Dirty.{AreDirty};
 
 use crate::dirty::{Sides, dirty_lines};

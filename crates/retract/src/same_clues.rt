@@ -2,7 +2,7 @@
 
 ghost use Rattle.std.specs.Prelude.{◌<◌, ◌↔◌, IsTrue};
 ghost use Rattle.clues.specs.Change.{lines_before};
-ghost use Rattle.retract.specs.Standing.{HaveBooks, HaveSameClues, KeepsClue, PutsSame};
+ghost use Rattle.retract.specs.StandingSteps.{HaveBooks, HaveSameClues, KeepsClue, PutsSame};
 
 use clues::{Change, ClueBook};
 use picture::{Axis, LineId, LineSet};

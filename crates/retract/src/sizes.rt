@@ -1,7 +1,7 @@
 //! What a change leaves of the lengths and the places along lines.
 
 ghost use Rattle.std.specs.Prelude.{◌↔◌, IsTrue};
-ghost use Rattle.retract.specs.Standing.{HaveBooks, KeepsLength};
+ghost use Rattle.retract.specs.StandingSteps.{HaveBooks, KeepsLength};
 ghost use Rattle.retract.specs.Dirty.{AllStay, IsInPlace};
 
 use clues::{Change, ClueBook};

@@ -5,10 +5,10 @@ ghost use Rattle.picture.specs.declared.line_id.Axis.{Axis};
 ghost use Rattle.picture.specs.declared.line_id.LineId.{LineId};
 ghost use Rattle.picture.specs.Rows.{line_of, lines_along, HasLine};
 ghost use Rattle.clues.specs.Change.{AreMoves, lines_after, lines_before};
-ghost use Rattle.picture.specs.Crossing.{crossing};
+ghost use Rattle.picture.specs.CrossingLines.{crossing};
 ghost use Rattle.line_settle.specs.FactSets.{Excludes};
 ghost use Rattle.justify.specs.Premises.{Mentions};
-ghost use Rattle.retract.specs.Standing.{AreKnown, ExcludesAll, HaveBooks, HaveSameClues, Stands, StayInPlace};
+ghost use Rattle.retract.specs.StandingSteps.{AreKnown, ExcludesAll, HaveBooks, HaveSameClues, Stands, StayInPlace};
 
 use crate::sizes::keeps_length;
 use clues::{Change, ClueBook};

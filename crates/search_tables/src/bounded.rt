@@ -49,7 +49,8 @@ pub fn decide<E: LineEngine>(
     Ok(tally)
 }
 
-/// Makes a certificate of a document within bounds, and puts its lines behind a text, each with a `|` behind it; or `none`.
+/// Makes a certificate of a document within bounds, and puts its lines after a text, each with a `|` after it; or
+/// `none`.
 pub fn push_cert<E: LineEngine>(
     alloc: Global,
     engine: &mut E,

@@ -1,6 +1,7 @@
 //! Puzzles in the words of a table.
 //!
-//! A puzzle is a picture with its givens; or clues alone, those of the rows joined by `/`, and behind `|` those of the columns.
+//! A puzzle is a picture with its givens; or clues alone, those of the rows joined by `/`, and after `|` those of the
+//! columns.
 
 use anyhow::{Result, ensure};
 use clues::{Clue, ClueBook};

@@ -119,7 +119,7 @@ fn parts(alloc: Global, facts: &Facts) -> Result<String> {
     Ok(text)
 }
 
-// Puts the rows and columns of cells behind a text, as a line.
+// Appends the rows and columns of cells to a text, as a line.
 fn push_cells(text: &mut String, cells: &CellSet) -> Result<()> {
     for row in 0..MAX_SIDE {
         for col in 0..MAX_SIDE {
@@ -193,7 +193,7 @@ fn judged<E: LineEngine>(
     Ok([first, again])
 }
 
-// Puts what was judged behind a text, as a line.
+// Appends what was judged to a text, as a line.
 fn push_tally(text: &mut String, tally: &Tally, is_counted: bool) -> Result<()> {
     text.push_str(tally.said.name())?;
     write!(

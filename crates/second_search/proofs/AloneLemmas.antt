@@ -6,22 +6,22 @@ use Rattle.std.proofs.lemmas.List.{get_or_past}
 use Rattle.picture.specs.declared.line_id.LineId.{LineId}
 use Rattle.picture.specs.CellSet.{HasCell}
 use Rattle.picture.specs.LineSet.{Lines, HasName, name_count}
-use Rattle.picture.specs.LineSetLaws.{members}
+use Rattle.picture.proofs.LineSetLaws.{members}
 use Rattle.picture.specs.Picture.{IsPicture}
-use Rattle.picture.specs.Rows.{width_of, row_at, cell_at, HasLine}
+use Rattle.picture.specs.Rows.{width_of, row_at, cell_at, HasLine, Rows}
 use Rattle.clues.specs.ClueBook.{Clues, clues_of}
 use Rattle.clues.specs.Laws.{CluesAreOfLines}
-use Rattle.line_settle.specs.Masks.{IsOnly}
+use Rattle.line_settle.specs.Masks.{IsOnly, Masks}
 use Rattle.line_settle.specs.FactSets.{IsFacts, SameShape}
-use Rattle.line_settle.specs.GridLaws.{same_has_line, shape_refl, shape_sym, shape_trans}
-use Rattle.picture.specs.BitLaws.{power_has, bit_or_not}
-use Rattle.line_settle.specs.MaskLaws.{only_is_power}
-use Rattle.fixpoint.specs.Closing.{AreClosable}
-use Rattle.fixpoint.specs.Filling.{only}
+use Rattle.line_settle.proofs.GridLaws.{same_has_line, shape_refl, shape_sym, shape_trans}
+use Rattle.picture.proofs.BitLaws.{power_has, bit_or_not}
+use Rattle.line_settle.proofs.MaskLaws.{only_is_power}
+use Rattle.fixpoint.specs.ClosedFacts.{AreClosable}
+use Rattle.fixpoint.specs.Fillings.{only}
 use Rattle.fixpoint.specs.Laws.{OnlyIsClosed}
 use Rattle.fixpoint.specs.LineNames.{AreLinesOf}
 use Rattle.second_search.specs.Parts.{IsPart, begins}
-use Rattle.second_search.specs.Searching.{KeepsOutside, NamesLinesOf, alone}
+use Rattle.second_search.specs.FixedOrder.{KeepsOutside, NamesLinesOf, alone}
 use Rattle.second_search.specs.Through.{LeavesAlone, LeavesRowAlone, NamesBoth, PutsBoth, PutsRow, PutsThrough, across, down}
 use Rattle.second_search.proofs.FindLemmas.{can_close}
 use Rattle.second_search.proofs.ChainLemmas.{chain_end, open_inside}
@@ -31,12 +31,13 @@ use Rattle.second_search.proofs.PickLemmas.{off_part, on_cells, rect_like, shape
 
 -- ---- the facts of a part
 
-pub own_power : OnlyIsClosed → (picture : List (List ℕ)) (row col : ℕ) → col < length (row_at picture row) → cell_at (only picture) row col ≡ 2 ^ cell_at picture row col
+pub own_power : OnlyIsClosed → (picture : Rows) (row col : ℕ) → col < length (row_at picture row) → cell_at (only picture) row col ≡ 2 ^ cell_at picture row col
 own_power law picture row col l =
     only_is_power (cell_at (only picture) row col) (cell_at picture row col) (only_there law picture row col l)
 
 -- facts with the picture's colours alone left outside of some cells are those of the cells alone
-pub alone_is : OnlyIsClosed → (cells : List ℕ) (picture facts new : List (List ℕ)) (rows : ℕ) → IsPicture picture → SameShape picture facts → rows ≡ length facts → LeavesAlone cells picture facts new rows → new ≡ alone cells facts picture
+pub alone_is : OnlyIsClosed → (cells : List ℕ) (picture : Rows) (facts : Masks) (new : List (List ℕ)) (rows : ℕ) → IsPicture picture → SameShape picture facts → rows ≡ length facts
+    → LeavesAlone cells picture facts new rows → new ≡ alone cells facts picture
 alone_is law cells picture facts new rows is shape full left =
     let own = law.same_shape picture in
     let rect = rect_like picture (only picture) own is.rectangular in
@@ -51,18 +52,19 @@ alone_is law cells picture facts new rows is shape full left =
     ])
 
 -- on no cells these are the facts that leave the picture's colours alone
-pub alone_none : OnlyIsClosed → (cells : List ℕ) (picture facts : List (List ℕ)) → IsPicture picture → ((row col : ℕ) → HasCell cells row col → ⊥) → alone cells facts picture ≡ only picture
+pub alone_none : OnlyIsClosed → (cells : List ℕ) (picture : Rows) (facts : Masks) → IsPicture picture → ((row col : ℕ) → HasCell cells row col → ⊥) → alone cells facts picture ≡ only picture
 alone_none law cells picture facts is none =
     let rect = rect_like picture (only picture) (law.same_shape picture) is.rectangular in
     same_grid (alone cells facts picture) (only picture) (shape_of_picked cells facts (only picture) rect) (λ r c. off_part cells facts (only picture) r c rect (none r c))
 
 -- nothing is left alone yet
-pub leaves_none : (cells : List ℕ) (picture facts new : List (List ℕ)) → new ≡ facts → LeavesAlone cells picture facts new 0
+pub leaves_none : (cells : List ℕ) (picture : Rows) (facts : Masks) (new : List (List ℕ)) → new ≡ facts → LeavesAlone cells picture facts new 0
 leaves_none cells picture facts new e =
     subst (λ (x : List (List ℕ)). LeavesAlone cells picture facts x 0) (sym e) (record { same_shape = shape_refl facts; kept = λ row col h. refl; left = λ row col l. absurd (omega arith) })
 
 -- one row more is left alone
-pub leaves_more : (cells : List ℕ) (picture first old new : List (List ℕ)) (row width : ℕ) → width ≡ width_of old → LeavesAlone cells picture first old row → LeavesRowAlone cells picture old new row width → LeavesAlone cells picture first new (row + 1)
+pub leaves_more : (cells : List ℕ) (picture : Rows) (first : Masks) (old new : List (List ℕ)) (row width : ℕ) → width ≡ width_of old → LeavesAlone cells picture first old row
+    → LeavesRowAlone cells picture old new row width → LeavesAlone cells picture first new (row + 1)
 leaves_more cells picture first old new row width e before h = record {
   same_shape = shape_trans before.same_shape h.same_shape;
   kept = λ r c has. elim (cases_eq r row) [
@@ -74,21 +76,23 @@ leaves_more cells picture first old new row width e before h = record {
       (λ w out. let first : width_of first ≡ width_of old = before.same_shape.each 0 in h.left c (omega arith) out) r l;
 }
 
-pub keeps_outside : (cells : List ℕ) (picture facts new : List (List ℕ)) (rows : ℕ) → IsFacts facts → SameShape picture facts → rows ≡ length facts → LeavesAlone cells picture facts new rows → KeepsOutside cells picture new
+pub keeps_outside : (cells : List ℕ) (picture : Rows) (facts : Masks) (new : List (List ℕ)) (rows : ℕ) → IsFacts facts → SameShape picture facts → rows ≡ length facts
+    → LeavesAlone cells picture facts new rows → KeepsOutside cells picture new
 keeps_outside cells picture facts new rows is shape full left = record {
   same_shape = shape_trans shape left.same_shape;
   outside = λ row col l out.
-      let h : row < length facts = elim (cases_lt row (length facts)) [ inl m ↦ m | inr p ↦ absurd (let none : length (row_at facts row) ≡ 0 = ap length (get_or_past facts row [] p) in omega arith) ] in
+      let h : row < length facts =
+      elim (cases_lt row (length facts)) [ inl m ↦ m | inr p ↦ absurd (let none : length (row_at facts row) ≡ 0 = ap length (get_or_past facts row [] p) in omega arith) ] in
       let rect = is.rectangular row h in
       subst (λ (m : ℕ). IsOnly m (cell_at picture row col)) (sym (left.left row col (omega arith) (omega arith) out)) (power_has (cell_at picture row col));
 }
 
 -- ---- the cells of a part
 
-pub part_inside : (facts : List (List ℕ)) (cells : List ℕ) (r c : ℕ) → IsFacts facts → IsPart facts cells → HasCell cells r c → (r < length facts) × (c < width_of facts)
+pub part_inside : (facts : Masks) (cells : List ℕ) (r c : ℕ) → IsFacts facts → IsPart facts cells → HasCell cells r c → (r < length facts) × (c < width_of facts)
 part_inside facts cells r c is p h = open_inside facts r c is (chain_end facts p.row p.col r c ((p.from.members r c).0 h))
 
-pub names_lines : (facts : List (List ℕ)) (cells : List ℕ) (lines : Lines) (rows : ℕ) → IsFacts facts → IsPart facts cells → rows ≡ length facts → PutsThrough cells facts lines rows → NamesLinesOf cells lines
+pub names_lines : (facts : Masks) (cells : List ℕ) (lines : Lines) (rows : ℕ) → IsFacts facts → IsPart facts cells → rows ≡ length facts → PutsThrough cells facts lines rows → NamesLinesOf cells lines
 names_lines facts cells lines rows is p full puts row col h =
     let i = part_inside facts cells row col is p h in
     puts row col (let l = i.0 in omega arith) i.1 h
@@ -101,17 +105,18 @@ name_counts lines line has = elim (cases_eq (name_count lines) 0) [
 ]
 
 -- a part has a cell, so a line goes through it
-pub names_some : (facts : List (List ℕ)) (cells : List ℕ) (lines : Lines) → IsPart facts cells → NamesLinesOf cells lines → 0 < name_count lines
+pub names_some : (facts : Masks) (cells : List ℕ) (lines : Lines) → IsPart facts cells → NamesLinesOf cells lines → 0 < name_count lines
 names_some facts cells lines p names = name_counts lines (across p.row) (names p.row p.col ((p.from.members p.row p.col).1 (begins p.from.is_open))).0
 
 -- ---- a search of one part
 
-pub closable_alone : CluesAreOfLines → (clues : Clues) (cells : List ℕ) (picture new : List (List ℕ)) (longest : ℕ) → clues_of picture ≡ clues → KeepsOutside cells picture new → length clues.rows ≤ longest → length clues.columns ≤ longest → AreClosable clues longest new
+pub closable_alone : CluesAreOfLines → (clues : Clues) (cells : List ℕ) (picture : Rows) (new : List (List ℕ)) (longest : ℕ) → clues_of picture ≡ clues → KeepsOutside cells picture new
+    → length clues.rows ≤ longest → length clues.columns ≤ longest → AreClosable clues longest new
 closable_alone law clues cells picture new longest e k tall wide = can_close clues picture new new longest (law.sizes picture) e k.same_shape refl tall wide
 
 -- ---- the lines through some cells
 
-pub lines_more : (facts : List (List ℕ)) (lines more : Lines) (row col : ℕ) → row < length facts → col < width_of facts → AreLinesOf facts lines → PutsBoth row col lines more → AreLinesOf facts more
+pub lines_more : (facts : Masks) (lines more : Lines) (row col : ℕ) → row < length facts → col < width_of facts → AreLinesOf facts lines → PutsBoth row col lines more → AreLinesOf facts more
 lines_more facts lines more row col h l of p line has = elim ((p line).0 has) [
   | inl m ↦ of line m
   | inr e ↦ elim e [
@@ -134,12 +139,14 @@ row_same cells first lines row col i n = record {
   put = below_next (λ c. HasCell cells row c → NamesBoth lines row c) col i.put (λ h. absurd (n h));
 }
 
-pub rows_put : (cells : List ℕ) (facts : List (List ℕ)) (lines more : Lines) (row width : ℕ) → width ≡ width_of facts → PutsThrough cells facts lines row → PutsRow cells row width lines more → PutsThrough cells facts more (row + 1)
+pub rows_put : (cells : List ℕ) (facts : Masks) (lines more : Lines) (row width : ℕ) → width ≡ width_of facts → PutsThrough cells facts lines row → PutsRow cells row width lines more
+    → PutsThrough cells facts more (row + 1)
 rows_put cells facts lines more row width e before p r col l w has =
     below_next (λ x. HasCell cells x col → NamesBoth more x col) row
     (λ x m h. (let b = before x col m w h in (p.kept (across x) b.0, p.kept (down col) b.1)))
     (λ h. p.put col (omega arith) h)
     r l has
 
-pub lines_alone : (cells : List ℕ) (picture facts new : List (List ℕ)) (lines : Lines) → SameShape picture facts → KeepsOutside cells picture new → AreLinesOf facts lines → AreLinesOf new lines
+pub lines_alone : (cells : List ℕ) (picture : Rows) (facts : Masks) (new : List (List ℕ)) (lines : Lines) → SameShape picture facts → KeepsOutside cells picture new → AreLinesOf facts lines
+    → AreLinesOf new lines
 lines_alone cells picture facts new lines shape k of line h = same_has_line facts new line (shape_trans (shape_sym shape) k.same_shape) (of line h)

@@ -1,15 +1,17 @@
 -- Chains of open cells, and the masks of open cells.
-use Rattle.std.proofs.Common.{◌≡◌, ◌≢◌, ℕ, ◌*◌, ◌%◌, ◌^◌, ◌<◌, ◌↔◌, List, [], length, get_or, refl, sym, ap, subst, ◌∙◌, arith, inl, inr, bit_and, Bool, true, false, not, nat_eq, IsTrue, eq-eqb, ne_eqb}
+use Rattle.std.proofs.Common.{◌≡◌, ◌≢◌, ℕ, ◌*◌, ◌%◌, ◌^◌, ◌<◌, ◌↔◌, List, [], length, get_or, refl, sym, ap, subst, ◌∙◌, arith, inl, inr, bit_and, Bool, true, false, not, nat_eq, IsTrue, eq-eqb}
+use Rattle.std.proofs.Common.{ne_eqb}
 use Rattle.std.specs.Prelude.{IsBitSet}
 use Rattle.std.specs.Int.{bit_at, bit_not, trailing_zeros, w16}
 use Rattle.std.proofs.lemmas.Bool.{cases_eq, cases_lt}
 use Rattle.std.proofs.lemmas.List.{get_or_past}
 use Rattle.std.proofs.lemmas.Nat.{and_le_l}
 use Rattle.std.proofs.lemmas.Nat.Bits.{bit_at-zero, bit_at-trailing_zeros, bit_at_clear_same, bit_at_clear_other}
+use Rattle.line_settle.specs.Masks.{Masks}
 use Rattle.picture.specs.Rows.{width_of, row_at, cell_at}
 use Rattle.line_settle.specs.FactSets.{IsFacts}
 use Rattle.second_search.specs.Parts.{HasTwoColours, IsChained, IsOpenCell, ShareLine, begins, goes_on}
-use Rattle.picture.specs.BitLaws.{bit_below, bit_is_set, no_bit, set_bit}
+use Rattle.picture.proofs.BitLaws.{bit_below, bit_is_set, no_bit, set_bit}
 
 -- ---- masks with more than one colour
 
@@ -68,7 +70,7 @@ tests_two mask some small = elim (cases_eq (but_lowest mask) 0) [
 -- ---- chains
 
 -- an open cell lies in the facts
-pub open_inside : (facts : List (List ℕ)) (row col : ℕ) → IsFacts facts → IsOpenCell facts row col → (row < length facts) × (col < width_of facts)
+pub open_inside : (facts : Masks) (row col : ℕ) → IsFacts facts → IsOpenCell facts row col → (row < length facts) × (col < width_of facts)
 open_inside facts row col is h = elim (cases_lt row (length facts)) [
   | inl l ↦ (
     l,
@@ -85,18 +87,18 @@ share_back row col r c (inl e) = inl (sym e)
 share_back row col r c (inr e) = inr (sym e)
 
 -- a chain ends in an open cell
-pub chain_end : (facts : List (List ℕ)) (row col r c : ℕ) → IsChained facts row col r c → IsOpenCell facts r c
+pub chain_end : (facts : Masks) (row col r c : ℕ) → IsChained facts row col r c → IsOpenCell facts r c
 chain_end facts row col _ _ (begins o) = o
 chain_end facts row col _ _ (goes_on r c s d chain share o) = o
 
-pub chain_on : (facts : List (List ℕ)) (row col r c s d : ℕ) → IsChained facts row col r c → IsChained facts r c s d → IsChained facts row col s d
+pub chain_on : (facts : Masks) (row col r c s d : ℕ) → IsChained facts row col r c → IsChained facts r c s d → IsChained facts row col s d
 chain_on facts row col r c _ _ h (begins o) = h
 chain_on facts row col r c _ _ h (goes_on s d t e chain share o) = goes_on s d t e (chain_on facts row col r c s d h chain) share o
 
-pub chain_back : (facts : List (List ℕ)) (row col r c : ℕ) → IsChained facts row col r c → IsChained facts r c row col
+pub chain_back : (facts : Masks) (row col r c : ℕ) → IsChained facts row col r c → IsChained facts r c row col
 chain_back facts row col _ _ (begins o) = begins o
 chain_back facts row col _ _ (goes_on r c s d chain share o) =
     chain_on facts s d r c row col (goes_on s d r c (begins o) (share_back r c s d share) (chain_end facts row col r c chain)) (chain_back facts row col r c chain)
 
-pub chain_in_row : (facts : List (List ℕ)) (row col c : ℕ) → IsOpenCell facts row col → IsOpenCell facts row c → IsChained facts row col row c
+pub chain_in_row : (facts : Masks) (row col c : ℕ) → IsOpenCell facts row col → IsOpenCell facts row c → IsChained facts row col row c
 chain_in_row facts row col c o p = goes_on row col row c (begins o) (inl refl) p

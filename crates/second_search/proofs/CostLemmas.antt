@@ -7,32 +7,33 @@ use Rattle.std.proofs.lemmas.Bool.{cases_eq, cases_lt}
 use Rattle.std.proofs.lemmas.List.{get_or_past, get_or-map, length-map}
 use Rattle.std.proofs.lemmas.List.Elements.{filter_passes}
 use Rattle.std.proofs.Math.Pow.{pow_pos, pow_mono}
-use Rattle.picture.specs.Rows.{width_of, row_at, cell_at}
-use Rattle.picture.specs.BitLaws.{bit_below, bit_is_set, fewer_le, power_has, bit_or_not}
+use Rattle.picture.specs.Rows.{width_of, row_at, cell_at, Rows}
+use Rattle.picture.proofs.BitLaws.{bit_below, bit_is_set, fewer_le, power_has, bit_or_not}
 use Rattle.clues.specs.ClueBook.{Clues}
 use Rattle.line_settle.specs.Branches.{branches, colours_of, held}
 use Rattle.line_settle.specs.FactSets.{IsFacts, SameShape}
-use Rattle.line_settle.specs.MaskLaws.{lowest_of_power, only_is_power}
-use Rattle.line_settle.specs.Masks.{IsOnly}
+use Rattle.line_settle.proofs.MaskLaws.{lowest_of_power, only_is_power}
+use Rattle.line_settle.specs.Masks.{IsOnly, Masks}
 use Rattle.trail.specs.declared.cell.Cell.{Cell}
 use Rattle.second_search.specs.declared.coming.Coming.{Coming}
 use Rattle.second_search.specs.declared.coming.Coming.TheVariants.{Dies, Ends, Splits}
-use Rattle.second_search.specs.Looking.{IsFirstUnsettled, Shows}
-use Rattle.second_search.specs.Searching.{Comes, HasCost, Searches, SettlesTo, none_waits, is_dead, is_known, is_other, is_split, CostsAreUnique, EndsAs, SplitsPast, alone, once_more, past_dead, past_known, past_split}
+use Rattle.second_search.specs.SettledFacts.{IsFirstUnsettled, Shows}
+use Rattle.second_search.specs.FixedOrder.{Comes, HasCost, Searches, SettlesTo, none_waits, is_dead, is_known, is_other, is_split, CostsAreUnique, EndsAs, SplitsPast, alone, once_more, past_dead}
+use Rattle.second_search.specs.FixedOrder.{past_known, past_split}
 use Rattle.second_search.proofs.LeastLemmas.{facts_like, facts_lower, fits_or_dead, least_is_there}
 use Rattle.second_search.proofs.PickLemmas.{find_below, first_below, outside_is_0, same_list, IsRectangle, off_part, on_cells, shape_of_picked, Below, OrNot, some_below}
 use Rattle.second_search.proofs.TreeLemmas.{ended_lighter, split_lighter, within_lighter}
 use Rattle.second_search.proofs.WeightLemmas.{load}
 use Rattle.picture.specs.Picture.{IsPicture}
-use Rattle.line_settle.specs.GridLaws.{shape_sym, shape_trans}
-use Rattle.fixpoint.specs.Filling.{only}
+use Rattle.line_settle.proofs.GridLaws.{shape_sym, shape_trans}
+use Rattle.fixpoint.specs.Fillings.{only}
 use Rattle.fixpoint.specs.Laws.{OnlyIsClosed}
 use Rattle.second_search.specs.declared.counting.Ending.TheVariants as ending
 use Rattle.second_search.specs.declared.keeper.Answer.{Answer}
 use Rattle.second_search.specs.declared.keeper.Answer.TheVariants.{Filling, Nothing, Unknown}
 use Rattle.second_search.specs.declared.keeper.KeptPart.{KeptPart}
 use Rattle.second_search.specs.Costs.{CostsAreThere, CostsDecide, IsDear}
-use Rattle.second_search.specs.Judging.{EndsBy, Passes, answer_at, cells_at}
+use Rattle.second_search.specs.JudgedParts.{EndsBy, Passes, answer_at, cells_at}
 use Rattle.second_search.specs.Parts.{IsScene}
 use Rattle.second_search.proofs.AloneLemmas.{own_power}
 use Rattle.second_search.proofs.KnownLaws.{costs_are_unique, only_is_closed}
@@ -46,22 +47,22 @@ settled_or_not mask small = elim (find_below (λ k. mask ≡ 2 ^ k) (λ k. cases
   | inr none ↦ inr (λ k o. none k (bit_below mask 16 k small ((o k).1 refl)) (only_is_power mask k o))
 ]
 
-abbrev IsUnsettledAt : List (List ℕ) → ℕ → ℕ → Type 0
+abbrev IsUnsettledAt : Masks → ℕ → ℕ → Type 0
 IsUnsettledAt facts row col = (k : ℕ) → IsOnly (cell_at facts row col) k → ⊥
 
-unsettled_or_not : (facts : List (List ℕ)) (row col : ℕ) → IsFacts facts → IsUnsettledAt facts row col ⊎ (IsUnsettledAt facts row col → ⊥)
+unsettled_or_not : (facts : Masks) (row col : ℕ) → IsFacts facts → IsUnsettledAt facts row col ⊎ (IsUnsettledAt facts row col → ⊥)
 unsettled_or_not facts row col is = elim (settled_or_not (cell_at facts row col) (is.masks row col)) [
   | inl s ↦ inr (λ n. n s.0 s.1)
   | inr n ↦ inl n
 ]
 
-abbrev HasUnsettled : List (List ℕ) → ℕ → Type 0
+abbrev HasUnsettled : Masks → ℕ → Type 0
 HasUnsettled facts row = Below (IsUnsettledAt facts row) (width_of facts)
 
-row_or_not : (facts : List (List ℕ)) (row : ℕ) → IsFacts facts → OrNot (HasUnsettled facts row)
+row_or_not : (facts : Masks) (row : ℕ) → IsFacts facts → OrNot (HasUnsettled facts row)
 row_or_not facts row is = some_below (IsUnsettledAt facts row) (λ col. unsettled_or_not facts row col is) (width_of facts)
 
-first_unsettled : (facts : List (List ℕ)) (row col : ℕ) → IsFacts facts → row < length facts → col < width_of facts → IsUnsettledAt facts row col
+first_unsettled : (facts : Masks) (row col : ℕ) → IsFacts facts → row < length facts → col < width_of facts → IsUnsettledAt facts row col
     → ((r : ℕ) → r < row → HasUnsettled facts r → ⊥) → ((c : ℕ) → c < col → IsUnsettledAt facts row c → ⊥) → IsFirstUnsettled facts (place row col)
 first_unsettled facts row col is h w un above left = record {
   is = record { in_rows = h; in_columns = w; unsettled = un };
@@ -75,7 +76,8 @@ first_unsettled facts row col is h w un above left = record {
 }
 
 -- the first cell that is not settled, or all are
-unsettled_or_all : (facts : List (List ℕ)) → IsFacts facts → ((cell : Cell) × IsFirstUnsettled facts cell) ⊎ ((row col : ℕ) → row < length facts → col < width_of facts → (k : ℕ) × IsOnly (cell_at facts row col) k)
+unsettled_or_all : (facts : Masks) → IsFacts facts
+    → ((cell : Cell) × IsFirstUnsettled facts cell) ⊎ ((row col : ℕ) → row < length facts → col < width_of facts → (k : ℕ) × IsOnly (cell_at facts row col) k)
 unsettled_or_all facts is = elim (first_below (HasUnsettled facts) (λ row. row_or_not facts row is) (length facts)) [
   | inr none ↦ inr (λ row col h w. elim (settled_or_not (cell_at facts row col) (is.masks row col)) [
     | inl s ↦ s
@@ -94,10 +96,10 @@ unsettled_or_all facts is = elim (first_below (HasUnsettled facts) (λ row. row_
 abbrev colours_in : List ℕ → List ℕ
 colours_in = map (trailing_zeros w16)
 
-abbrev shown : List (List ℕ) → List (List ℕ)
+abbrev shown : Masks → List (List ℕ)
 shown facts = map colours_in facts
 
-shown_shape : (facts : List (List ℕ)) → SameShape (shown facts) facts
+shown_shape : (facts : Masks) → SameShape (shown facts) facts
 shown_shape facts = record {
   rows = length-map facts colours_in;
   each = λ i. elim (cases_lt i (length facts)) [
@@ -106,7 +108,7 @@ shown_shape facts = record {
   ];
 }
 
-shown_at : (facts : List (List ℕ)) (row col : ℕ) → row < length facts → col < length (row_at facts row) → cell_at (shown facts) row col ≡ trailing_zeros w16 (cell_at facts row col)
+shown_at : (facts : Masks) (row col : ℕ) → row < length facts → col < length (row_at facts row) → cell_at (shown facts) row col ≡ trailing_zeros w16 (cell_at facts row col)
 shown_at facts row col h w = ap (λ (x : List ℕ). get_or x col 0) (get_or-map colours_in facts row [] [] h) ∙ get_or-map (trailing_zeros w16) (row_at facts row) col 0 0 w
 
 colour_is : (mask k : ℕ) → mask < 2 ^ 16 → IsOnly mask k → (k < 16) × (trailing_zeros w16 mask ≡ k)
@@ -115,7 +117,7 @@ colour_is mask k small o =
     let e = only_is_power mask k o in
     (l, ap (trailing_zeros w16) e ∙ lowest_of_power k l (pow_pos k) (let s = small in omega arith))
 
-shows : (facts : List (List ℕ)) → IsFacts facts → ((row col : ℕ) → row < length facts → col < width_of facts → (k : ℕ) × IsOnly (cell_at facts row col) k) → Shows facts (shown facts)
+shows : (facts : Masks) → IsFacts facts → ((row col : ℕ) → row < length facts → col < width_of facts → (k : ℕ) × IsOnly (cell_at facts row col) k) → Shows facts (shown facts)
 shows facts is all =
     let shape = shown_shape facts in
     let only : (row col : ℕ) → row < length facts → col < width_of facts → IsOnly (cell_at facts row col) (cell_at (shown facts) row col) = λ row col h w.
@@ -150,16 +152,16 @@ shows facts is all =
 
 -- ---- what facts come to
 
-abbrev ComesToSome : Clues → List (List ℕ) → Type 0
+abbrev ComesToSome : Clues → Masks → Type 0
 ComesToSome clues facts = (coming : Coming) × Comes clues facts coming
 
-settled_comes : (clues : Clues) (facts settled : List (List ℕ)) → SettlesTo clues facts settled → ComesToSome clues facts
+settled_comes : (clues : Clues) (facts settled : Masks) → SettlesTo clues facts settled → ComesToSome clues facts
 settled_comes clues facts settled to = elim (unsettled_or_all settled to.are_facts) [
   | inl at ↦ (Splits settled at.0, (to, at.1))
   | inr all ↦ (Ends (shown settled), (settled, (to, shows settled to.are_facts all)))
 ]
 
-comes_to_some : (clues : Clues) (facts : List (List ℕ)) → IsFacts facts → ComesToSome clues facts
+comes_to_some : (clues : Clues) (facts : Masks) → IsFacts facts → ComesToSome clues facts
 comes_to_some clues facts is =
     let least = least_is_there clues facts is in
     elim (fits_or_dead clues facts least.0 least.1.0 least.1.1) [
@@ -177,14 +179,15 @@ facts_append : (xs ys : List (List (List ℕ))) → AreFacts xs → AreFacts ys 
 facts_append [] ys a b = b
 facts_append (x ∷ xs) ys a b = (a.0, facts_append xs ys a.1 b)
 
-held_facts : (facts : List (List ℕ)) (row col : ℕ) → IsFacts facts → row < length facts → col < width_of facts → (ks : List ℕ) → All (λ k. (bit_at (cell_at facts row col) k == 1) ≡ true) ks → AreFacts (held facts row col ks)
+held_facts : (facts : Masks) (row col : ℕ) → IsFacts facts → row < length facts → col < width_of facts → (ks : List ℕ) → All (λ k. (bit_at (cell_at facts row col) k == 1) ≡ true) ks
+    → AreFacts (held facts row col ks)
 held_facts facts row col is h w [] a = tt
 held_facts facts row col is h w (k ∷ ks) a =
     let s = bit_is_set (cell_at facts row col) k (eqb-true (bit_at (cell_at facts row col) k) 1 (a 0 0 (omega arith))) in
     let le = fewer_le (2 ^ k) (cell_at facts row col) (λ j t. let P : ℕ → Type 0 = λ i. IsBitSet (cell_at facts row col) i in subst P (sym ((power_has k j).0 t)) s) in
     (facts_lower facts row col (2 ^ k) is h w le, held_facts facts row col is h w ks (λ i d m. a (suc i) d (omega arith)))
 
-branch_facts : (facts : List (List ℕ)) (row col : ℕ) → IsFacts facts → row < length facts → col < width_of facts → AreFacts (branches facts row col (cell_at facts row col))
+branch_facts : (facts : Masks) (row col : ℕ) → IsFacts facts → row < length facts → col < width_of facts → AreFacts (branches facts row col (cell_at facts row col))
 unfolding colours_of
 branch_facts facts row col is h w =
     let mask = cell_at facts row col in
@@ -192,10 +195,11 @@ branch_facts facts row col is h w =
 
 -- ---- the search
 
-abbrev Ended : Clues → List (List ℕ) → List (List (List ℕ)) → Type 0
-Ended clues known waiting = (found : Option (List (List ℕ))) × ((n : ℕ) × Searches clues known waiting found n)
+abbrev Ended : Clues → Rows → List Masks → Type 0
+Ended clues known waiting = (found : Option Rows) × ((n : ℕ) × Searches clues known waiting found n)
 
-goes_on : (clues : Clues) (known facts : List (List ℕ)) (others : List (List (List ℕ))) → ((waiting : List (List (List ℕ))) → load waiting < load (facts ∷ others) → AreFacts waiting → Ended clues known waiting) → AreFacts others
+goes_on : (clues : Clues) (known : Rows) (facts : Masks) (others : List Masks) → ((waiting : List Masks) → load waiting < load (facts ∷ others) → AreFacts waiting → Ended clues known waiting)
+    → AreFacts others
     → (coming : Coming) → Comes clues facts coming → Ended clues known (facts ∷ others)
 goes_on clues known facts others on a Dies c =
     let r = on others (ended_lighter facts others) a in
@@ -215,21 +219,21 @@ goes_on clues known facts others on a (Splits settled cell) c =
     let r = on (front ++ others) (omega arith) (facts_append front others (branch_facts settled cell.row cell.col is at.in_rows at.in_columns) a) in
     (r.0, (suc r.1.0, is_split facts others settled cell r.0 r.1.0 c r.1.1))
 
-search_ends : (n : ℕ) (clues : Clues) (known : List (List ℕ)) (waiting : List (List (List ℕ))) → load waiting < n → AreFacts waiting → Ended clues known waiting
+search_ends : (n : ℕ) (clues : Clues) (known : Rows) (waiting : List Masks) → load waiting < n → AreFacts waiting → Ended clues known waiting
 search_ends zero clues known waiting l a = absurd (omega arith)
 search_ends (suc n) clues known [] l a = (None, (0, none_waits))
 search_ends (suc n) clues known (facts ∷ others) l a =
     let c = comes_to_some clues facts a.0 in
     goes_on clues known facts others (λ waiting m b. search_ends n clues known waiting (omega arith) b) a.1 c.0 c.1
 
-pub cost_is_there : (clues : Clues) (known facts : List (List ℕ)) → IsFacts facts → (n : ℕ) × HasCost clues known facts n
+pub cost_is_there : (clues : Clues) (known : Rows) (facts : Masks) → IsFacts facts → (n : ℕ) × HasCost clues known facts n
 cost_is_there clues known facts is =
     let ended = search_ends (suc (load (facts ∷ []))) clues known (facts ∷ []) (omega arith) (is, tt) in
     (ended.1.0, (ended.0, ended.1.1))
 
 -- ---- the facts of a part
 
-only_small : OnlyIsClosed → (picture : List (List ℕ)) (i j : ℕ) → IsPicture picture → cell_at (only picture) i j < 2 ^ 16
+only_small : OnlyIsClosed → (picture : Rows) (i j : ℕ) → IsPicture picture → cell_at (only picture) i j < 2 ^ 16
 only_small law picture i j is =
     let each = (law.same_shape picture).each i in
     elim (cases_lt j (length (row_at picture i))) [
@@ -240,13 +244,15 @@ only_small law picture i j is =
       | inr p ↦ let z = outside_is_0 (only picture) i j (omega arith) in omega arith
     ]
 
-alone_small : OnlyIsClosed → (cells : List ℕ) (facts picture : List (List ℕ)) (i j : ℕ) → IsPicture picture → IsFacts facts → IsRectangle (only picture) → SameShape facts (only picture) → cell_at (alone cells facts picture) i j < 2 ^ 16
+alone_small : OnlyIsClosed → (cells : List ℕ) (facts : Masks) (picture : Rows) (i j : ℕ) → IsPicture picture → IsFacts facts → IsRectangle (only picture) → SameShape facts (only picture)
+    → cell_at (alone cells facts picture) i j < 2 ^ 16
 alone_small law cells facts picture i j is_picture is rect same = elim (bit_or_not (slice_index cells i) j) [
   | inl has ↦ let e = on_cells cells facts (only picture) i j rect same has in let m = is.masks i j in omega arith
   | inr out ↦ let e = off_part cells facts (only picture) i j rect out in let m = only_small law picture i j is_picture in omega arith
 ]
 
-pub alone_facts : OnlyIsClosed → (clues : Clues) (givens : List ℕ) (facts picture : List (List ℕ)) (cells : List ℕ) → IsScene clues givens facts picture → IsFacts facts → IsFacts (alone cells facts picture)
+pub alone_facts : OnlyIsClosed → (clues : Clues) (givens : List ℕ) (facts : Masks) (picture : Rows) (cells : List ℕ) → IsScene clues givens facts picture → IsFacts facts
+    → IsFacts (alone cells facts picture)
 alone_facts law clues givens facts picture cells scene is =
     let own = law.same_shape picture in
     let rect : IsRectangle (only picture) = λ i l. (let tall = own.rows in let wide = own.each 0 in let each = own.each i in let r = scene.is_picture.rectangular i (omega arith) in omega arith) in
@@ -256,7 +262,7 @@ alone_facts law clues givens facts picture cells scene is =
 
 -- ---- what goes on past an allowance
 
-goes_past : (clues : Clues) (known : List (List ℕ)) (waiting : List (List (List ℕ))) (found : Option (List (List ℕ))) (n : ℕ) → Searches clues known waiting found n → (most : ℕ) → most < n → SplitsPast clues known waiting most
+goes_past : (clues : Clues) (known : Rows) (waiting : List Masks) (found : Option Rows) (n : ℕ) → Searches clues known waiting found n → (most : ℕ) → most < n → SplitsPast clues known waiting most
 goes_past clues known _ _ _ none_waits most l = absurd (omega arith)
 goes_past clues known _ _ _ (is_dead facts others found n c s) most l = past_dead facts others most c (goes_past clues known others found n s most l)
 goes_past clues known _ _ _ (is_known facts others found n c s) most l = past_known facts others most c (goes_past clues known others found n s most l)
@@ -264,25 +270,30 @@ goes_past clues known _ _ _ (is_other facts others picture c d) most l = absurd 
 goes_past clues known _ _ _ (is_split facts others settled cell found n c s) zero l = once_more facts others settled cell c
 goes_past clues known _ _ _ (is_split facts others settled cell found n c s) (suc most) l = past_split facts others settled cell most c (goes_past clues known _ found n s most (omega arith))
 
-broken_off : CostsAreUnique → (clues : Clues) (known facts : List (List ℕ)) (most cost : ℕ) → HasCost clues known facts cost → most < cost → EndsAs clues known facts (Some most) ending.BrokenOff most
+broken_off : CostsAreUnique → (clues : Clues) (known : Rows) (facts : Masks) (most cost : ℕ) → HasCost clues known facts cost → most < cost → EndsAs clues known facts (Some most) ending.BrokenOff most
 broken_off unique clues known facts most cost h l = (refl, (goes_past clues known (facts ∷ []) h.0 cost h.1 most l, (λ other k. let e = unique clues known facts other cost k h in omega arith)))
 
 -- ---- parts that are passed
 
-cheap : CostsAreUnique → (clues : Clues) (known facts : List (List ℕ)) (most cost n : ℕ) (found : Option (List (List ℕ))) → Searches clues known (facts ∷ []) found n → n ≤ most → HasCost clues known facts cost → most < cost → ⊥
+cheap : CostsAreUnique → (clues : Clues) (known : Rows) (facts : Masks) (most cost n : ℕ) (found : Option Rows) → Searches clues known (facts ∷ []) found n → n ≤ most → HasCost clues known facts cost
+    → most < cost → ⊥
 cheap unique clues known facts most cost n found s le h l = let e = unique clues known facts cost n h (found, s) in absurd (omega arith)
 
-part_is_cheap : CostsAreUnique → (clues : Clues) (facts picture : List (List ℕ)) (most cost searched splits : ℕ) (cells : List ℕ) (answer : Answer) → answer ≡ Unknown → EndsBy clues facts picture (Some most) cells answer ending.Nothing searched splits → HasCost clues picture (alone cells facts picture) cost → most < cost → ⊥
+part_is_cheap : CostsAreUnique → (clues : Clues) (facts : Masks) (picture : Rows) (most cost searched splits : ℕ) (cells : List ℕ) (answer : Answer) → answer ≡ Unknown
+    → EndsBy clues facts picture (Some most) cells answer ending.Nothing searched splits → HasCost clues picture (alone cells facts picture) cost → most < cost → ⊥
 part_is_cheap unique clues facts picture most cost searched splits cells answer e ends h l =
-    let known : EndsBy clues facts picture (Some most) cells Unknown ending.Nothing searched splits = subst (λ (x : Answer). EndsBy clues facts picture (Some most) cells x ending.Nothing searched splits) e ends in
+    let known : EndsBy clues facts picture (Some most) cells Unknown ending.Nothing searched splits =
+    subst (λ (x : Answer). EndsBy clues facts picture (Some most) cells x ending.Nothing searched splits) e ends in
     cheap unique clues picture (alone cells facts picture) most cost splits None known.1.0 known.1.1 h l
 
-found_is_cheap : CostsAreUnique → (clues : Clues) (facts picture other : List (List ℕ)) (most cost searched splits : ℕ) (cells : List ℕ) (answer : Answer) → answer ≡ Unknown → EndsBy clues facts picture (Some most) cells answer (ending.Found other) searched splits → HasCost clues picture (alone cells facts picture) cost → most < cost → ⊥
+found_is_cheap : CostsAreUnique → (clues : Clues) (facts : Masks) (picture other : Rows) (most cost searched splits : ℕ) (cells : List ℕ) (answer : Answer) → answer ≡ Unknown
+    → EndsBy clues facts picture (Some most) cells answer (ending.Found other) searched splits → HasCost clues picture (alone cells facts picture) cost → most < cost → ⊥
 found_is_cheap unique clues facts picture other most cost searched splits cells answer e ends h l =
     let known : EndsBy clues facts picture (Some most) cells Unknown (ending.Found other) searched splits = rw e at ends in
     cheap unique clues picture (alone cells facts picture) most cost splits (Some other) known.1.0 known.1.1 h l
 
-passed_are_cheap : CostsAreUnique → (clues : Clues) (facts picture : List (List ℕ)) (most : ℕ) (kept : List KeptPart) (n searched splits : ℕ) → Passes clues facts picture (Some most) kept n searched splits → (i : ℕ) → i < n → IsDear clues facts picture most kept i → ⊥
+passed_are_cheap : CostsAreUnique → (clues : Clues) (facts : Masks) (picture : Rows) (most : ℕ) (kept : List KeptPart) (n searched splits : ℕ)
+    → Passes clues facts picture (Some most) kept n searched splits → (i : ℕ) → i < n → IsDear clues facts picture most kept i → ⊥
 passed_are_cheap unique clues facts picture most kept zero searched splits p i l d = absurd (omega arith)
 passed_are_cheap unique clues facts picture most kept (suc n) searched splits p i l d = elim (cases_eq i n) [
   | inr other ↦ passed_are_cheap unique clues facts picture most kept n p.0 p.1.0 p.1.1.1.1.0 i (omega arith) d
@@ -293,7 +304,8 @@ passed_are_cheap unique clues facts picture most kept (suc n) searched splits p 
 
 -- ---- the part at which a search was broken off
 
-stopped_is_dear : CostsAreUnique → (clues : Clues) (facts picture : List (List ℕ)) (most searched splits : ℕ) (cells : List ℕ) (answer : Answer) → IsFacts (alone cells facts picture) → EndsBy clues facts picture (Some most) cells answer ending.BrokenOff searched splits
+stopped_is_dear : CostsAreUnique → (clues : Clues) (facts : Masks) (picture : Rows) (most searched splits : ℕ) (cells : List ℕ) (answer : Answer) → IsFacts (alone cells facts picture)
+    → EndsBy clues facts picture (Some most) cells answer ending.BrokenOff searched splits
     → (answer ≡ Unknown) × ((cost : ℕ) × (HasCost clues picture (alone cells facts picture) cost × (most < cost)))
 stopped_is_dear unique clues facts picture most searched splits cells Unknown is ends =
     let cost = cost_is_there clues picture (alone cells facts picture) is in
@@ -316,7 +328,8 @@ costs_decide = record {
       let i = b.at in
       record {
         place = b.stops.place;
-        is = stopped_is_dear costs_are_unique clues facts picture most b.stops.searched_here b.stops.splits_here (cells_at old i) (answer_at old i) (alone_facts only_is_closed clues givens facts picture (cells_at old i) scene is) b.stops.here;
+        is = stopped_is_dear costs_are_unique clues facts picture most b.stops.searched_here b.stops.splits_here (cells_at old i) (answer_at old i)
+            (alone_facts only_is_closed clues givens facts picture (cells_at old i) scene is) b.stops.here;
         before = passed_are_cheap costs_are_unique clues facts picture most old i b.stops.searched_before b.stops.splits_before b.stops.before;
       };
   unique = λ clues facts picture most old new searched splits p. passed_are_cheap costs_are_unique clues facts picture most old (length old) searched splits p.passes;
@@ -324,6 +337,7 @@ costs_decide = record {
     | inr before ↦ passed_are_cheap costs_are_unique clues facts picture most old f.at f.stops.searched_before f.stops.splits_before f.stops.before i (omega arith) d
     | inl e ↦
         let here : IsDear clues facts picture most old f.at = subst (λ (j : ℕ). IsDear clues facts picture most old j) e d in
-        found_is_cheap costs_are_unique clues facts picture f.other most here.1.0 f.stops.searched_here f.stops.splits_here (cells_at old f.at) (answer_at old f.at) here.0 f.stops.here here.1.1.0 here.1.1.1
+        found_is_cheap costs_are_unique clues facts picture f.other most here.1.0 f.stops.searched_here f.stops.splits_here (cells_at old f.at)
+        (answer_at old f.at) here.0 f.stops.here here.1.1.0 here.1.1.1
   ];
 }

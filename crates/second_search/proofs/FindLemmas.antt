@@ -1,38 +1,41 @@
 -- What is searched while facts wait: nothing that fills the first facts gets lost; and sound facts.
-use Rattle.std.proofs.Common.{◌≡◌, ℕ, ◌^◌, ◌<◌, ◌≤◌, ◌⊎◌, ◌↔◌, ◌==◌, Bool, true, false, cond, eqb-true, Option, None, Some, List, [], ◌∷◌, ◌++◌, length, replicate, refl, sym, ap, subst, ◌∙◌, arith, inl, inr}
+use Rattle.std.proofs.Common.{◌≡◌, ℕ, ◌^◌, ◌<◌, ◌≤◌, ◌⊎◌, ◌↔◌, ◌==◌, Bool, true, false, cond, eqb-true, Option, None, Some, List, [], ◌∷◌, ◌++◌, length, replicate, refl, sym, ap, subst, ◌∙◌, arith}
+use Rattle.std.proofs.Common.{inl, inr}
 use Rattle.std.specs.Prelude.{IsBitSet}
 use Rattle.std.specs.List.{filter, range_with_len}
 use Rattle.std.specs.Int.{bit_at}
 use Rattle.std.proofs.lemmas.Bool.{cases_lt}
 use Rattle.std.proofs.lemmas.List.{get_or_past, get_or-replicate, length-replicate}
+use Rattle.line_settle.specs.Masks.{Masks}
 use Rattle.picture.specs.declared.line_id.Axis.{Axis}
 use Rattle.picture.specs.declared.line_id.Axis.TheVariants.{Across, Down}
 use Rattle.picture.specs.CellSet.{HasCell, PutsCell}
 use Rattle.picture.specs.Picture.{IsPicture}
-use Rattle.picture.specs.Rows.{width_of, row_at, cell_at, lines_along, with_cell}
+use Rattle.picture.specs.Rows.{width_of, row_at, cell_at, lines_along, with_cell, Rows}
 use Rattle.clues.specs.ClueBook.{Clues, clues_along, clues_of}
 use Rattle.line_settle.specs.FactSets.{IsFacts, IsWithin, Leaves, SameShape, IsBase, IsLeast, nothing_excluded, with_given}
-use Rattle.fixpoint.specs.Closing.{AreClosable}
-use Rattle.fixpoint.specs.FillingLaws.{fills_fewer}
-use Rattle.fixpoint.specs.Filling.{Fills}
-use Rattle.second_search.specs.Looking.{FillsSome}
-use Rattle.second_search.specs.Looking.{FindsFilling}
+use Rattle.fixpoint.specs.ClosedFacts.{AreClosable}
+use Rattle.fixpoint.proofs.FillingLaws.{fills_fewer}
+use Rattle.fixpoint.specs.Fillings.{Fills}
+use Rattle.second_search.specs.SettledFacts.{FillsSome}
+use Rattle.second_search.specs.SettledFacts.{FindsFilling}
 use Rattle.second_search.specs.Other.{AreSound, FindsFirst, FindsOther, HasClues}
-use Rattle.line_settle.specs.GridLaws.{shape_refl, shape_sym, shape_trans, shape_with_cell, full_shape, all_left}
-use Rattle.picture.specs.BitLaws.{bit_is_set, power_has, no_bit}
+use Rattle.line_settle.proofs.GridLaws.{shape_refl, shape_sym, shape_trans, shape_with_cell, full_shape, all_left}
+use Rattle.picture.proofs.BitLaws.{bit_is_set, power_has, no_bit}
 use Rattle.clues.specs.Solution.{Solves}
-use Rattle.line_settle.specs.SolutionLaws.{solved_shape}
+use Rattle.line_settle.proofs.SolutionLaws.{solved_shape}
 use Rattle.line_settle.specs.Branches.{branches, colours_of, held}
 use Rattle.trail.proofs.ColourLemmas.{Among, among_colours}
 use Rattle.trail.proofs.GridLemmas.{set_each, row_there}
 use Rattle.fixpoint.specs.Laws.{ClosingKeepsFillings}
 use Rattle.second_search.specs.Laws.{SoundFacts}
-use Rattle.clues.specs.SolutionLaws.{solves_fewer}
+use Rattle.clues.proofs.SolutionLaws.{solves_fewer}
 
 -- ---- a cell held to each of its colours
 
 -- a picture fills facts with a cell held exactly where it fills the facts and has the colour there
-held_fills : (clues : Clues) (facts picture : List (List ℕ)) (row col k : ℕ) → row < length facts → col < length (row_at facts row) → Fills clues facts picture → cell_at picture row col ≡ k → Fills clues (with_cell facts row col (2 ^ k)) picture
+held_fills : (clues : Clues) (facts : Masks) (picture : Rows) (row col k : ℕ) → row < length facts → col < length (row_at facts row) → Fills clues facts picture → cell_at picture row col ≡ k
+    → Fills clues (with_cell facts row col (2 ^ k)) picture
 held_fills clues facts picture row col k h l f e = record {
   is_picture = f.is_picture;
   same_shape = shape_trans f.same_shape (shape_with_cell facts row col (2 ^ k));
@@ -40,14 +43,15 @@ held_fills clues facts picture row col k h l f e = record {
   leaves = set_each facts row col (2 ^ k) h l (λ r c x. c < length (row_at picture r) → IsBitSet x (cell_at picture r c)) (λ m. (power_has k (cell_at picture row col)).1 e) (λ r c d. f.leaves r c);
 }
 
-pub held_within : (facts : List (List ℕ)) (row col k : ℕ) → row < length facts → col < length (row_at facts row) → Leaves facts row col k → IsWithin facts (with_cell facts row col (2 ^ k))
+pub held_within : (facts : Masks) (row col k : ℕ) → row < length facts → col < length (row_at facts row) → Leaves facts row col k → IsWithin facts (with_cell facts row col (2 ^ k))
 held_within facts row col k h l s = record {
   same_shape = shape_with_cell facts row col (2 ^ k);
   leaves = λ r c j.
       set_each facts row col (2 ^ k) h l (λ r c x. IsBitSet x j → Leaves facts r c j) (λ t. subst (λ (i : ℕ). Leaves facts row col i) (sym ((power_has k j).0 t)) s) (λ r c d t. t) r c;
 }
 
-pub some_held : (clues : Clues) (facts picture : List (List ℕ)) (row col : ℕ) → row < length facts → col < length (row_at facts row) → Fills clues facts picture → (ks : List ℕ) → Among ks (cell_at picture row col) → FillsSome clues (held facts row col ks) picture
+pub some_held : (clues : Clues) (facts : Masks) (picture : Rows) (row col : ℕ) → row < length facts → col < length (row_at facts row) → Fills clues facts picture → (ks : List ℕ)
+    → Among ks (cell_at picture row col) → FillsSome clues (held facts row col ks) picture
 some_held clues facts picture row col h l f [] a = absurd a
 some_held clues facts picture row col h l f (k ∷ ks) a = elim a [
   | inl e ↦ inl (held_fills clues facts picture row col k h l f e)
@@ -58,7 +62,8 @@ abbrev pub Each : (ℕ → Type 0) → List ℕ → Type 0
 Each P [] = Unit {0}
 Each P (x ∷ xs) = P x × Each P xs
 
-pub held_some : (clues : Clues) (facts picture : List (List ℕ)) (row col : ℕ) → row < length facts → col < length (row_at facts row) → (ks : List ℕ) → Each (Leaves facts row col) ks → FillsSome clues (held facts row col ks) picture → Fills clues facts picture
+pub held_some : (clues : Clues) (facts : Masks) (picture : Rows) (row col : ℕ) → row < length facts → col < length (row_at facts row) → (ks : List ℕ) → Each (Leaves facts row col) ks
+    → FillsSome clues (held facts row col ks) picture → Fills clues facts picture
 held_some clues facts picture row col h l [] a s = absurd s
 held_some clues facts picture row col h l (k ∷ ks) a s = elim s [
   | inl f ↦ fills_fewer clues facts (with_cell facts row col (2 ^ k)) picture (held_within facts row col k h l a.0) f
@@ -80,38 +85,40 @@ unfolding colours_of
 each_colour mask = each_kept (λ k. bit_at mask k == 1) (λ k. IsBitSet mask k) (λ x e. bit_is_set mask x (eqb-true (bit_at mask x) 1 e)) (range_with_len 0 16)
 
 -- a picture fills facts exactly where it fills one of the branches of a cell
-pub split_fills : (clues : Clues) (facts picture : List (List ℕ)) (row col : ℕ) → IsFacts facts → row < length facts → col < width_of facts → Fills clues facts picture ↔ FillsSome clues (branches facts row col (cell_at facts row col)) picture
+pub split_fills : (clues : Clues) (facts : Masks) (picture : Rows) (row col : ℕ) → IsFacts facts → row < length facts → col < width_of facts
+    → Fills clues facts picture ↔ FillsSome clues (branches facts row col (cell_at facts row col)) picture
 split_fills clues facts picture row col is h l =
     let l' : col < length (row_at facts row) = omega arith in (
       (λ f.
-          some_held clues facts picture row col h l' f (colours_of (cell_at facts row col)) (among_colours (cell_at facts row col) (cell_at picture row col) (is.masks row col) (f.leaves row col (omega arith)))),
+          some_held clues facts picture row col h l' f (colours_of (cell_at facts row col))
+          (among_colours (cell_at facts row col) (cell_at picture row col) (is.masks row col) (f.leaves row col (omega arith)))),
       (λ s. held_some clues facts picture row col h l' (colours_of (cell_at facts row col)) (each_colour (cell_at facts row col)) s),
     )
 
 -- ---- the search
 
 -- facts of one shape with the first
-abbrev pub AreAlike : List (List ℕ) → List (List (List ℕ)) → Type 0
+abbrev pub AreAlike : Masks → List (List (List ℕ)) → Type 0
 AreAlike first [] = Unit {0}
 AreAlike first (facts ∷ others) = SameShape first facts × AreAlike first others
 
-pub held_alike : (first facts : List (List ℕ)) (row col : ℕ) → SameShape first facts → (ks : List ℕ) → AreAlike first (held facts row col ks)
+pub held_alike : (first facts : Masks) (row col : ℕ) → SameShape first facts → (ks : List ℕ) → AreAlike first (held facts row col ks)
 held_alike first facts row col s [] = tt
 held_alike first facts row col s (k ∷ ks) = (shape_trans s (shape_with_cell facts row col (2 ^ k)), held_alike first facts row col s ks)
 
-pub alike_both : (first facts : List (List ℕ)) (xs ys : List (List (List ℕ))) → SameShape first facts → AreAlike facts xs → AreAlike first ys → AreAlike first (xs ++ ys)
+pub alike_both : (first facts : Masks) (xs ys : List (List (List ℕ))) → SameShape first facts → AreAlike facts xs → AreAlike first ys → AreAlike first (xs ++ ys)
 alike_both first facts [] ys s a b = b
 alike_both first facts (x ∷ xs) ys s a b = (shape_trans s a.0, alike_both first facts xs ys s a.1 b)
 
-pub some_front : (clues : Clues) (xs ys : List (List (List ℕ))) (picture : List (List ℕ)) → FillsSome clues xs picture → FillsSome clues (xs ++ ys) picture
+pub some_front : (clues : Clues) (xs ys : List (List (List ℕ))) (picture : Rows) → FillsSome clues xs picture → FillsSome clues (xs ++ ys) picture
 some_front clues [] ys picture f = absurd f
 some_front clues (x ∷ xs) ys picture f = elim f [ inl here ↦ inl here | inr there ↦ inr (some_front clues xs ys picture there) ]
 
-pub some_behind : (clues : Clues) (xs ys : List (List (List ℕ))) (picture : List (List ℕ)) → FillsSome clues ys picture → FillsSome clues (xs ++ ys) picture
+pub some_behind : (clues : Clues) (xs ys : List (List (List ℕ))) (picture : Rows) → FillsSome clues ys picture → FillsSome clues (xs ++ ys) picture
 some_behind clues [] ys picture f = f
 some_behind clues (x ∷ xs) ys picture f = inr (some_behind clues xs ys picture f)
 
-pub some_both : (clues : Clues) (xs ys : List (List (List ℕ))) (picture : List (List ℕ)) → FillsSome clues (xs ++ ys) picture → FillsSome clues xs picture ⊎ FillsSome clues ys picture
+pub some_both : (clues : Clues) (xs ys : List (List (List ℕ))) (picture : Rows) → FillsSome clues (xs ++ ys) picture → FillsSome clues xs picture ⊎ FillsSome clues ys picture
 some_both clues [] ys picture f = inr f
 some_both clues (x ∷ xs) ys picture f = elim f [
   | inl here ↦ inl (inl here)
@@ -124,7 +131,8 @@ some_both clues (x ∷ xs) ys picture f = elim f [
 both_outside : (a b : List (List ℕ)) (r c : ℕ) → SameShape a b → length (row_at a r) ≤ c → cell_at a r c ≡ cell_at b r c
 both_outside a b r c s p = let each = s.each r in get_or_past (row_at a r) c 0 p ∙ sym (get_or_past (row_at b r) c 0 (omega arith))
 
-fills_solves : (clues : Clues) (givens : List ℕ) (picture facts other : List (List ℕ)) → AreSound clues givens picture facts → Fills clues facts other → Solves clues (HasCell givens) picture other
+fills_solves : (clues : Clues) (givens : List ℕ) (picture : Rows) (facts : Masks) (other : Rows) → AreSound clues givens picture facts → Fills clues facts other
+    → Solves clues (HasCell givens) picture other
 fills_solves clues givens picture facts other s f =
     let shape : SameShape other picture = shape_trans f.same_shape (shape_sym s.same_shape) in
     record {
@@ -138,7 +146,8 @@ fills_solves clues givens picture facts other s f =
       ];
     }
 
-solves_fills : (clues : Clues) (givens : List ℕ) (picture facts other : List (List ℕ)) → AreSound clues givens picture facts → Solves clues (HasCell givens) picture other → Fills clues facts other
+solves_fills : (clues : Clues) (givens : List ℕ) (picture : Rows) (facts : Masks) (other : Rows) → AreSound clues givens picture facts → Solves clues (HasCell givens) picture other
+    → Fills clues facts other
 solves_fills clues givens picture facts other s h = record {
   is_picture = h.is_picture;
   same_shape = shape_trans (solved_shape h) s.same_shape;
@@ -146,20 +155,24 @@ solves_fills clues givens picture facts other s h = record {
   leaves = s.leave other h;
 }
 
-pub finds_other : (clues : Clues) (givens : List ℕ) (picture facts first : List (List ℕ)) (found : Option (List (List ℕ))) → AreSound clues givens picture facts → first ≡ facts → FindsFilling clues first picture found → FindsOther clues givens picture found
+pub finds_other : (clues : Clues) (givens : List ℕ) (picture : Rows) (facts first : Masks) (found : Option Rows) → AreSound clues givens picture facts → first ≡ facts
+    → FindsFilling clues first picture found → FindsOther clues givens picture found
 finds_other clues givens picture facts first None s e h = λ other o.
     h other (subst (λ (x : List (List ℕ)). Fills clues x other) (sym e) (solves_fills clues givens picture facts other s o.solves)) o.differs
 finds_other clues givens picture facts first (Some other) s e h =
     record { solves = fills_solves clues givens picture facts other s (subst (λ (x : List (List ℕ)). Fills clues x other) e h.0); differs = h.1 }
 
-pub can_close : (clues : Clues) (picture facts first : List (List ℕ)) (longest : ℕ) → ((axis : Axis) → length (clues_along axis (clues_of picture)) ≡ lines_along axis picture) → clues_of picture ≡ clues → SameShape picture facts → first ≡ facts → length clues.rows ≤ longest → length clues.columns ≤ longest → AreClosable clues longest first
+pub can_close : (clues : Clues) (picture : Rows) (facts first : Masks) (longest : ℕ) → ((axis : Axis) → length (clues_along axis (clues_of picture)) ≡ lines_along axis picture)
+    → clues_of picture ≡ clues → SameShape picture facts → first ≡ facts → length clues.rows ≤ longest → length clues.columns ≤ longest → AreClosable clues longest first
 can_close clues picture facts first longest sizes e s same tall wide =
     let rows : length clues.rows ≡ length picture = ap (λ (c : Clues). length c.rows) (sym e) ∙ sizes Across in
     let columns : length clues.columns ≡ width_of picture = ap (λ (c : Clues). length c.columns) (sym e) ∙ sizes Down in
     rw same (record { rows = omega arith; columns = omega arith; wide = omega arith; tall = omega arith })
 
 -- a picture with the clues fills facts of the clues' size that exclude nothing
-all_fills : (clues : Clues) (picture facts : List (List ℕ)) (height width : ℕ) → ((axis : Axis) → length (clues_along axis (clues_of picture)) ≡ lines_along axis picture) → HasClues clues picture → height ≡ length clues.rows → width ≡ length clues.columns → SameShape (replicate height (replicate {A = ℕ} width 65535)) facts → ((row col k : ℕ) → row < height → col < width → k < 16 → Leaves facts row col k) → Fills clues facts picture
+all_fills : (clues : Clues) (picture : Rows) (facts : Masks) (height width : ℕ) → ((axis : Axis) → length (clues_along axis (clues_of picture)) ≡ lines_along axis picture) → HasClues clues picture
+    → height ≡ length clues.rows → width ≡ length clues.columns → SameShape (replicate height (replicate {A = ℕ} width 65535)) facts
+    → ((row col k : ℕ) → row < height → col < width → k < 16 → Leaves facts row col k) → Fills clues facts picture
 all_fills clues picture facts height width sizes h tall wide shape left =
     let rows : length clues.rows ≡ length picture = ap (λ (c : Clues). length c.rows) (sym h.has_clues) ∙ sizes Across in
     let columns : length clues.columns ≡ width_of picture = ap (λ (c : Clues). length c.columns) (sym h.has_clues) ∙ sizes Down in
@@ -178,11 +191,14 @@ all_fills clues picture facts height width sizes h tall wide shape left =
       rows = sym (length-replicate h (replicate {A = ℕ} w 65535) ∙ th);
       each = λ i. elim (cases_lt i h) [
         | inl l ↦ sym (ap length (get_or-replicate h i (replicate {A = ℕ} w 65535) [] l) ∙ (length-replicate {A = ℕ} w 65535 ∙ (wd ∙ sym (is.rectangular i (omega arith)))))
-        | inr q ↦ ap length (get_or_past p i [] (omega arith)) ∙ ap length (sym (get_or_past (replicate h (replicate {A = ℕ} w 65535)) i [] (omega (arith, length-replicate h (replicate {A = ℕ} w 65535)))))
+        | inr q ↦ ap length (get_or_past p i [] (omega arith))
+            ∙ ap length (sym (get_or_past (replicate h (replicate {A = ℕ} w 65535)) i [] (omega (arith, length-replicate h (replicate {A = ℕ} w 65535)))))
       ];
     }
 
-pub finds_first : (clues : Clues) (facts blank : List (List ℕ)) (height width : ℕ) (found : Option (List (List ℕ))) → ((picture : List (List ℕ)) (axis : Axis) → length (clues_along axis (clues_of picture)) ≡ lines_along axis picture) → height ≡ length clues.rows → width ≡ length clues.columns → facts ≡ replicate height (replicate {A = ℕ} width 65535) → ((row col k : ℕ) → row < height → col < width → k < 16 → Leaves facts row col k) → (clues_of blank ≡ clues → ⊥) → FindsFilling clues facts blank found → FindsFirst clues found
+pub finds_first : (clues : Clues) (facts blank : Masks) (height width : ℕ) (found : Option Rows) → ((picture : Rows) (axis : Axis)
+    → length (clues_along axis (clues_of picture)) ≡ lines_along axis picture) → height ≡ length clues.rows → width ≡ length clues.columns → facts ≡ replicate height (replicate {A = ℕ} width 65535)
+    → ((row col k : ℕ) → row < height → col < width → k < 16 → Leaves facts row col k) → (clues_of blank ≡ clues → ⊥) → FindsFilling clues facts blank found → FindsFirst clues found
 finds_first clues facts blank height width None sizes tall wide e left n h = λ picture has.
     h picture (all_fills clues picture facts height width (sizes picture) has tall wide (rw e (shape_refl _)) left) (λ same. n (subst (λ (x : List (List ℕ)). clues_of x ≡ clues) same has.has_clues))
 finds_first clues facts blank height width (Some picture) sizes tall wide e left n h = record { is_picture = h.0.is_picture; has_clues = h.0.has_clues }
@@ -190,19 +206,20 @@ finds_first clues facts blank height width (Some picture) sizes tall wide e left
 -- ---- sound facts
 
 -- a cell of a row of a picture lies in the picture
-row_inside : (picture : List (List ℕ)) (row col : ℕ) → IsPicture picture → col < length (row_at picture row) → (row < length picture) × (col < width_of picture)
+row_inside : (picture : Rows) (row col : ℕ) → IsPicture picture → col < length (row_at picture row) → (row < length picture) × (col < width_of picture)
 row_inside picture row col is l =
     let h = row_there picture row col l in
     (h, (let r = is.rectangular row h in omega arith))
 
 -- a cell where a colour is left lies in the facts
-pub left_there : (facts : List (List ℕ)) (row col k : ℕ) → Leaves facts row col k → (row < length facts) × (col < length (row_at facts row))
+pub left_there : (facts : Masks) (row col k : ℕ) → Leaves facts row col k → (row < length facts) × (col < length (row_at facts row))
 left_there facts row col k s = elim (cases_lt col (length (row_at facts row))) [
   | inl l ↦ (row_there facts row col l, l)
   | inr p ↦ absurd (no_bit k (let P : ℕ → Type 0 = λ m. IsBitSet m k in subst P (get_or_past (row_at facts row) col 0 p) s))
 ]
 
-none_sound : (clues : Clues) (givens : List ℕ) (picture : List (List ℕ)) → IsPicture picture → ((row col : ℕ) → HasCell givens row col → ⊥) → AreSound clues givens picture (nothing_excluded (length picture) (width_of picture))
+none_sound : (clues : Clues) (givens : List ℕ) (picture : Rows) → IsPicture picture → ((row col : ℕ) → HasCell givens row col → ⊥)
+    → AreSound clues givens picture (nothing_excluded (length picture) (width_of picture))
 none_sound clues givens picture is n = record {
   same_shape = full_shape picture is;
   hold_givens = λ row col k g s. absurd (n row col g);
@@ -211,7 +228,7 @@ none_sound clues givens picture is n = record {
       all_left (length picture) (width_of picture) row col (cell_at other row col) (omega arith) (omega arith) (h.is_picture.colours row col);
 }
 
-base_sound : (clues : Clues) (givens : List ℕ) (picture base : List (List ℕ)) → IsPicture picture → IsBase givens picture base → AreSound clues givens picture base
+base_sound : (clues : Clues) (givens : List ℕ) (picture : Rows) (base : Masks) → IsPicture picture → IsBase givens picture base → AreSound clues givens picture base
 base_sound clues givens picture base is b = record {
   same_shape = b.same_shape;
   hold_givens = λ row col k g s.
@@ -223,7 +240,8 @@ base_sound clues givens picture base is b = record {
       (b.left row col (cell_at other row col) (omega arith) (omega arith)).1 (h.is_picture.colours row col, h.keeps_givens row col);
 }
 
-more_sound : (clues : Clues) (givens more : List ℕ) (picture facts : List (List ℕ)) (row col : ℕ) → IsPicture picture → row < length picture → col < width_of picture → PutsCell givens more row col → AreSound clues givens picture facts → AreSound clues more picture (with_given picture facts row col)
+more_sound : (clues : Clues) (givens more : List ℕ) (picture : Rows) (facts : Masks) (row col : ℕ) → IsPicture picture → row < length picture → col < width_of picture → PutsCell givens more row col
+    → AreSound clues givens picture facts → AreSound clues more picture (with_given picture facts row col)
 more_sound clues givens more picture facts row col is h l p s =
     let colour = cell_at picture row col in
     let rect = is.rectangular row h in
@@ -237,7 +255,8 @@ more_sound clues givens more picture facts row col is h l p s =
           (λ r c d. s.leave other (solves_fewer clues (HasCell more) (HasCell givens) picture other (λ r c g. (p r c).1 (inl g)) o) r c);
     }
 
-settled_sound : ClosingKeepsFillings → (clues : Clues) (givens : List ℕ) (picture facts settled : List (List ℕ)) → IsLeast clues facts settled → AreSound clues givens picture facts → AreSound clues givens picture settled
+settled_sound : ClosingKeepsFillings → (clues : Clues) (givens : List ℕ) (picture : Rows) (facts settled : Masks) → IsLeast clues facts settled → AreSound clues givens picture facts
+    → AreSound clues givens picture settled
 settled_sound closing clues givens picture facts settled t s = record {
   same_shape = shape_trans s.same_shape t.holds.same_shape;
   hold_givens = λ row col k g x. s.hold_givens row col k g (t.holds.leaves row col k x);

@@ -2,6 +2,7 @@
 use Rattle.std.proofs.Common.{◌≡◌, ℕ, ◌+◌, ◌<◌, ◌⊎◌, ◌↔◌, List, length, get_or, refl, sym, ap, subst, ◌∙◌, arith, inl, inr}
 use Rattle.std.proofs.lemmas.Bool.{cases_eq}
 use Rattle.std.proofs.lemmas.List.{length-map}
+use Rattle.line_settle.specs.Masks.{Masks}
 use Rattle.picture.specs.declared.line_id.Axis.{Axis}
 use Rattle.picture.specs.declared.line_id.Axis.TheVariants.{Across, Down}
 use Rattle.picture.specs.declared.line_id.LineId.{LineId}
@@ -12,7 +13,7 @@ use Rattle.clues.specs.Laws.{IsOnLine, IsAtPlace}
 use Rattle.line_settle.specs.FactSets.{IsFacts, col_on, row_on}
 use Rattle.fixpoint.specs.LineNames.{AllLines}
 use Rattle.second_search.specs.declared.parts.growth.Growth.{Growth}
-use Rattle.second_search.specs.Growing.{HasOpenCellsOf, IsGrown, Leaves, TakesIn}
+use Rattle.second_search.specs.GrownParts.{HasOpenCellsOf, IsGrown, Leaves, TakesIn}
 use Rattle.second_search.specs.Parts.{IsChained, IsOpenCell, ShareLine, begins, goes_on}
 use Rattle.second_search.proofs.ChainLemmas.{open_inside}
 use Rattle.second_search.proofs.LookLemmas.{below_next}
@@ -38,7 +39,7 @@ same_line one other = elim (same_axis one.axis other.axis) [
 ]
 
 -- a line of the grid that goes through a cell inside it
-pub line_inside : (facts : List (List ℕ)) (row col : ℕ) → row < length facts → col < width_of facts → (axis : Axis) (at : ℕ) → IsAtPlace axis at row col → at < lines_along axis facts
+pub line_inside : (facts : Masks) (row col : ℕ) → row < length facts → col < width_of facts → (axis : Axis) (at : ℕ) → IsAtPlace axis at row col → at < lines_along axis facts
 line_inside facts row col h w Across at e = omega arith
 line_inside facts row col h w Down at e = omega arith
 
@@ -57,13 +58,14 @@ place_on Across at i = refl
 place_on Down at i = refl
 
 -- a place past the end of a line has no open cell
-pub none_past : (facts : List (List ℕ)) (axis : Axis) (at i : ℕ) → IsFacts facts → at < lines_along axis facts → IsOpenCell facts (row_on axis at i) (col_on axis at i) → i < length (line_along axis at facts)
+pub none_past : (facts : Masks) (axis : Axis) (at i : ℕ) → IsFacts facts → at < lines_along axis facts → IsOpenCell facts (row_on axis at i) (col_on axis at i) → i < length (line_along axis at facts)
 none_past facts Across at i is l o = let q = open_inside facts at i is o in let r = is.rectangular at l in omega (arith, q.1)
 none_past facts Down at i is l o = let q = open_inside facts i at is o in let n = length-map facts (λ (row : List ℕ). get_or row at 0) in omega (arith, q.0)
 
 -- the open cells of a line, place by place
-pub whole_line : (facts : List (List ℕ)) (line : LineId) (cells : List ℕ) (count : ℕ) → IsFacts facts → HasLine facts line → count ≡ length (line_of facts line)
-    → ((k : ℕ) → k < count → IsOpenCell facts (row_on line.axis line.at k) (col_on line.axis line.at k) → HasCell cells (row_on line.axis line.at k) (col_on line.axis line.at k)) → HasOpenCellsOf facts line cells
+pub whole_line : (facts : Masks) (line : LineId) (cells : List ℕ) (count : ℕ) → IsFacts facts → HasLine facts line → count ≡ length (line_of facts line)
+    → ((k : ℕ) → k < count → IsOpenCell facts (row_on line.axis line.at k) (col_on line.axis line.at k) → HasCell cells (row_on line.axis line.at k) (col_on line.axis line.at k))
+    → HasOpenCellsOf facts line cells
 whole_line facts line cells count is has e h r c on o =
     let p = at_place line.axis line.at r c on in
     let row = row_on line.axis line.at p.0 in
@@ -74,7 +76,8 @@ whole_line facts line cells count is has e h r c on o =
 
 -- ---- cells and lines
 
-pub grown_first : (facts : List (List ℕ)) (row col : ℕ) (old new : Growth) → IsFacts facts → IsOpenCell facts row col → AllLines facts old.unvisited → ((r c : ℕ) → HasCell old.cells r c → ⊥) → ((line : LineId) → HasName old.waiting line → ⊥) → TakesIn row col old new → IsGrown facts row col new
+pub grown_first : (facts : Masks) (row col : ℕ) (old new : Growth) → IsFacts facts → IsOpenCell facts row col → AllLines facts old.unvisited → ((r c : ℕ) → HasCell old.cells r c → ⊥)
+    → ((line : LineId) → HasName old.waiting line → ⊥) → TakesIn row col old new → IsGrown facts row col new
 grown_first facts row col old new is o all no_cell no_line t = record {
   begins = (t.cells row col).1 (inr (refl, refl));
   chained = λ r c h. elim ((t.cells r c).0 h) [
@@ -97,7 +100,7 @@ grown_first facts row col old new is o all no_cell no_line t = record {
   inside = λ line un. let U : Lines → Type 0 = λ names. HasName names line in (all line).0 (subst U t.unvisited un);
 }
 
-pub grown_more : (facts : List (List ℕ)) (row col r c : ℕ) (old new : Growth) → IsChained facts row col r c → TakesIn r c old new → IsGrown facts row col old → IsGrown facts row col new
+pub grown_more : (facts : Masks) (row col r c : ℕ) (old new : Growth) → IsChained facts row col r c → TakesIn r c old new → IsGrown facts row col old → IsGrown facts row col new
 grown_more facts row col r c old new chain t g = record {
   begins = (t.cells row col).1 (inl g.begins);
   chained = λ s d h. elim ((t.cells s d).0 h) [
@@ -112,7 +115,10 @@ grown_more facts row col r c old new chain t g = record {
       ]);
   reached = λ line w.
       elim ((t.waiting line).0 w) [
-        | inl was ↦ let old_reach = g.reached line was in (rw t.unvisited old_reach.0, record { row = old_reach.1.row; col = old_reach.1.col; has = (t.cells old_reach.1.row old_reach.1.col).1 (inl old_reach.1.has); on_line = old_reach.1.on_line })
+        | inl was ↦ let old_reach = g.reached line was in (
+          rw t.unvisited old_reach.0,
+          record { row = old_reach.1.row; col = old_reach.1.col; has = (t.cells old_reach.1.row old_reach.1.col).1 (inl old_reach.1.has); on_line = old_reach.1.on_line },
+        )
         | inr p ↦ (rw t.unvisited p.0, record { row = r; col = c; has = (t.cells r c).1 (inr (refl, refl)); on_line = p.1 })
       ];
   visited = λ s d line on un o.
@@ -121,13 +127,14 @@ grown_more facts row col r c old new chain t g = record {
 }
 
 -- an open cell of a line that waits is chained
-pub waiting_chained : (facts : List (List ℕ)) (row col r c : ℕ) (growth : Growth) (line : LineId) → IsGrown facts row col growth → HasName growth.waiting line → IsOnLine line r c → IsOpenCell facts r c → IsChained facts row col r c
+pub waiting_chained : (facts : Masks) (row col r c : ℕ) (growth : Growth) (line : LineId) → IsGrown facts row col growth → HasName growth.waiting line → IsOnLine line r c → IsOpenCell facts r c
+    → IsChained facts row col r c
 waiting_chained facts row col r c growth line g w on o =
     let reach = (g.reached line w).1 in
     goes_on reach.row reach.col r c (g.chained reach.row reach.col reach.has) (on_one_line line.axis line.at reach.row reach.col r c reach.on_line on) o
 
 -- a line gathered up to one of its places
-pub record Gathering (facts : List (List ℕ)) (line : LineId) (first now : Growth) (count : ℕ) : Type 0 where
+pub record Gathering (facts : Masks) (line : LineId) (first now : Growth) (count : ℕ) : Type 0 where
   pub grown : (row col : ℕ) → IsGrown facts row col first → IsGrown facts row col now
   pub here : (k : ℕ) → k < count → IsOpenCell facts (row_on line.axis line.at k) (col_on line.axis line.at k) → HasCell now.cells (row_on line.axis line.at k) (col_on line.axis line.at k)
   pub waits : HasName now.waiting line
@@ -137,7 +144,8 @@ place_is : (line : LineId) (i row col : ℕ) → row ≡ row_on line.axis line.a
 place_is line i row col e f =
     subst (λ (x : ℕ). IsOnLine line x col) (sym e) (subst (λ (y : ℕ). IsOnLine line (row_on line.axis line.at i) y) (sym f) (place_on line.axis line.at i))
 
-pub gathered_open : (facts : List (List ℕ)) (line : LineId) (first old new : Growth) (i row col : ℕ) → row ≡ row_on line.axis line.at i → col ≡ col_on line.axis line.at i → IsOpenCell facts row col → TakesIn row col old new → Gathering facts line first old i → Gathering facts line first new (i + 1)
+pub gathered_open : (facts : Masks) (line : LineId) (first old new : Growth) (i row col : ℕ) → row ≡ row_on line.axis line.at i → col ≡ col_on line.axis line.at i → IsOpenCell facts row col
+    → TakesIn row col old new → Gathering facts line first old i → Gathering facts line first new (i + 1)
 gathered_open facts line first old new i row col e f o t g = record {
   grown = λ r c was.
       let grown_old = g.grown r c was in
@@ -149,7 +157,8 @@ gathered_open facts line first old new i row col e f o t g = record {
   unvisited = t.unvisited ∙ g.unvisited;
 }
 
-pub gathered_shut : (facts : List (List ℕ)) (line : LineId) (first old : Growth) (i row col : ℕ) → row ≡ row_on line.axis line.at i → col ≡ col_on line.axis line.at i → (IsOpenCell facts row col → ⊥) → Gathering facts line first old i → Gathering facts line first old (i + 1)
+pub gathered_shut : (facts : Masks) (line : LineId) (first old : Growth) (i row col : ℕ) → row ≡ row_on line.axis line.at i → col ≡ col_on line.axis line.at i → (IsOpenCell facts row col → ⊥)
+    → Gathering facts line first old i → Gathering facts line first old (i + 1)
 gathered_shut facts line first old i row col e f n g = record {
   grown = g.grown;
   here = below_next (λ k. IsOpenCell facts (row_on line.axis line.at k) (col_on line.axis line.at k) → HasCell old.cells (row_on line.axis line.at k) (col_on line.axis line.at k)) i
@@ -160,7 +169,7 @@ gathered_shut facts line first old i row col e f n g = record {
   unvisited = g.unvisited;
 }
 
-pub grown_left : (facts : List (List ℕ)) (row col : ℕ) (line : LineId) (old new : Growth) → HasOpenCellsOf facts line old.cells → Leaves line old new → IsGrown facts row col old → IsGrown facts row col new
+pub grown_left : (facts : Masks) (row col : ℕ) (line : LineId) (old new : Growth) → HasOpenCellsOf facts line old.cells → Leaves line old new → IsGrown facts row col old → IsGrown facts row col new
 grown_left facts row col line old new all l g =
     let H : (r c : ℕ) → List ℕ → Type 0 = λ r c cells. HasCell cells r c in
     record {
@@ -179,17 +188,21 @@ grown_left facts row col line old new all l g =
     }
 
 -- where no line waits, all cells that are chained are there
-closed_step : (facts : List (List ℕ)) (row col r c s d : ℕ) (growth : Growth) (line : LineId) → IsGrown facts row col growth → ((other : LineId) → HasName growth.waiting other → ⊥) → HasCell growth.cells r c → IsOnLine line r c → IsOnLine line s d → IsOpenCell facts s d → HasCell growth.cells s d
+closed_step : (facts : Masks) (row col r c s d : ℕ) (growth : Growth) (line : LineId) → IsGrown facts row col growth → ((other : LineId) → HasName growth.waiting other → ⊥) → HasCell growth.cells r c
+    → IsOnLine line r c → IsOnLine line s d → IsOpenCell facts s d → HasCell growth.cells s d
 closed_step facts row col r c s d growth line g none h on there o =
     g.visited s d line there (λ un. none line (g.waits r c line h on un)) o
 
-by_share : (facts : List (List ℕ)) (row col r c s d : ℕ) (growth : Growth) → IsGrown facts row col growth → ((other : LineId) → HasName growth.waiting other → ⊥) → HasCell growth.cells r c → ShareLine r c s d → IsOpenCell facts s d → HasCell growth.cells s d
+by_share : (facts : Masks) (row col r c s d : ℕ) (growth : Growth) → IsGrown facts row col growth → ((other : LineId) → HasName growth.waiting other → ⊥) → HasCell growth.cells r c → ShareLine r c s d
+    → IsOpenCell facts s d → HasCell growth.cells s d
 by_share facts row col r c s d growth g none h (inl e) o = closed_step facts row col r c s d growth (line_named Across r) g none h refl (sym e) o
 by_share facts row col r c s d growth g none h (inr e) o = closed_step facts row col r c s d growth (line_named Down c) g none h refl (sym e) o
 
-all_chained : (facts : List (List ℕ)) (row col r c : ℕ) (growth : Growth) → IsGrown facts row col growth → ((other : LineId) → HasName growth.waiting other → ⊥) → IsChained facts row col r c → HasCell growth.cells r c
+all_chained : (facts : Masks) (row col r c : ℕ) (growth : Growth) → IsGrown facts row col growth → ((other : LineId) → HasName growth.waiting other → ⊥) → IsChained facts row col r c
+    → HasCell growth.cells r c
 all_chained facts row col _ _ growth g none (begins o) = g.begins
 all_chained facts row col _ _ growth g none (goes_on r c s d chain share o) = by_share facts row col r c s d growth g none (all_chained facts row col r c growth g none chain) share o
 
-pub grown_whole : (facts : List (List ℕ)) (row col : ℕ) (growth : Growth) → IsGrown facts row col growth → ((other : LineId) → HasName growth.waiting other → ⊥) → (r c : ℕ) → HasCell growth.cells r c ↔ IsChained facts row col r c
+pub grown_whole : (facts : Masks) (row col : ℕ) (growth : Growth) → IsGrown facts row col growth → ((other : LineId) → HasName growth.waiting other → ⊥) → (r c : ℕ)
+    → HasCell growth.cells r c ↔ IsChained facts row col r c
 grown_whole facts row col growth g none r c = (g.chained r c, all_chained facts row col r c growth g none)

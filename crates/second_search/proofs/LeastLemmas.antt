@@ -5,26 +5,27 @@ use Rattle.std.specs.Int.{bit_not, w16}
 use Rattle.std.proofs.lemmas.Bool.{cases_eq, cases_lt}
 use Rattle.std.proofs.lemmas.List.{get_or_past}
 use Rattle.std.proofs.Math.Pow.{pow_mono}
+use Rattle.line_settle.specs.Masks.{Masks}
 use Rattle.picture.specs.declared.line_id.Axis.{Axis}
 use Rattle.picture.specs.declared.line_id.Axis.TheVariants.{Across, Down}
 use Rattle.picture.specs.declared.line_id.LineId.{LineId}
 use Rattle.picture.specs.Rows.{width_of, row_at, cell_at, with_cell, line_of, lines_along, HasLine}
-use Rattle.picture.specs.BitLaws.{bit_below, bit_or_not, fewer_le, no_bit, power_has}
+use Rattle.picture.proofs.BitLaws.{bit_below, bit_or_not, fewer_le, no_bit, power_has}
 use Rattle.clues.specs.declared.block.Block.{Block}
 use Rattle.clues.specs.ClueBook.{Clues, clue_at}
-use Rattle.line_settle.specs.Fitting.{CanFit, Forces, CanHave}
+use Rattle.line_settle.specs.Fits.{CanFit, Forces, CanHave}
 use Rattle.line_settle.specs.FactSets.{IsClosed, IsClosedLine, IsFacts, IsLeast, IsWithin, Leaves, SameShape, col_on, row_on}
-use Rattle.line_settle.specs.FitLaws.{tighter_can_fit, tighter_have, within_tighter}
-use Rattle.line_settle.specs.GridLaws.{cell_on, same_has_line, shape_sym, shape_trans, shape_with_cell}
-use Rattle.line_settle.specs.MaskLaws.{without_bit}
-use Rattle.fixpoint.specs.Closing.{EachFits, HasDeadLine}
-use Rattle.fixpoint.specs.ClosingLaws.{within_refl, within_trans}
+use Rattle.line_settle.proofs.FitLaws.{tighter_can_fit, tighter_have, within_tighter}
+use Rattle.line_settle.proofs.GridLaws.{cell_on, same_has_line, shape_sym, shape_trans, shape_with_cell}
+use Rattle.line_settle.proofs.MaskLaws.{without_bit}
+use Rattle.fixpoint.specs.ClosedFacts.{EachFits, HasDeadLine}
+use Rattle.fixpoint.proofs.ClosingLaws.{within_refl, within_trans}
 use Rattle.trail.proofs.GridLemmas.{both_or_not, set_each}
 use Rattle.second_search.proofs.GrowLemmas.{line_named}
 use Rattle.second_search.proofs.PickLemmas.{find_below, same_list, Below, OrNot, some_below}
 use Rattle.second_search.proofs.WeightLemmas.{weight, weight_with_cell}
 use Rattle.clues.specs.Clue.{block, clue_of}
-use Rattle.line_settle.specs.AlongLaws.{place_on}
+use Rattle.line_settle.proofs.AlongLaws.{place_on}
 
 -- ---- equal or not
 
@@ -79,7 +80,8 @@ some_list (m ∷ ms) P by small =
       | inr none ↦ inr (λ line a p. no_list m ms P (small 0) none line a p)
     ]
   where
-    no_list : (m : ℕ) (ms : List ℕ) (P : List ℕ → Type 0) → m < 2 ^ 16 → ((k : ℕ) → k < 16 → IsBitSet m k × ((line : List ℕ) × (IsAmong ms line × P (k ∷ line))) → ⊥) → (line : List ℕ) → IsAmong (m ∷ ms) line → P line → ⊥
+    no_list : (m : ℕ) (ms : List ℕ) (P : List ℕ → Type 0) → m < 2 ^ 16 → ((k : ℕ) → k < 16 → IsBitSet m k × ((line : List ℕ) × (IsAmong ms line × P (k ∷ line))) → ⊥) → (line : List ℕ)
+        → IsAmong (m ∷ ms) line → P line → ⊥
     no_list m ms P l none [] a p = absurd (let e = a.same_length in omega arith)
     no_list m ms P l none (k ∷ line) a p =
         let s = a.keeps 0 (omega arith) in
@@ -107,7 +109,7 @@ have_or_not clue left i k small = elim (cases_lt i (length left)) [
   ]
 ]
 
-small_line : (facts : List (List ℕ)) (line : LineId) → IsFacts facts → AreSmall (line_of facts line)
+small_line : (facts : Masks) (line : LineId) → IsFacts facts → AreSmall (line_of facts line)
 small_line facts line is i =
     let e = cell_on facts line i in
     let m = is.masks (row_on line.axis line.at i) (col_on line.axis line.at i) in
@@ -116,7 +118,7 @@ small_line facts line is i =
 -- ---- all lines
 
 -- a line has a property, or none has
-pub some_line : (facts : List (List ℕ)) (P : LineId → Type 0) → ((line : LineId) → P line ⊎ (P line → ⊥))
+pub some_line : (facts : Masks) (P : LineId → Type 0) → ((line : LineId) → P line ⊎ (P line → ⊥))
     → ((line : LineId) × (HasLine facts line × P line)) ⊎ ((line : LineId) → HasLine facts line → P line → ⊥)
 some_line facts P by = elim (along Across) [
   | inl found ↦ inl (line_named Across found.0, found.1)
@@ -129,7 +131,8 @@ some_line facts P by = elim (along Across) [
     along : (axis : Axis) → ((at : ℕ) × ((at < lines_along axis facts) × P (line_named axis at))) ⊎ ((at : ℕ) → at < lines_along axis facts → P (line_named axis at) → ⊥)
     along axis = find_below (λ at. P (line_named axis at)) (λ at. by (line_named axis at)) (lines_along axis facts)
 
-    none : ((at : ℕ) → at < lines_along Across facts → P (line_named Across at) → ⊥) → ((at : ℕ) → at < lines_along Down facts → P (line_named Down at) → ⊥) → (axis : Axis) (at : ℕ) → at < lines_along axis facts → P (line_named axis at) → ⊥
+    none : ((at : ℕ) → at < lines_along Across facts → P (line_named Across at) → ⊥) → ((at : ℕ) → at < lines_along Down facts → P (line_named Down at) → ⊥) → (axis : Axis) (at : ℕ)
+        → at < lines_along axis facts → P (line_named axis at) → ⊥
     none r c Across at l p = r at l p
     none r c Down at l p = c at l p
 
@@ -201,18 +204,18 @@ facts_like a b is s masks =
     }
 
 -- facts with a smaller mask in a cell are facts
-lower : (facts : List (List ℕ)) (row col x : ℕ) → row < length facts → col < length (row_at facts row) → x ≤ cell_at facts row col → (r c : ℕ) → cell_at (with_cell facts row col x) r c ≤ cell_at facts r c
+lower : (facts : Masks) (row col x : ℕ) → row < length facts → col < length (row_at facts row) → x ≤ cell_at facts row col → (r c : ℕ) → cell_at (with_cell facts row col x) r c ≤ cell_at facts r c
 lower facts row col x h wide le = set_each facts row col x h wide (λ r c y. y ≤ cell_at facts r c) le (λ r c d. omega arith)
 
-pub facts_lower : (facts : List (List ℕ)) (row col x : ℕ) → IsFacts facts → row < length facts → col < width_of facts → x ≤ cell_at facts row col → IsFacts (with_cell facts row col x)
+pub facts_lower : (facts : Masks) (row col x : ℕ) → IsFacts facts → row < length facts → col < width_of facts → x ≤ cell_at facts row col → IsFacts (with_cell facts row col x)
 facts_lower facts row col x is h w le =
     let small = lower facts row col x h (omega arith) le in
     facts_like facts (with_cell facts row col x) is (shape_with_cell facts row col x) (λ i j. (let a = is.masks i j in let b = small i j in omega arith))
 
-abbrev with_less : List (List ℕ) → ℕ → ℕ → ℕ → List (List ℕ)
+abbrev with_less : Masks → ℕ → ℕ → ℕ → List (List ℕ)
 with_less facts row col k = with_cell facts row col (less (cell_at facts row col) k)
 
-module _ (facts : List (List ℕ)) (row col k : ℕ) (is : IsFacts facts) (h : row < length facts) (w : col < width_of facts) (l : k < 16) where
+module _ (facts : Masks) (row col k : ℕ) (is : IsFacts facts) (h : row < length facts) (w : col < width_of facts) (l : k < 16) where
   wide : col < length (row_at facts row)
   wide = let e = is.rectangular row h in omega arith
 
@@ -226,12 +229,14 @@ module _ (facts : List (List ℕ)) (row col k : ℕ) (is : IsFacts facts) (h : r
       (λ r c d s n. s) r c
 
   facts_then : IsFacts (with_less facts row col k)
-  facts_then = facts_lower facts row col (less (cell_at facts row col) k) is h w (fewer_le (less (cell_at facts row col) k) (cell_at facts row col) (λ j t. ((has_less (cell_at facts row col) k (is.masks row col) l j).0 t).0))
+  facts_then = facts_lower facts row col (less (cell_at facts row col) k) is h w
+      (fewer_le (less (cell_at facts row col) k) (cell_at facts row col) (λ j t. ((has_less (cell_at facts row col) k (is.masks row col) l j).0 t).0))
 
   within_then : IsWithin facts (with_less facts row col k)
   within_then = record {
     same_shape = shape;
-    leaves = λ r c j. set_each facts row col (less (cell_at facts row col) k) h wide (λ r c m. IsBitSet m j → Leaves facts r c j) (λ s. ((has_less (cell_at facts row col) k (is.masks row col) l j).0 s).0) (λ r c d s. s) r c;
+    leaves = λ r c j. set_each facts row col (less (cell_at facts row col) k) h wide (λ r c m. IsBitSet m j → Leaves facts r c j)
+        (λ s. ((has_less (cell_at facts row col) k (is.masks row col) l j).0 s).0) (λ r c d s. s) r c;
   }
 
   lighter_then : Leaves facts row col k → weight (with_less facts row col k) < weight facts
@@ -243,16 +248,17 @@ module _ (facts : List (List ℕ)) (row col k : ℕ) (is : IsFacts facts) (h : r
 -- ---- closed facts
 
 -- facts that lie inside all closed ones over others
-record LieInside (clues : Clues) (base facts : List (List ℕ)) : Type 0 where
+record LieInside (clues : Clues) (base facts : Masks) : Type 0 where
   are_facts : IsFacts facts
   holds : IsWithin base facts
-  inside : (others : List (List ℕ)) → IsClosed clues others → IsWithin base others → IsWithin facts others
+  inside : (others : Masks) → IsClosed clues others → IsWithin base others → IsWithin facts others
 
-abbrev HasLeast : Clues → List (List ℕ) → Type 0
-HasLeast clues base = (settled : List (List ℕ)) × (IsFacts settled × IsLeast clues base settled)
+abbrev HasLeast : Clues → Masks → Type 0
+HasLeast clues base = (settled : Masks) × (IsFacts settled × IsLeast clues base settled)
 
 -- what a line forces can be excluded
-force_one : (clues : Clues) (base facts : List (List ℕ)) (line : LineId) (i k : ℕ) → LieInside clues base facts → HasLine facts line → i < length (line_of facts line) → k < 16 → IsForced (clue_at clues line) (line_of facts line) i k
+force_one : (clues : Clues) (base facts : Masks) (line : LineId) (i k : ℕ) → LieInside clues base facts → HasLine facts line → i < length (line_of facts line) → k < 16
+    → IsForced (clue_at clues line) (line_of facts line) i k
     → (more : List (List ℕ)) × ((weight more < weight facts) × LieInside clues base more)
 force_one clues base facts line i k a has l small forced =
     let is = a.are_facts in
@@ -272,7 +278,8 @@ force_one clues base facts line i k a has l small forced =
               record {
                 same_shape = shape_trans (shape_sym (shape facts row col k is place.0 place.1 small)) in_facts.same_shape;
                 leaves = λ r c j t. left_then facts row col k is place.0 place.1 small r c j (in_facts.leaves r c j t) (λ e.
-                    let here : Leaves others row col k = subst (λ (x : ℕ). Leaves others row col x) e.1.1 (subst (λ (x : ℕ). Leaves others row x j) e.1.0 (subst (λ (x : ℕ). Leaves others x c j) e.0 t)) in
+                    let here : Leaves others row col k =
+                    subst (λ (x : ℕ). Leaves others row col x) e.1.1 (subst (λ (x : ℕ). Leaves others row x j) e.1.0 (subst (λ (x : ℕ). Leaves others x c j) e.0 t)) in
                     let on : IsBitSet (get_or (line_of others line) i 0) k = rw (cell_on others line i) here in
                     let have = closed line (same_has_line facts others line in_facts.same_shape has) i k on in
                     forced.forces (tighter_have (clue_at clues line) (line_of facts line) (line_of others line) (within_tighter facts others in_facts line) i k have));
@@ -281,7 +288,7 @@ force_one clues base facts line i k a has l small forced =
       ),
     )
 
-settle : (n : ℕ) (clues : Clues) (base facts : List (List ℕ)) → weight facts < n → LieInside clues base facts → HasLeast clues base
+settle : (n : ℕ) (clues : Clues) (base facts : Masks) → weight facts < n → LieInside clues base facts → HasLeast clues base
 settle zero clues base facts l a = absurd (omega arith)
 settle (suc n) clues base facts l a =
     let P : LineId → Type 0 = λ line. ForcesSome (clue_at clues line) (line_of facts line) in
@@ -303,19 +310,20 @@ settle (suc n) clues base facts l a =
       )
     ]
 
-pub least_is_there : (clues : Clues) (facts : List (List ℕ)) → IsFacts facts → HasLeast clues facts
+pub least_is_there : (clues : Clues) (facts : Masks) → IsFacts facts → HasLeast clues facts
 least_is_there clues facts is = settle (suc (weight facts)) clues facts facts (omega arith) (record { are_facts = is; holds = within_refl facts; inside = λ others closed w. w })
 
 -- ---- lines that no list fits
 
-pub fits_or_dead : (clues : Clues) (base settled : List (List ℕ)) → IsFacts settled → IsLeast clues base settled → EachFits clues settled ⊎ HasDeadLine clues base
+pub fits_or_dead : (clues : Clues) (base settled : Masks) → IsFacts settled → IsLeast clues base settled → EachFits clues settled ⊎ HasDeadLine clues base
 fits_or_dead clues base settled is least =
     let P : LineId → Type 0 = λ line. CanFit (clue_at clues line) (line_of settled line) → ⊥ in
     elim (some_line settled P unfit_or_not) [
       | inl found ↦ inr (record {
         line = found.0;
         has = same_has_line settled base found.0 (shape_sym least.holds.same_shape) found.1.0;
-        dead = λ others closed w fit. found.1.1 (tighter_can_fit (clue_at clues found.0) (line_of settled found.0) (line_of others found.0) (within_tighter settled others (least.least others closed w) found.0) fit);
+        dead = λ others closed w fit.
+            found.1.1 (tighter_can_fit (clue_at clues found.0) (line_of settled found.0) (line_of others found.0) (within_tighter settled others (least.least others closed w) found.0) fit);
       })
       | inr none ↦ inl (λ line has. elim (fit_or_not (clue_at clues line) (line_of settled line) (small_line settled line is)) [
         | inl fit ↦ fit

@@ -8,6 +8,7 @@ pub mod RowLemmas
 pub mod PickLemmas
 pub mod PartLemmas
 pub mod StayLemmas
+pub mod DrawLemmas
 pub mod ComingLemmas
 pub mod CountLemmas
 pub mod KeepLemmas

@@ -9,41 +9,44 @@ use Rattle.picture.specs.declared.picture.TheConstants.{MAX_COLOURS, MAX_SIDE}
 use Rattle.picture.specs.CellSet.{IsCellSet, HasCell}
 use Rattle.picture.specs.Laws.{CellsAreMembers}
 use Rattle.picture.specs.Picture.{IsPicture}
-use Rattle.picture.specs.Rows.{width_of, row_at, cell_at, line_of, HasLine}
+use Rattle.picture.specs.Rows.{width_of, row_at, cell_at, line_of, HasLine, Rows}
 use Rattle.clues.specs.Clue.{clue_of}
 use Rattle.clues.specs.ClueBook.{Clues}
 use Rattle.clues.specs.Laws.{BooksAreTheirClues, CluesAreOfLines, IsOnLine}
 use Rattle.clues.specs.Solution.{IsOther, Solves}
 use Rattle.line_settle.specs.FactSets.{SameShape}
-use Rattle.line_settle.specs.Masks.{IsOnly}
-use Rattle.line_settle.specs.SolutionLaws.{solved_shape}
-use Rattle.fixpoint.specs.Filling.{Fills, only}
+use Rattle.line_settle.specs.Masks.{IsOnly, Masks}
+use Rattle.line_settle.proofs.SolutionLaws.{solved_shape}
+use Rattle.fixpoint.specs.Fillings.{Fills, only}
 use Rattle.fixpoint.specs.Laws.{OnlyIsClosed}
 use Rattle.second_search.specs.Laws.{FillingsAreOfFacts, PartsAreApart, PartsDecide}
 use Rattle.second_search.specs.Parts.{AreParts, GoesThrough, IsBefore, IsOpenCell, IsOtherFilling, IsPart, IsScene, goes_on, part_at, picked}
 use Rattle.second_search.proofs.ChainLemmas.{chain_back, chain_end, chain_on, none_has_two}
 use Rattle.second_search.proofs.GrowLemmas.{on_one_line}
 use Rattle.second_search.proofs.PickLemmas.{clue_known, differing_cell, find_below, off_part, on_cells, outside_is_0, rect_like, same_along, same_clues, same_count, shape_of_picked}
-use Rattle.line_settle.specs.GridLaws.{shape_sym, shape_trans, same_line_length}
-use Rattle.picture.specs.BitLaws.{bit_or_not}
+use Rattle.line_settle.proofs.GridLaws.{shape_sym, shape_trans, same_line_length}
+use Rattle.picture.proofs.BitLaws.{bit_or_not}
 use Rattle.trail.proofs.GridLemmas.{row_there}
 
 -- ---- parts
 
 -- a part has with a cell each open cell of a line through it
-pub whole_lines : (facts : List (List ℕ)) (cells : List ℕ) (line : LineId) (row col : ℕ) → IsPart facts cells → GoesThrough line cells → IsOnLine line row col → IsOpenCell facts row col → HasCell cells row col
+pub whole_lines : (facts : Masks) (cells : List ℕ) (line : LineId) (row col : ℕ) → IsPart facts cells → GoesThrough line cells → IsOnLine line row col → IsOpenCell facts row col
+    → HasCell cells row col
 whole_lines facts cells line row col p t on o =
     (p.from.members row col).1 (goes_on t.row t.col row col ((p.from.members t.row t.col).0 t.has) (on_one_line line.axis line.at t.row t.col row col t.on_line on) o)
 
-pub part_open : (facts : List (List ℕ)) (cells : List ℕ) (row col : ℕ) → IsPart facts cells → HasCell cells row col → IsOpenCell facts row col
+pub part_open : (facts : Masks) (cells : List ℕ) (row col : ℕ) → IsPart facts cells → HasCell cells row col → IsOpenCell facts row col
 part_open facts cells row col p h = chain_end facts p.row p.col row col ((p.from.members row col).0 h)
 
 -- of two parts that share a cell neither begins before the other
-no_earlier : (facts : List (List ℕ)) (one other : List ℕ) (row col : ℕ) (p : IsPart facts one) (q : IsPart facts other) → HasCell one row col → HasCell other row col → IsBefore p.row p.col q.row q.col → ⊥
+no_earlier : (facts : Masks) (one other : List ℕ) (row col : ℕ) (p : IsPart facts one) (q : IsPart facts other) → HasCell one row col → HasCell other row col → IsBefore p.row p.col q.row q.col → ⊥
 no_earlier facts one other row col p q h k before =
-    q.from.first p.row p.col ((q.from.members p.row p.col).1 (chain_on facts q.row q.col row col p.row p.col ((q.from.members row col).0 k) (chain_back facts p.row p.col row col ((p.from.members row col).0 h)))) before
+    q.from.first p.row p.col
+    ((q.from.members p.row p.col).1 (chain_on facts q.row q.col row col p.row p.col ((q.from.members row col).0 k) (chain_back facts p.row p.col row col ((p.from.members row col).0 h)))) before
 
-pub one_part_each : (facts parts : List (List ℕ)) → AreParts facts parts → (i j row col : ℕ) → i < length parts → j < length parts → HasCell (part_at parts i) row col → HasCell (part_at parts j) row col → i ≡ j
+pub one_part_each : (facts : Masks) (parts : List (List ℕ)) → AreParts facts parts → (i j row col : ℕ) → i < length parts → j < length parts → HasCell (part_at parts i) row col
+    → HasCell (part_at parts j) row col → i ≡ j
 one_part_each facts parts a i j row col l m h k =
     let p = a.each i l in
     let q = a.each j m in
@@ -56,7 +59,8 @@ one_part_each facts parts a i j row col l m h k =
     ]
 
 -- whether a line goes through one of the cells
-through_at : (cells : List ℕ) (axis : Axis) (at : ℕ) → CellsAreMembers → IsCellSet cells → GoesThrough (record { axis = axis; at = at }) cells ⊎ (GoesThrough (record { axis = axis; at = at }) cells → ⊥)
+through_at : (cells : List ℕ) (axis : Axis) (at : ℕ) → CellsAreMembers → IsCellSet cells
+    → GoesThrough (record { axis = axis; at = at }) cells ⊎ (GoesThrough (record { axis = axis; at = at }) cells → ⊥)
 through_at cells Across at members set = elim (find_below (λ c. HasCell cells at c) (λ c. members.decided cells at c) MAX_SIDE) [
   | inl found ↦ inl (record { row = at; col = found.0; has = found.1.1; on_line = refl })
   | inr none ↦ inr (λ t.
@@ -74,7 +78,8 @@ through_or_not cells line members set = through_at cells line.axis line.at membe
 -- ---- pictures
 
 -- a picked grid of two pictures is a picture
-pub picked_picture : (cells : List ℕ) (one other : List (List ℕ)) → ((row col : ℕ) → cell_at one row col < MAX_COLOURS) → IsPicture other → ((row col : ℕ) → HasCell cells row col → cell_at (picked cells one other) row col ≡ cell_at one row col) → IsPicture (picked cells one other)
+pub picked_picture : (cells : List ℕ) (one : List (List ℕ)) (other : Rows) → ((row col : ℕ) → cell_at one row col < MAX_COLOURS) → IsPicture other
+    → ((row col : ℕ) → HasCell cells row col → cell_at (picked cells one other) row col ≡ cell_at one row col) → IsPicture (picked cells one other)
 picked_picture cells one other few q on =
     let t = shape_of_picked cells one other q.rectangular in
     let first : width_of (picked cells one other) ≡ width_of other = t.each 0 in
@@ -91,7 +96,7 @@ picked_picture cells one other few q on =
     }
 
 -- a picture with the clues solves what it has itself
-pub solves_itself : (clues : Clues) (givens : List ℕ) (facts picture : List (List ℕ)) → IsScene clues givens facts picture → Solves clues (HasCell givens) picture picture
+pub solves_itself : (clues : Clues) (givens : List ℕ) (facts : Masks) (picture : Rows) → IsScene clues givens facts picture → Solves clues (HasCell givens) picture picture
 solves_itself clues givens facts picture s = record {
   is_picture = s.is_picture;
   rows = refl;
@@ -101,7 +106,8 @@ solves_itself clues givens facts picture s = record {
 }
 
 -- a cell at which another picture differs is open
-pub differs_open : (clues : Clues) (givens : List ℕ) (facts picture other : List (List ℕ)) (row col : ℕ) → IsScene clues givens facts picture → Solves clues (HasCell givens) picture other → (cell_at other row col ≡ cell_at picture row col → ⊥) → IsOpenCell facts row col
+pub differs_open : (clues : Clues) (givens : List ℕ) (facts : Masks) (picture other : Rows) (row col : ℕ) → IsScene clues givens facts picture → Solves clues (HasCell givens) picture other
+    → (cell_at other row col ≡ cell_at picture row col → ⊥) → IsOpenCell facts row col
 differs_open clues givens facts picture other row col s o d =
     elim (cases_lt col (length (row_at other row))) [
       | inl l ↦ record {
@@ -115,14 +121,16 @@ differs_open clues givens facts picture other row col s o d =
     ]
 
 -- off a part, a line through it has no cell at which another picture differs
-pub same_off_part : (clues : Clues) (givens : List ℕ) (facts picture other : List (List ℕ)) (cells : List ℕ) (line : LineId) (row col : ℕ) → IsScene clues givens facts picture → IsPart facts cells → Solves clues (HasCell givens) picture other → GoesThrough line cells → IsOnLine line row col → (HasCell cells row col → ⊥) → cell_at other row col ≡ cell_at picture row col
+pub same_off_part : (clues : Clues) (givens : List ℕ) (facts : Masks) (picture other : Rows) (cells : List ℕ) (line : LineId) (row col : ℕ) → IsScene clues givens facts picture → IsPart facts cells
+    → Solves clues (HasCell givens) picture other → GoesThrough line cells → IsOnLine line row col → (HasCell cells row col → ⊥) → cell_at other row col ≡ cell_at picture row col
 same_off_part clues givens facts picture other cells line row col s p o t on n = elim (cases_eq (cell_at other row col) (cell_at picture row col)) [
   | inl e ↦ e
   | inr d ↦ absurd (n (whole_lines facts cells line row col p t on (differs_open clues givens facts picture other row col s o d)))
 ]
 
 -- an open cell lies in the picture
-pub open_in_picture : (clues : Clues) (givens : List ℕ) (facts picture : List (List ℕ)) (row col : ℕ) → IsScene clues givens facts picture → IsOpenCell facts row col → (row < length picture) × (col < width_of picture)
+pub open_in_picture : (clues : Clues) (givens : List ℕ) (facts : Masks) (picture : Rows) (row col : ℕ) → IsScene clues givens facts picture → IsOpenCell facts row col
+    → (row < length picture) × (col < width_of picture)
 open_in_picture clues givens facts picture row col s o =
     let near : col < length (row_at picture row) = elim (cases_lt col (length (row_at facts row))) [
       | inl l ↦ omega arith
@@ -132,7 +140,8 @@ open_in_picture clues givens facts picture row col s o =
     (l, (let w = s.is_picture.rectangular row l in omega arith))
 
 -- a cell of the picture that is not open has its colour alone left
-pub settled_there : (clues : Clues) (givens : List ℕ) (facts picture : List (List ℕ)) (row col : ℕ) → IsScene clues givens facts picture → row < length picture → col < width_of picture → (IsOpenCell facts row col → ⊥) → IsOnly (cell_at facts row col) (cell_at picture row col)
+pub settled_there : (clues : Clues) (givens : List ℕ) (facts : Masks) (picture : Rows) (row col : ℕ) → IsScene clues givens facts picture → row < length picture → col < width_of picture
+    → (IsOpenCell facts row col → ⊥) → IsOnly (cell_at facts row col) (cell_at picture row col)
 settled_there clues givens facts picture row col s l m n =
     let own = s.sound.leave picture (solves_itself clues givens facts picture s) row col (let w = s.is_picture.rectangular row l in omega arith) in
     λ j. (
@@ -145,7 +154,8 @@ settled_there clues givens facts picture row col s l m n =
 
 -- ---- another picture on one part
 
-pub one_filling : CluesAreOfLines → BooksAreTheirClues → CellsAreMembers → (clues : Clues) (givens : List ℕ) (facts picture other : List (List ℕ)) (cells : List ℕ) (row col : ℕ) → IsScene clues givens facts picture → IsPart facts cells → IsOther clues (HasCell givens) picture other
+pub one_filling : CluesAreOfLines → BooksAreTheirClues → CellsAreMembers → (clues : Clues) (givens : List ℕ) (facts : Masks) (picture other : Rows) (cells : List ℕ) (row col : ℕ)
+    → IsScene clues givens facts picture → IsPart facts cells → IsOther clues (HasCell givens) picture other
     → HasCell cells row col → (cell_at other row col ≡ cell_at picture row col → ⊥) → IsOtherFilling clues givens picture cells (picked cells other picture)
 one_filling of_lines books members clues givens facts picture other cells row col s p o h d =
     let new = picked cells other picture in
@@ -164,7 +174,8 @@ one_filling of_lines books members clues givens facts picture other cells row co
           let n = same_count new other like_other line.axis in
           let m = same_count new picture shape line.axis in
           ap clue_of same ∙ (clue_known of_lines clues other line o.solves.has_clues (omega arith) ∙ sym (clue_known of_lines clues picture line s.has_clues (omega arith)))
-      | inr none ↦ ap clue_of (same_along new picture line.axis line.at (sym (same_line_length new picture line shape)) (λ r c at. off r c (λ x. none (record { row = r; col = c; has = x; on_line = at }))))
+      | inr none ↦
+          ap clue_of (same_along new picture line.axis line.at (sym (same_line_length new picture line shape)) (λ r c at. off r c (λ x. none (record { row = r; col = c; has = x; on_line = at }))))
     ] in
     record {
       is_other = record {
@@ -180,16 +191,25 @@ one_filling of_lines books members clues givens facts picture other cells row co
       elsewhere = off;
     }
 
-pub some_filling : CluesAreOfLines → BooksAreTheirClues → CellsAreMembers → (clues : Clues) (givens : List ℕ) (facts picture parts : List (List ℕ)) → IsScene clues givens facts picture → AreParts facts parts
-    → ((other : List (List ℕ)) × IsOther clues (HasCell givens) picture other) ↔ ((i : ℕ) × ((i < length parts) × ((other : List (List ℕ)) × IsOtherFilling clues givens picture (part_at parts i) other)))
+pub some_filling : CluesAreOfLines → BooksAreTheirClues → CellsAreMembers → (clues : Clues) (givens : List ℕ) (facts : Masks) (picture : Rows) (parts : List (List ℕ))
+    → IsScene clues givens facts picture → AreParts facts parts
+    → ((other : Rows) × IsOther clues (HasCell givens) picture other) ↔ ((i : ℕ) × ((i < length parts) × ((other : Rows) × IsOtherFilling clues givens picture (part_at parts i) other)))
 some_filling of_lines books members clues givens facts picture parts s a = (
   (λ x.
       let other = x.0 in
       let cell = differing_cell other picture (solved_shape x.1.solves) x.1.differs in
       let row = cell.0 in
       let col = cell.1.0 in
-      let held = a.all row col (differs_open clues givens facts picture other row col s x.1.solves cell.1.1) in
-      (held.0, (held.1.0, (picked (part_at parts held.0) other picture, one_filling of_lines books members clues givens facts picture other (part_at parts held.0) row col s (a.each held.0 held.1.0) x.1 held.1.1 cell.1.1)))),
+      let held = a.all row col (differs_open clues givens facts picture other row col s x.1.solves cell.1.1) in (
+        held.0,
+        (
+          held.1.0,
+          (
+            picked (part_at parts held.0) other picture,
+            one_filling of_lines books members clues givens facts picture other (part_at parts held.0) row col s (a.each held.0 held.1.0) x.1 held.1.1 cell.1.1,
+          ),
+        ),
+      )),
   (λ x. (x.1.1.0, x.1.1.1.is_other)),
 )
 
@@ -220,8 +240,10 @@ facts_filled closed clues givens facts picture other cells s =
       (λ x. filled_back clues givens facts picture other cells s closed alone (shape_trans x.0.same_shape (shape_trans shape (shape_sym like))) on off x.0 x.1),
     )
   where
-    filled_back : (clues : Clues) (givens : List ℕ) (facts picture other : List (List ℕ)) (cells : List ℕ) → IsScene clues givens facts picture → OnlyIsClosed → (alone : List (List ℕ)) → SameShape other picture
-        → ((r c : ℕ) → HasCell cells r c → cell_at (picked cells facts (only picture)) r c ≡ cell_at facts r c) → ((r c : ℕ) → (HasCell cells r c → ⊥) → cell_at (picked cells facts (only picture)) r c ≡ cell_at (only picture) r c)
+    filled_back : (clues : Clues) (givens : List ℕ) (facts : Masks) (picture other : Rows) (cells : List ℕ) → IsScene clues givens facts picture → OnlyIsClosed → (alone : List (List ℕ))
+        → SameShape other picture
+        → ((r c : ℕ) → HasCell cells r c → cell_at (picked cells facts (only picture)) r c ≡ cell_at facts r c)
+        → ((r c : ℕ) → (HasCell cells r c → ⊥) → cell_at (picked cells facts (only picture)) r c ≡ cell_at (only picture) r c)
         → Fills clues (picked cells facts (only picture)) other → (other ≡ picture → ⊥) → IsOtherFilling clues givens picture cells other
     filled_back clues givens facts picture other cells s closed alone same on off fills d =
         let elsewhere : (r c : ℕ) → (HasCell cells r c → ⊥) → cell_at other r c ≡ cell_at picture r c = λ r c n.

@@ -9,7 +9,7 @@ use Rattle.picture.specs.declared.line_id.Axis.{Axis}
 use Rattle.picture.specs.declared.line_id.Axis.TheVariants.{Across, Down}
 use Rattle.picture.specs.declared.line_id.LineId.{LineId}
 use Rattle.picture.specs.CellSet.{HasCell}
-use Rattle.picture.specs.Rows.{width_of, row_at, cell_at, lines_along, line_along, line_of, HasLine}
+use Rattle.picture.specs.Rows.{width_of, row_at, cell_at, lines_along, line_along, line_of, HasLine, Rows}
 use Rattle.clues.specs.Clue.{clue_of}
 use Rattle.clues.specs.ClueBook.{Clues, clue_at, clues_of}
 use Rattle.clues.specs.Laws.{BooksAreTheirClues, CluesAreOfLines, IsAtPlace}
@@ -77,11 +77,11 @@ rect_like a b s rect i l =
 
 -- ---- picked grids
 
-row_of_picked : (cells : List ℕ) (one other : List (List ℕ)) (row : ℕ) → row < length other → row_at (picked cells one other) row ≡ picked_row cells one other row
+row_of_picked : (cells : List ℕ) (one : List (List ℕ)) (other : Rows) (row : ℕ) → row < length other → row_at (picked cells one other) row ≡ picked_row cells one other row
 unfolding picked
 row_of_picked cells one other row l = get_or-map-range_with_len (picked_row cells one other) 0 (length other) row row [] l (omega arith)
 
-pub shape_of_picked : (cells : List ℕ) (one other : List (List ℕ)) → IsRectangle other → SameShape (picked cells one other) other
+pub shape_of_picked : (cells : List ℕ) (one : List (List ℕ)) (other : Rows) → IsRectangle other → SameShape (picked cells one other) other
 unfolding picked
 shape_of_picked cells one other rect =
     let count = length-map-range_with_len (picked_row cells one other) 0 (length other) in
@@ -93,23 +93,25 @@ shape_of_picked cells one other rect =
       ];
     }
 
-cell_of_picked : (cells : List ℕ) (one other : List (List ℕ)) (row col : ℕ) → row < length other → col < width_of other → cell_at (picked cells one other) row col ≡ picked_cell cells one other row col
+cell_of_picked : (cells : List ℕ) (one : List (List ℕ)) (other : Rows) (row col : ℕ) → row < length other → col < width_of other
+    → cell_at (picked cells one other) row col ≡ picked_cell cells one other row col
 cell_of_picked cells one other row col l m =
     ap (λ (xs : List ℕ). get_or xs col 0) (row_of_picked cells one other row l) ∙ get_or-map-range_with_len (picked_cell cells one other row) 0 (width_of other) col col 0 m (omega arith)
 
-picked_on : (cells : List ℕ) (one other : List (List ℕ)) (row col : ℕ) → HasCell cells row col → picked_cell cells one other row col ≡ cell_at one row col
+picked_on : (cells : List ℕ) (one : List (List ℕ)) (other : Rows) (row col : ℕ) → HasCell cells row col → picked_cell cells one other row col ≡ cell_at one row col
 picked_on cells one other row col h = ap (λ (b : Bool). cond (not b) (cell_at one row col) (cell_at other row col)) (ne_eqb (bit_and (slice_index cells row) (2 ^ col)) 0 h)
 
-picked_off : (cells : List ℕ) (one other : List (List ℕ)) (row col : ℕ) → (HasCell cells row col → ⊥) → picked_cell cells one other row col ≡ cell_at other row col
+picked_off : (cells : List ℕ) (one : List (List ℕ)) (other : Rows) (row col : ℕ) → (HasCell cells row col → ⊥) → picked_cell cells one other row col ≡ cell_at other row col
 picked_off cells one other row col h = elim (cases_eq (bit_and (slice_index cells row) (2 ^ col)) 0) [
   | inl e ↦ ap (λ (b : Bool). cond (not b) (cell_at one row col) (cell_at other row col)) (eq-eqb (bit_and (slice_index cells row) (2 ^ col)) 0 e)
   | inr d ↦ absurd (h d)
 ]
 
-pub on_part : (cells : List ℕ) (one other : List (List ℕ)) (row col : ℕ) → row < length other → col < width_of other → HasCell cells row col → cell_at (picked cells one other) row col ≡ cell_at one row col
+pub on_part : (cells : List ℕ) (one : List (List ℕ)) (other : Rows) (row col : ℕ) → row < length other → col < width_of other → HasCell cells row col
+    → cell_at (picked cells one other) row col ≡ cell_at one row col
 on_part cells one other row col l m h = cell_of_picked cells one other row col l m ∙ picked_on cells one other row col h
 
-pub off_part : (cells : List ℕ) (one other : List (List ℕ)) (row col : ℕ) → IsRectangle other → (HasCell cells row col → ⊥) → cell_at (picked cells one other) row col ≡ cell_at other row col
+pub off_part : (cells : List ℕ) (one : List (List ℕ)) (other : Rows) (row col : ℕ) → IsRectangle other → (HasCell cells row col → ⊥) → cell_at (picked cells one other) row col ≡ cell_at other row col
 off_part cells one other row col rect h =
     let shape = shape_of_picked cells one other rect in
     elim (cases_lt col (length (row_at other row))) [
@@ -120,7 +122,8 @@ off_part cells one other row col rect h =
     ]
 
 -- the same where both grids have one shape
-pub on_cells : (cells : List ℕ) (one other : List (List ℕ)) (row col : ℕ) → IsRectangle other → SameShape one other → HasCell cells row col → cell_at (picked cells one other) row col ≡ cell_at one row col
+pub on_cells : (cells : List ℕ) (one : List (List ℕ)) (other : Rows) (row col : ℕ) → IsRectangle other → SameShape one other → HasCell cells row col
+    → cell_at (picked cells one other) row col ≡ cell_at one row col
 on_cells cells one other row col rect s h =
     let shape = shape_of_picked cells one other rect in
     elim (cases_lt col (length (row_at other row))) [
@@ -153,7 +156,8 @@ same_count a b s Across = s.rows
 same_count a b s Down = s.each 0
 
 -- lines of one length with the same cells are one
-pub same_along : (a b : List (List ℕ)) (axis : Axis) (at : ℕ) → length (line_along axis at a) ≡ length (line_along axis at b) → ((row col : ℕ) → IsAtPlace axis at row col → cell_at a row col ≡ cell_at b row col) → line_along axis at a ≡ line_along axis at b
+pub same_along : (a b : List (List ℕ)) (axis : Axis) (at : ℕ) → length (line_along axis at a) ≡ length (line_along axis at b)
+    → ((row col : ℕ) → IsAtPlace axis at row col → cell_at a row col ≡ cell_at b row col) → line_along axis at a ≡ line_along axis at b
 same_along a b Across at e h = ext_get_or 0 (row_at a at) (row_at b at) e (λ c _. h at c refl)
 same_along a b Down at e h =
     let read : List ℕ → ℕ = λ row. get_or row at 0 in
@@ -178,7 +182,8 @@ cells_along a b Down at row col e on =
 -- ---- clues
 
 -- pictures of one shape whose lines have the same clues have the same clues
-pub same_clues : CluesAreOfLines → BooksAreTheirClues → (a b : List (List ℕ)) → SameShape a b → ((line : LineId) → HasLine a line → clue_of (line_of a line) ≡ clue_of (line_of b line)) → clues_of a ≡ clues_of b
+pub same_clues : CluesAreOfLines → BooksAreTheirClues → (a b : List (List ℕ)) → SameShape a b → ((line : LineId) → HasLine a line → clue_of (line_of a line) ≡ clue_of (line_of b line))
+    → clues_of a ≡ clues_of b
 same_clues of_lines books a b s h =
     books (clues_of a) (clues_of b)
     (λ axis. of_lines.sizes a axis ∙ (same_count a b s axis ∙ sym (of_lines.sizes b axis)))
@@ -188,5 +193,5 @@ same_clues of_lines books a b s h =
     of_lines.clues a line near ∙ (h line near ∙ sym (of_lines.clues b line there)))
 
 -- a line of a picture whose clues are known
-pub clue_known : CluesAreOfLines → (clues : Clues) (picture : List (List ℕ)) (line : LineId) → clues_of picture ≡ clues → HasLine picture line → clue_of (line_of picture line) ≡ clue_at clues line
+pub clue_known : CluesAreOfLines → (clues : Clues) (picture : Rows) (line : LineId) → clues_of picture ≡ clues → HasLine picture line → clue_of (line_of picture line) ≡ clue_at clues line
 clue_known of_lines clues picture line e has = sym (of_lines.clues picture line has) ∙ ap (λ x. clue_at x line) e

@@ -3,9 +3,10 @@ use Rattle.std.proofs.Common.{◌≡◌, ℕ, ◌+◌, ◌<◌, ◌≤◌, ◌�
 use Rattle.std.proofs.lemmas.Bool.{cases_eq, cases_lt}
 use Rattle.std.proofs.lemmas.List.{get_or_append_left, length-append, ext_get_or}
 use Rattle.std.proofs.Math.Seq.{get_or-append_seam}
+use Rattle.line_settle.specs.Masks.{Masks}
 use Rattle.picture.specs.CellSet.{IsCellSet, HasCell}
 use Rattle.line_settle.specs.FactSets.{IsFacts}
-use Rattle.second_search.specs.Growing.{ArePartsAbove, HasNoOpenCell, HoldsCell, IsFirstOpen}
+use Rattle.second_search.specs.GrownParts.{ArePartsAbove, HasNoOpenCell, HoldsCell, IsFirstOpen}
 use Rattle.second_search.specs.Parts.{AreParts, IsBefore, IsChained, IsOpenCell, IsPart, IsPartFrom, begins, part_at}
 use Rattle.second_search.proofs.ChainLemmas.{chain_back, chain_end, chain_in_row, chain_on, open_inside}
 use Rattle.picture.specs.Laws.{SameCellsAreEqual}
@@ -13,7 +14,7 @@ use Rattle.second_search.specs.Laws.{PartsAreOneList}
 use Rattle.second_search.proofs.KnownLaws.{same_cells_are_equal}
 use Rattle.second_search.proofs.PartLemmas.{one_part_each}
 
-pub none_above : (facts : List (List ℕ)) → ArePartsAbove facts [] 0
+pub none_above : (facts : Masks) → ArePartsAbove facts [] 0
 none_above facts = record {
   each = λ i l. absurd (omega arith);
   ordered = λ i j row col r c l m. absurd (omega arith);
@@ -22,7 +23,7 @@ none_above facts = record {
 }
 
 -- rows that add no cell
-grown_rows : (facts parts : List (List ℕ)) (row : ℕ) → ArePartsAbove facts parts row → ((col : ℕ) → IsOpenCell facts row col → HoldsCell parts row col) → ArePartsAbove facts parts (row + 1)
+grown_rows : (facts : Masks) (parts : List (List ℕ)) (row : ℕ) → ArePartsAbove facts parts row → ((col : ℕ) → IsOpenCell facts row col → HoldsCell parts row col) → ArePartsAbove facts parts (row + 1)
 grown_rows facts parts row a here = record {
   each = a.each;
   ordered = a.ordered;
@@ -33,20 +34,21 @@ grown_rows facts parts row a here = record {
   ];
 }
 
-pub no_more : (facts parts : List (List ℕ)) (row : ℕ) → HasNoOpenCell facts row → ArePartsAbove facts parts row → ArePartsAbove facts parts (row + 1)
+pub no_more : (facts : Masks) (parts : List (List ℕ)) (row : ℕ) → HasNoOpenCell facts row → ArePartsAbove facts parts row → ArePartsAbove facts parts (row + 1)
 no_more facts parts row none a = grown_rows facts parts row a (λ col o. absurd (none col o))
 
 -- a part has with a cell all that is chained to it
-pub part_has : (facts : List (List ℕ)) (cells : List ℕ) (row col r c : ℕ) → IsPart facts cells → HasCell cells row col → IsChained facts row col r c → HasCell cells r c
+pub part_has : (facts : Masks) (cells : List ℕ) (row col r c : ℕ) → IsPart facts cells → HasCell cells row col → IsChained facts row col r c → HasCell cells r c
 part_has facts cells row col r c p h chain = (p.from.members r c).1 (chain_on facts p.row p.col row col r c ((p.from.members row col).0 h) chain)
 
-pub held_already : (facts parts : List (List ℕ)) (row col : ℕ) → IsFirstOpen facts row col → HoldsCell parts row col → ArePartsAbove facts parts row → ArePartsAbove facts parts (row + 1)
+pub held_already : (facts : Masks) (parts : List (List ℕ)) (row col : ℕ) → IsFirstOpen facts row col → HoldsCell parts row col → ArePartsAbove facts parts row → ArePartsAbove facts parts (row + 1)
 held_already facts parts row col first holds a = grown_rows facts parts row a (λ c o.
     (holds.0, (holds.1.0, part_has facts (part_at parts holds.0) row col row c (a.each holds.0 holds.1.0) holds.1.1 (chain_in_row facts row col c first.is_open o))))
 
 -- ---- a part more
 
-new_part : (facts parts : List (List ℕ)) (cells : List ℕ) (row col : ℕ) → IsFirstOpen facts row col → (HoldsCell parts row col → ⊥) → ArePartsAbove facts parts row → IsCellSet cells → ((r c : ℕ) → HasCell cells r c ↔ IsChained facts row col r c) → IsPartFrom facts cells row col
+new_part : (facts : Masks) (parts : List (List ℕ)) (cells : List ℕ) (row col : ℕ) → IsFirstOpen facts row col → (HoldsCell parts row col → ⊥) → ArePartsAbove facts parts row → IsCellSet cells
+    → ((r c : ℕ) → HasCell cells r c ↔ IsChained facts row col r c) → IsPartFrom facts cells row col
 new_part facts parts cells row col first new a set members = record {
   set = set;
   is_open = first.is_open;
@@ -78,13 +80,14 @@ old_or_new parts cells i l = elim (cases_lt i (length parts)) [
 ]
 
 -- no cell of the new part lies above its first row
-not_above : (facts : List (List ℕ)) (cells : List ℕ) (row col r c : ℕ) → IsPartFrom facts cells row col → IsPartFrom facts cells r c → row ≤ r
+not_above : (facts : Masks) (cells : List ℕ) (row col r c : ℕ) → IsPartFrom facts cells row col → IsPartFrom facts cells r c → row ≤ r
 not_above facts cells row col r c p q = elim (cases_lt r row) [
   | inl l ↦ absurd (p.first r c ((q.members r c).1 (begins q.is_open)) (inl l))
   | inr n ↦ n
 ]
 
-ordered_more : (facts parts : List (List ℕ)) (cells : List ℕ) (row col : ℕ) → ArePartsAbove facts parts row → IsPartFrom facts cells row col → (i j a b r c : ℕ) → i < j → j < length (parts ++ cells ∷ []) → IsPartFrom facts (part_at (parts ++ cells ∷ []) i) a b → IsPartFrom facts (part_at (parts ++ cells ∷ []) j) r c → IsBefore a b r c
+ordered_more : (facts : Masks) (parts : List (List ℕ)) (cells : List ℕ) (row col : ℕ) → ArePartsAbove facts parts row → IsPartFrom facts cells row col → (i j a b r c : ℕ) → i < j
+    → j < length (parts ++ cells ∷ []) → IsPartFrom facts (part_at (parts ++ cells ∷ []) i) a b → IsPartFrom facts (part_at (parts ++ cells ∷ []) j) r c → IsBefore a b r c
 ordered_more facts parts cells row col a p i j u v r c l m pi pj =
     let F : ℕ → ℕ → List ℕ → Type 0 = λ x y part. IsPartFrom facts part x y in
     elim (old_or_new parts cells j m) [
@@ -105,7 +108,8 @@ held_by_new parts cells row col h =
     let n = one_longer parts cells in
     (length parts, (omega arith, subst (λ (part : List ℕ). HasCell part row col) (sym (at_new parts cells (length parts) refl)) h))
 
-one_more_part : (facts parts : List (List ℕ)) (cells : List ℕ) (row col : ℕ) → ArePartsAbove facts parts row → IsPartFrom facts cells row col → ArePartsAbove facts (parts ++ cells ∷ []) (row + 1)
+one_more_part : (facts : Masks) (parts : List (List ℕ)) (cells : List ℕ) (row col : ℕ) → ArePartsAbove facts parts row → IsPartFrom facts cells row col
+    → ArePartsAbove facts (parts ++ cells ∷ []) (row + 1)
 one_more_part facts parts cells row col a p =
     let F : ℕ → ℕ → List ℕ → Type 0 = λ x y part. IsPartFrom facts part x y in
     record {
@@ -120,17 +124,19 @@ one_more_part facts parts cells row col a p =
       ];
       all = λ r c l o. elim (cases_eq r row) [
         | inl e ↦
-            held_by_new parts cells r c ((p.members r c).1 (subst (λ (x : ℕ). IsChained facts row col x c) (sym e) (chain_in_row facts row col c p.is_open (subst (λ (x : ℕ). IsOpenCell facts x c) e o))))
+            held_by_new parts cells r c
+            ((p.members r c).1 (subst (λ (x : ℕ). IsChained facts row col x c) (sym e) (chain_in_row facts row col c p.is_open (subst (λ (x : ℕ). IsOpenCell facts x c) e o))))
         | inr d ↦ held_more parts cells r c (a.all r c (omega arith) o)
       ];
     }
 
-pub one_more : (facts parts more : List (List ℕ)) (cells : List ℕ) (row col : ℕ) → more ≡ parts ++ cells ∷ [] → IsFirstOpen facts row col → (HoldsCell parts row col → ⊥) → IsCellSet cells → ((r c : ℕ) → HasCell cells r c ↔ IsChained facts row col r c) → ArePartsAbove facts parts row → ArePartsAbove facts more (row + 1)
+pub one_more : (facts : Masks) (parts more : List (List ℕ)) (cells : List ℕ) (row col : ℕ) → more ≡ parts ++ cells ∷ [] → IsFirstOpen facts row col → (HoldsCell parts row col → ⊥) → IsCellSet cells
+    → ((r c : ℕ) → HasCell cells r c ↔ IsChained facts row col r c) → ArePartsAbove facts parts row → ArePartsAbove facts more (row + 1)
 one_more facts parts more cells row col e first new set members a =
     subst (λ (x : List (List ℕ)). ArePartsAbove facts x (row + 1)) (sym e) (one_more_part facts parts cells row col a (new_part facts parts cells row col first new a set members))
 
 -- the parts of all rows
-pub all_rows : (facts parts : List (List ℕ)) (rows : ℕ) → IsFacts facts → rows ≡ length facts → ArePartsAbove facts parts rows → AreParts facts parts
+pub all_rows : (facts : Masks) (parts : List (List ℕ)) (rows : ℕ) → IsFacts facts → rows ≡ length facts → ArePartsAbove facts parts rows → AreParts facts parts
 all_rows facts parts rows is e a = record {
   each = a.each;
   ordered = a.ordered;
@@ -145,15 +151,15 @@ not_both_ways row col r c (inl l) (inr e) = absurd (let f = e.0 in omega arith)
 not_both_ways row col r c (inr e) (inl m) = absurd (let f = e.0 in omega arith)
 not_both_ways row col r c (inr e) (inr f) = absurd (let x = e.1 in let y = f.1 in omega arith)
 
-pub has_first : (facts : List (List ℕ)) (cells : List ℕ) (p : IsPart facts cells) → HasCell cells p.row p.col
+pub has_first : (facts : Masks) (cells : List ℕ) (p : IsPart facts cells) → HasCell cells p.row p.col
 has_first facts cells p = (p.from.members p.row p.col).1 (begins p.from.is_open)
 
-within_part : (facts : List (List ℕ)) (one other : List ℕ) (row col r c : ℕ) → IsPart facts one → IsPart facts other → HasCell one row col → HasCell other row col → HasCell one r c → HasCell other r c
+within_part : (facts : Masks) (one other : List ℕ) (row col r c : ℕ) → IsPart facts one → IsPart facts other → HasCell one row col → HasCell other row col → HasCell one r c → HasCell other r c
 within_part facts one other row col r c p q h k x =
     part_has facts other row col r c q k (chain_on facts row col p.row p.col r c (chain_back facts p.row p.col row col ((p.from.members row col).0 h)) ((p.from.members r c).0 x))
 
 -- parts that share a cell are one set
-pub same_part : SameCellsAreEqual → (facts : List (List ℕ)) (one other : List ℕ) (row col : ℕ) → IsPart facts one → IsPart facts other → HasCell one row col → HasCell other row col → one ≡ other
+pub same_part : SameCellsAreEqual → (facts : Masks) (one other : List ℕ) (row col : ℕ) → IsPart facts one → IsPart facts other → HasCell one row col → HasCell other row col → one ≡ other
 same_part same facts one other row col p q h k =
     same one other p.from.set q.from.set (λ r c l m. (within_part facts one other row col r c p q h k, within_part facts other one row col r c q p k h))
 
@@ -163,7 +169,7 @@ record Match (a b : List (List ℕ)) (i : ℕ) : Type 0 where
   within : place < length b
   same : part_at a i ≡ part_at b place
 
-module _ (same : SameCellsAreEqual) (facts : List (List ℕ)) where
+module _ (same : SameCellsAreEqual) (facts : Masks) where
   match_of : (a b : List (List ℕ)) → AreParts facts a → AreParts facts b → (i : ℕ) → i < length a → Match a b i
   match_of a b p q i l =
       let part = p.each i l in

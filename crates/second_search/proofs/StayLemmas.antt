@@ -1,21 +1,22 @@
 -- A part whose lines are the same in two scenes.
 use Rattle.std.proofs.Common.{◌≡◌, ℕ, ◌<◌, List, length, refl, sym, ap, subst, ◌∙◌, arith, inl, inr}
 use Rattle.std.specs.Prelude.{slice_index}
+use Rattle.line_settle.specs.Masks.{Masks}
 use Rattle.picture.specs.declared.line_id.LineId.{LineId}
 use Rattle.picture.specs.CellSet.{HasCell}
 use Rattle.picture.specs.Laws.{CellsAreMembers}
-use Rattle.picture.specs.Rows.{width_of, cell_at, line_of, HasLine}
+use Rattle.picture.specs.Rows.{width_of, cell_at, line_of, HasLine, Rows}
 use Rattle.clues.specs.Clue.{clue_of}
 use Rattle.clues.specs.ClueBook.{Clues}
 use Rattle.clues.specs.Laws.{BooksAreTheirClues, CluesAreOfLines, IsOnLine}
-use Rattle.line_settle.specs.SolutionLaws.{solved_shape}
+use Rattle.line_settle.proofs.SolutionLaws.{solved_shape}
 use Rattle.second_search.specs.Laws.{FillingsStay}
 use Rattle.second_search.specs.Parts.{GoesThrough, HasTwoColours, IsChained, IsOpenCell, IsOtherFilling, IsPart, IsScene, KeepsLines, ShareLine, begins, goes_on, picked}
 use Rattle.second_search.proofs.PartLemmas.{part_open, picked_picture, through_or_not}
 use Rattle.second_search.proofs.PickLemmas.{cells_along, clue_known, off_part, on_part, same_along, same_clues, same_count, shape_of_picked}
 use Rattle.trail.proofs.GridLemmas.{same_grid}
-use Rattle.picture.specs.BitLaws.{bit_or_not}
-use Rattle.line_settle.specs.GridLaws.{same_line_length}
+use Rattle.picture.proofs.BitLaws.{bit_or_not}
+use Rattle.line_settle.proofs.GridLaws.{same_line_length}
 use Rattle.trail.specs.Through.{across, down}
 
 in_row : (cells : List ℕ) (row col : ℕ) → HasCell cells row col → GoesThrough (across row) cells
@@ -26,11 +27,13 @@ in_column cells row col h = record { row = row; col = col; has = h; on_line = re
 
 -- ---- the part
 
-module _ (clues clues_after : Clues) (facts picture facts_after picture_after : List (List ℕ)) (cells : List ℕ) where
-  left_same : KeepsLines clues facts picture clues_after facts_after picture_after cells → (line : LineId) (row col : ℕ) → GoesThrough line cells → IsOnLine line row col → cell_at facts row col ≡ cell_at facts_after row col
+module _ (clues clues_after : Clues) (facts : Masks) (picture : Rows) (facts_after : Masks) (picture_after : Rows) (cells : List ℕ) where
+  left_same : KeepsLines clues facts picture clues_after facts_after picture_after cells → (line : LineId) (row col : ℕ) → GoesThrough line cells → IsOnLine line row col
+      → cell_at facts row col ≡ cell_at facts_after row col
   left_same k line row col t on = cells_along facts facts_after line.axis line.at row col (k line t).left on
 
-  shown_same : KeepsLines clues facts picture clues_after facts_after picture_after cells → (line : LineId) (row col : ℕ) → GoesThrough line cells → IsOnLine line row col → cell_at picture row col ≡ cell_at picture_after row col
+  shown_same : KeepsLines clues facts picture clues_after facts_after picture_after cells → (line : LineId) (row col : ℕ) → GoesThrough line cells → IsOnLine line row col
+      → cell_at picture row col ≡ cell_at picture_after row col
   shown_same k line row col t on = cells_along picture picture_after line.axis line.at row col (k line t).shown on
 
   open_after : KeepsLines clues facts picture clues_after facts_after picture_after cells → (row col : ℕ) → HasCell cells row col → IsOpenCell facts row col → IsOpenCell facts_after row col
@@ -40,11 +43,13 @@ module _ (clues clues_after : Clues) (facts picture facts_after picture_after : 
   open_before k r c s d h (inl e) o = subst HasTwoColours (sym (left_same k (across r) s d (in_row cells r c h) (sym e))) o
   open_before k r c s d h (inr e) o = subst HasTwoColours (sym (left_same k (down c) s d (in_column cells r c h) (sym e))) o
 
-  chain_after : KeepsLines clues facts picture clues_after facts_after picture_after cells → (row col : ℕ) → ((r c : ℕ) → IsChained facts row col r c → HasCell cells r c) → (r c : ℕ) → IsChained facts row col r c → IsChained facts_after row col r c
+  chain_after : KeepsLines clues facts picture clues_after facts_after picture_after cells → (row col : ℕ) → ((r c : ℕ) → IsChained facts row col r c → HasCell cells r c) → (r c : ℕ)
+      → IsChained facts row col r c → IsChained facts_after row col r c
   chain_after k row col all _ _ (begins o) = begins (open_after k row col (all row col (begins o)) o)
   chain_after k row col all _ _ (goes_on r c s d chain share o) = goes_on r c s d (chain_after k row col all r c chain) share (open_after k s d (all s d (goes_on r c s d chain share o)) o)
 
-  chain_before : KeepsLines clues facts picture clues_after facts_after picture_after cells → (row col : ℕ) → IsOpenCell facts row col → ((r c : ℕ) → IsChained facts row col r c → HasCell cells r c) → (r c : ℕ) → IsChained facts_after row col r c → IsChained facts row col r c
+  chain_before : KeepsLines clues facts picture clues_after facts_after picture_after cells → (row col : ℕ) → IsOpenCell facts row col → ((r c : ℕ) → IsChained facts row col r c → HasCell cells r c)
+      → (r c : ℕ) → IsChained facts_after row col r c → IsChained facts row col r c
   chain_before k row col first all _ _ (begins o) = begins first
   chain_before k row col first all _ _ (goes_on r c s d chain share o) =
       let before = chain_before k row col first all r c chain in
@@ -71,17 +76,21 @@ module _ (clues clues_after : Clues) (facts picture facts_after picture_after : 
 -- ---- its other fillings
 
 module _ (of_lines : CluesAreOfLines) (books : BooksAreTheirClues) (members : CellsAreMembers) where
-  pub carried_filling : (clues clues_after : Clues) (givens givens_after : List ℕ) (facts picture facts_after picture_after other : List (List ℕ)) (cells : List ℕ) → IsScene clues givens facts picture → IsScene clues_after givens_after facts_after picture_after
-      → KeepsLines clues facts picture clues_after facts_after picture_after cells → IsPart facts cells → IsOtherFilling clues givens picture cells other → IsOtherFilling clues_after givens_after picture_after cells (picked cells other picture_after)
+  pub carried_filling : (clues clues_after : Clues) (givens givens_after : List ℕ) (facts : Masks) (picture : Rows) (facts_after : Masks) (picture_after other : Rows) (cells : List ℕ)
+      → IsScene clues givens facts picture → IsScene clues_after givens_after facts_after picture_after
+      → KeepsLines clues facts picture clues_after facts_after picture_after cells → IsPart facts cells → IsOtherFilling clues givens picture cells other
+      → IsOtherFilling clues_after givens_after picture_after cells (picked cells other picture_after)
   carried_filling clues clues_after givens givens_after facts picture facts_after picture_after other cells s t k p f =
       let new = picked cells other picture_after in
       let rect = t.is_picture.rectangular in
       let shape = shape_of_picked cells other picture_after rect in
       let like = solved_shape f.is_other.solves in
-      let inside : (r c : ℕ) → HasCell cells r c → (r < length picture_after) × (c < width_of picture_after) = λ r c h. ((k (across r) (in_row cells r c h)).after, (k (down c) (in_column cells r c h)).after) in
+      let inside : (r c : ℕ) → HasCell cells r c
+      → (r < length picture_after) × (c < width_of picture_after) = λ r c h. ((k (across r) (in_row cells r c h)).after, (k (down c) (in_column cells r c h)).after) in
       let on : (r c : ℕ) → HasCell cells r c → cell_at new r c ≡ cell_at other r c = λ r c h. on_part cells other picture_after r c (inside r c h).0 (inside r c h).1 h in
       let off : (r c : ℕ) → (HasCell cells r c → ⊥) → cell_at new r c ≡ cell_at picture_after r c = λ r c n. off_part cells other picture_after r c rect n in
-      let shown : (line : LineId) (r c : ℕ) → GoesThrough line cells → IsOnLine line r c → cell_at picture r c ≡ cell_at picture_after r c = shown_same clues clues_after facts picture facts_after picture_after cells k in
+      let shown : (line : LineId) (r c : ℕ) → GoesThrough line cells → IsOnLine line r c
+      → cell_at picture r c ≡ cell_at picture_after r c = shown_same clues clues_after facts picture facts_after picture_after cells k in
       let clue : (line : LineId) → HasLine new line → clue_of (line_of new line) ≡ clue_of (line_of picture_after line) = λ line has. elim (through_or_not cells line members p.from.set) [
         | inl through ↦
             let same = k line through in
@@ -91,8 +100,10 @@ module _ (of_lines : CluesAreOfLines) (books : BooksAreTheirClues) (members : Ce
               | inr n ↦ off r c n ∙ (sym (shown line r c through at) ∙ sym (f.elsewhere r c n))
             ]) in
             let n = same_count other picture like line.axis in
-            ap clue_of one ∙ (clue_known of_lines clues other line f.is_other.solves.has_clues (omega arith) ∙ (same.clue ∙ sym (clue_known of_lines clues_after picture_after line t.has_clues same.after)))
-        | inr none ↦ ap clue_of (same_along new picture_after line.axis line.at (sym (same_line_length new picture_after line shape)) (λ r c at. off r c (λ h. none (record { row = r; col = c; has = h; on_line = at }))))
+            ap clue_of one
+            ∙ (clue_known of_lines clues other line f.is_other.solves.has_clues (omega arith) ∙ (same.clue ∙ sym (clue_known of_lines clues_after picture_after line t.has_clues same.after)))
+        | inr none ↦ ap clue_of
+            (same_along new picture_after line.axis line.at (sym (same_line_length new picture_after line shape)) (λ r c at. off r c (λ h. none (record { row = r; col = c; has = h; on_line = at }))))
       ] in
       let after = part_after clues clues_after facts picture facts_after picture_after cells k p in
       record {
@@ -124,5 +135,6 @@ module _ (of_lines : CluesAreOfLines) (books : BooksAreTheirClues) (members : Ce
     back = keeps_back;
     none = λ clues clues_after givens givens_after facts picture facts_after picture_after cells s t k p none other f.
         none (picked cells other picture)
-        (carried_filling clues_after clues givens_after givens facts_after picture_after facts picture other cells t s (keeps_back clues clues_after facts picture facts_after picture_after cells k) (part_after clues clues_after facts picture facts_after picture_after cells k p) f);
+        (carried_filling clues_after clues givens_after givens facts_after picture_after facts picture other cells t s (keeps_back clues clues_after facts picture facts_after picture_after cells k)
+        (part_after clues clues_after facts picture facts_after picture_after cells k p) f);
   }

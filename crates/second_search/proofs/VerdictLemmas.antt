@@ -2,6 +2,8 @@
 use Rattle.std.proofs.Common.{◌≡◌, ℕ, zero, suc, ◌+◌, ◌-◌, ◌<◌, ◌≤◌, max, Bool, Option, List, [], ◌∷◌, ◌++◌, length, refl, sym, ap, subst, ◌∙◌, arith, inl, inr, ◌^◌, None, Some, get_or}
 use Rattle.std.proofs.lemmas.Bool.{cases_lt}
 use Rattle.std.proofs.lemmas.List.{get_or_append_left, get_or_past, get_or_push, length-map, length_push, get_or_default}
+use Rattle.line_settle.specs.Masks.{Masks}
+use Rattle.picture.specs.Rows.{Rows}
 use Rattle.clues.specs.ClueBook.{Clues}
 use Rattle.second_search.specs.declared.keeper.Answer.{Answer}
 use Rattle.second_search.specs.declared.keeper.Answer.TheVariants.{Filling, Unknown, Nothing}
@@ -10,12 +12,13 @@ use Rattle.second_search.specs.declared.counting.Ending.{Ending}
 use Rattle.second_search.specs.declared.counting.Ending.TheVariants as ending
 use Rattle.second_search.specs.Verdict.{Verdict, Other, Undecided, Unique}
 use Rattle.second_search.specs.Parts.{AreParts, IsPart, part_at}
-use Rattle.second_search.specs.Judging.{Changes, FirstFilling, HasFilling, HasNoFilling, IsFilling, IsPlace, IsToldBy, IsTrueOf, Judges, Notes, Starts, StartsWith, Stops, answer_at, cells_at, kept_at, parts_of, AddsUp, Done, DoneBy, EndsBy, EndsPart, Passes, StopsAt}
+use Rattle.second_search.specs.JudgedParts.{Changes, FirstFilling, HasFilling, HasNoFilling, IsFilling, IsPlace, IsToldBy, IsTrueOf, Judges, Notes, Starts, StartsWith, Stops, answer_at, cells_at}
+use Rattle.second_search.specs.JudgedParts.{kept_at, parts_of, AddsUp, Done, DoneBy, EndsBy, EndsPart, Passes, StopsAt}
 use Rattle.second_search.proofs.LookLemmas.{below_next}
 use Rattle.line_settle.specs.declared.meter.Meter.{Meter}
-use Rattle.line_settle.specs.Counting.{counted}
+use Rattle.line_settle.specs.Counts.{Counts, counted}
 use Rattle.second_search.specs.declared.keeper.Spent.{Spent}
-use Rattle.second_search.specs.Searching.{EndsWithin, IsCalled, alone, raised}
+use Rattle.second_search.specs.FixedOrder.{EndsWithin, IsCalled, alone, raised}
 use Rattle.second_search.specs.Laws.{AllowancesBreakOff}
 
 -- ---- the parts that are kept
@@ -25,7 +28,7 @@ part_of_kept [] i = refl
 part_of_kept (part ∷ kept) zero = refl
 part_of_kept (part ∷ kept) (suc i) = part_of_kept kept i
 
-pub each_is_part : (facts : List (List ℕ)) (kept : List KeptPart) → AreParts facts (parts_of kept) → (i : ℕ) → i < length kept → IsPart facts (cells_at kept i)
+pub each_is_part : (facts : Masks) (kept : List KeptPart) → AreParts facts (parts_of kept) → (i : ℕ) → i < length kept → IsPart facts (cells_at kept i)
 each_is_part facts kept are i l =
     let count = length-map kept (λ (part : KeptPart). part.cells) in
     subst (IsPart facts) (part_of_kept kept i) (are.each i (omega arith))
@@ -53,12 +56,14 @@ abbrev pub no_part : KeptPart
 no_part = record { cells = []; answer = Unknown }
 
 -- what holds of the parts that are kept and of one more holds of all
-pub each_more : (Q : ℕ → KeptPart → Type 0) (kept : List KeptPart) (part : KeptPart) (count : ℕ) → length kept ≡ count → ((i : ℕ) → i < count → Q i (kept_at kept i)) → Q count part → (i : ℕ) → i < count + 1 → Q i (kept_at (kept ++ part ∷ []) i)
+pub each_more : (Q : ℕ → KeptPart → Type 0) (kept : List KeptPart) (part : KeptPart) (count : ℕ) → length kept ≡ count → ((i : ℕ) → i < count → Q i (kept_at kept i)) → Q count part → (i : ℕ)
+    → i < count + 1 → Q i (kept_at (kept ++ part ∷ []) i)
 each_more Q kept part count n before here = below_next (λ i. Q i (kept_at (kept ++ part ∷ []) i)) count
     (λ i l. subst (Q i) (sym (get_or_append_left kept (part ∷ []) no_part i (omega arith))) (before i l))
     (subst (Q count) (sym (get_or_push kept part no_part count n)) here)
 
-pub starts_more : (parts : List (List ℕ)) (kept more : List KeptPart) (part : KeptPart) (count : ℕ) → StartsWith parts kept count → more ≡ kept ++ (part ∷ []) → part.cells ≡ part_at parts count → part.answer ≡ Unknown → StartsWith parts more (count + 1)
+pub starts_more : (parts : List (List ℕ)) (kept more : List KeptPart) (part : KeptPart) (count : ℕ) → StartsWith parts kept count → more ≡ kept ++ (part ∷ []) → part.cells ≡ part_at parts count
+    → part.answer ≡ Unknown → StartsWith parts more (count + 1)
 starts_more parts kept more part count s e same gone =
     let n = s.count_is in
     subst (λ (xs : List KeptPart). StartsWith parts xs (count + 1)) (sym e) (record {
@@ -67,7 +72,7 @@ starts_more parts kept more part count s e same gone =
       unknown = each_more (λ i x. x.answer ≡ Unknown) kept part count n s.unknown gone;
     })
 
-pub all_started : (facts parts : List (List ℕ)) (kept : List KeptPart) (count : ℕ) → AreParts facts parts → StartsWith parts kept count → count ≡ length parts → Starts facts kept
+pub all_started : (facts : Masks) (parts : List (List ℕ)) (kept : List KeptPart) (count : ℕ) → AreParts facts parts → StartsWith parts kept count → count ≡ length parts → Starts facts kept
 all_started facts parts kept count are s e =
     let unknown : (i : ℕ) → answer_at kept i ≡ Unknown = λ i. elim (cases_lt i count) [
       | inl l ↦ s.unknown i l
@@ -82,7 +87,7 @@ all_started facts parts kept count are s e =
 
 -- ---- what is noted
 
-answered : (kept : List KeptPart) (i : ℕ) (other : List (List ℕ)) → i < length kept → answer_at kept i ≡ Filling other → HasFilling kept i
+answered : (kept : List KeptPart) (i : ℕ) (other : Rows) → i < length kept → answer_at kept i ≡ Filling other → HasFilling kept i
 answered kept i other l e = record { place = l; is = subst IsFilling (sym e) tt }
 
 -- the verdict where going along the parts ended so
@@ -99,23 +104,25 @@ none_after old new end none c i l f = elim (cases_lt i end) [
       none i (omega arith) (subst (λ (part : KeptPart). IsFilling part.answer) (c.behind i p) f)
 ]
 
-pub told_by : (old new : List KeptPart) (i : ℕ) (found : Ending) (is_decided : Bool) → HasNoFilling old (length old) → IsPlace old i found → Notes old new i found is_decided → IsToldBy is_decided new (verdict_of found)
+pub told_by : (old new : List KeptPart) (i : ℕ) (found : Ending) (is_decided : Bool) → HasNoFilling old (length old) → IsPlace old i found → Notes old new i found is_decided
+    → IsToldBy is_decided new (verdict_of found)
 told_by old new i ending.Nothing is_decided none l noted = (noted.0, none_after old new i none noted.1)
 told_by old new i (ending.Found other) is_decided none l noted =
     let count = noted.1.count in
     (noted.0, (i, answered new i other (omega arith) noted.1.here))
 told_by old new i ending.BrokenOff is_decided none l noted = (noted.0, none_after old new i none noted.1)
 
-pub one_kept : (kept : List KeptPart) (other : List (List ℕ)) → FirstFilling kept other → (i : ℕ) × HasFilling kept i
+pub one_kept : (kept : List KeptPart) (other : Rows) → FirstFilling kept other → (i : ℕ) × HasFilling kept i
 one_kept kept other f = (f.at, answered kept f.at other f.place f.is)
 
-module _ (clues : Clues) (facts picture : List (List ℕ)) (allowance : Option ℕ) where
+module _ (clues : Clues) (facts : Masks) (picture : Rows) (allowance : Option ℕ) where
   pub stops_place : (kept : List KeptPart) (i : ℕ) (found : Ending) (m n : ℕ) → Stops clues facts picture allowance kept i found m n → IsPlace kept i found
   stops_place kept i ending.Nothing m n s = let e = s.0 in omega arith
   stops_place kept i (ending.Found other) m n s = s.place
   stops_place kept i ending.BrokenOff m n s = let l = s.place in omega arith
 
-  pub judges_as : (old new : List KeptPart) (i : ℕ) (found : Ending) (is_decided : Bool) (m n : ℕ) → HasNoFilling old (length old) → Stops clues facts picture allowance old i found m n → Notes old new i found is_decided → Judges clues facts picture allowance old new (verdict_of found) m n
+  pub judges_as : (old new : List KeptPart) (i : ℕ) (found : Ending) (is_decided : Bool) (m n : ℕ) → HasNoFilling old (length old) → Stops clues facts picture allowance old i found m n
+      → Notes old new i found is_decided → Judges clues facts picture allowance old new (verdict_of found) m n
   judges_as old new i ending.Nothing is_decided m n none s noted =
       record { none_kept = none; passes = s.1; noted = subst (Changes old new) s.0 noted.1 }
   judges_as old new i (ending.Found other) is_decided m n none s noted =
@@ -124,10 +131,11 @@ module _ (clues : Clues) (facts picture : List (List ℕ)) (allowance : Option �
       record { none_kept = none; at = i; stops = s; noted = noted.1 }
 
   -- what is kept already
-  pub keeps_other : (kept : List KeptPart) (other : List (List ℕ)) → FirstFilling kept other → Judges clues facts picture allowance kept kept Other 0 0
+  pub keeps_other : (kept : List KeptPart) (other : Rows) → FirstFilling kept other → Judges clues facts picture allowance kept kept Other 0 0
   keeps_other kept other f = inl (record { at = f.at; is = answered kept f.at other f.place f.is; same = refl; searched_none = refl; splits_none = refl })
 
-pub same_kept : (clues : Clues) (facts picture : List (List ℕ)) (allowance : Option ℕ) (old new : List KeptPart) (verdict : Verdict) (m n : ℕ) → Judges clues facts picture allowance old new verdict m n → parts_of new ≡ parts_of old
+pub same_kept : (clues : Clues) (facts : Masks) (picture : Rows) (allowance : Option ℕ) (old new : List KeptPart) (verdict : Verdict) (m n : ℕ)
+    → Judges clues facts picture allowance old new verdict m n → parts_of new ≡ parts_of old
 same_kept clues facts picture allowance old new Unique m n j = kept_cells old new j.noted.count j.noted.cells
 same_kept clues facts picture allowance old new Other m n (inl j) = ap parts_of j.same
 same_kept clues facts picture allowance old new Other m n (inr j) = kept_cells old new j.noted.count j.noted.cells
@@ -162,7 +170,8 @@ done_as spent p q One Is d turn = record {
 }
 
 -- what is done first and what is done then, counted together
-pub done_then : (before here after : Spent) (p q r : ℕ) (One Two Is : ℕ → ℕ → Type 0) → DoneBy before p q One → DoneBy here q r Two → AddsUp before here after → ((m n x y : ℕ) → One m n → Two x y → Is (m + x) (n + y)) → DoneBy after p r Is
+pub done_then : (before here after : Spent) (p q r : ℕ) (One Two Is : ℕ → ℕ → Type 0) → DoneBy before p q One → DoneBy here q r Two → AddsUp before here after
+    → ((m n x y : ℕ) → One m n → Two x y → Is (m + x) (n + y)) → DoneBy after p r Is
 done_then before here after p q r One Two Is d f up join =
     let a = d.counts in
     let b = f.counts in
@@ -183,7 +192,8 @@ done_then before here after p q r One Two Is d f up join =
     }
 
 -- what was done is added to counts from before
-pub done_added : (s t a b : ℕ) (spent : Spent) (start end : Meter) (p q : ℕ) (Is : ℕ → ℕ → Type 0) → DoneBy spent p q Is → t ≡ raised s spent.searched → b ≡ raised a spent.splits → end.evaluations ≡ counted start.evaluations spent.evaluations → end.trials ≡ counted start.trials 0 → Done s t a b start end p q Is
+pub done_added : (s t a b : ℕ) (spent : Spent) (start end : Meter) (p q : ℕ) (Is : ℕ → ℕ → Type 0) → DoneBy spent p q Is → t ≡ raised s spent.searched → b ≡ raised a spent.splits
+    → end.evaluations ≡ counted start.evaluations spent.evaluations → end.trials ≡ counted start.trials 0 → Done s t a b start end p q Is
 done_added s t a b spent start end p q Is d x y z w = record {
   searched = d.searched;
   splits = d.splits;
@@ -196,15 +206,26 @@ done_added s t a b spent start end p q Is d x y z w = record {
   at_least = d.at_least;
 }
 
-module _ (clues : Clues) (facts picture : List (List ℕ)) (allowance : Option ℕ) (kept : List KeptPart) where
-  pub passes_more : (i : ℕ) (m n x y : ℕ) → Passes clues facts picture allowance kept i m n → EndsPart clues facts picture allowance (kept_at kept i) ending.Nothing x y → Passes clues facts picture allowance kept (suc i) (m + x) (n + y)
+-- the evaluations that were counted for it are added to a meter
+pub spent_added : (spent : Spent) (start end : Meter) (p q : ℕ) (Is : ℕ → ℕ → Type 0) → DoneBy spent p q Is → end.evaluations ≡ counted start.evaluations spent.evaluations
+    → end.trials ≡ counted start.trials 0 → Counts spent.evaluations 0 start end p q
+spent_added spent start end p q Is d e t =
+    let n = d.counts.evaluations in
+    let calls = d.counts.calls in
+    record { evaluations = e; trials = t; calls = omega arith }
+
+module _ (clues : Clues) (facts : Masks) (picture : Rows) (allowance : Option ℕ) (kept : List KeptPart) where
+  pub passes_more : (i : ℕ) (m n x y : ℕ) → Passes clues facts picture allowance kept i m n → EndsPart clues facts picture allowance (kept_at kept i) ending.Nothing x y
+      → Passes clues facts picture allowance kept (suc i) (m + x) (n + y)
   passes_more i m n x y p e = (m, (n, (x, (y, (p, (e, (refl, refl)))))))
 
-  pub stops_here : (i : ℕ) (found : Ending) (m n x y : ℕ) → i < length kept → Passes clues facts picture allowance kept i m n → EndsPart clues facts picture allowance (kept_at kept i) found x y → StopsAt clues facts picture allowance kept i found (m + x) (n + y)
+  pub stops_here : (i : ℕ) (found : Ending) (m n x y : ℕ) → i < length kept → Passes clues facts picture allowance kept i m n → EndsPart clues facts picture allowance (kept_at kept i) found x y
+      → StopsAt clues facts picture allowance kept i found (m + x) (n + y)
   stops_here i found m n x y l p e = record { place = l; searched_before = m; splits_before = n; searched_here = x; splits_here = y; before = p; here = e; searched_is = refl; splits_is = refl }
 
 -- where going along stopped before the end
-pub stops_found : (clues : Clues) (facts picture : List (List ℕ)) (allowance : Option ℕ) (kept : List KeptPart) (i : ℕ) (found : Ending) (m n : ℕ) → (found ≡ ending.Nothing → ⊥) → StopsAt clues facts picture allowance kept i found m n → Stops clues facts picture allowance kept i found m n
+pub stops_found : (clues : Clues) (facts : Masks) (picture : Rows) (allowance : Option ℕ) (kept : List KeptPart) (i : ℕ) (found : Ending) (m n : ℕ) → (found ≡ ending.Nothing → ⊥)
+    → StopsAt clues facts picture allowance kept i found m n → Stops clues facts picture allowance kept i found m n
 stops_found clues facts picture allowance kept i ending.Nothing m n d s = absurd (d refl)
 stops_found clues facts picture allowance kept i (ending.Found other) m n d s = s
 stops_found clues facts picture allowance kept i ending.BrokenOff m n d s = s
@@ -218,7 +239,8 @@ pub answer_is : (items kept : List KeptPart) (i : ℕ) (part : KeptPart) → ite
 answer_is items kept i part e l p = ap (λ (x : KeptPart). x.answer) (sym (part_is items kept i part e l p))
 
 -- a part of which something is known is passed
-pub known_before : (clues : Clues) (facts picture : List (List ℕ)) (allowance : Option ℕ) (kept : List KeptPart) (i : ℕ) (part : KeptPart) → part ≡ kept_at kept i → (part.answer ≡ Unknown → ⊥) → EndsPart clues facts picture allowance (kept_at kept i) ending.Nothing 0 0
+pub known_before : (clues : Clues) (facts : Masks) (picture : Rows) (allowance : Option ℕ) (kept : List KeptPart) (i : ℕ) (part : KeptPart) → part ≡ kept_at kept i → (part.answer ≡ Unknown → ⊥)
+    → EndsPart clues facts picture allowance (kept_at kept i) ending.Nothing 0 0
 known_before clues facts picture allowance kept i part e d = rw e at (by part.answer d)
   where
     by : (answer : Answer) → (answer ≡ Unknown → ⊥) → EndsBy clues facts picture allowance part.cells answer ending.Nothing 0 0
@@ -227,7 +249,9 @@ known_before clues facts picture allowance kept i part e d = rw e at (by part.an
     by (Filling other) d = (refl, (refl, refl))
 
 -- a part of which nothing was known was searched, which took an evaluation at least
-pub searched_once : (clues : Clues) (facts picture : List (List ℕ)) (allowance : Option ℕ) (kept : List KeptPart) (i : ℕ) (part : KeptPart) (found : Ending) (splits p q e : ℕ) → part ≡ kept_at kept i → part.answer ≡ Unknown → (n : ℕ) × ((splits ≡ raised 0 n) × EndsWithin clues picture (alone part.cells facts picture) allowance found n) → p ≤ q → IsCalled p q → q < 2 ^ 64 → e ≡ max (q - p) 1 → DoneBy (record { searched = 1; splits = splits; evaluations = e }) p q (EndsPart clues facts picture allowance (kept_at kept i) found)
+pub searched_once : (clues : Clues) (facts : Masks) (picture : Rows) (allowance : Option ℕ) (kept : List KeptPart) (i : ℕ) (part : KeptPart) (found : Ending) (splits p q e : ℕ) → part ≡ kept_at kept i
+    → part.answer ≡ Unknown → (n : ℕ) × ((splits ≡ raised 0 n) × EndsWithin clues picture (alone part.cells facts picture) allowance found n) → p ≤ q → IsCalled p q → q < 2 ^ 64 → e ≡ max (q - p) 1
+    → DoneBy (record { searched = 1; splits = splits; evaluations = e }) p q (EndsPart clues facts picture allowance (kept_at kept i) found)
 searched_once clues facts picture allowance kept i part found splits p q e here unknown ends l called fits is =
     let P : KeptPart → Type 0 = λ x. EndsPart clues facts picture allowance x found 1 ends.0 in
     record {
@@ -248,7 +272,8 @@ searched_once clues facts picture allowance kept i part found splits p q e here 
 
 -- ---- where an allowance is set
 
-stopped : (clues : Clues) (facts picture : List (List ℕ)) (allowance : Option ℕ) (cells : List ℕ) (answer : Answer) (searched splits : ℕ) → EndsBy clues facts picture allowance cells answer ending.BrokenOff searched splits → (most : ℕ) × (allowance ≡ Some most)
+stopped : (clues : Clues) (facts : Masks) (picture : Rows) (allowance : Option ℕ) (cells : List ℕ) (answer : Answer) (searched splits : ℕ)
+    → EndsBy clues facts picture allowance cells answer ending.BrokenOff searched splits → (most : ℕ) × (allowance ≡ Some most)
 stopped clues facts picture (Some most) cells Unknown searched splits h = (most, refl)
 stopped clues facts picture None cells Unknown searched splits h = elim h.1 [
   | inl e ↦ absurd (e.1 refl)

@@ -1,21 +1,23 @@
 -- Windows, in which alone another picture is looked for at first.
 use Rattle.std.specs.Prelude.{◌≡◌, ◌⊎◌, List, ℕ}
+use Rattle.line_settle.specs.Masks.{Masks}
 use Rattle.picture.specs.CellSet.{HasCell}
 use Rattle.picture.specs.Rows.{cell_at}
 use Rattle.line_settle.specs.FactSets.{SameShape}
 use Rattle.fixpoint.specs.LineNames.{AreLinesOf}
 use Rattle.second_search.specs.declared.near.Window.{Window}
-use Rattle.second_search.specs.Carrying.{LieInside}
-use Rattle.second_search.specs.Searching.{NamesLinesOf}
+use Rattle.second_search.specs.CarriedParts.{LieInside}
+use Rattle.second_search.specs.FixedOrder.{NamesLinesOf}
 
 -- the cells are among those of a part and lie in the facts, and the lines, which are theirs, go through all of them
-pub record IsWindow (facts : List (List ℕ)) (part : List ℕ) (window : Window) : Type 0 where
+pub record IsWindow (facts : Masks) (part : List ℕ) (window : Window) : Type 0 where
   pub among : (row col : ℕ) → HasCell window.cells row col → HasCell part row col
   pub inside : LieInside window.cells facts
   pub lines : AreLinesOf facts window.lines
   pub through : NamesLinesOf window.cells window.lines
 
 -- in some cells, if not in all, the masks of facts are taken for those at home, and elsewhere none
-pub record OpensIn (cells : List ℕ) (facts home new : List (List ℕ)) : Type 0 where
+pub record OpensIn (cells : List ℕ) (facts : Masks) (home new : List (List ℕ)) : Type 0 where
   pub same_shape : SameShape home new
-  pub each : (row col : ℕ) → (cell_at new row col ≡ cell_at home row col) ⊎ (HasCell cells row col × (cell_at new row col ≡ cell_at facts row col))
+  pub each : (row col : ℕ) → (cell_at new row col ≡ cell_at home row col)
+      ⊎ (HasCell cells row col × (cell_at new row col ≡ cell_at facts row col))

@@ -1,10 +1,12 @@
 -- Open cells, the parts that they make, and other fillings of a part.
-use Rattle.std.specs.Prelude.{◌≡◌, ℕ, ◌^◌, ◌<◌, ◌⊎◌, ◌↔◌, ◌==◌, Bool, not, if◌then◌else◌, List, [], ◌∷◌, length, map, slice_index, slice_index_or, bit_and, IsBitSet, refl}
+use Rattle.std.specs.Prelude.{◌≡◌, ℕ, ◌^◌, ◌<◌, ◌⊎◌, ◌↔◌, ◌==◌, Bool, not, if◌then◌else◌, List, [], ◌∷◌, length, map}
+use Rattle.std.specs.Prelude.{slice_index, slice_index_or, bit_and, IsBitSet, refl}
 use Rattle.std.specs.List.{range_with_len}
+use Rattle.line_settle.specs.Masks.{Masks}
 use Rattle.picture.specs.declared.line_id.LineId.{LineId}
 use Rattle.picture.specs.CellSet.{IsCellSet, HasCell}
 use Rattle.picture.specs.Picture.{IsPicture}
-use Rattle.picture.specs.Rows.{width_of, cell_at, line_of, HasLine}
+use Rattle.picture.specs.Rows.{width_of, cell_at, line_of, HasLine, Rows}
 use Rattle.clues.specs.ClueBook.{Clues, clue_at, clues_of}
 use Rattle.clues.specs.Laws.{IsOnLine}
 use Rattle.clues.specs.Solution.{IsOther}
@@ -19,7 +21,7 @@ pub record HasTwoColours (mask : ℕ) : Type 0 where
   pub differ : one ≡ other → ⊥
 
 -- an open cell: more than one colour is left there
-abbrev pub IsOpenCell : List (List ℕ) → ℕ → ℕ → Type 0
+abbrev pub IsOpenCell : Masks → ℕ → ℕ → Type 0
 IsOpenCell facts row col = HasTwoColours (cell_at facts row col)
 
 -- two cells share a row or a column
@@ -27,23 +29,24 @@ abbrev pub ShareLine : ℕ → ℕ → ℕ → ℕ → Type 0
 ShareLine row col r c = (row ≡ r) ⊎ (col ≡ c)
 
 -- a chain of open cells joins a cell to another, each sharing a line with the next
-pub data IsChained (facts : List (List ℕ)) (row col : ℕ) : ℕ → ℕ → Type 0 where
+pub data IsChained (facts : Masks) (row col : ℕ) : ℕ → ℕ → Type 0 where
   begins : IsOpenCell facts row col → IsChained facts row col row col
-  goes_on : (r c s d : ℕ) → IsChained facts row col r c → ShareLine r c s d → IsOpenCell facts s d → IsChained facts row col s d
+  goes_on : (r c s d : ℕ) → IsChained facts row col r c → ShareLine r c s d → IsOpenCell facts s d
+      → IsChained facts row col s d
 
 -- a cell comes before another in row order
 abbrev pub IsBefore : ℕ → ℕ → ℕ → ℕ → Type 0
 IsBefore row col r c = (row < r) ⊎ ((row ≡ r) × (col < c))
 
 -- a part with its first cell in row order: the cells that are chained to an open cell, none of which comes before it
-pub record IsPartFrom (facts : List (List ℕ)) (cells : List ℕ) (row col : ℕ) : Type 0 where
+pub record IsPartFrom (facts : Masks) (cells : List ℕ) (row col : ℕ) : Type 0 where
   pub set : IsCellSet cells
   pub is_open : IsOpenCell facts row col
   pub members : (r c : ℕ) → HasCell cells r c ↔ IsChained facts row col r c
   pub first : (r c : ℕ) → HasCell cells r c → IsBefore r c row col → ⊥
 
 -- a part
-pub record IsPart (facts : List (List ℕ)) (cells : List ℕ) : Type 0 where
+pub record IsPart (facts : Masks) (cells : List ℕ) : Type 0 where
   pub row : ℕ
   pub col : ℕ
   pub from : IsPartFrom facts cells row col
@@ -52,10 +55,12 @@ abbrev pub part_at : List (List ℕ) → ℕ → List ℕ
 part_at parts i = slice_index_or parts i []
 
 -- all parts, in the order of their first cells: each open cell is in one of them
-pub record AreParts (facts : List (List ℕ)) (parts : List (List ℕ)) : Type 0 where
+pub record AreParts (facts : Masks) (parts : List (List ℕ)) : Type 0 where
   pub each : (i : ℕ) → i < length parts → IsPart facts (part_at parts i)
-  pub ordered : (i j row col r c : ℕ) → i < j → j < length parts → IsPartFrom facts (part_at parts i) row col → IsPartFrom facts (part_at parts j) r c → IsBefore row col r c
-  pub all : (row col : ℕ) → IsOpenCell facts row col → (i : ℕ) × ((i < length parts) × HasCell (part_at parts i) row col)
+  pub ordered : (i j row col r c : ℕ) → i < j → j < length parts → IsPartFrom facts (part_at parts i) row col
+      → IsPartFrom facts (part_at parts j) r c → IsBefore row col r c
+  pub all : (row col : ℕ) → IsOpenCell facts row col
+      → (i : ℕ) × ((i < length parts) × HasCell (part_at parts i) row col)
 
 -- a line that goes through one of the cells
 pub record GoesThrough (line : LineId) (cells : List ℕ) : Type 0 where
@@ -70,33 +75,37 @@ abbrev pub is_in : List ℕ → ℕ → ℕ → Bool
 is_in cells row col = not (bit_and (slice_index cells row) (2 ^ col) == 0)
 
 -- the cell of one grid on a part, of the other elsewhere
-abbrev pub picked_cell : List ℕ → List (List ℕ) → List (List ℕ) → ℕ → ℕ → ℕ
+abbrev pub picked_cell : List ℕ → List (List ℕ) → Rows → ℕ → ℕ → ℕ
 picked_cell cells one other row col = if is_in cells row col then cell_at one row col else cell_at other row col
 
-abbrev pub picked_row : List ℕ → List (List ℕ) → List (List ℕ) → ℕ → List ℕ
-picked_row cells one other row = map (λ (col : ℕ). picked_cell cells one other row col) (range_with_len 0 (width_of other))
+abbrev pub picked_row : List ℕ → List (List ℕ) → Rows → ℕ → List ℕ
+picked_row cells one other row =
+    map (λ (col : ℕ). picked_cell cells one other row col) (range_with_len 0 (width_of other))
 
 -- one grid on a part, and the other, of its size, elsewhere: of two pictures a picture, of two fact sets a fact set
-unfoldable pub picked : List ℕ → List (List ℕ) → List (List ℕ) → List (List ℕ)
+unfoldable pub picked : List ℕ → List (List ℕ) → Rows → List (List ℕ)
 picked cells one other = map (λ (row : ℕ). picked_row cells one other row) (range_with_len 0 (length other))
 
 -- ---- other fillings
 
 -- another filling of a part: another picture that differs from the picture in cells of that part alone
-pub record IsOtherFilling (clues : Clues) (givens : List ℕ) (picture : List (List ℕ)) (cells : List ℕ) (other : List (List ℕ)) : Type 0 where
+pub record IsOtherFilling (clues : Clues) (givens : List ℕ) (picture : Rows) (cells : List ℕ)
+    (other : Rows) : Type 0 where
   pub is_other : IsOther clues (HasCell givens) picture other
   pub elsewhere : (row col : ℕ) → (HasCell cells row col → ⊥) → cell_at other row col ≡ cell_at picture row col
 
 -- ---- scenes
 
 -- clues and a picture that has them, and facts that a search for another picture may start from
-pub record IsScene (clues : Clues) (givens : List ℕ) (facts picture : List (List ℕ)) : Type 0 where
+pub record IsScene (clues : Clues) (givens : List ℕ) (facts : Masks) (picture : Rows) : Type 0 where
   pub is_picture : IsPicture picture
   pub has_clues : clues_of picture ≡ clues
   pub sound : AreSound clues givens picture facts
 
--- a line has, under the same name, the same clue, colours left and cells of the picture in two scenes, and so the same length
-pub record IsSameLine (clues : Clues) (facts picture : List (List ℕ)) (clues_after : Clues) (facts_after picture_after : List (List ℕ)) (line : LineId) : Type 0 where
+-- a line has, under the same name, the same clue, colours left
+-- and cells of the picture in two scenes, and so the same length
+pub record IsSameLine (clues : Clues) (facts : Masks) (picture : Rows) (clues_after : Clues) (facts_after : Masks)
+    (picture_after : Rows) (line : LineId) : Type 0 where
   pub before : HasLine picture line
   pub after : HasLine picture_after line
   pub clue : clue_at clues line ≡ clue_at clues_after line
@@ -104,13 +113,14 @@ pub record IsSameLine (clues : Clues) (facts picture : List (List ℕ)) (clues_a
   pub shown : line_of picture line ≡ line_of picture_after line
 
 -- each line through a part is the same in two scenes
-abbrev pub KeepsLines : Clues → List (List ℕ) → List (List ℕ) → Clues → List (List ℕ) → List (List ℕ) → List ℕ → Type 0
+abbrev pub KeepsLines : Clues → Masks → Rows → Clues → Masks → Rows → List ℕ → Type 0
 KeepsLines clues facts picture clues_after facts_after picture_after cells =
     (line : LineId) → GoesThrough line cells → IsSameLine clues facts picture clues_after facts_after picture_after line
 
 -- ---- worked by hand
 
 -- of two 3 by 3 grids the first on the cells in the corners of the upper left square, the second elsewhere
-worked_corners : picked (3 ∷ 3 ∷ 0 ∷ []) ((1 ∷ 0 ∷ 7 ∷ []) ∷ (0 ∷ 1 ∷ 7 ∷ []) ∷ (7 ∷ 7 ∷ 7 ∷ []) ∷ []) ((0 ∷ 1 ∷ 0 ∷ []) ∷ (1 ∷ 0 ∷ 2 ∷ []) ∷ (0 ∷ 2 ∷ 2 ∷ []) ∷ []) ≡ (1 ∷ 0 ∷ 0 ∷ []) ∷ (0 ∷ 1 ∷ 2 ∷ []) ∷ (0 ∷ 2 ∷ 2 ∷ []) ∷ []
+worked_corners : picked (3 ∷ 3 ∷ 0 ∷ []) ((1 ∷ 0 ∷ 7 ∷ []) ∷ (0 ∷ 1 ∷ 7 ∷ []) ∷ (7 ∷ 7 ∷ 7 ∷ []) ∷ []) ((0 ∷ 1 ∷ 0 ∷ [])
+    ∷ (1 ∷ 0 ∷ 2 ∷ []) ∷ (0 ∷ 2 ∷ 2 ∷ []) ∷ []) ≡ (1 ∷ 0 ∷ 0 ∷ []) ∷ (0 ∷ 1 ∷ 2 ∷ []) ∷ (0 ∷ 2 ∷ 2 ∷ []) ∷ []
 unfolding picked
 worked_corners = refl

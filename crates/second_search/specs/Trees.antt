@@ -2,15 +2,15 @@
 use Rattle.std.specs.Prelude.{◌≡◌, ℕ, ◌-◌, ◌<◌, Bool, true, false, Option, None, Some, List, [], ◌∷◌, ◌++◌}
 use Rattle.picture.specs.declared.line_id.Axis.{Axis}
 use Rattle.picture.specs.declared.line_id.LineId.{LineId}
-use Rattle.picture.specs.Rows.{cell_at, line_of, lines_along, HasLine}
+use Rattle.picture.specs.Rows.{cell_at, line_of, lines_along, HasLine, Rows}
 use Rattle.clues.specs.ClueBook.{Clues, clue_at}
 use Rattle.line_settle.specs.declared.line_engine.Outcome.{Outcome}
 use Rattle.line_settle.specs.declared.line_engine.Outcome.TheVariants.{Narrowed, Dead as NoneFits}
-use Rattle.line_settle.specs.Fitting.{CanFit}
-use Rattle.line_settle.specs.Masks.{IsOnly}
+use Rattle.line_settle.specs.Fits.{CanFit}
+use Rattle.line_settle.specs.Masks.{IsOnly, Masks}
 use Rattle.line_settle.specs.FactSets.{Gains, IsWithin}
-use Rattle.fixpoint.specs.Filling.{Fills}
-use Rattle.split_choice.specs.Choosing.{IsUnsettled}
+use Rattle.fixpoint.specs.Fillings.{Fills}
+use Rattle.split_choice.specs.Choices.{IsUnsettled}
 use Rattle.cert_text.specs.declared.tree_line.CellNumber.{CellNumber}
 use Rattle.cert_text.specs.declared.tree_line.CertLine.{CertLine}
 use Rattle.cert_text.specs.declared.tree_line.CertLine.TheVariants.{Line, Split, Dead, Done}
@@ -22,34 +22,38 @@ use Rattle.second_search.specs.declared.tree.Growing.{Growing}
 use Rattle.second_search.specs.declared.ladder.Decided.{Decided}
 use Rattle.second_search.specs.declared.ladder.Decided.TheVariants.{Tree, OtherPicture}
 use Rattle.cert_check.specs.Puzzle.{HasCellNumber, HasLineNumber, ShowsOnly, line_id, split_at}
-use Rattle.second_search.specs.Weighing.{load}
+use Rattle.second_search.specs.Weights.{load}
 
 -- ---- the next line
 
 -- not just one colour is left in a cell
-abbrev pub IsUnsettledAt : List (List ℕ) → CellNumber → Type 0
+abbrev pub IsUnsettledAt : Masks → CellNumber → Type 0
 IsUnsettledAt facts cell = (k : ℕ) → IsOnly (cell_at facts (cell.row - 1) (cell.col - 1)) k → ⊥
 
 -- the facts gain all that a line forces, and that is something
-pub record ForcesMore (clues : Clues) (facts : List (List ℕ)) (line : LineId) (gained : List (List ℕ)) : Type 0 where
+pub record ForcesMore (clues : Clues) (facts : Masks) (line : LineId) (gained : Masks) : Type 0 where
   pub outcome : Outcome
   pub gains : Gains (clue_at clues line) line facts gained outcome
   pub more : line_of facts line ≡ line_of gained line → ⊥
 
--- A line that may come next on a branch, and the branches that it leads to: what the line forces is more than is known; a cell in
--- which not just one colour is left has a branch for each of them; no list fits the line; no colour is left but the known picture's.
-abbrev pub Stands : Clues → List (List ℕ) → List (List ℕ) → CertLine → List (List (List ℕ)) → Type 0
+-- A line that may come next on a branch, and the branches that it leads to: what the line
+-- forces is more than is known; a cell in which not just one colour is left has a branch
+-- for each of them; no list fits the line; no colour is left but the known picture's.
+abbrev pub Stands : Clues → Rows → Masks → CertLine → List (List (List ℕ)) → Type 0
 Stands clues known facts (Line number) next =
-    HasLineNumber facts number × ((gained : List (List ℕ)) × (ForcesMore clues facts (line_id number) gained × (next ≡ gained ∷ [])))
-Stands clues known facts (Split cell) next = HasCellNumber facts cell × ((next ≡ split_at facts cell) × IsUnsettledAt facts cell)
+    HasLineNumber facts number
+    × ((gained : Masks) × (ForcesMore clues facts (line_id number) gained × (next ≡ gained ∷ [])))
+Stands clues known facts (Split cell) next =
+    HasCellNumber facts cell × ((next ≡ split_at facts cell) × IsUnsettledAt facts cell)
 Stands clues known facts (Dead number) next =
-    HasLineNumber facts number × ((CanFit (clue_at clues (line_id number)) (line_of facts (line_id number)) → ⊥) × (next ≡ []))
+    HasLineNumber facts number
+    × ((CanFit (clue_at clues (line_id number)) (line_of facts (line_id number)) → ⊥) × (next ≡ []))
 Stands clues known facts Done next = ShowsOnly known facts × (next ≡ [])
 
 -- ---- where lines lead
 
 -- lines lead from the branches that wait to others, one line after the other, each on the first branch that waits
-abbrev pub Walks : Clues → List (List ℕ) → List CertLine → List (List (List ℕ)) → List (List (List ℕ)) → Type 0
+abbrev pub Walks : Clues → Rows → List CertLine → List (List (List ℕ)) → List (List (List ℕ)) → Type 0
 Walks clues known [] waits rest = waits ≡ rest
 Walks clues known (line ∷ lines) [] rest = ⊥
 Walks clues known (line ∷ lines) (facts ∷ others) rest =
@@ -64,52 +68,56 @@ Adds (Kept old) Dropped lines = ⊥
 Adds Dropped (Kept new) lines = ⊥
 Adds Dropped Dropped lines = Unit {0}
 
--- lines are said that lead from the facts of a branch, and whatever waits behind it, to other facts, or to none
-pub record Says (clues : Clues) (known facts : List (List ℕ)) (front : List (List (List ℕ))) (old new : Lines) : Type 0 where
+-- lines are said that lead from the facts of a branch, and whatever waits after it, to other facts, or to none
+pub record Says (clues : Clues) (known : Rows) (facts : Masks) (front : List (List (List ℕ)))
+    (old new : Lines) : Type 0 where
   pub lines : List CertLine
   pub adds : Adds old new lines
-  pub walks : (others : List (List (List ℕ))) → Walks clues known lines (facts ∷ others) (front ++ others)
+  pub walks : (others : List Masks) → Walks clues known lines (facts ∷ others) (front ++ others)
 
 -- what closing a branch line by line comes to: facts within those, or a dead line, which ends the branch
-abbrev pub Settles : Clues → List (List ℕ) → List (List ℕ) → Lines → Lines → Outcome → Type 0
-Settles clues facts settled old new Narrowed = IsWithin facts settled × ((known : List (List ℕ)) → Says clues known facts (settled ∷ []) old new)
-Settles clues facts settled old new NoneFits = (known : List (List ℕ)) → Says clues known facts [] old new
+abbrev pub Settles : Clues → Masks → Masks → Lines → Lines → Outcome → Type 0
+Settles clues facts settled old new Narrowed =
+    IsWithin facts settled × ((known : Rows) → Says clues known facts (settled ∷ []) old new)
+Settles clues facts settled old new NoneFits = (known : Rows) → Says clues known facts [] old new
 
 -- another picture than the known one fills the facts
-abbrev pub IsOtherIn : Clues → List (List ℕ) → List (List ℕ) → List (List ℕ) → Type 0
+abbrev pub IsOtherIn : Clues → Rows → Masks → Rows → Type 0
 IsOtherIn clues known facts picture = Fills clues facts picture × (picture ≡ known → ⊥)
 
 -- a line that no list fits
-pub record IsDeadLine (clues : Clues) (facts : List (List ℕ)) (line : LineId) : Type 0 where
+pub record IsDeadLine (clues : Clues) (facts : Masks) (line : LineId) : Type 0 where
   pub has : HasLine facts line
   pub dead : CanFit (clue_at clues line) (line_of facts line) → ⊥
 
 -- some list fits each line along an axis
-abbrev pub EachFitsAlong : Clues → List (List ℕ) → Axis → Type 0
-EachFitsAlong clues facts axis = (at : ℕ) → at < lines_along axis facts → CanFit (clue_at clues (record { axis = axis; at = at })) (line_of facts (record { axis = axis; at = at }))
+abbrev pub EachFitsAlong : Clues → Masks → Axis → Type 0
+EachFitsAlong clues facts axis = (at : ℕ) → at < lines_along axis facts
+    → CanFit (clue_at clues (record { axis = axis; at = at })) (line_of facts (record { axis = axis; at = at }))
 
 -- a picture is the known one, which ends a branch, or another
-abbrev pub IsComparedTo : List (List ℕ) → List (List ℕ) → TreeStep → Type 0
+abbrev pub IsComparedTo : Rows → Rows → TreeStep → Type 0
 IsComparedTo known picture (Ends line) = (line ≡ Done) × (picture ≡ known)
 IsComparedTo known picture (Splits cell) = ⊥
 IsComparedTo known picture (Other other) = (other ≡ picture) × (picture ≡ known → ⊥)
 
 -- what comes next on a closed branch: a line that ends it, a cell to split, or another picture than the known one
-abbrev pub Continues : Clues → List (List ℕ) → List (List ℕ) → TreeStep → Type 0
+abbrev pub Continues : Clues → Rows → Masks → TreeStep → Type 0
 Continues clues known facts (Ends line) = Stands clues known facts line []
 Continues clues known facts (Splits cell) = IsUnsettled facts cell
 Continues clues known facts (Other picture) = IsOtherIn clues known facts picture
 
 -- ---- a tree
 
--- What a turn on the first branch that waits comes to: lines that lead to what waits then, which weighs less; or another picture.
-pub record TurnsOn (clues : Clues) (known : List (List ℕ)) (old new : Growing) : Type 0 where
+-- What a turn on the first branch that waits comes to: lines that
+-- lead to what waits then, which weighs less; or another picture.
+pub record TurnsOn (clues : Clues) (known : Rows) (old new : Growing) : Type 0 where
   pub lines : List CertLine
   pub adds : Adds old.lines new.lines lines
   pub walks : Walks clues known lines (old.trail.at_hand ∷ old.trail.behind) new.trail.behind
   pub lighter : load new.trail.behind < load (old.trail.at_hand ∷ old.trail.behind)
 
-abbrev pub Turns : Clues → List (List ℕ) → Growing → Growing → Option (List (List ℕ)) → Type 0
+abbrev pub Turns : Clues → Rows → Growing → Growing → Option (List (List ℕ)) → Type 0
 Turns clues known old new None = TurnsOn clues known old new
 Turns clues known old new (Some picture) = IsOtherIn clues known old.trail.at_hand picture
 
@@ -131,11 +139,11 @@ AreKeptWhere keeps (Kept lines) = keeps ≡ true
 AreKeptWhere keeps Dropped = keeps ≡ false
 
 -- the lines of a tree from facts, where they are kept; else there are some
-abbrev pub AreTree : Clues → List (List ℕ) → List (List ℕ) → Lines → Type 0
+abbrev pub AreTree : Clues → Rows → Masks → Lines → Type 0
 AreTree clues known facts (Kept lines) = Walks clues known lines.items (facts ∷ []) []
 AreTree clues known facts Dropped = (lines : List CertLine) × Walks clues known lines (facts ∷ []) []
 
 -- a tree, or another picture than the known one
-abbrev pub Decides : Clues → List (List ℕ) → List (List ℕ) → Bool → Decided → Type 0
+abbrev pub Decides : Clues → Rows → Masks → Bool → Decided → Type 0
 Decides clues known facts keeps (Tree lines) = AreTree clues known facts lines × AreKeptWhere keeps lines
 Decides clues known facts keeps (OtherPicture picture) = IsOtherIn clues known facts picture

@@ -3,7 +3,7 @@
 ghost use Rattle.std.specs.Prelude.{◌≡◌, ℕ, ◌<◌, ◌↔◌, length, IfOk, IsTrue, MatchOption};
 ghost use Rattle.picture.specs.CellSet.{HasCell};
 ghost use Rattle.picture.specs.Rows.{lines_along, line_of, width_of, HasLine};
-ghost use Rattle.second_search.specs.Carrying.{AreSameLines, HoldsCells, LieInside, NamesAlong, NamesThrough, PutsRowOn, PutsSame, carried};
+ghost use Rattle.second_search.specs.CarriedParts.{AreSameLines, HoldsCells, LieInside, NamesAlong, NamesThrough, PutsRowOn, PutsSame, carried};
 ghost use Rattle.second_search.specs.Parts.{GoesThrough, IsSameLine, picked};
 ghost use Rattle.second_search.specs.Scene.{IsWhole};
 

@@ -1,12 +1,13 @@
 //! What facts come to when they are closed, exactly: a dead line, a picture, or a first open cell.
 
-ghost use Rattle.std.specs.Prelude.{◌≡◌, ◌<◌, ◌≤◌, IfOk, OnOk};
+ghost use Rattle.std.specs.Prelude.{◌≡◌, ◌+◌, ◌<◌, ◌≤◌, IfOk, OnOk};
 ghost use Rattle.picture.specs.LineSet.{name_count};
 ghost use Rattle.line_settle.specs.FactSets.{IsFacts, SameShape};
-ghost use Rattle.fixpoint.specs.Closing.{AreClosable, EachFits, QuietOutside};
+ghost use Rattle.fixpoint.specs.ClosedFacts.{AreClosable, EachFits, QuietOutside};
 ghost use Rattle.fixpoint.specs.LineNames.{AreLinesOf};
-ghost use Rattle.second_search.specs.Looking.{AreRowsSettled, ShowOthers, Shows};
-ghost use Rattle.second_search.specs.Searching.{Comes, ComesClosed, IsCalled, SplitsBut};
+ghost use Rattle.second_search.specs.SettledFacts.{AreRowsSettled, ShowOthers, Shows};
+ghost use Rattle.second_search.specs.FixedOrder.{Comes, ComesClosed, IsCalled, SplitsBut};
+ghost use Rattle.second_search.specs.Evaluations.{most_to_close};
 
 use crate::looking::{first_unsettled, shown_on};
 use clues::ClueBook;
@@ -54,9 +55,10 @@ pub(crate) fn come_to<E: LineEngine>(
     ensures kept { IfOk result (λ (coming, changed). SplitsBut facts.now coming changed) }
     ensures calls { E.calls engine.old ≤ E.calls engine.new }
     ensures called { OnOk result (IsCalled (E.calls engine.old) (E.calls engine.new)) }
+    ensures few { E.calls engine.new ≤ E.calls engine.old + most_to_close facts.now }
     ensures same_longest { E.longest engine.new ≡ E.longest engine.old }
 {
-    let _ = engine.calls();
+    let _ = (engine.calls(), facts.height());
     let mut settled = facts.copy()?;
     let mut agenda = InOrder::make();
     let closed = close_naming(engine, &mut agenda, &mut settled, book, &due.lines);

@@ -1,13 +1,14 @@
 //! The search in a fixed order, which counts its splits and may be broken off.
 
-ghost use Rattle.std.specs.Prelude.{◌≡◌, ◌<◌, ◌≤◌, ℕ, IfOk, OnOk};
+ghost use Rattle.std.specs.Prelude.{◌≡◌, ◌+◌, ◌-◌, ◌<◌, ◌≤◌, ℕ, IfOk, OnOk};
 ghost use Rattle.picture.specs.LineSet.{name_count};
-ghost use Rattle.fixpoint.specs.Closing.{AreClosable, QuietOutside};
+ghost use Rattle.fixpoint.specs.ClosedFacts.{AreClosable, QuietOutside};
 ghost use Rattle.fixpoint.specs.LineNames.{AreLinesOf};
 ghost use Rattle.line_settle.specs.FactSets.{SameShape};
-ghost use Rattle.second_search.specs.Looking.{AreRowsSettled, ShowOthers};
-ghost use Rattle.second_search.specs.Searching.{EndsAs, IsCalled, raised};
-ghost use Rattle.second_search.specs.Stepping.{Compares, Spends, Steps};
+ghost use Rattle.second_search.specs.SettledFacts.{AreRowsSettled, ShowOthers};
+ghost use Rattle.second_search.specs.FixedOrder.{EndsAs, IsCalled, raised};
+ghost use Rattle.second_search.specs.SearchSteps.{Compares, Spends, Steps};
+ghost use Rattle.second_search.specs.Evaluations.{AreFew, most_to_close};
 
 use crate::coming::{Coming, Due, come_to};
 use clues::ClueBook;
@@ -73,7 +74,7 @@ pub(crate) struct Counted {
 
 // Searches facts for another picture than a known one. A line is named, and each line that is not has to be quiet; after a
 // split the two lines of the split cell alone need not be, since closed facts were split, and the rows above that cell are
-// settled. Of the splits at most so many are made as are allowed, where there is an allowance.
+// settled. Of the splits at most so many are made as are allowed, where there is an allowance, and then the evaluations are few.
 pub(crate) fn search_counted<E: LineEngine>(
     alloc: Global,
     engine: &mut E,
@@ -91,6 +92,7 @@ pub(crate) fn search_counted<E: LineEngine>(
         × EndsAs book.now known.now start.facts start.allowance searched.ending n)) }
     ensures calls { E.calls engine.old ≤ E.calls engine.new }
     ensures called { OnOk result (IsCalled (E.calls engine.old) (E.calls engine.new)) }
+    ensures few { AreFew start.allowance start.facts 1 (E.calls engine.new - E.calls engine.old) }
     ensures same_longest { E.longest engine.new ≡ E.longest engine.old }
 {
     let _ = (known.height(), start.facts.height());
@@ -149,6 +151,8 @@ impl Counted {
             self.old.budget self.new.budget) }
         ensures calls { E.calls engine.old ≤ E.calls engine.new }
         ensures called { OnOk result (IsCalled (E.calls engine.old) (E.calls engine.new)) }
+        ensures few { E.calls engine.new
+            ≤ E.calls engine.old + most_to_close self.old.trail.at_hand }
         ensures same_longest { E.longest engine.new ≡ E.longest engine.old }
     {
         let (coming, changed) = come_to(engine, book, known, self.trail.at_hand(), &self.due)?;

@@ -3,9 +3,9 @@
 ghost use Rattle.std.specs.Prelude.{◌≡◌, ◌≤◌, ℕ, List, length, IfOk};
 ghost use Rattle.clues.specs.ClueBook.{clues_of};
 ghost use Rattle.line_settle.specs.FactSets.{SameShape};
-ghost use Rattle.fixpoint.specs.Closing.{AreClosable};
+ghost use Rattle.fixpoint.specs.ClosedFacts.{AreClosable};
 ghost use Rattle.second_search.specs.Other.{AreSound, FindsFirst, FindsOther};
-ghost use Rattle.second_search.specs.Looking.{FindsFilling};
+ghost use Rattle.second_search.specs.SettledFacts.{FindsFilling};
 
 use crate::bounds::BOUNDS;
 use crate::ladder::{Decided, Ladder, climb};

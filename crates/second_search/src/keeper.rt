@@ -1,12 +1,12 @@
 //! Answers of parts that are kept, and a picture judged by them.
 
-ghost use Rattle.std.specs.Prelude.{◌≡◌, ◌<◌, ◌≤◌, ◌↔◌, ℕ, length, IfOk, IsTrue, OnErr, MatchOption};
+ghost use Rattle.std.specs.Prelude.{◌≡◌, ◌-◌, ◌<◌, ◌≤◌, ◌↔◌, ℕ, length, IfOk, IsTrue, OnErr, MatchOption};
 ghost use Rattle.picture.specs.CellSet.{HasCell};
-ghost use Rattle.line_settle.specs.Counting.{Counts};
+ghost use Rattle.line_settle.specs.Counts.{Counts};
 ghost use Rattle.second_search.specs.Parts.{AreParts, IsPart, IsScene};
-ghost use Rattle.second_search.specs.Answering.{IsAnswer};
-ghost use Rattle.second_search.specs.Carrying.{AreSameLines, Carries, IsCarried, KnowsNothing};
-ghost use Rattle.second_search.specs.Judging.{
+ghost use Rattle.second_search.specs.Answer.{IsAnswer};
+ghost use Rattle.second_search.specs.CarriedParts.{AreSameLines, Carries, IsCarried, KnowsNothing};
+ghost use Rattle.second_search.specs.JudgedParts.{
   AddsUp,
   AnswersAs,
   AreTrue,
@@ -29,6 +29,7 @@ ghost use Rattle.second_search.specs.Judging.{
   parts_of,
 };
 ghost use Rattle.second_search.specs.Scene.{CanSearch, IsWhole};
+ghost use Rattle.second_search.specs.Evaluations.{AreFew};
 
 use crate::carrying::{answer_for, are_named, first_cell, same_lines};
 use crate::counting::{Ending, Searched};
@@ -249,8 +250,9 @@ impl Keeper {
     /// broken off, nothing is. Adds to `searched` how many parts were searched, the last of them too if it was broken off, and
     /// to `splits` how often they split in the fixed order, without an allowance at most 100 times each; both stay at the
     /// largest number. Each part that is searched takes an evaluation at least, and where nothing is searched, no line is
-    /// evaluated. Where memory runs out, what is kept and both counts stay as they were. The parts kept are those of the
-    /// scene's facts, and what is known of them is true; no line is longer than the engine's `longest`.
+    /// evaluated. Under an allowance of `n` splits a part takes at most `(1 + 16 n) (l + 16 c)` evaluations, where the facts have
+    /// `l` lines and `c` cells. Where memory runs out, what is kept and both counts stay as they were. The parts kept are those of
+    /// the scene's facts, and what is known of them is true; no line is longer than the engine's `longest`.
     pub fn judge<E: LineEngine>(
         &mut self,
         engine: &mut E,
@@ -280,7 +282,8 @@ impl Keeper {
         ensures answer { IfOk result
             (IsAnswer scene.now.clues.now scene.now.givens.now scene.now.picture.now) }
         ensures counts { (evaluations : ℕ)
-            × Counts evaluations 0 meter.old meter.new (E.calls engine.old) (E.calls engine.new) }
+            × Counts evaluations 0 meter.old meter.new (E.calls engine.old) (E.calls engine.new)
+            × AreFew allowance scene.now.facts.now (length self.old) evaluations }
         ensures rises { (searched.old ≤ searched.new) × (splits.old ≤ splits.new) }
         ensures as_before { OnErr result
             ((searched.new ≡ searched.old) × (splits.new ≡ splits.old)) }
@@ -330,6 +333,10 @@ impl Keeper {
             × (IsToldBy decided.0 self.new verdict
             × DoneBy decided.1 (E.calls engine.old) (E.calls engine.new) (Judges scene.now.clues.now
             scene.now.facts.now scene.now.picture.now allowance self.old self.new verdict))) }
+        ensures spent { IfOk result (λ decided.
+            AreFew allowance scene.now.facts.now (length self.old) decided.1.evaluations) }
+        ensures few { AreFew allowance scene.now.facts.now (length self.old)
+            (E.calls engine.new - E.calls engine.old) }
         ensures refused { OnErr result (self.new ≡ self.old) }
         ensures parts { AreParts scene.now.facts.now (parts_of self.new) }
         ensures true_answers { AreTrue scene.now.clues.now scene.now.givens.now
@@ -361,8 +368,9 @@ impl Keeper {
         None
     }
 
-    // Goes along the parts, and searches those of which nothing is known, up to the first that has another filling or costs
-    // more than is allowed. Tells at which it stopped, behind the last where there is none, and how the search there ended.
+    // Goes along the parts, and searches those of which nothing is known, up to the first that has another filling or
+    // costs more than is allowed. Tells at which it stopped, after the last where there is none, and how the search
+    // there ended.
     fn search_parts<E: LineEngine>(
         &self,
         engine: &mut E,
@@ -375,6 +383,10 @@ impl Keeper {
         ensures stops { IfOk result (λ gone. DoneBy gone.2 (E.calls engine.old)
             (E.calls engine.new) (Stops scene.now.clues.now scene.now.facts.now
             scene.now.picture.now allowance self.now gone.0 gone.1)) }
+        ensures spent { IfOk result (λ gone.
+            AreFew allowance scene.now.facts.now (length self.now) gone.2.evaluations) }
+        ensures few { AreFew allowance scene.now.facts.now (length self.now)
+            (E.calls engine.new - E.calls engine.old) }
         ensures calls { E.calls engine.old ≤ E.calls engine.new }
         ensures same_longest { E.longest engine.new ≡ E.longest engine.old }
     {
@@ -404,10 +416,15 @@ impl Keeper {
         ensures ends { IfOk result (λ ended. DoneBy ended.1 (E.calls engine.old)
             (E.calls engine.new) (EndsPart scene.now.clues.now scene.now.facts.now
             scene.now.picture.now allowance (kept_at self.now i) ended.0)) }
+        ensures spent { IfOk result (λ ended.
+            AreFew allowance scene.now.facts.now 1 ended.1.evaluations) }
+        ensures few { AreFew allowance scene.now.facts.now 1
+            (E.calls engine.new - E.calls engine.old) }
         ensures calls { E.calls engine.old ≤ E.calls engine.new }
         ensures same_longest { E.longest engine.new ≡ E.longest engine.old }
     {
         let before = engine.calls();
+        let _ = scene.facts.height();
         let part = &self.kept[i];
         // A kept filling is not met here, since it is answered before.
         let Answer::Unknown = part.answer else {

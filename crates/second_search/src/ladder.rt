@@ -1,7 +1,7 @@
 //! The ladder: two ways to choose the cell in turn, each broken off at a bound that grows.
 
 ghost use Rattle.std.specs.Prelude.{◌≡◌, ◌≤◌, IfOk};
-ghost use Rattle.fixpoint.specs.Closing.{AreClosable};
+ghost use Rattle.fixpoint.specs.ClosedFacts.{AreClosable};
 ghost use Rattle.second_search.specs.Trees.{Decides};
 
 use crate::bounds::LONGER;

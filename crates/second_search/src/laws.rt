@@ -2,7 +2,7 @@
 
 ghost use Rattle.second_search.specs.Costs.{CostsAreThere, CostsDecide};
 ghost use Rattle.second_search.specs.Laws.{AllowancesBreakOff, EndingsAreTrue, FillingsAreOfFacts, FillingsStay, PartsAreApart, PartsAreOneList, PartsDecide, SoundFacts, TreesAreWhole};
-ghost use Rattle.second_search.specs.Searching.{CostsAreUnique};
+ghost use Rattle.second_search.specs.FixedOrder.{CostsAreUnique};
 
 #[tactic(auto, using(crate::proofs::KnownLaws::sound_facts))]
 /// Facts that exclude nothing are sound where there is no given, and so is the base of any givens; facts stay sound with

@@ -6,7 +6,7 @@ ghost use Rattle.picture.specs.Rows.{width_of, cell_at};
 ghost use Rattle.line_settle.specs.Masks.{IsOnly};
 ghost use Rattle.line_settle.specs.FactSets.{SameShape};
 ghost use Rattle.second_search.specs.Through.{across};
-ghost use Rattle.second_search.specs.Looking.{AreOthersSettled, AreRowsSettled, AreSettled, IsFirstUnsettled, ShowOthers, Shows, ShowsRow};
+ghost use Rattle.second_search.specs.SettledFacts.{AreOthersSettled, AreRowsSettled, AreSettled, IsFirstUnsettled, ShowOthers, Shows, ShowsRow};
 
 use fixpoint::all_lines;
 use line_settle::Facts;

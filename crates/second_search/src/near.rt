@@ -4,7 +4,7 @@ ghost use Rattle.std.specs.Prelude.{◌≡◌, ◌<◌, ◌≤◌, length, IfOk,
 ghost use Rattle.picture.specs.CellSet.{HasCell};
 ghost use Rattle.line_settle.specs.FactSets.{SameShape};
 ghost use Rattle.clues.specs.Solution.{IsOther};
-ghost use Rattle.fixpoint.specs.Filling.{only};
+ghost use Rattle.fixpoint.specs.Fillings.{only};
 ghost use Rattle.second_search.specs.Near.{IsWindow, OpensIn};
 ghost use Rattle.second_search.specs.Parts.{IsOtherFilling, IsScene};
 ghost use Rattle.second_search.specs.Scene.{CanSearch};

@@ -1,10 +1,11 @@
 //! A part decided: by the search of the fixed order, and where that takes long and no allowance is set, by small windows of the
 //! part, the fixed order anew, large windows and trees.
 
-ghost use Rattle.std.specs.Prelude.{◌≡◌, ◌≤◌, ℕ, length, IfOk, OnOk};
+ghost use Rattle.std.specs.Prelude.{◌≡◌, ◌-◌, ◌≤◌, ℕ, length, IfOk, OnOk};
 ghost use Rattle.second_search.specs.Parts.{IsPart, IsScene};
-ghost use Rattle.second_search.specs.Searching.{EndsPast, EndsTrue, EndsWithin, IsCalled, alone, raised};
+ghost use Rattle.second_search.specs.FixedOrder.{EndsPast, EndsTrue, EndsWithin, IsCalled, alone, raised};
 ghost use Rattle.second_search.specs.Scene.{CanSearch};
+ghost use Rattle.second_search.specs.Evaluations.{AreFew};
 
 use crate::bounds::{BOUNDS, Bounds, LONGER};
 use crate::counting::{Ending, Searched};
@@ -31,6 +32,7 @@ pub(crate) fn decide_part<E: LineEngine>(
         (alone cells.now scene.now.facts.now scene.now.picture.now) allowance searched.ending n)) }
     ensures calls { E.calls engine.old ≤ E.calls engine.new }
     ensures called { OnOk result (IsCalled (E.calls engine.old) (E.calls engine.new)) }
+    ensures few { AreFew allowance scene.now.facts.now 1 (E.calls engine.new - E.calls engine.old) }
     ensures same_longest { E.longest engine.new ≡ E.longest engine.old }
 {
     match allowance {

@@ -1,13 +1,14 @@
 //! The search of one part: the facts on it, with the picture's colours alone left elsewhere, and the lines through its cells.
 
-ghost use Rattle.std.specs.Prelude.{◌≡◌, ◌<◌, ◌≤◌, ℕ, length, IfOk, OnOk};
+ghost use Rattle.std.specs.Prelude.{◌≡◌, ◌-◌, ◌<◌, ◌≤◌, ℕ, length, IfOk, OnOk};
 ghost use Rattle.picture.specs.Rows.{width_of};
 ghost use Rattle.line_settle.specs.FactSets.{SameShape};
 ghost use Rattle.fixpoint.specs.LineNames.{AreLinesOf};
 ghost use Rattle.second_search.specs.Parts.{IsPart};
-ghost use Rattle.second_search.specs.Searching.{EndsAs, IsCalled, KeepsOutside, alone, raised};
+ghost use Rattle.second_search.specs.FixedOrder.{EndsAs, IsCalled, KeepsOutside, alone, raised};
 ghost use Rattle.second_search.specs.Through.{LeavesRowAlone, PutsBoth, PutsRow, PutsThrough};
 ghost use Rattle.second_search.specs.Scene.{CanSearch, IsWhole};
+ghost use Rattle.second_search.specs.Evaluations.{AreFew};
 
 use crate::counting::{Searched, Start, search_counted};
 use crate::scene::Scene;
@@ -30,6 +31,7 @@ pub(crate) fn search_part<E: LineEngine>(
         (alone cells.now scene.now.facts.now scene.now.picture.now) allowance searched.ending n)) }
     ensures calls { E.calls engine.old ≤ E.calls engine.new }
     ensures called { OnOk result (IsCalled (E.calls engine.old) (E.calls engine.new)) }
+    ensures few { AreFew allowance scene.now.facts.now 1 (E.calls engine.new - E.calls engine.old) }
     ensures same_longest { E.longest engine.new ≡ E.longest engine.old }
 {
     let _ = scene.facts.height();

@@ -2,7 +2,7 @@
 
 ghost use Rattle.std.specs.Prelude.{◌≡◌, ℕ, ◌+◌, ◌<◌, ◌↔◌, length, IfOk, OnOk, IsTrue};
 ghost use Rattle.picture.specs.Rows.{width_of};
-ghost use Rattle.second_search.specs.Growing.{ArePartsAbove, HoldsCell, IsFirstOpen};
+ghost use Rattle.second_search.specs.GrownParts.{ArePartsAbove, HoldsCell, IsFirstOpen};
 ghost use Rattle.second_search.specs.Parts.{AreParts, part_at};
 
 use line_settle::Facts;

@@ -2,7 +2,7 @@
 //! free.
 
 ghost use Rattle.std.specs.Prelude.{◌≡◌, ◌≤◌, None, IfOk, IfSome, IsNone, IsTrue};
-ghost use Rattle.fixpoint.specs.Closing.{AreClosable};
+ghost use Rattle.fixpoint.specs.ClosedFacts.{AreClosable};
 ghost use Rattle.second_search.specs.Trees.{Advances, AreNone, Decides, Turns};
 
 use crate::ladder::Decided;

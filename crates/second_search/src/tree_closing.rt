@@ -4,7 +4,7 @@ ghost use Rattle.std.specs.Prelude.{◌≡◌, ◌≤◌, length, IfOk, IsTrue};
 ghost use Rattle.picture.specs.Rows.{line_of, HasLine};
 ghost use Rattle.clues.specs.ClueBook.{HasClue};
 ghost use Rattle.line_settle.specs.FactSets.{IsFacts};
-ghost use Rattle.fixpoint.specs.Closing.{AreClosable};
+ghost use Rattle.fixpoint.specs.ClosedFacts.{AreClosable};
 ghost use Rattle.second_search.specs.Trees.{Settles};
 
 use crate::tree_lines::{Lines, line_number};

@@ -3,8 +3,8 @@
 ghost use Rattle.std.specs.Prelude.{◌≡◌, ◌≤◌, ◌↔◌, IfOk, IfSome, IsTrue, MatchOption};
 ghost use Rattle.picture.specs.Rows.{HasLine, line_of};
 ghost use Rattle.clues.specs.ClueBook.{clue_at};
-ghost use Rattle.line_settle.specs.Fitting.{CanFit};
-ghost use Rattle.fixpoint.specs.Closing.{AreClosable, EachFits};
+ghost use Rattle.line_settle.specs.Fits.{CanFit};
+ghost use Rattle.fixpoint.specs.ClosedFacts.{AreClosable, EachFits};
 ghost use Rattle.second_search.specs.Trees.{Continues, EachFitsAlong, IsComparedTo, IsDeadLine, IsOtherIn};
 
 use crate::looking::{first_unsettled, shown_picture};

@@ -1,9 +1,11 @@
 -- What is answered is what a session says.
-use Rattle.std.proofs.Common.{◌≡◌, ℕ, ◌<◌, ◌≤◌, true, false, Bool, List, [], ◌++◌, length, Option, None, Some, Result, Ok, Err, IfErr, IfOk, IfSome, OnErr, OnOk, MatchResult, inl, inr, refl, sym, ap, subst, ◌∙◌, arith}
+use Rattle.std.proofs.Common.{◌≡◌, ℕ, ◌<◌, ◌≤◌, true, false, Bool, List, [], ◌++◌, length, Option, None, Some, Result, Ok, Err, IfErr, IfOk, IfSome, OnErr, OnOk, MatchResult, inl, inr, refl, sym, ap}
+use Rattle.std.proofs.Common.{subst, ◌∙◌, arith}
 use Rattle.std.proofs.lemmas.Bool.Decides.{nat_tests}
 use Rattle.std.specs.declared.vec.Vec.{Vec}
 use Rattle.std.specs.declared.alloc.Global.{Global}
-use Rattle.picture.specs.Rows.{width_of}
+use Rattle.line_settle.specs.Masks.{Masks}
+use Rattle.picture.specs.Rows.{width_of, Rows}
 use Rattle.picture.specs.declared.document.Document.{Document}
 use Rattle.picture.specs.Content.{content_of}
 use Rattle.ppm_text.specs.Text.{ppm_text}
@@ -12,7 +14,7 @@ use Rattle.edits.specs.declared.fault.EditFault.TheVariants.{Place}
 use Rattle.edits.specs.Design.{Design, design_of}
 use Rattle.edits.specs.Fault.{has_cell}
 use Rattle.clues.specs.ClueBook.{Clues}
-use Rattle.non_text.specs.Writing.{is_two_colour}
+use Rattle.non_text.specs.WrittenNon.{is_two_colour}
 use Rattle.non_text.specs.Written.{non_text_of}
 use Rattle.cert_text.specs.Cert.{Certificate}
 use Rattle.live_audit.specs.declared.verdict.Verdict.{Verdict}
@@ -29,12 +31,14 @@ use Rattle.session.specs.declared.answer.Answer.TheVariants.{Silence, Done, Text
 use Rattle.session.specs.Answer.{GivesNon, IsAsked, answer_text, stroke_said, text_said}
 use Rattle.report_text.specs.ClueText.{clues_text}
 use Rattle.session.specs.Refusal.{edit_line, memory_line, refusal_line}
-use Rattle.session.specs.Session.{Judges, Replies, SaysStroke, certified_text, content, done_text, report_on, verdict_text, verdict_word, why_text}
+use Rattle.session.specs.Session.{Judges, Replies, SaysStroke, report_on}
+use Rattle.session.specs.Texts.{certified_text, content, done_text, verdict_text, verdict_word, why_text}
 use Rattle.report_text.specs.Report.{ending_text, front_text}
 use Rattle.report_text.specs.Shown.{map_text}
 
 -- a stroke, by what the bench answers
-pub says_stroke : (stroke : Stroke) (old new : Seen) (outcome : Result (Unit {0}) EditFault) → OnOk outcome (Accepts stroke old new) → IfErr outcome (λ fault. Refuses stroke fault old new) → IsAudited new
+pub says_stroke : (stroke : Stroke) (old new : Seen) (outcome : Result (Unit {0}) EditFault) → OnOk outcome (Accepts stroke old new) → IfErr outcome (λ fault. Refuses stroke fault old new)
+    → IsAudited new
     → SaysStroke stroke old (answer_text (stroke_said outcome)) new
 says_stroke stroke old new (Ok done) accepted refused audited = inl (refl, (accepted, audited))
 says_stroke stroke old new (Err fault) accepted refused audited = inr (fault, (refl, refused))
@@ -43,14 +47,14 @@ says_stroke stroke old new (Err fault) accepted refused audited = inr (fault, (r
 same_count : (n : ℕ) → n ≤ n
 same_count n = omega arith
 
--- a text of the state, or want of memory
+-- a text of the state, or out of memory
 pub replies_clues : {E : Type 0} (s : Seen) (clues : Clues) (outcome : Result (Vec ℕ Global) E) → clues ≡ s.clues → IsAudited s → IfOk outcome (λ text. text.items ≡ clues_text clues)
     → Replies command.Clues s (answer_text (text_said outcome)) s
 unfolding Replies
 replies_clues s clues (Ok text) is audited same = (inl (audited, (same ∙ ap (λ (k : Clues). clues_text k) is, refl)), same_count s.calls)
 replies_clues s clues (Err e) is audited same = (inr (refl, refl), same_count s.calls)
 
-pub replies_map : {E : Type 0} (s : Seen) (facts : List (List ℕ)) (outcome : Result (Vec ℕ Global) E) → facts ≡ s.book.facts → IsAudited s → IfOk outcome (λ text. text.items ≡ map_text facts)
+pub replies_map : {E : Type 0} (s : Seen) (facts : Masks) (outcome : Result (Vec ℕ Global) E) → facts ≡ s.book.facts → IsAudited s → IfOk outcome (λ text. text.items ≡ map_text facts)
     → Replies command.Map s (answer_text (text_said outcome)) s
 unfolding Replies
 replies_map s facts (Ok text) is audited same = (inl (audited, (same ∙ ap (λ (f : List (List ℕ)). map_text f) is, refl)), same_count s.calls)
@@ -124,12 +128,14 @@ allowed (Some splits) few = omega (arith, few)
 
 -- ---- where a verdict was asked for
 
-pub judged_now : {E : Type 0} (old last : Seen) (outcome : Result Verdict E) (verdict : Verdict) → outcome ≡ Ok verdict → IsAudited last × ((old.calls ≤ last.calls) × MatchResult outcome (Tells old last) (λ _. IsAsBefore old last))
+pub judged_now : {E : Type 0} (old last : Seen) (outcome : Result Verdict E) (verdict : Verdict) → outcome ≡ Ok verdict
+    → IsAudited last × ((old.calls ≤ last.calls) × MatchResult outcome (Tells old last) (λ _. IsAsBefore old last))
     → IsVerdictOn old.history.document old.allowance verdict → Judges old last verdict
 judged_now {E} old last outcome verdict is told right =
     (subst (λ (x : Result Verdict E). MatchResult x (Tells old last) (λ _. IsAsBefore old last)) is told.1.1, (told.0, right))
 
-pub unjudged_now : {E : Type 0} (old last : Seen) (outcome : Result Verdict E) (e : E) → outcome ≡ Err e → IsAudited last × ((old.calls ≤ last.calls) × MatchResult outcome (Tells old last) (λ _. IsAsBefore old last)) → (old.calls ≤ last.calls) × IsAsBefore old last
+pub unjudged_now : {E : Type 0} (old last : Seen) (outcome : Result Verdict E) (e : E) → outcome ≡ Err e
+    → IsAudited last × ((old.calls ≤ last.calls) × MatchResult outcome (Tells old last) (λ _. IsAsBefore old last)) → (old.calls ≤ last.calls) × IsAsBefore old last
 unjudged_now {E} old last outcome e is told =
     (told.1.0, subst (λ (x : Result Verdict E). MatchResult x (Tells old last) (λ _. IsAsBefore old last)) is told.1.1)
 
@@ -151,8 +157,9 @@ pub from_nothing : (has front text : List ℕ) → has ≡ front ++ text → fro
 from_nothing has front text is none = is ∙ ap (λ (xs : List ℕ). xs ++ text) none
 
 -- a cell of the picture is one of the document's
-pub there : (s : Seen) (d : Document) (row col : ℕ) (answer found : Bool) → design_of d ≡ s.history.document → answer ≡ has_cell d.picture row col → answer ≡ found → has_cell s.history.document.rows row col ≡ found
+pub there : (s : Seen) (d : Document) (row col : ℕ) (answer found : Bool) → design_of d ≡ s.history.document → answer ≡ has_cell d.picture row col → answer ≡ found
+    → has_cell s.history.document.rows row col ≡ found
 there s d row col answer found is asked told = sym (ap (λ (e : Design). has_cell e.rows row col) is) ∙ (sym asked ∙ told)
 
-pub within : (rows : List (List ℕ)) (row col : ℕ) → has_cell rows row col ≡ true → (row < length rows) × (col < width_of rows)
+pub within : (rows : Rows) (row col : ℕ) → has_cell rows row col ≡ true → (row < length rows) × (col < width_of rows)
 within rows row col inside = grind (arith, nat_tests)

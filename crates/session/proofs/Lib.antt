@@ -2,3 +2,4 @@ pub mod AnswerLemmas
 pub mod MachineLemmas
 pub mod RoomLemmas
 pub mod RunLemmas
+pub mod TruthLemmas

@@ -13,11 +13,12 @@ use Rattle.command_text.specs.declared.request.Request.TheVariants as request
 use Rattle.session.specs.Laws.{AreAnswers, Follows, IsAt, SessionsStayAudited, after_answer, after_asked, after_command, after_lawful, after_lines}
 use Rattle.command_text.specs.Lines.{request_of}
 use Rattle.session.specs.Refusal.{edit_line, memory_line}
-use Rattle.session.specs.Session.{IsShort, LacksMemory, Replies, Says, SaysStroke, SaysTo, SaysToAll, done_text}
+use Rattle.session.specs.Session.{IsShort, LacksMemory, Replies, Says, SaysStroke, SaysTo, SaysToAll}
+use Rattle.session.specs.Texts.{done_text}
 use Rattle.command_text.specs.Words.{is_word}
 
 -- the machine that a state shows
-abbrev machine_of : Seen → Machine
+abbrev pub machine_of : Seen → Machine
 machine_of s = machine s.history s.allowance
 
 -- ---- states that differ in what the machine does not hold
@@ -57,15 +58,17 @@ not_memory text m n e =
     let done : P done_text = refl in
     subst P (sym e) done
 
--- a stroke that is refused leaves the machine as it is: by a fault, or for memory
-left : (m : Machine) (stroke : Stroke) (found : Option EditFault) (fault : EditFault) (text : List ℕ) → fault ≡ or_memory found → text ≡ edit_line fault → (if is_word text memory_line then m else after_lawful m stroke found) ≡ m
+-- a stroke that is refused leaves the machine as it is: by an error, or for memory
+left : (m : Machine) (stroke : Stroke) (found : Option EditFault) (fault : EditFault) (text : List ℕ) → fault ≡ or_memory found → text ≡ edit_line fault
+    → (if is_word text memory_line then m else after_lawful m stroke found) ≡ m
 left m stroke (Some f) fault text e t = either (is_word text memory_line) m
 left m stroke None fault text e t =
     let P : List ℕ → Type 0 = λ x. (if is_word x memory_line then m else after_lawful m stroke None) ≡ m in
     let short : P (edit_line (or_memory None)) = refl in
     subst P (sym (t ∙ ap edit_line e)) short
 
-stroke_at : (stroke : Stroke) (old new : Seen) (text : List ℕ) → IsAudited old → SaysStroke stroke old text new → IsAt (if is_word text memory_line then machine_of old else after_asked (machine_of old) stroke) new
+stroke_at : (stroke : Stroke) (old new : Seen) (text : List ℕ) → IsAudited old → SaysStroke stroke old text new
+    → IsAt (if is_word text memory_line then machine_of old else after_asked (machine_of old) stroke) new
 stroke_at stroke old new text a (inl h) = record {
   audited = h.1.1;
   machine_is = led_on stroke old new h.1.0 ∙ sym (not_memory text (machine_of old) (after_asked (machine_of old) stroke) h.0);
@@ -78,7 +81,7 @@ stroke_at stroke old new text a (inr h) =
 shown_at : (old new : Seen) (text : List ℕ) → IsAudited old → new ≡ old → IsAt (if is_word text memory_line then machine_of old else machine_of old) new
 shown_at old new text a e = at_either text (machine_of old) new (stays old new a e)
 
--- want of memory
+-- out of memory
 short_at : (old new : Seen) (text : List ℕ) → IsAudited old → LacksMemory old text new → IsAt (if is_word text memory_line then machine_of old else machine_of old) new
 short_at old new text a h = at_either text (machine_of old) new (as_before old new a h.1)
 
@@ -120,11 +123,12 @@ lacked_at command.Report old new text a h = short_at old new text a h
 lacked_at command.Certify old new text a h = short_at old new text a h
 lacked_at (command.Allow allowance) old new text a h = absurd h
 
-by_reply : (c : Command) (old new : Seen) (text : List ℕ) → IsAudited old → SaysTo old c text new ⊎ IsShort c old text new → IsAt (if is_word text memory_line then machine_of old else after_command (machine_of old) c) new
+by_reply : (c : Command) (old new : Seen) (text : List ℕ) → IsAudited old → SaysTo old c text new ⊎ IsShort c old text new
+    → IsAt (if is_word text memory_line then machine_of old else after_command (machine_of old) c) new
 by_reply c old new text a (inl h) = said_at c old new text a h
 by_reply c old new text a (inr h) = lacked_at c old new text a h
 
-answered_at : (r : Request) (old new : Seen) (text : List ℕ) → IsAudited old → Says old r text new → IsAt (after_answer (machine_of old) r text) new
+pub answered_at : (r : Request) (old new : Seen) (text : List ℕ) → IsAudited old → Says old r text new → IsAt (after_answer (machine_of old) r text) new
 unfolding Says Replies
 answered_at request.Nothing old new text a h = shown_at old new text a h.1
 answered_at (request.Refused fault) old new text a h = shown_at old new text a h.1
@@ -141,7 +145,7 @@ called_at request.Nothing old new text h = same_calls old new h.1
 called_at (request.Refused fault) old new text h = same_calls old new h.1
 called_at (request.Command c) old new text h = h.1
 
--- ---- lines one behind the other
+-- ---- lines one after the other
 
 follows : (lines : List (List ℕ)) (old new : Seen) (text : List ℕ) → IsAudited old → SaysToAll lines old text new → Follows lines old text new
 follows [] old new text a h = record {

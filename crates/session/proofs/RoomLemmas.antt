@@ -5,7 +5,7 @@ use Rattle.edits.specs.Design.{Design}
 use Rattle.live_audit.specs.declared.verdict.Verdict.{Verdict}
 use Rattle.live_audit.specs.declared.verdict.Verdict.TheVariants.{Unique, Ambiguous, Undecided}
 use Rattle.live_audit.specs.Verdict.{IsVerdictOn}
-use Rattle.session.specs.Session.{verdict_word}
+use Rattle.session.specs.Texts.{verdict_word}
 use Rattle.report_text.specs.Room.{picture_room}
 use Rattle.session.specs.Room.{verdict_room}
 

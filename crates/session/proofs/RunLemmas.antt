@@ -3,7 +3,7 @@ use Rattle.std.proofs.Common.{◌≡◌, inl, inr, ℕ, true, false, List, [], �
 use Rattle.std.proofs.lemmas.Bool.{cases_Bool}
 use Rattle.std.specs.Io.KnownBytes.{Appends}
 use Rattle.std.proofs.KnownBytes.{Appends-nil, Appends-trans, Consumes-nil, Consumes-trans}
-use Rattle.picture.specs.Writing.{AppendsFront}
+use Rattle.picture.specs.Writers.{AppendsFront}
 use Rattle.live_audit.specs.Bench.{Seen}
 use Rattle.command_text.specs.declared.lines.Lines.{Lines}
 use Rattle.command_text.specs.declared.request.Request.{Request}
@@ -13,14 +13,17 @@ use Rattle.session.specs.Run.{HasRun}
 use Rattle.session.specs.Session.{BrokenOff, Runs, Says, SaysToAll}
 
 -- a call that answers a line has cut it, and one that answers none has met the end
-pub cuts_one : {E : Type 0} (had have : Option (List ℕ)) (old new : Lines) (found : Option Request) (asked : Request) (r : Result (Option Request) E) → r ≡ Ok found → found ≡ Some asked → Hands had have old new r → CutsOne had have old new asked
+pub cuts_one : {E : Type 0} (had have : Option (List ℕ)) (old new : Lines) (found : Option Request) (asked : Request) (r : Result (Option Request) E) → r ≡ Ok found → found ≡ Some asked
+    → Hands had have old new r → CutsOne had have old new asked
 cuts_one {E} had have old new found asked r was is h = let P : Result (Option Request) E → Type 0 = λ o. Hands had have old new o in subst P (was ∙ ap Ok is) h
 
-pub cuts_no_more : {E : Type 0} (had have : Option (List ℕ)) (old new : Lines) (found : Option Request) (r : Result (Option Request) E) → r ≡ Ok found → found ≡ None → Hands had have old new r → CutsNone had have old new
+pub cuts_no_more : {E : Type 0} (had have : Option (List ℕ)) (old new : Lines) (found : Option Request) (r : Result (Option Request) E) → r ≡ Ok found → found ≡ None → Hands had have old new r
+    → CutsNone had have old new
 cuts_no_more {E} had have old new found r was is h = let P : Result (Option Request) E → Type 0 = λ o. Hands had have old new o in subst P (was ∙ ap Ok is) h
 
 -- one line more
-pub says_next : (front : List (List ℕ)) (line said text : List ℕ) (old mid new : Seen) → SaysToAll front old said mid → Says mid (request_of line) text new → SaysToAll (front ++ line ∷ []) old (said ++ text) new
+pub says_next : (front : List (List ℕ)) (line said text : List ℕ) (old mid new : Seen) → SaysToAll front old said mid → Says mid (request_of line) text new
+    → SaysToAll (front ++ line ∷ []) old (said ++ text) new
 says_next [] line said text old mid new all next =
     (new, (text, ([], (ap (λ (xs : List ℕ). xs ++ text) all.0 ∙ sym (append-nil text), (subst (λ (s : Seen). Says s (request_of line) text new) all.1 next, (refl, refl))))))
 says_next (first ∷ front) line said text old mid new (between, (head, (rest, (is, (says, all))))) next =
@@ -40,7 +43,7 @@ run_begins had held s l none on = record {
   wrote = Appends-nil held;
 }
 
--- what may come behind more bytes may come behind the bytes and those
+-- what may come after more bytes may come after the bytes and those
 may_more : (old new : Lines) (more rest : List ℕ) → (old.ended ≡ true → (more ≡ []) × (new.ended ≡ true)) → MayCome new rest → MayCome old (more ++ rest)
 may_more old new more rest behind may met = let b = behind met in ap (λ (xs : List ℕ). xs ++ rest) b.0 ∙ may b.1
 
@@ -52,7 +55,8 @@ still_on old new more behind on = elim (cases_Bool old.ended) [
 ]
 
 -- a line was cut, answered and written
-pub run_goes_on : (had mid have held wrote holds : Option (List ℕ)) (first old new : Seen) (l next : Lines) (asked : Request) (text : List ℕ) → HasRun had mid held wrote first old l → CutsOne mid have l next asked
+pub run_goes_on : (had mid have held wrote holds : Option (List ℕ)) (first old new : Seen) (l next : Lines) (asked : Request) (text : List ℕ) → HasRun had mid held wrote first old l
+    → CutsOne mid have l next asked
     → Says old asked text new → Appends wrote holds text → HasRun had have held holds first new next
 run_goes_on had mid have held wrote holds first old new l next asked text run cut says sent =
     let c = cut.cuts in
@@ -73,7 +77,8 @@ run_goes_on had mid have held wrote holds first old new l next asked text run cu
     }
 
 -- the input ended
-pub run_ends : (had mid have held holds : Option (List ℕ)) (first old : Seen) (l next : Lines) → HasRun had mid held holds first old l → CutsNone mid have l next → Runs had have held holds first old (Ok tt)
+pub run_ends : (had mid have held holds : Option (List ℕ)) (first old : Seen) (l next : Lines) → HasRun had mid held holds first old l → CutsNone mid have l next
+    → Runs had have held holds first old (Ok tt)
 unfolding Runs
 run_ends had mid have held holds first old l next run none =
     let c = none.cuts in
@@ -84,7 +89,8 @@ run_ends had mid have held holds first old l next run none =
     (read, (Consumes-trans had mid have run.came c.came run.read c.read, (c.end run.end none.met, (run.said, (subst (λ lines. SaysToAll lines first run.said old) (sym all) run.answered, run.wrote)))))
 
 -- a read failed
-pub run_is_cut : (had mid have held holds : Option (List ℕ)) (first old : Seen) (l : Lines) → HasRun had mid held holds first old l → BreaksOff mid have l → Runs had have held holds first old (Err fault.Read)
+pub run_is_cut : (had mid have held holds : Option (List ℕ)) (first old : Seen) (l : Lines) → HasRun had mid held holds first old l → BreaksOff mid have l
+    → Runs had have held holds first old (Err fault.Read)
 unfolding Runs
 run_is_cut had mid have held holds first old l run b =
     let read = run.came ++ b.came in
@@ -92,7 +98,7 @@ run_is_cut had mid have held holds first old l run b =
     run.ended b.unended b.came ∙ ap (λ (xs : List (List ℕ)). run.front ++ xs) b.unfinished ∙ append-nil run.front in
     (read, (Consumes-trans had mid have run.came b.came run.read b.read, (run.said, (subst (λ lines. SaysToAll lines first run.said old) (sym all) run.answered, run.wrote))))
 
--- what went out of a line that was being answered, behind the lines in front of it
+-- what went out of a line that was being answered, after the lines in front of it
 broken_off : (lines : List (List ℕ)) (held wrote holds : Option (List ℕ)) (first old new : Seen) (front behind : List (List ℕ)) (line said text : List ℕ) → lines ≡ front ++ line ∷ behind
     → SaysToAll front first said old → Appends held wrote said → Says old (request_of line) text new → AppendsFront wrote holds text → BrokenOff lines held holds first new
 broken_off lines held wrote holds first old new front behind line said text cut answered wrote_said says sent = record {
@@ -110,7 +116,8 @@ broken_off lines held wrote holds first old new front behind line said text cut 
 }
 
 -- a write failed
-pub run_breaks : (had mid have held wrote holds : Option (List ℕ)) (first old new : Seen) (l next : Lines) (asked : Request) (text : List ℕ) → HasRun had mid held wrote first old l → CutsOne mid have l next asked
+pub run_breaks : (had mid have held wrote holds : Option (List ℕ)) (first old new : Seen) (l next : Lines) (asked : Request) (text : List ℕ) → HasRun had mid held wrote first old l
+    → CutsOne mid have l next asked
     → Says old asked text new → AppendsFront wrote holds text → Runs had have held holds first new (Err fault.Write)
 unfolding Runs
 run_breaks had mid have held wrote holds first old new l next asked text run cut says sent =

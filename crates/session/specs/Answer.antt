@@ -2,7 +2,8 @@
 use Rattle.std.specs.Prelude.{◌≡◌, ◌≤◌, ◌⊎◌, ℕ, true, false, List, [], codes, Result, Ok, Err}
 use Rattle.std.specs.declared.vec.Vec.{Vec}
 use Rattle.std.specs.declared.alloc.Global.{Global}
-use Rattle.non_text.specs.Writing.{is_two_colour}
+use Rattle.picture.specs.Rows.{Rows}
+use Rattle.non_text.specs.WrittenNon.{is_two_colour}
 use Rattle.non_text.specs.Written.{non_text_of}
 use Rattle.live_audit.specs.declared.verdict.Verdict.{Verdict}
 use Rattle.live_audit.specs.Bench.{Seen}
@@ -30,16 +31,19 @@ abbrev pub text_said : {E : Type 0} → Result (Vec ℕ Global) E → Answer
 text_said (Ok text) = Text text
 text_said (Err e) = Refused Memory
 
--- The .non text, where no cell has a colour above 1, and else that refusal; want of memory apart.
-abbrev pub GivesNon : List (List ℕ) → Answer → Type 0
+-- The .non text, where no cell has a colour above 1, and else that refusal; out of memory apart.
+abbrev pub GivesNon : Rows → Answer → Type 0
 GivesNon rows Silence = ⊥
 GivesNon rows Done = ⊥
 GivesNon rows (Text text) = (is_two_colour rows ≡ true) × (text.items ≡ non_text_of rows)
-GivesNon rows (Refused fault) = ((fault ≡ TwoColoursOnly) × (is_two_colour rows ≡ false)) ⊎ ((fault ≡ Memory) × (is_two_colour rows ≡ true))
+GivesNon rows (Refused fault) =
+    ((fault ≡ TwoColoursOnly) × (is_two_colour rows ≡ false)) ⊎ ((fault ≡ Memory) × (is_two_colour rows ≡ true))
 
 -- ---- where a verdict was asked for
 
--- A text that the verdict decides; where memory is wanting for either, nothing changes but the engine's calls, which do not fall.
+-- A text that the verdict decides; where memory is wanting for
+-- either, nothing changes but the engine's calls, which do not fall.
 abbrev pub IsAsked : {E : Type 0} → (Verdict → List ℕ) → Seen → Seen → Result (Vec ℕ Global) E → Type 0
-IsAsked shown old new (Ok text) = (old.calls ≤ new.calls) × ((verdict : Verdict) × (Judges old new verdict × (text.items ≡ shown verdict)))
+IsAsked shown old new (Ok text) =
+    (old.calls ≤ new.calls) × ((verdict : Verdict) × (Judges old new verdict × (text.items ≡ shown verdict)))
 IsAsked shown old new (Err e) = (old.calls ≤ new.calls) × IsAsBefore old new

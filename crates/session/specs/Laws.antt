@@ -16,7 +16,7 @@ use Rattle.command_text.specs.Words.{is_word}
 
 -- ---- the machine
 
--- a stroke leads the history on where no fault refuses it
+-- a stroke leads the history on where no error refuses it
 abbrev pub after_lawful : Machine → Stroke → Option EditFault → Machine
 after_lawful m stroke None = machine (after_stroke m.history stroke) m.allowance
 after_lawful m stroke (Some fault) = m
@@ -24,8 +24,8 @@ after_lawful m stroke (Some fault) = m
 abbrev pub after_asked : Machine → Stroke → Machine
 after_asked m stroke = after_lawful m stroke (stroke_fault m.history stroke)
 
--- An edit, an undo and a redo lead the history on where no fault refuses them, and an allowance is the new one. All other
--- commands leave the machine as it is.
+-- An edit, an undo and a redo lead the history on where no error refuses them, and an allowance is the new one. All
+-- other commands leave the machine as it is.
 abbrev pub after_command : Machine → Command → Machine
 after_command m (command.Edit e) = after_asked m (Edits e)
 after_command m command.Undo = after_asked m Undoes
@@ -69,17 +69,18 @@ pub record IsAnswer (m next : Machine) (line text : List ℕ) : Type 0 where
   pub says : Says old (request_of line) text new
   pub after : IsAt next new
 
--- so it is for each line, one behind the other
+-- so it is for each line, one after the other
 abbrev pub AreAnswers : Machine → List (List ℕ) → List (List ℕ) → Type 0
 AreAnswers m [] [] = Unit {0}
 AreAnswers m [] (text ∷ texts) = ⊥
 AreAnswers m (line ∷ lines) [] = ⊥
 AreAnswers m (line ∷ lines) (text ∷ texts) =
-    IsAnswer m (after_answer m (request_of line) text) line text × AreAnswers (after_answer m (request_of line) text) lines texts
+    IsAnswer m (after_answer m (request_of line) text) line text
+    × AreAnswers (after_answer m (request_of line) text) lines texts
 
--- What lines come to: there is one text for each line, and it is the one that the definitions give. Behind them the bench is
--- audited, its history and allowance are the machine's over the lines whose text is not `refused: Memory`, and the engine's calls
--- did not fall.
+-- What lines come to: there is one text for each line, and it is the one that the definitions give. After them the
+-- bench is audited, its history and allowance are the machine's over the lines whose text is not `refused: Memory`, and
+-- the engine's calls did not fall.
 pub record Follows (lines : List (List ℕ)) (old : Seen) (text : List ℕ) (new : Seen) : Type 0 where
   pub texts : List (List ℕ)
   pub text_is : text ≡ concat texts
@@ -89,4 +90,5 @@ pub record Follows (lines : List (List ℕ)) (old : Seen) (text : List ℕ) (new
 
 -- from an audited bench, after whatever lines
 abbrev pub SessionsStayAudited : Type 0
-SessionsStayAudited = (lines : List (List ℕ)) (old new : Seen) (text : List ℕ) → IsAudited old → SaysToAll lines old text new → Follows lines old text new
+SessionsStayAudited = (lines : List (List ℕ)) (old new : Seen) (text : List ℕ) → IsAudited old
+    → SaysToAll lines old text new → Follows lines old text new

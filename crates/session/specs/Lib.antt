@@ -4,3 +4,5 @@ pub mod Refusal
 pub mod Room
 pub mod Run
 pub mod Session
+pub mod Texts
+pub mod Truth

@@ -7,7 +7,7 @@ use Rattle.session.specs.declared.refusal.Refusal.{Refusal}
 use Rattle.session.specs.declared.refusal.Refusal.TheVariants.{Line, Edit, TwoColoursOnly, Memory}
 use Rattle.command_text.specs.Faults.{name_of}
 
--- a line with the name of a fault
+-- a line with the name of an error
 abbrev pub refused : List ℕ → List ℕ
 refused name = codes "refused: " ++ (name ++ 10 ∷ [])
 

@@ -12,7 +12,8 @@ pub record HasRun (had have held holds : Option (List ℕ)) (old new : Seen) (l 
   pub came : List ℕ
   pub read : Consumes had have came
   pub lines : (rest : List ℕ) → MayCome l rest → lines_of (came ++ rest) ≡ front ++ lines_of (l.inbox ++ rest)
-  pub ended : l.ended ≡ false → (rest : List ℕ) → ended_lines_of (came ++ rest) ≡ front ++ ended_lines_of (l.inbox ++ rest)
+  pub ended : l.ended ≡ false → (rest : List ℕ)
+      → ended_lines_of (came ++ rest) ≡ front ++ ended_lines_of (l.inbox ++ rest)
   pub end : l.ended ≡ true → IsAtEnd have
   pub said : List ℕ
   pub answered : SaysToAll front old said new

@@ -1,27 +1,23 @@
--- What a session says: a relation of the state of the bench, a line's request, the text that is written, and the state after it.
--- The text is fixed by the request and the state, but for the other picture that is shown, the premises of a reason, and a
--- refusal for want of memory.
-use Rattle.std.specs.Prelude.{◌≡◌, ◌≤◌, ◌⊎◌, ℕ, true, false, List, [], ◌∷◌, ◌++◌, length, codes, decimal, take, Option, Some, None, Result, Ok, Err}
+-- What a session says: a relation of the state of the bench, a line's request, the text that is written, and the state
+-- after it. The text is fixed by the request and the state, but for the other picture that is shown, the premises of a
+-- reason, and a refusal since memory ran out.
+use Rattle.std.specs.Prelude.{◌≡◌, ◌≤◌, ◌⊎◌, ℕ, true, false, List, [], ◌∷◌, ◌++◌, length, take, Option, Some, None}
+use Rattle.std.specs.Prelude.{Result, Ok, Err}
 use Rattle.std.specs.Io.KnownBytes.{Appends, Consumes, IsAtEnd}
-use Rattle.picture.specs.Document.{Content}
 use Rattle.ppm_text.specs.Text.{ppm_text}
-use Rattle.non_text.specs.Writing.{is_two_colour}
+use Rattle.non_text.specs.WrittenNon.{is_two_colour}
 use Rattle.non_text.specs.Written.{non_text_of}
 use Rattle.edits.specs.declared.fault.EditFault.{EditFault}
 use Rattle.edits.specs.declared.fault.EditFault.TheVariants.{Place}
-use Rattle.edits.specs.Design.{Design}
 use Rattle.edits.specs.Fault.{has_cell}
 use Rattle.live_audit.specs.declared.verdict.Verdict.{Verdict}
-use Rattle.live_audit.specs.declared.verdict.Verdict.TheVariants.{Unique, Ambiguous, Undecided}
 use Rattle.live_audit.specs.declared.why.Why.{Why}
-use Rattle.live_audit.specs.declared.why.Why.TheVariants.{Possible, Given, By}
 use Rattle.live_audit.specs.Bench.{IsAudited, Seen}
 use Rattle.live_audit.specs.Calls.{Accepts, IsAsBefore, Learns, Refuses}
 use Rattle.live_audit.specs.Reason.{Explains}
 use Rattle.live_audit.specs.Stroke.{Stroke, Edits, Undoes, Redoes}
 use Rattle.live_audit.specs.Verdict.{IsVerdictOn, Tells}
 use Rattle.cert_text.specs.Cert.{Certificate}
-use Rattle.cert_text.specs.Writing.{cert_text}
 use Rattle.live_audit.specs.Certify.{Certifies}
 use Rattle.command_text.specs.declared.command.Command.{Command}
 use Rattle.command_text.specs.declared.command.Command.TheVariants as command
@@ -31,56 +27,25 @@ use Rattle.command_text.specs.declared.session_fault.SessionFault.TheVariants as
 use Rattle.command_text.specs.declared.request.Request.TheVariants as request
 use Rattle.report_text.specs.ClueText.{clues_text}
 use Rattle.command_text.specs.Lines.{ended_lines_of, lines_of, request_of}
-use Rattle.report_text.specs.ReasonText.{reason_text}
 use Rattle.session.specs.Refusal.{edit_line, line_line, memory_line, two_colours_line}
+use Rattle.session.specs.Texts.{certified_text, content, done_text, verdict_text, verdict_word, why_text}
 use Rattle.report_text.specs.Report.{report_text}
-use Rattle.report_text.specs.Shown.{map_text, picture_text}
+use Rattle.report_text.specs.Shown.{map_text}
 
--- ---- texts that are not fixed by the state alone
-
-abbrev pub done_text : List ℕ
-done_text = codes "ok\n"
-
-abbrev pub undecided_text : ℕ → List ℕ
-undecided_text splits = codes "undecided " ++ (decimal splits ++ 10 ∷ [])
-
-abbrev pub other_text : List (List ℕ) → List ℕ
-other_text rows = codes "ambiguous\n" ++ picture_text rows
-
-abbrev pub verdict_text : Verdict → List ℕ
-verdict_text Unique = codes "unique\n"
-verdict_text (Ambiguous other) = other_text other.now
-verdict_text (Undecided splits) = undecided_text splits
-
-abbrev pub verdict_word : Verdict → List ℕ
-verdict_word Unique = codes "unique"
-verdict_word (Ambiguous other) = codes "ambiguous"
-verdict_word (Undecided splits) = codes "undecided"
+-- ---- reports
 
 -- the report of a state with a verdict's word
 abbrev pub report_by : Seen → List ℕ → List ℕ
-report_by s word = report_text s.history.document s.clues s.book.facts word (length s.history.past) (length s.history.future)
+report_by s word =
+    report_text s.history.document s.clues s.book.facts word (length s.history.past) (length s.history.future)
 
 abbrev pub report_on : Seen → Verdict → List ℕ
 report_on s verdict = report_by s (verdict_word verdict)
 
-abbrev pub why_text : Why → List ℕ
-why_text Possible = codes "possible\n"
-why_text Given = codes "given\n"
-why_text (By reason) = reason_text reason.line reason.premises
-
--- a certificate's text, or that there is another picture
-abbrev pub certified_text : Option Certificate → List ℕ
-certified_text None = codes "ambiguous\n"
-certified_text (Some cert) = cert_text cert
-
--- the P3 text shows no givens
-abbrev pub content : Design → Content
-content d = record { colours = d.colours; rows = d.rows; givens = [] }
-
 -- ---- one command
 
--- An edit, an undo or a redo: it is accepted, and what follows from the picture is that of the new one; or it is refused.
+-- An edit, an undo or a redo: it is accepted, and what follows
+-- from the picture is that of the new one; or it is refused.
 abbrev pub SaysStroke : Stroke → Seen → List ℕ → Seen → Type 0
 SaysStroke stroke old text new =
     ((text ≡ done_text) × (Accepts stroke old new × IsAudited new))
@@ -96,14 +61,15 @@ ShowsAudit shown old text new = IsAudited old × Shows shown old text new
 
 -- the verdict is the bench's, and true of the document
 abbrev pub Judges : Seen → Seen → Verdict → Type 0
-Judges old new verdict = Tells old new verdict × (IsAudited new × IsVerdictOn old.history.document old.allowance verdict)
+Judges old new verdict =
+    Tells old new verdict × (IsAudited new × IsVerdictOn old.history.document old.allowance verdict)
 
--- memory was wanting, and the state is as before
+-- Memory ran out, and the state is as before.
 abbrev pub LacksMemory : Seen → List ℕ → Seen → Type 0
 LacksMemory old text new = (text ≡ memory_line) × IsAsBefore old new
 
--- Where it may be: an edit, an undo and a redo have it among their own refusals, an allowance takes no memory, and a cell or a
--- picture that is refused otherwise takes none either.
+-- Where it may be: an edit, an undo and a redo have it among their own refusals, an allowance
+-- takes no memory, and a cell or a picture that is refused otherwise takes none either.
 abbrev pub IsShort : Command → Seen → List ℕ → Seen → Type 0
 IsShort (command.Edit e) old text new = ⊥
 IsShort command.Undo old text new = ⊥
@@ -111,7 +77,8 @@ IsShort command.Redo old text new = ⊥
 IsShort command.Clues old text new = LacksMemory old text new
 IsShort command.Map old text new = LacksMemory old text new
 IsShort command.Verdict old text new = LacksMemory old text new
-IsShort (command.Why row col colour) old text new = (has_cell old.history.document.rows row col ≡ true) × LacksMemory old text new
+IsShort (command.Why row col colour) old text new =
+    (has_cell old.history.document.rows row col ≡ true) × LacksMemory old text new
 IsShort command.WritePpm old text new = LacksMemory old text new
 IsShort command.WriteNon old text new = (is_two_colour old.history.document.rows ≡ true) × LacksMemory old text new
 IsShort command.Report old text new = LacksMemory old text new
@@ -128,29 +95,32 @@ SaysTo old command.Map text new = ShowsAudit (map_text old.book.facts) old text 
 SaysTo old command.Verdict text new = (verdict : Verdict) × (Judges old new verdict × (text ≡ verdict_text verdict))
 SaysTo old (command.Why row col colour) text new =
     ((has_cell old.history.document.rows row col ≡ false) × Shows (edit_line Place) old text new)
-    ⊎ ((has_cell old.history.document.rows row col ≡ true) × ((why : Why) × (Explains old row col colour why × ShowsAudit (why_text why) old text new)))
+    ⊎ ((has_cell old.history.document.rows row col ≡ true)
+    × ((why : Why) × (Explains old row col colour why × ShowsAudit (why_text why) old text new)))
 SaysTo old command.WritePpm text new = Shows (ppm_text (content old.history.document)) old text new
 SaysTo old command.WriteNon text new =
     ((is_two_colour old.history.document.rows ≡ true) × Shows (non_text_of old.history.document.rows) old text new)
     ⊎ ((is_two_colour old.history.document.rows ≡ false) × Shows two_colours_line old text new)
 SaysTo old command.Report text new = (verdict : Verdict) × (Judges old new verdict × (text ≡ report_on old verdict))
 SaysTo old command.Certify text new =
-    (found : Option Certificate) × (Certifies old.history.document found × ((text ≡ certified_text found) × (Learns old new × IsAudited new)))
+    (found : Option Certificate)
+    × (Certifies old.history.document found × ((text ≡ certified_text found) × (Learns old new × IsAudited new)))
 SaysTo old (command.Allow allowance) text new = (text ≡ done_text) × (new ≡ record old { allowance = allowance })
 
--- that, or memory was wanting; and the engine's calls do not fall
+-- The line is answered, or memory ran out; and the engine's calls do not fall.
 unfoldable pub Replies : Command → Seen → List ℕ → Seen → Type 0
 Replies c old text new = (SaysTo old c text new ⊎ IsShort c old text new) × (old.calls ≤ new.calls)
 
--- a line's request: a blank line says nothing, and a line that is no command the name of its first fault
+-- A line's request: a blank line is answered with nothing, and a line that is not a command with the name of its first
+-- error.
 unfoldable pub Says : Seen → Request → List ℕ → Seen → Type 0
 Says old request.Nothing text new = Shows [] old text new
 Says old (request.Refused fault) text new = Shows (line_line fault) old text new
 Says old (request.Command c) text new = Replies c old text new
 
--- ---- lines one behind the other
+-- ---- lines one after the other
 
--- all lines are answered, and the texts stand one behind the other
+-- All lines are answered, and the texts follow one another.
 abbrev pub SaysToAll : List (List ℕ) → Seen → List ℕ → Seen → Type 0
 SaysToAll [] old text new = (text ≡ []) × (new ≡ old)
 SaysToAll (line ∷ lines) old text new =
@@ -161,7 +131,8 @@ SaysToAll (line ∷ lines) old text new =
 abbrev pub Answered : List (List ℕ) → Option (List ℕ) → Option (List ℕ) → Seen → Seen → Type 0
 Answered lines had has old new = (text : List ℕ) × (SaysToAll lines old text new × Appends had has text)
 
--- The first lines are answered whole; of the text for the next a front went out, and the state is the one behind that line.
+-- The first lines are answered completely. Of the text for the next one a prefix went out, and the state is the one
+-- after that line.
 pub record BrokenOff (lines : List (List ℕ)) (had has : Option (List ℕ)) (old new : Seen) : Type 0 where
   pub before : List (List ℕ)
   pub line : List ℕ
@@ -177,14 +148,19 @@ pub record BrokenOff (lines : List (List ℕ)) (had has : Option (List ℕ)) (ol
 
 -- ---- a whole session
 
--- The line that was being answered is one whose line feed had come, or the last one of an input that was read to its end.
+-- The line that was being answered is one whose line feed had
+-- come, or the last one of an input that was read to its end.
 abbrev pub IsBrokenOff : List ℕ → Option (List ℕ) → Option (List ℕ) → Option (List ℕ) → Seen → Seen → Type 0
 IsBrokenOff read have held holds old new =
     BrokenOff (ended_lines_of read) held holds old new ⊎ (IsAtEnd have × BrokenOff (lines_of read) held holds old new)
 
--- All bytes were read to the end and all lines answered. After a failed read the lines are answered whose line feed had come.
--- After a failed write all lines before one are answered whole, and the bench holds the effect of that one.
-unfoldable pub Runs : Option (List ℕ) → Option (List ℕ) → Option (List ℕ) → Option (List ℕ) → Seen → Seen → Result (Unit {0}) SessionFault → Type 0
-Runs had have held holds old new (Ok done) = (read : List ℕ) × (Consumes had have read × (IsAtEnd have × Answered (lines_of read) held holds old new))
-Runs had have held holds old new (Err fault.Read) = (read : List ℕ) × (Consumes had have read × Answered (ended_lines_of read) held holds old new)
-Runs had have held holds old new (Err fault.Write) = (read : List ℕ) × (Consumes had have read × IsBrokenOff read have held holds old new)
+-- All bytes were read to the end and all lines answered. After a failed read the lines are answered whose line feed
+-- had come. After a failed write all lines before one are answered whole, and the bench holds the effect of that one.
+unfoldable pub Runs : Option (List ℕ) → Option (List ℕ) → Option (List ℕ) → Option (List ℕ) → Seen → Seen
+    → Result (Unit {0}) SessionFault → Type 0
+Runs had have held holds old new (Ok done) =
+    (read : List ℕ) × (Consumes had have read × (IsAtEnd have × Answered (lines_of read) held holds old new))
+Runs had have held holds old new (Err fault.Read) =
+    (read : List ℕ) × (Consumes had have read × Answered (ended_lines_of read) held holds old new)
+Runs had have held holds old new (Err fault.Write) =
+    (read : List ℕ) × (Consumes had have read × IsBrokenOff read have held holds old new)

@@ -15,7 +15,8 @@ ghost use Rattle.live_audit.specs.Calls.{IsAsBefore, Learns};
 ghost use Rattle.live_audit.specs.Bench.{IsAudited};
 ghost use Rattle.session.specs.Answer.{GivesNon, IsAsked, answer_text, stroke_said, text_said};
 ghost use Rattle.session.specs.Room.{verdict_room};
-ghost use Rattle.session.specs.Session.{Replies, Says, certified_text, other_text, report_on, undecided_text, verdict_text, verdict_word, why_text};
+ghost use Rattle.session.specs.Session.{Replies, Says, report_on};
+ghost use Rattle.session.specs.Texts.{certified_text, other_text, undecided_text, verdict_text, verdict_word, why_text};
 
 use crate::refusal::Refusal;
 use certificate::{Cert, write_cert};
@@ -214,7 +215,7 @@ fn verdict_word(verdict: &Verdict<'_>) -> &'static [u8]
     }
 }
 
-// The P3 text of a document.
+// The P3 text of a document. A write to a `Vec` fails only when memory runs out.
 fn ppm_text(alloc: Global, document: &Document) -> Result<Vec<u8>, AllocError>
     ensures { IfOk result (λ text. text.items ≡ ppm_text (content_of document.now)) }
 {

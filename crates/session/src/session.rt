@@ -1,6 +1,8 @@
 //! A whole session: commands in, text out.
 
+ghost use Rattle.live_audit.specs.Calls.{machine};
 ghost use Rattle.session.specs.Session.{Runs};
+ghost use Rattle.session.specs.Truth.{TellsTruth};
 
 use crate::answer::answer_to;
 use command_text::{Lines, SessionFault};
@@ -13,10 +15,29 @@ use std::io::{Read, Write};
 
 /// Answers each line of the reader's input on the writer, until the input ends.
 ///
-/// A refused command prints its refusal and the session goes on. After a failed read each line is answered whose line feed had
-/// come, and an unfinished one is not. After a failed write a front of the right text went out, and the bench holds the effect
-/// of the command that was being answered.
+/// Each answer is true of the document that the lines before it lead to. A refused command prints its refusal and the
+/// session goes on. After a failed read each line is answered whose line feed had come, and an unfinished one is not.
+/// After a failed write a prefix of the right text went out, and the bench holds the effect of the command that was
+/// being answered.
 pub fn run_session<R: Read, W: Write, E: LineEngine + Drop, A: Agenda + Drop>(
+    alloc: Global,
+    reader: &mut R,
+    writer: &mut W,
+    bench: &mut Bench<E, A>,
+) -> Result<(), SessionFault>
+    ensures truth { TellsTruth (R.remaining reader.old) (R.remaining reader.new)
+        (W.contents writer.old) (W.contents writer.new)
+        (machine bench.old.history bench.old.allowance)
+        (machine bench.new.history bench.new.allowance) result }
+    ensures says { Runs (R.remaining reader.old) (R.remaining reader.new) (W.contents writer.old)
+        (W.contents writer.new) bench.old bench.new result }
+{
+    let _ = bench.map();
+    answer_lines(alloc, reader, writer, bench)
+}
+
+// The same as what is said of the bench's state, with what is kept of it and counted.
+fn answer_lines<R: Read, W: Write, E: LineEngine + Drop, A: Agenda + Drop>(
     alloc: Global,
     reader: &mut R,
     writer: &mut W,

@@ -1,1 +1,1 @@
-pub mod Choosing
+pub mod Choices

@@ -1,7 +1,7 @@
 //! The cell that a search splits.
 
 ghost use Rattle.std.specs.Prelude.{◌≡◌, ◌≤◌, IfOk};
-ghost use Rattle.split_choice.specs.Choosing.{CanSplit};
+ghost use Rattle.split_choice.specs.Choices.{CanSplit};
 
 use crate::looking::{Look, look_at};
 use crate::puzzle::{Choice, Node};

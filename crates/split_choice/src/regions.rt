@@ -41,7 +41,8 @@ impl OpenCells {
 }
 
 #[tactic(auto, using(std::proofs::lemmas::Nat::and_le_r))]
-/// Takes the first place out of a mask, if it has one. A place behind the last line of a picture is answered as that of the last.
+/// Takes the first place out of a mask, if it has one. A place after the last line of a picture is answered as that of
+/// the last.
 pub(crate) fn take_place(places: &mut u128) -> Option<u8>
     ensures place { IfSome result (λ at. at < MAX_SIDE) }
     ensures fewer { IfSome result (λ _. places.new < places.old) }

@@ -52,7 +52,7 @@ fn length_in(digits: &[u8]) -> Result<u8> {
     Ok(len as u8)
 }
 
-/// Puts a clue behind a text.
+/// Appends a clue to a text.
 pub fn push_clue(text: &mut String, clue: &Clue) -> Result<(), AllocError> {
     if clue.blocks().is_empty() {
         text.push('0')?;
@@ -68,7 +68,7 @@ pub fn push_clue(text: &mut String, clue: &Clue) -> Result<(), AllocError> {
     Ok(())
 }
 
-/// Puts the clues of the rows behind a text, and then those of the columns.
+/// Appends the clues of the rows to a text, and then those of the columns.
 pub fn push_clues(text: &mut String, clues: &ClueBook) -> Result<(), AllocError> {
     text.push_str("rows")?;
     for at in 0..clues.height() {
@@ -83,7 +83,7 @@ pub fn push_clues(text: &mut String, clues: &ClueBook) -> Result<(), AllocError>
     Ok(())
 }
 
-// Puts the clue of a row behind a text.
+// Appends the clue of a row to a text.
 fn push_row_clue(text: &mut String, clues: &ClueBook, at: u8) -> Result<(), AllocError> {
     if at < clues.height() {
         let axis = Axis::Across;
@@ -92,7 +92,7 @@ fn push_row_clue(text: &mut String, clues: &ClueBook, at: u8) -> Result<(), Allo
     Ok(())
 }
 
-// Puts the clue of a column behind a text.
+// Appends the clue of a column to a text.
 fn push_column_clue(text: &mut String, clues: &ClueBook, at: u8) -> Result<(), AllocError> {
     if at < clues.width() {
         let axis = Axis::Down;

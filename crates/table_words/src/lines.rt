@@ -21,7 +21,7 @@ pub fn line_in(word: &str) -> Result<LineId> {
     })
 }
 
-/// Puts the name of a line behind a text.
+/// Appends the name of a line to a text.
 pub fn push_line(text: &mut String, line: LineId) -> Result<(), AllocError> {
     let letter = match line.axis {
         Axis::Across => 'r',

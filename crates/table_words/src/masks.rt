@@ -77,7 +77,7 @@ fn leave_row(facts: &mut Facts, row: usize, masks: &[u16]) -> Result<()> {
     Ok(())
 }
 
-/// Puts a mask behind a text.
+/// Appends a mask to a text.
 pub fn push_mask(text: &mut String, mask: u16) -> Result<(), AllocError> {
     if mask == ALL {
         return text.push('*');
@@ -93,7 +93,7 @@ pub fn push_mask(text: &mut String, mask: u16) -> Result<(), AllocError> {
     Ok(())
 }
 
-/// Puts the masks of a line behind a text. More than four equal ones are put together.
+/// Appends the masks of a line to a text. More than four equal ones are put together.
 pub fn push_masks(text: &mut String, masks: &[u16]) -> Result<(), AllocError> {
     if masks.is_empty() {
         return text.push_str("none");
@@ -114,7 +114,7 @@ pub fn push_masks(text: &mut String, masks: &[u16]) -> Result<(), AllocError> {
     Ok(())
 }
 
-// Puts so many equal masks behind a text.
+// Appends so many equal masks to a text.
 fn push_run(text: &mut String, mask: u16, count: usize) -> Result<(), AllocError> {
     if count > MANY {
         write!(text, "{count}x")?;
@@ -129,7 +129,7 @@ fn push_run(text: &mut String, mask: u16, count: usize) -> Result<(), AllocError
     Ok(())
 }
 
-/// Puts the rows of facts behind a text.
+/// Appends the rows of facts to a text.
 pub fn push_facts(alloc: Global, text: &mut String, facts: &Facts) -> Result<(), AllocError> {
     for row in 0..facts.height() {
         if row > 0 {

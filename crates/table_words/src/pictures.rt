@@ -8,7 +8,7 @@ use edits::{Edit, Studio};
 use picture::{CellSet, Document, Palette, Picture};
 use std::alloc::{AllocError, Global};
 
-/// The document of rows of letters, joined by `/`. Its palette goes up to the highest letter, or the one behind a `+`.
+/// The document of rows of letters, joined by `/`. Its palette goes up to the highest letter, or the one after a `+`.
 pub fn document_in(alloc: Global, word: &str) -> Result<Document> {
     let (rows, more) = word.split_once('+').unwrap_or((word, ""));
     let height = rows.split('/').count();
@@ -81,17 +81,17 @@ fn draw_row(alloc: Global, studio: &mut Studio, row: usize, letters: &str) -> Re
     Ok(())
 }
 
-/// Puts the rows of a document behind a text, with its givens as capitals.
+/// Appends the rows of a document to a text, with its givens as capitals.
 pub fn push_rows(text: &mut String, document: &Document) -> Result<(), AllocError> {
     push_marked(text, &document.picture, &document.givens)
 }
 
-/// Puts the rows of a picture behind a text.
+/// Appends the rows of a picture to a text.
 pub fn push_picture(text: &mut String, picture: &Picture) -> Result<(), AllocError> {
     push_marked(text, picture, &CellSet::empty())
 }
 
-// Puts the rows of a picture behind a text, with these givens.
+// Appends the rows of a picture to a text, with these givens.
 fn push_marked(text: &mut String, picture: &Picture, givens: &CellSet) -> Result<(), AllocError> {
     for row in 0..picture.height() {
         if row > 0 {
@@ -102,7 +102,7 @@ fn push_marked(text: &mut String, picture: &Picture, givens: &CellSet) -> Result
     Ok(())
 }
 
-// Puts one row behind a text.
+// Appends one row to a text.
 fn push_row(
     text: &mut String,
     picture: &Picture,

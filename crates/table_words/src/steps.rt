@@ -5,7 +5,7 @@ use crate::masks::push_mask;
 use justify::{Premise, Step};
 use std::alloc::AllocError;
 
-/// Puts a step behind a text: its line, its premises if it has some, and what it draws.
+/// Appends a step to a text: its line, its premises if it has some, and what it draws.
 pub fn push_step(text: &mut String, step: &Step) -> Result<(), AllocError> {
     push_line(text, step.line)?;
     if !step.premises.is_empty() {
@@ -16,7 +16,7 @@ pub fn push_step(text: &mut String, step: &Step) -> Result<(), AllocError> {
     push_premises(text, step.drawn.as_slice())
 }
 
-/// Puts the steps of a book behind a text.
+/// Appends the steps of a book to a text.
 pub fn push_steps(text: &mut String, steps: &[Step]) -> Result<(), AllocError> {
     if steps.is_empty() {
         text.push_str("no step")?;
@@ -30,7 +30,8 @@ pub fn push_steps(text: &mut String, steps: &[Step]) -> Result<(), AllocError> {
     Ok(())
 }
 
-/// Puts what is excluded in cells of a line behind a text: `2=.a` where only `.` and `a` are left, and `2-b` where few colours go.
+/// Appends what is excluded in cells of a line to a text: `2=.a` where only `.` and `a` are left, and `2-b` where few
+/// colours go.
 pub fn push_premises(text: &mut String, premises: &[Premise]) -> Result<(), AllocError> {
     for premise in premises {
         let place = u16::from(premise.at) + 1;

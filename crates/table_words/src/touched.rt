@@ -8,8 +8,8 @@ use clues::Change;
 use picture::{Axis, LineId, Picture};
 use std::alloc::AllocError;
 
-/// Puts the names of the lines of a new picture that its change from an old one touches behind a text, each with a space before
-/// it.
+/// Appends the names of the lines of a new picture that its change from an old one touches to a text, each with a space
+/// before it.
 pub fn push_touched(
     text: &mut String,
     old: &Picture,

@@ -1,7 +1,7 @@
 //! Sweeping a line: what is drawn on it, and leaving out what is not needed for that.
 
 ghost use Rattle.std.specs.Prelude.{◌≡◌, ℕ, ◌≤◌, length, slice_index, IsBitSet};
-ghost use Rattle.line_settle.specs.LeavingOut.{ForcesAll};
+ghost use Rattle.line_settle.specs.LeftOut.{ForcesAll};
 
 use clues::Clue;
 use line_settle::{LineEngine, leave_out};

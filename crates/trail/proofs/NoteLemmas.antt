@@ -1,18 +1,22 @@
 -- The colours of a mask, and facts told from notes.
-use Rattle.std.proofs.Common.{◌≡◌, ◌≢◌, ℕ, zero, suc, ◌+◌, ◌*◌, ◌%◌, ◌^◌, ◌<◌, ◌≤◌, ◌==◌, Bool, true, false, cond, List, [], ◌∷◌, ◌++◌, length, map, bit_and, reverse, refl, sym, ap, subst, ◌∙◌, arith, inl, inr, eqb-true, eq-eqb}
+use Rattle.std.proofs.Common.{◌≡◌, ◌≢◌, ℕ, zero, suc, ◌+◌, ◌*◌, ◌%◌, ◌^◌, ◌<◌, ◌≤◌, ◌==◌, Bool, true, false, cond, List, [], ◌∷◌, ◌++◌, length, map, bit_and, reverse, refl, sym, ap, subst, ◌∙◌, arith}
+use Rattle.std.proofs.Common.{inl, inr, eqb-true, eq-eqb}
 use Rattle.std.specs.List.{filter, range_with_len}
 use Rattle.std.specs.Int.{bit_at, bit_not, trailing_zeros, w16}
 use Rattle.std.proofs.lemmas.Bool.{cases_eq}
 use Rattle.std.proofs.lemmas.List.{reverse-append}
 use Rattle.std.proofs.lemmas.Nat.Bits.{bit_at-zero, bit_at-trailing_zeros, bit_at_clear_same, bit_at_clear_other}
+use Rattle.line_settle.specs.Masks.{Masks}
 use Rattle.picture.specs.Rows.{width_of, cell_at, with_cell}
 use Rattle.line_settle.specs.FactSets.{IsFacts}
 use Rattle.trail.specs.declared.cell.Cell.{Cell}
 use Rattle.trail.specs.declared.note.CellMask.{CellMask}
+use Rattle.trail.specs.declared.note.Wait.{Wait}
+use Rattle.trail.specs.declared.note.Wait.TheVariants.{Each, Whole}
 use Rattle.trail.specs.declared.note.Note.{Note}
 use Rattle.trail.specs.declared.note.Note.TheVariants.{Restore, Branch}
-use Rattle.trail.specs.Trail.{AreInside, IsInside, Trailed, cells_held, place, places, trail_of, waiting}
-use Rattle.line_settle.specs.MaskLaws.{lowest_below, shifted}
+use Rattle.trail.specs.Trail.{AreInside, IsInside, LiesInside, Trailed, cells_held, place, places, trail_of, waiting}
+use Rattle.line_settle.proofs.MaskLaws.{lowest_below, shifted}
 use Rattle.line_settle.specs.Branches.{branches, colours_of, held}
 use Rattle.trail.proofs.GridLemmas.{cell_back}
 
@@ -42,7 +46,8 @@ none_of k zero = refl
 none_of k (suc n) = tested 0 k n false (not_one (bit_at 0 k) (λ e. absurd (let z = bit_at-zero k in omega arith))) ∙ none_of (k + 1) n
 
 -- the first colour of a mask, and the others
-first_of : (mask rest first k n : ℕ) → k ≤ first → first < k + n → bit_at mask first ≡ 1 → bit_at rest first ≡ 0 → ((j : ℕ) → j < first → bit_at mask j ≡ 0) → ((j : ℕ) → j < k + n → j ≢ first → bit_at rest j ≡ bit_at mask j) → from mask k n ≡ first ∷ from rest k n
+first_of : (mask rest first k n : ℕ) → k ≤ first → first < k + n → bit_at mask first ≡ 1 → bit_at rest first ≡ 0 → ((j : ℕ) → j < first → bit_at mask j ≡ 0)
+    → ((j : ℕ) → j < k + n → j ≢ first → bit_at rest j ≡ bit_at mask j) → from mask k n ≡ first ∷ from rest k n
 first_of mask rest first k zero l m one none below other = absurd (omega arith)
 first_of mask rest first k (suc n) l m one none below other = elim (cases_eq k first) [
   | inl e ↦
@@ -81,13 +86,19 @@ newest notes more note e = ap reverse e ∙ reverse-append notes (note ∷ [])
 inside_same : (height width high wide : ℕ) (cell : CellMask) → high ≡ height → wide ≡ width → IsInside height width cell → IsInside high wide cell
 inside_same height width high wide cell h w i = let a = i.in_rows in let b = i.in_columns in record { in_rows = omega arith; in_columns = omega arith; small = i.small }
 
+lies_inside_same : (height width high wide : ℕ) (wait : Wait) → high ≡ height → wide ≡ width → LiesInside height width wait → LiesInside high wide wait
+lies_inside_same height width high wide (Each cell) h w i = inside_same height width high wide cell h w i
+lies_inside_same height width high wide (Whole cell) h w i = inside_same height width high wide cell h w i
+
 pub are_inside_same : (height width high wide : ℕ) (notes : List Note) → high ≡ height → wide ≡ width → AreInside height width notes → AreInside high wide notes
 are_inside_same height width high wide [] h w i = i
 are_inside_same height width high wide (Restore cell ∷ notes) h w i = (inside_same height width high wide cell h w i.0, are_inside_same height width high wide notes h w i.1)
-are_inside_same height width high wide (Branch cell ∷ notes) h w i = (inside_same height width high wide cell h w i.0, are_inside_same height width high wide notes h w i.1)
+are_inside_same height width high wide (Branch wait ∷ notes) h w i = (lies_inside_same height width high wide wait h w i.0, are_inside_same height width high wide notes h w i.1)
 
 -- a cell held to a mask, with the old one noted
-pub holds : (s : Trailed) (facts new : List (List ℕ)) (notes more : List Note) (cell : CellMask) (mask : ℕ) → trail_of facts (waiting facts (reverse notes)) (cells_held (reverse notes)) ≡ s → IsFacts facts → cell.row < length s.at_hand → cell.col < width_of s.at_hand → cell.mask ≡ cell_at facts cell.row cell.col → new ≡ with_cell facts cell.row cell.col mask → more ≡ notes ++ Restore cell ∷ [] → trail_of new (waiting new (reverse more)) (cells_held (reverse more)) ≡ trail_of (with_cell s.at_hand cell.row cell.col mask) s.behind s.cells
+pub holds : (s : Trailed) (facts new : Masks) (notes more : List Note) (cell : CellMask) (mask : ℕ) → trail_of facts (waiting facts (reverse notes)) (cells_held (reverse notes)) ≡ s → IsFacts facts
+    → cell.row < length s.at_hand → cell.col < width_of s.at_hand → cell.mask ≡ cell_at facts cell.row cell.col → new ≡ with_cell facts cell.row cell.col mask → more ≡ notes ++ Restore cell ∷ []
+    → trail_of new (waiting new (reverse more)) (cells_held (reverse more)) ≡ trail_of (with_cell s.at_hand cell.row cell.col mask) s.behind s.cells
 holds s facts new notes more cell mask v is h w m n e =
     let front = ap (λ (x : Trailed). x.at_hand) v in
     let tall = ap length front in
@@ -107,7 +118,9 @@ pub no_branches : (s : Trailed) (row col mask : ℕ) → mask ≡ 0 → s ≡ tr
 no_branches s row col mask e = ap (λ xs. trail_of s.at_hand (held s.at_hand row col xs ++ s.behind) (map (λ (k : ℕ). place row col) xs ++ s.cells)) (sym (ap colours_of e ∙ no_colours))
 
 -- the first branch begun, and the others put before what waits
-pub begins : (s t u : Trailed) (row col mask lowest rest : ℕ) → 0 < mask → mask < 2 ^ 16 → lowest ≡ 1 * 2 ^ trailing_zeros w16 mask % 65536 → rest ≡ bit_and mask (bit_not w16 lowest) → t ≡ trail_of s.at_hand (branches s.at_hand row col rest ++ s.behind) (places row col rest ++ s.cells) → u ≡ trail_of (with_cell t.at_hand row col lowest) t.behind t.cells → branches s.at_hand row col mask ++ s.behind ≡ u.at_hand ∷ u.behind
+pub begins : (s t u : Trailed) (row col mask lowest rest : ℕ) → 0 < mask → mask < 2 ^ 16 → lowest ≡ 1 * 2 ^ trailing_zeros w16 mask % 65536 → rest ≡ bit_and mask (bit_not w16 lowest)
+    → t ≡ trail_of s.at_hand (branches s.at_hand row col rest ++ s.behind) (places row col rest ++ s.cells) → u ≡ trail_of (with_cell t.at_hand row col lowest) t.behind t.cells
+    → branches s.at_hand row col mask ++ s.behind ≡ u.at_hand ∷ u.behind
 begins s t u row col mask lowest rest p q l r et eu =
     let power : 2 ^ trailing_zeros w16 mask ≡ lowest = sym (l ∙ shifted (trailing_zeros w16 mask) (lowest_below mask p q)) in
     let others : bit_and mask (bit_not w16 (1 * 2 ^ trailing_zeros w16 mask % 65536)) ≡ rest = ap (λ n. bit_and mask (bit_not w16 n)) (sym l) ∙ sym r in
@@ -119,7 +132,9 @@ begins s t u row col mask lowest rest p q l r et eu =
     ∙ (ap (λ x. x ∷ (branches s.at_hand row col rest ++ s.behind)) front ∙ ap (λ xs. u.at_hand ∷ xs) behind)))
 
 -- its cell is the one held
-pub begins_held : (s t u : Trailed) (row col mask lowest rest : ℕ) → 0 < mask → mask < 2 ^ 16 → lowest ≡ 1 * 2 ^ trailing_zeros w16 mask % 65536 → rest ≡ bit_and mask (bit_not w16 lowest) → t ≡ trail_of s.at_hand (branches s.at_hand row col rest ++ s.behind) (places row col rest ++ s.cells) → u ≡ trail_of (with_cell t.at_hand row col lowest) t.behind t.cells → places row col mask ++ s.cells ≡ place row col ∷ u.cells
+pub begins_held : (s t u : Trailed) (row col mask lowest rest : ℕ) → 0 < mask → mask < 2 ^ 16 → lowest ≡ 1 * 2 ^ trailing_zeros w16 mask % 65536 → rest ≡ bit_and mask (bit_not w16 lowest)
+    → t ≡ trail_of s.at_hand (branches s.at_hand row col rest ++ s.behind) (places row col rest ++ s.cells) → u ≡ trail_of (with_cell t.at_hand row col lowest) t.behind t.cells
+    → places row col mask ++ s.cells ≡ place row col ∷ u.cells
 begins_held s t u row col mask lowest rest p q l r et eu =
     let others : bit_and mask (bit_not w16 (1 * 2 ^ trailing_zeros w16 mask % 65536)) ≡ rest = ap (λ n. bit_and mask (bit_not w16 n)) (sym l) ∙ sym r in
     let cells : places row col rest ++ s.cells ≡ u.cells = sym (ap (λ (x : Trailed). x.cells) eu ∙ ap (λ (x : Trailed). x.cells) et) in
@@ -127,9 +142,10 @@ begins_held s t u row col mask lowest rest p q l r et eu =
     ∙ (ap (λ n. place row col ∷ (places row col n ++ s.cells)) others ∙ ap (λ xs. place row col ∷ xs) cells)
 
 -- a branch with no colours left is none
-pub skips : (facts : List (List ℕ)) (height width : ℕ) (notes more : List Note) (cell : CellMask) → notes ≡ more ++ Branch cell ∷ [] → cell.mask ≡ 0 → (waiting facts (reverse notes) ≡ waiting facts (reverse more)) × ((cells_held (reverse notes) ≡ cells_held (reverse more)) × (AreInside height width (reverse notes) → AreInside height width (reverse more)))
+pub skips : (facts : Masks) (height width : ℕ) (notes more : List Note) (cell : CellMask) → notes ≡ more ++ Branch (Each cell) ∷ [] → cell.mask ≡ 0 → (waiting facts (reverse notes)
+    ≡ waiting facts (reverse more)) × ((cells_held (reverse notes) ≡ cells_held (reverse more)) × (AreInside height width (reverse notes) → AreInside height width (reverse more)))
 skips facts height width notes more cell e z =
-    let n = newest more notes (Branch cell) e in (
+    let n = newest more notes (Branch (Each cell)) e in (
       ap (waiting facts) n ∙ ap (λ xs. held facts cell.row cell.col xs ++ waiting facts (reverse more)) (ap colours_of z ∙ no_colours),
       (
         ap cells_held n ∙ ap (λ xs. map (λ (k : ℕ). place cell.row cell.col) xs ++ cells_held (reverse more)) (ap colours_of z ∙ no_colours),

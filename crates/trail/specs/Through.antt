@@ -18,4 +18,5 @@ CanLie cell = (cell.row < MAX_SIDE) × (cell.col < MAX_SIDE)
 
 -- exactly the two lines through a cell are named, and none where no picture can have it
 abbrev pub NamesLinesAt : Lines → Cell → Type 0
-NamesLinesAt lines cell = (line : LineId) → HasName lines line ↔ (CanLie cell × ((line ≡ across cell.row) ⊎ (line ≡ down cell.col)))
+NamesLinesAt lines cell = (line : LineId)
+    → HasName lines line ↔ (CanLie cell × ((line ≡ across cell.row) ⊎ (line ≡ down cell.col)))

@@ -1,5 +1,6 @@
 -- Facts that wait, and the notes from which they are told.
 use Rattle.std.specs.Prelude.{◌≡◌, ℕ, ◌^◌, ◌<◌, Option, None, Some, List, [], ◌∷◌, ◌++◌, length, map}
+use Rattle.line_settle.specs.Masks.{Masks}
 use Rattle.picture.specs.LineSet.{Lines, HasName}
 use Rattle.picture.specs.Rows.{cell_at, with_cell}
 use Rattle.line_settle.specs.FactSets.{SameShape}
@@ -7,6 +8,8 @@ use Rattle.line_settle.specs.Branches.{branches, colours_of}
 use Rattle.trail.specs.declared.cell.Cell.{Cell}
 use Rattle.trail.specs.Through.{across}
 use Rattle.trail.specs.declared.note.CellMask.{CellMask}
+use Rattle.trail.specs.declared.note.Wait.{Wait}
+use Rattle.trail.specs.declared.note.Wait.TheVariants.{Each, Whole}
 use Rattle.trail.specs.declared.note.Note.{Note}
 use Rattle.trail.specs.declared.note.Note.TheVariants.{Restore, Branch}
 
@@ -17,18 +20,28 @@ place row col = record { row = row; col = col }
 abbrev pub places : ℕ → ℕ → ℕ → List Cell
 places row col mask = map (λ (k : ℕ). place row col) (colours_of mask)
 
--- The facts that wait behind those at hand, told from the notes, the newest first: a cell gets its mask back, or is held to
--- colours still to try.
-abbrev pub waiting : List (List ℕ) → List Note → List (List (List ℕ))
+-- the branches that wait: a cell held to each colour of a mask, or to the mask as a whole
+abbrev pub begun : Masks → Wait → List (List (List ℕ))
+begun facts (Each cell) = branches facts cell.row cell.col cell.mask
+begun facts (Whole cell) = with_cell facts cell.row cell.col cell.mask ∷ []
+
+-- the cell that is held in each of them
+abbrev pub places_of : Wait → List Cell
+places_of (Each cell) = places cell.row cell.col cell.mask
+places_of (Whole cell) = place cell.row cell.col ∷ []
+
+-- The facts that wait after those at hand, told from the notes, the newest first: a cell gets its mask back, or
+-- branches begin.
+abbrev pub waiting : Masks → List Note → List (List (List ℕ))
 waiting facts [] = []
 waiting facts (Restore cell ∷ notes) = waiting (with_cell facts cell.row cell.col cell.mask) notes
-waiting facts (Branch cell ∷ notes) = branches facts cell.row cell.col cell.mask ++ waiting facts notes
+waiting facts (Branch wait ∷ notes) = begun facts wait ++ waiting facts notes
 
 -- of each of these facts the cell that is held in them
 abbrev pub cells_held : List Note → List Cell
 cells_held [] = []
 cells_held (Restore cell ∷ notes) = cells_held notes
-cells_held (Branch cell ∷ notes) = places cell.row cell.col cell.mask ++ cells_held notes
+cells_held (Branch wait ∷ notes) = places_of wait ++ cells_held notes
 
 -- a cell lies in a picture of that size, and its mask is one of sixteen colours
 pub record IsInside (height width : ℕ) (cell : CellMask) : Type 0 where
@@ -36,19 +49,27 @@ pub record IsInside (height width : ℕ) (cell : CellMask) : Type 0 where
   pub in_columns : cell.col < width
   pub small : cell.mask < 2 ^ 16
 
+abbrev pub LiesInside : ℕ → ℕ → Wait → Type 0
+LiesInside height width (Each cell) = IsInside height width cell
+LiesInside height width (Whole cell) = IsInside height width cell
+
 abbrev pub AreInside : ℕ → ℕ → List Note → Type 0
 AreInside height width [] = Unit {0}
 AreInside height width (Restore cell ∷ notes) = IsInside height width cell × AreInside height width notes
-AreInside height width (Branch cell ∷ notes) = IsInside height width cell × AreInside height width notes
+AreInside height width (Branch wait ∷ notes) = LiesInside height width wait × AreInside height width notes
 
--- Cells got their masks back down to the first branch, whose colours are still to be tried; or there was none, and nothing
--- waits.
-abbrev pub PutsBack : List (List ℕ) → List Note → List (List ℕ) → List Note → Option CellMask → Type 0
+-- a branch can begin: of a cell that lies inside, and a colour is still to be tried where each is
+abbrev pub CanBegin : ℕ → ℕ → Wait → Type 0
+CanBegin height width (Each cell) = (0 < cell.mask) × IsInside height width cell
+CanBegin height width (Whole cell) = IsInside height width cell
+
+-- Cells got their masks back down to the first branches that wait; or there were none, and nothing waits.
+abbrev pub PutsBack : Masks → List Note → Masks → List Note → Option Wait → Type 0
 PutsBack old notes new rest None = waiting old notes ≡ []
-PutsBack old notes new rest (Some cell) = (waiting old notes ≡ branches new cell.row cell.col cell.mask ++ waiting new rest)
-    × (cells_held notes ≡ places cell.row cell.col cell.mask ++ cells_held rest)
+PutsBack old notes new rest (Some wait) =
+    (waiting old notes ≡ begun new wait ++ waiting new rest) × (cells_held notes ≡ places_of wait ++ cells_held rest)
 
--- the facts at hand, and those that wait behind them, of each of which a cell was held last
+-- the facts at hand, and those that wait after them, of each of which a cell was held last
 pub record Trailed : Type 0 where
   pub at_hand : List (List ℕ)
   pub behind : List (List (List ℕ))
@@ -58,18 +79,19 @@ abbrev pub trail_of : List (List ℕ) → List (List (List ℕ)) → List Cell �
 trail_of at_hand behind cells = record { at_hand = at_hand; behind = behind; cells = cells }
 
 -- one row is that of other facts, and the other rows are as they were
-pub record IsRowTaken (old settled new : List (List ℕ)) (row : ℕ) : Type 0 where
+pub record IsRowTaken (old settled new : Masks) (row : ℕ) : Type 0 where
   pub same_shape : SameShape old new
   pub here : (col : ℕ) → cell_at new row col ≡ cell_at settled row col
   pub elsewhere : (r col : ℕ) → (r ≡ row → ⊥) → cell_at new r col ≡ cell_at old r col
 
 -- the first rows are those of other facts
-abbrev pub AreSameAbove : List (List ℕ) → List (List ℕ) → ℕ → Type 0
+abbrev pub AreSameAbove : Masks → Masks → ℕ → Type 0
 AreSameAbove facts settled rows = (row col : ℕ) → row < rows → cell_at facts row col ≡ cell_at settled row col
 
 -- the rows that are not named are those of other facts
-abbrev pub AreOthersSame : List (List ℕ) → List (List ℕ) → Lines → Type 0
-AreOthersSame facts settled rows = (row col : ℕ) → row < length settled → (HasName rows (across row) → ⊥) → cell_at facts row col ≡ cell_at settled row col
+abbrev pub AreOthersSame : Masks → Masks → Lines → Type 0
+AreOthersSame facts settled rows = (row col : ℕ) → row < length settled → (HasName rows (across row) → ⊥)
+    → cell_at facts row col ≡ cell_at settled row col
 
 -- the next facts that wait are at hand, in which this cell is held, or none do
 abbrev pub GoesOn : Trailed → Trailed → Option Cell → Type 0

@@ -1,4 +1,4 @@
-//! An entry of the trail: a cell with the mask that it had, or with the colours still to try.
+//! An entry of the trail: a cell with the mask that it had, or what it is still to be held to.
 
 // A cell with a mask of colours.
 #[derive(Clone, Copy)]
@@ -8,9 +8,16 @@ pub(crate) struct CellMask {
     pub mask: u16,
 }
 
-// What a search has noted, to go back and go on: the mask that a cell had, or the colours that it is still to be held to.
+// What a cell is still to be held to: each colour of a mask in turn, or the mask as a whole.
+#[derive(Clone, Copy)]
+pub(crate) enum Wait {
+    Each(CellMask),
+    Whole(CellMask),
+}
+
+// What a search has noted, to go back and go on: the mask that a cell had, or branches that wait.
 #[derive(Clone, Copy)]
 pub(crate) enum Note {
     Restore(CellMask),
-    Branch(CellMask),
+    Branch(Wait),
 }

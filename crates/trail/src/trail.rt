@@ -4,18 +4,18 @@ ghost use Rattle.std.specs.Prelude.{◌≡◌, ℕ, ◌<◌, [], ◌∷◌, ◌+
 ghost use Rattle.picture.specs.Rows.{width_of, cell_at, with_cell};
 ghost use Rattle.line_settle.specs.FactSets.{IsFacts, SameShape};
 ghost use Rattle.line_settle.specs.Branches.{branches};
-ghost use Rattle.trail.specs.Trail.{place, places, trail_of, AreInside, AreOthersSame, GoesOn, IsInside, IsRowTaken, PutsBack};
+ghost use Rattle.trail.specs.Trail.{place, places, trail_of, AreInside, AreOthersSame, CanBegin, GoesOn, IsInside, IsRowTaken, PutsBack};
 
 use crate::cell::Cell;
-use crate::note::{CellMask, Note};
+use crate::note::{CellMask, Note, Wait};
 use crate::rows::has_row;
 use line_settle::Facts;
 use picture::LineSet;
 use std::alloc::{AllocError, Global};
 use std::marker::Model;
 
-/// The trail by which a search or a walk over a tree backtracks: the facts of the branch at hand, and the notes that tell
-/// which others wait behind them, the newest last.
+/// The trail by which a search or a walk over a tree backtracks: the facts of the branch at hand, and the notes that
+/// tell which others wait after them, the newest last.
 ///
 /// A cell's mask is noted only where it changes, and a branch only while it has colours to try. So where `advance` follows each
 /// split, and colours are only taken from cells, cells and colours bound the notes, however deep a search goes. After lack of
@@ -39,7 +39,7 @@ impl Model for Trail {
 }
 
 impl Trail {
-    /// A trail with these facts at hand, and none behind them.
+    /// A trail with these facts at hand, and none after them.
     pub fn start(alloc: Global, facts: Facts) -> Trail
         ensures { result ≡ trail_of facts [] [] }
     {
@@ -130,8 +130,25 @@ impl Trail {
             (places cell.row cell.col cell.mask ++ self.old.cells)) }
     {
         if cell.mask != 0 {
-            self.notes.push(Note::Branch(cell))?;
+            self.notes.push(Note::Branch(Wait::Each(cell)))?;
         }
+        Ok(())
+    }
+
+    /// Puts the facts at hand, with a cell held to some colours, before the facts that wait.
+    pub fn part(&mut self, row: u8, col: u8, held: u16) -> Result<(), AllocError>
+        requires in_rows { row < length self.old.at_hand }
+        requires in_columns { col < width_of self.old.at_hand }
+        ensures { OnOk result (self.new ≡ trail_of self.old.at_hand
+            (with_cell self.old.at_hand row col held ∷ self.old.behind)
+            (place row col ∷ self.old.cells)) }
+    {
+        let cell = CellMask {
+            row,
+            col,
+            mask: held,
+        };
+        self.notes.push(Note::Branch(Wait::Whole(cell)))?;
         Ok(())
     }
 
@@ -141,10 +158,19 @@ impl Trail {
         ensures goes_on { IfOk result (GoesOn self.old self.new) }
         ensures same_shape { IfOk result (λ _. SameShape self.old.at_hand self.new.at_hand) }
     {
-        let Some(cell) = put_back(&mut self.facts, &mut self.notes) else {
+        let Some(wait) = put_back(&mut self.facts, &mut self.notes) else {
             return Ok(None);
         };
-        self.begin(cell)?;
+        let cell = match wait {
+            Wait::Each(cell) => {
+                self.begin(cell)?;
+                cell
+            }
+            Wait::Whole(cell) => {
+                self.hold(cell.row, cell.col, cell.mask)?;
+                cell
+            }
+        };
         let CellMask { row, col, .. } = cell;
         Ok(Some(Cell { row, col }))
     }
@@ -167,22 +193,22 @@ impl Trail {
     }
 }
 
-// Puts back what the newest notes say, down to a branch with colours still to try, which it takes off.
-fn put_back(facts: &mut Facts, notes: &mut Vec<Note>) -> Option<CellMask>
+// Puts back what the newest notes say, down to a branch that waits, which it takes off.
+fn put_back(facts: &mut Facts, notes: &mut Vec<Note>) -> Option<Wait>
     requires { AreInside (length facts.old) (width_of facts.old) (reverse notes.old.items) }
     ensures puts_back { PutsBack facts.old (reverse notes.old.items) facts.new
         (reverse notes.new.items) result }
     ensures inside { AreInside (length facts.new) (width_of facts.new) (reverse notes.new.items) }
     ensures same_shape { SameShape facts.old facts.new }
-    ensures some { IfSome result
-        (λ cell. (0 < cell.mask) × IsInside (length facts.new) (width_of facts.new) cell) }
+    ensures some { IfSome result (λ wait. CanBegin (length facts.new) (width_of facts.new) wait) }
 {
     while let Some(note) = notes.pop() {
         match note {
             Note::Restore(cell) => facts.set_left(cell.row, cell.col, cell.mask),
-            Note::Branch(cell) => {
+            Note::Branch(Wait::Whole(cell)) => return Some(Wait::Whole(cell)),
+            Note::Branch(Wait::Each(cell)) => {
                 if cell.mask != 0 {
-                    return Some(cell);
+                    return Some(Wait::Each(cell));
                 }
             }
         }

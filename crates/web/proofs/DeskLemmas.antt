@@ -221,7 +221,8 @@ open_over over file options old new status handle (inl done) o =
     (added old.seats.items (seat handle bench) over (λ e. omega (arith, e, next, o.0)) ∙ o.1) o
 open_over over file options old new status handle (inr refused) o = over_kept over old new refused.1.0 o
 
-say_over : (over : ℕ) (at : Option ℕ) (handle : ℕ) (lines : List ℕ) (old new : Desk) (status : ℕ) → place_of old.seats.items handle ≡ at → SaysAt at lines old new status → IsOver over old → IsOver over new
+say_over : (over : ℕ) (at : Option ℕ) (handle : ℕ) (lines : List ℕ) (old new : Desk) (status : ℕ) → place_of old.seats.items handle ≡ at → SaysAt at lines old new status → IsOver over old
+    → IsOver over new
 say_over over None handle lines old new status p s o = over_kept over old new s.1.1 o
 say_over over (Some at) handle lines old new status p s o =
     let had = s.0 in
@@ -257,8 +258,10 @@ closes_refused handle old new status o s = subst (λ (at : Option ℕ). ClosesAt
 
 pub closed : ClosedStayClosed
 closed = record {
-  say = λ handle calls old over new last lines status o c d s. says_refused handle lines new last status (all_over handle calls over new (closes_over (place_of old.seats.items handle) handle old over refl c o) d) s;
-  close = λ handle calls old over new last status o c d s. closes_refused handle new last status (all_over handle calls over new (closes_over (place_of old.seats.items handle) handle old over refl c o) d) s;
+  say = λ handle calls old over new last lines status o c d s. says_refused handle lines new last status
+      (all_over handle calls over new (closes_over (place_of old.seats.items handle) handle old over refl c o) d) s;
+  close = λ handle calls old over new last status o c d s. closes_refused handle new last status
+      (all_over handle calls over new (closes_over (place_of old.seats.items handle) handle old over refl c o) d) s;
 }
 
 -- ---- the other benches
@@ -275,7 +278,8 @@ open_same other file options old new status handle l (inl done) =
     same_of other old new (old.seats.items ++ seat handle done.1.1.1.1.0 ∷ []) done.1.1.1.1.1.1 (added old.seats.items (seat handle done.1.1.1.1.0) other (λ e. omega (arith, e, next, l)))
 open_same other file options old new status handle l (inr refused) = same_of other old new old.seats.items refused.1.0.0 refl
 
-say_same : (other : ℕ) (at : Option ℕ) (handle : ℕ) (lines : List ℕ) (old new : Desk) (status : ℕ) → place_of old.seats.items handle ≡ at → handle ≢ other → SaysAt at lines old new status → IsSame other old new
+say_same : (other : ℕ) (at : Option ℕ) (handle : ℕ) (lines : List ℕ) (old new : Desk) (status : ℕ) → place_of old.seats.items handle ≡ at → handle ≢ other → SaysAt at lines old new status
+    → IsSame other old new
 say_same other None handle lines old new status p n s = same_of other old new old.seats.items s.1.1.0 refl
 say_same other (Some at) handle lines old new status p n s =
     let had = s.0 in

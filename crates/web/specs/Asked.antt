@@ -1,5 +1,6 @@
 -- What the host's words ask for.
-use Rattle.std.specs.Prelude.{ℕ, ◌==◌, ◌||◌, ◌&&◌, Bool, List, [], ◌∷◌, Option, None, Some, is_some, nat_lt, if◌then◌else◌}
+use Rattle.std.specs.Prelude.{ℕ, ◌==◌, ◌||◌, ◌&&◌, Bool, List, [], ◌∷◌, Option, None, Some, is_some, nat_lt}
+use Rattle.std.specs.Prelude.{if◌then◌else◌}
 use Rattle.std.specs.Option.{option_map}
 use Rattle.picture.specs.declared.rgb.Rgb.{Rgb}
 use Rattle.program_options.specs.declared.options.Options.{Options}
@@ -17,7 +18,8 @@ options non background history = record { non = non; background = background; hi
 abbrev pub options_with : Bool → ℕ → Option (Option Rgb) → Option Options
 options_with non history None = None
 options_with non history (Some background) =
-    if (non && is_some background) || (history == 0 || nat_lt 1000 history) then None else Some (options non background history)
+    if (non && is_some background) || (history == 0 || nat_lt 1000 history) then None
+    else Some (options non background history)
 
 abbrev pub options_asked : Bool → List ℕ → ℕ → Option Options
 options_asked non word history = options_with non history (background_asked word)

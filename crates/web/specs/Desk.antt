@@ -1,5 +1,6 @@
 -- The benches that are open, and what a call makes of them.
-use Rattle.std.specs.Prelude.{◌≡◌, ◌⊎◌, ℕ, ◌+◌, ◌==◌, List, [], ◌∷◌, ◌++◌, Option, None, Some, Result, Ok, Err, position, remove, slice_index_or, slice_set}
+use Rattle.std.specs.Prelude.{◌≡◌, ◌⊎◌, ℕ, ◌+◌, ◌==◌, List, [], ◌∷◌, ◌++◌, Option, None, Some, Result, Ok, Err}
+use Rattle.std.specs.Prelude.{position, remove, slice_index_or, slice_set}
 use Rattle.picture.specs.declared.rgb.Rgb.{Rgb}
 use Rattle.live_audit.specs.Bench.{Seen}
 use Rattle.command_text.specs.declared.session_fault.SessionFault.{SessionFault}
@@ -31,30 +32,34 @@ IsClosed old new status = (status ≡ 5) × ((new.text.items ≡ []) × IsKept o
 
 -- ---- lines
 
--- The number that tells how a session ended: whole, or early, where memory for its text was refused or it reads no further.
+-- The number that tells how a session ended: whole, or early,
+-- where memory for its text was refused or it reads no further.
 abbrev pub status_after : Result (Unit {0}) SessionFault → ℕ
 status_after (Ok done) = 0
 status_after (Err fault) = 4
 
--- A session on a bench with these bytes as its whole input, what it wrote behind what stood there, and the status of its end.
+-- A session on a bench with these bytes as its whole input, what it wrote after what stood there, and the status of its
+-- end.
 abbrev pub RunsOver : List ℕ → List ℕ → List ℕ → Seen → Seen → ℕ → Type 0
 RunsOver lines had has old new status =
-    (ended : Result (Unit {0}) SessionFault) × ((status ≡ status_after ended) × ((left : Option (List ℕ)) × Runs (Some lines) left (Some had) (Some has) old new ended))
+    (ended : Result (Unit {0}) SessionFault) × ((status ≡ status_after ended)
+    × ((left : Option (List ℕ)) × Runs (Some lines) left (Some had) (Some has) old new ended))
 
 -- What is said to a bench at a place: that session, and the other benches are as before; or no bench has the handle.
 abbrev pub SaysAt : Option ℕ → List ℕ → Desk → Desk → ℕ → Type 0
 SaysAt None lines old new status = IsClosed old new status
 SaysAt (Some at) lines old new status =
     (seat : Seat) × ((new.seats.items ≡ slice_set old.seats.items at seat) × ((new.given ≡ old.given)
-    × ((d : Seat) → (seat.handle ≡ (slice_index_or old.seats.items at d).handle) × RunsOver lines [] new.text.items (slice_index_or old.seats.items at d).bench seat.bench status)))
+    × ((d : Seat) → (seat.handle ≡ (slice_index_or old.seats.items at d).handle)
+    × RunsOver lines [] new.text.items (slice_index_or old.seats.items at d).bench seat.bench status)))
 
 -- what is said to the bench of a handle
 abbrev pub Says : ℕ → List ℕ → Desk → Desk → ℕ → Type 0
 Says handle lines old new status = SaysAt (place_of old.seats.items handle) lines old new status
 
--- ---- faults
+-- ---- errors
 
--- the text and the status are those of a fault
+-- the text and the status are those of an error
 abbrev pub Tells : ProgramFault → List ℕ → ℕ → Type 0
 Tells fault text status = (text ≡ fault_text fault) × (status ≡ status_of fault)
 
@@ -62,7 +67,7 @@ Tells fault text status = (text ≡ fault_text fault) × (status ≡ status_of f
 abbrev pub IsShort : List ℕ → ℕ → Type 0
 IsShort text status = (status ≡ 4) × (text ≡ [])
 
--- Memory was refused, or there is a fault for which this holds, and text and status are its.
+-- Memory was refused, or there is an error for which this holds, and text and status are its.
 abbrev pub IsRefused : (ProgramFault → Type 0) → List ℕ → ℕ → Type 0
 IsRefused Is text status = IsShort text status ⊎ ((fault : ProgramFault) × (Is fault × Tells fault text status))
 
@@ -71,10 +76,11 @@ IsRefused Is text status = IsShort text status ⊎ ((fault : ProgramFault) × (I
 abbrev pub seat : ℕ → Seen → Seat
 seat handle bench = record { handle = handle; bench = bench }
 
--- a bench that was started with the file stands behind the others, under the handle after the last one that was given
+-- a bench that was started with the file follows the others, under the handle after the last one that was given
 abbrev pub IsOpened : List ℕ → Options → Desk → Desk → ℕ → Type 0
 IsOpened file options old new handle =
-    (handle ≡ old.given + 1) × ((new.given ≡ handle) × ((bench : Seen) × (IsStarted file options bench × (new.seats.items ≡ old.seats.items ++ seat handle bench ∷ []))))
+    (handle ≡ old.given + 1) × ((new.given ≡ handle) × ((bench : Seen)
+    × (IsStarted file options bench × (new.seats.items ≡ old.seats.items ++ seat handle bench ∷ []))))
 
 -- What comes of a file that a bench is to be opened on. The handle is 0, which is never given, where it is refused.
 abbrev pub Opens : List ℕ → Options → Desk → Desk → ℕ → ℕ → Type 0

@@ -31,8 +31,8 @@ pub record IsOrderly (desk : Desk) : Type 0 where
 
 -- ---- calls
 
--- What a host asks of a desk. All calls that are not named leave its benches: those for the text, for the version and for a check,
--- and an opening whose options are refused.
+-- What a host asks of a desk. All calls that are not named leave its benches: those for
+-- the text, for the version and for a check, and an opening whose options are refused.
 pub data Call : Type 0 where
   Open : List ℕ → Options → Call
   Say : ℕ → List ℕ → Call
@@ -68,9 +68,11 @@ pub record DesksStayOrderly : Type 0 where
 -- A handle that was closed is refused by what is said to it and by a second closing, after any list of calls.
 pub record ClosedStayClosed : Type 0 where
   pub say : (handle : ℕ) (calls : List Call) (old closed new last : Desk) (lines : List ℕ) (status : ℕ)
-      → IsOrderly old → Closes handle old closed 0 → DoesAll calls closed new → Says handle lines new last status → IsClosed new last status
+      → IsOrderly old → Closes handle old closed 0 → DoesAll calls closed new → Says handle lines new last status
+      → IsClosed new last status
   pub close : (handle : ℕ) (calls : List Call) (old closed new last : Desk) (status : ℕ)
-      → IsOrderly old → Closes handle old closed 0 → DoesAll calls closed new → Closes handle new last status → IsClosed new last status
+      → IsOrderly old → Closes handle old closed 0 → DoesAll calls closed new → Closes handle new last status
+      → IsClosed new last status
 
 -- A call leaves the benches of all handles that were given but the one that it is on.
 abbrev pub OthersStay : Type 0

@@ -57,7 +57,7 @@ pub extern "C" fn nonobench_end(cell: DeskCell)
     }
 }
 
-/// Opens a bench on a file, and puts its handle out, or 0 where none is opened. A fault is the text.
+/// Opens a bench on a file, and puts its handle out, or 0 where none is opened. An error is the text.
 #[unsafe(no_mangle)]
 pub extern "C" fn nonobench_open(
     held: &mut Held,
@@ -114,7 +114,7 @@ pub extern "C" fn nonobench_close(held: &mut Held, handle: u32) -> u32
     replace_with(held, handle, close_in)
 }
 
-/// Checks a certificate of a picture. What the program writes for it, or a fault, is the text.
+/// Checks a certificate of a picture. What the program writes for it, or an error, is the text.
 #[unsafe(no_mangle)]
 pub extern "C" fn nonobench_check(
     held: &mut Held,

@@ -46,7 +46,8 @@ impl Desk {
         Ok(Box::new(alloc, desk)?)
     }
 
-    /// Opens a bench on a file, and tells the status and the handle, which was never given before, or 0. A fault is the text.
+    /// Opens a bench on a file, and tells the status and the handle, which was never given before, or 0. An error is
+    /// the text.
     pub fn open(&mut self, file: &[u8], options: &Options) -> (u32, u32)
         requires { IsLawful options.now }
         ensures { Opens file.now options.now self.old self.new result.0 result.1 }

@@ -1,3 +1,4 @@
 pub mod StackLemmas
 pub mod OrderLemmas
 pub mod AlongLemmas
+pub mod NameLaws

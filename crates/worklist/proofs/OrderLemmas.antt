@@ -7,11 +7,11 @@ use Rattle.picture.specs.declared.line_id.Axis.{Axis}
 use Rattle.picture.specs.declared.line_id.Axis.TheVariants.{Across, Down}
 use Rattle.picture.specs.declared.line_id.LineId.{LineId}
 use Rattle.picture.specs.LineSet.{Lines, IsLineSet, IsClearFrom, IsFirstBit, HasName, mask_along, no_names}
-use Rattle.picture.specs.Crossing.{crossing}
+use Rattle.picture.specs.CrossingLines.{crossing}
 use Rattle.worklist.specs.Agenda.{name_at}
 use Rattle.worklist.specs.Orders.{IsNextRound, Pile, PutsAbove, PutsNewest, pile, place_along, place_of, places_on, round}
-use Rattle.picture.specs.LineSetLaws.{members}
-use Rattle.worklist.specs.NameLaws.{no_name_is_empty}
+use Rattle.picture.proofs.LineSetLaws.{members}
+use Rattle.worklist.proofs.NameLaws.{no_name_is_empty}
 
 axis_or_other : (axis other : Axis) → (other ≡ axis) ⊎ (other ≡ crossing axis)
 axis_or_other Across Across = inl refl
@@ -105,11 +105,13 @@ module _ (lines : Lines) (axis : Axis) (from : ℕ) (is : IsLineSet lines) (with
 
 -- ---- the newest name
 
-pub newest_put : (old : Pile) (stack : List LineId) (len : ℕ) (lines new : Lines) (line : LineId) → pile lines (take len stack) ≡ old → (HasName lines line → ⊥) → len < length stack → PutsNewest old (pile new (take (len + 1) (set stack len line))) line
+pub newest_put : (old : Pile) (stack : List LineId) (len : ℕ) (lines new : Lines) (line : LineId) → pile lines (take len stack) ≡ old → (HasName lines line → ⊥) → len < length stack
+    → PutsNewest old (pile new (take (len + 1) (set stack len line))) line
 newest_put old stack len lines new line e n l =
     rw (← e) (record { known = λ h. absurd (n h); fresh = λ _. take_more_set stack len line l })
 
-pub newest_taken : (old : Pile) (stack : List LineId) (len : ℕ) (lines : Lines) → pile lines (take len stack) ≡ old → (len ≡ 0 → ⊥) → len ≤ length stack → old.order ≡ take (len - 1) stack ++ name_at stack (len - 1) ∷ []
+pub newest_taken : (old : Pile) (stack : List LineId) (len : ℕ) (lines : Lines) → pile lines (take len stack) ≡ old → (len ≡ 0 → ⊥) → len ≤ length stack
+    → old.order ≡ take (len - 1) stack ++ name_at stack (len - 1) ∷ []
 newest_taken old stack len lines e h l =
     let d : len ≢ 0 = h in
     let s : len ≡ len - 1 + 1 = omega arith in

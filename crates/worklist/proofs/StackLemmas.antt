@@ -5,9 +5,9 @@ use Rattle.std.proofs.lemmas.List.{length-set}
 use Rattle.picture.specs.declared.line_id.Axis.TheVariants.{Across}
 use Rattle.picture.specs.declared.line_id.LineId.{LineId}
 use Rattle.picture.specs.LineSet.{Lines, IsLineSet, HasName, PutsName, TakesOutName}
-use Rattle.picture.specs.LineSetLaws.{more_put}
+use Rattle.picture.proofs.LineSetLaws.{more_put}
 use Rattle.worklist.specs.Agenda.{IsStack, name_at}
-use Rattle.worklist.specs.NameLaws.{few_names, take_counts}
+use Rattle.worklist.proofs.NameLaws.{few_names, take_counts}
 
 module _ (stack : List LineId) (len : ℕ) (old new : Lines) (line : LineId) (is : IsStack stack len old) (within : IsLineSet new) (p : PutsName old new line) (n : HasName old line → ⊥) where
   pub stack_room : len < 240
@@ -64,7 +64,8 @@ popped stack len old new is within t =
 pub below_one : (n : ℕ) → (n ≡ 0 → ⊥) → n - 1 < n
 below_one n h = let d : n ≢ 0 = h in omega arith
 
-pub popped_one : (stack : List LineId) (len : ℕ) (old new : Lines) → IsStack stack len old → (len ≡ 0 → ⊥) → IsLineSet new → TakesOutName old new (name_at stack (len - 1)) → IsStack stack (len - 1) new
+pub popped_one : (stack : List LineId) (len : ℕ) (old new : Lines) → IsStack stack len old → (len ≡ 0 → ⊥) → IsLineSet new → TakesOutName old new (name_at stack (len - 1))
+    → IsStack stack (len - 1) new
 popped_one stack len old new is h within t =
     let d : len ≢ 0 = h in
     let e : len ≡ len - 1 + 1 = omega arith in

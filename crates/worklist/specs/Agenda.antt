@@ -25,4 +25,5 @@ pub record IsStack (stack : List LineId) (len : ℕ) (lines : Lines) : Type 0 wh
 
 -- the names that a set has along an axis are put into another set
 abbrev pub PutsAlong : Axis → Lines → Lines → Lines → Type 0
-PutsAlong axis lines old new = (line : LineId) → HasName new line ↔ (HasName old line ⊎ ((line.axis ≡ axis) × HasName lines line))
+PutsAlong axis lines old new = (line : LineId)
+    → HasName new line ↔ (HasName old line ⊎ ((line.axis ≡ axis) × HasName lines line))

@@ -1,3 +1,2 @@
 pub mod Agenda
 pub mod Orders
-pub mod NameLaws

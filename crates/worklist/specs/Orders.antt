@@ -24,16 +24,17 @@ pub record Round : Type 0 where
 abbrev pub round : Lines → ℕ → Round
 round waiting from = record { waiting = waiting; from = from }
 
--- how many places one stands behind another, going round
+-- how many places one follows another, going round
 abbrev pub places_on : ℕ → ℕ → ℕ
 places_on from place = (place + 2 * MAX_SIDE - from) % (2 * MAX_SIDE)
 
 -- the first name that waits, going round
 pub record IsNextRound (before : Round) (line : LineId) : Type 0 where
   pub waits : HasName before.waiting line
-  pub first : (other : LineId) → HasName before.waiting other → places_on before.from (place_of line) ≤ places_on before.from (place_of other)
+  pub first : (other : LineId) → HasName before.waiting other
+      → places_on before.from (place_of line) ≤ places_on before.from (place_of other)
 
--- the first name that waits is taken, and the agenda goes on behind it
+-- the first name that waits is taken, and the agenda goes on after it
 abbrev pub TakesNextRound : Round → Round → Option LineId → Type 0
 TakesNextRound old new None = new ≡ old
 TakesNextRound old new (Some line) = IsNextRound old line × (new.from ≡ place_of line + 1)

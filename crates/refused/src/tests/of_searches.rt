@@ -3,7 +3,7 @@
 ghost use Rattle.std.specs.Prelude.{◌≡◌, IfOk};
 ghost use Rattle.clues.specs.ClueBook.{clues_of};
 ghost use Rattle.line_settle.specs.FactSets.{IsLeast};
-ghost use Rattle.second_search.specs.Judging.{AreTrue, parts_of};
+ghost use Rattle.second_search.specs.JudgedParts.{AreTrue, parts_of};
 ghost use Rattle.second_search.specs.Other.{AreSound};
 ghost use Rattle.second_search.specs.Parts.{AreParts, IsScene};
 

@@ -4,7 +4,7 @@ ghost use Rattle.std.specs.Prelude.{◌≡◌, ℕ, ◌+◌, ◌<◌, ◌⊎◌,
 ghost use Rattle.picture.specs.CellSet.{HasCell, IsCellSet};
 ghost use Rattle.picture.specs.LineSet.{HasName, IsClearFrom, name_count};
 ghost use Rattle.picture.specs.Rows.{width_of, line_of, HasLine};
-ghost use Rattle.second_search.specs.Growing.{HasOpenCellsOf, IsGrown, Leaves, TakesIn};
+ghost use Rattle.second_search.specs.GrownParts.{HasOpenCellsOf, IsGrown, Leaves, TakesIn};
 ghost use Rattle.second_search.specs.Parts.{IsChained, IsOpenCell};
 
 use crate::parts::open_cells::is_open;

@@ -2,7 +2,7 @@
 
 ghost use Rattle.std.specs.Prelude.{◌≡◌, ◌<◌, ◌↔◌, length, IsTrue, MatchOption};
 ghost use Rattle.picture.specs.Rows.{width_of};
-ghost use Rattle.second_search.specs.Growing.{HasNoOpenCell, IsFirstOpen};
+ghost use Rattle.second_search.specs.GrownParts.{HasNoOpenCell, IsFirstOpen};
 ghost use Rattle.second_search.specs.Parts.{HasTwoColours, IsOpenCell};
 
 use line_settle::Facts;

@@ -38,7 +38,7 @@ fn taken_by<A: Agenda>(alloc: Global, agenda: &mut A, turns: &[&str]) -> Result<
     Ok(text)
 }
 
-// Puts the name of the line that an agenda gives behind a text.
+// Appends the name of the line that an agenda gives to a text.
 fn take<A: Agenda>(agenda: &mut A, text: &mut String) -> Result<()> {
     if !text.is_empty() {
         text.push(' ')?;

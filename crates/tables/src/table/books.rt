@@ -1,9 +1,10 @@
 //! Books of reasons.
 //!
-//! `go-on PICTURE ; TURN ; TURN ..` begins a book without a step over what the picture's givens exclude, and prints its steps and
-//! facts behind the last turn. A turn is lines, as `r1,c2`, which are evaluated one after the other; `close` or `close newest`,
-//! with all lines waiting; or an edit, `undo` or `redo` in a session's words, after which what stands is kept, and the dirty
-//! lines are told. The evaluations of each turn are counted. Both engines have to say the same.
+//! `go-on PICTURE ; TURN ; TURN ..` begins a book without a step over what the picture's givens exclude, and prints its
+//! steps and facts after the last turn. A turn is lines, as `r1,c2`, which are evaluated one after the other; `close`
+//! or `close newest`, with all lines waiting; or an edit, `undo` or `redo` in a session's words, after which what
+//! stands is kept, and the dirty lines are told. The evaluations of each turn are counted. Both engines have to say the
+//! same.
 
 ghost use Rattle.std.specs.Prelude.{◌≡◌, IfOk, OnOk};
 ghost use Rattle.std.specs.List.{All};
@@ -12,7 +13,7 @@ ghost use Rattle.clues.specs.Change.{IsChangeOf};
 ghost use Rattle.clues.specs.ClueBook.{clues_of};
 ghost use Rattle.edits.specs.History.{IsPlanFor};
 ghost use Rattle.justify.specs.Book.{IsDerivation};
-ghost use Rattle.fixpoint.specs.Closing.{AreClosable};
+ghost use Rattle.fixpoint.specs.ClosedFacts.{AreClosable};
 
 use anyhow::{Result, bail, ensure};
 use clues::ClueBook;
@@ -60,7 +61,7 @@ fn told_by<E: LineEngine>(alloc: Global, engine: &mut E, words: &[&str]) -> Resu
     Ok(text)
 }
 
-// Puts the steps of a book and its facts behind a text.
+// Appends the steps of a book and its facts to a text.
 fn push_book(alloc: Global, text: &mut String, book: &Book) -> Result<()> {
     push_steps(text, book.steps())?;
     text.push('\n')?;
@@ -208,7 +209,7 @@ fn run<E: LineEngine>(
     Ok(book)
 }
 
-// Puts how many lines were evaluated behind a text.
+// Appends how many lines were evaluated to a text.
 fn push_count(text: &mut String, meter: &Meter) -> Result<(), AllocError> {
     let evaluations = meter.evaluations;
     writeln!(text, "{evaluations} evaluations")
@@ -263,7 +264,7 @@ fn keep_after(alloc: Global, desk: Desk, turn: &[&str], text: &mut String) -> Re
     Ok(gone_on(desk, prepared, clues, kept.book))
 }
 
-// The desk behind an edit.
+// The desk after an edit.
 fn gone_on(desk: Desk, prepared: Prepared, clues: ClueBook, book: Book) -> Desk
     requires plan { IsPlanFor desk.studio prepared }
     requires counted { clues ≡ clues_of prepared.document.rows }
@@ -325,7 +326,7 @@ fn kept_of(alloc: Global, desk: &Desk, prepared: &Prepared) -> Result<(ClueBook,
     Ok((new, kept))
 }
 
-// Puts the names of dirty lines behind a text, as a line.
+// Appends the names of dirty lines to a text, as a line.
 fn push_dirty(text: &mut String, dirty: &LineSet) -> Result<()> {
     text.push_str("dirty")?;
     push_lines(text, dirty)?;
@@ -333,7 +334,7 @@ fn push_dirty(text: &mut String, dirty: &LineSet) -> Result<()> {
     Ok(())
 }
 
-// Puts the names of lines behind a text.
+// Appends the names of lines to a text.
 fn push_lines(text: &mut String, lines: &LineSet) -> Result<()> {
     for axis in [Axis::Across, Axis::Down] {
         for at in 0..MAX_SIDE {

@@ -1,7 +1,7 @@
 //! Edits and what is kept of them.
 //!
-//! `edit PICTURE EDIT ..` prints the fault of an edit in a session's words; or what is kept of it, the picture after it with the
-//! lines that it touches, and the picture after it is taken back with the lines that this touches.
+//! `edit PICTURE EDIT ..` prints the error of an edit in a session's words; or what is kept of it, the picture after it
+//! with the lines that it touches, and the picture after it is taken back with the lines that this touches.
 
 ghost use Rattle.clues.specs.Change.{IsChangeOf};
 ghost use Rattle.edits.specs.History.{IsPlanFor};
@@ -53,13 +53,13 @@ fn made_text(alloc: Global, studio: &mut Studio, prepared: Prepared) -> Result<S
     Ok(text)
 }
 
-// Puts what taking the last edit back comes to behind a text.
+// Appends to a text what taking the last edit back comes to.
 fn push_undone(text: &mut String, studio: &Studio) -> Result<()> {
     let prepared = studio.prepare_undo()?;
     push_prepared(text, studio, &prepared)
 }
 
-// Puts what is kept of an edit behind a text, as a line: cells with their old colours, a colour's triple, and givens.
+// Appends what is kept of an edit to a text, as a line: cells with their old colours, a colour's triple, and givens.
 fn push_entry(text: &mut String, entry: &Entry) -> Result<()> {
     text.push_str("keeps")?;
     for (row, col, colour) in &entry.cells {
@@ -77,7 +77,7 @@ fn push_entry(text: &mut String, entry: &Entry) -> Result<()> {
     Ok(())
 }
 
-// Puts what was prepared behind a text, as a line: the document, and the lines that are touched.
+// Appends what was prepared to a text, as a line: the document, and the lines that are touched.
 fn push_prepared(text: &mut String, studio: &Studio, prepared: &Prepared) -> Result<()>
     requires { IsChangeOf prepared.now.change studio.now.document.rows prepared.now.document.rows }
 {

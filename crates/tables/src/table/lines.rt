@@ -68,7 +68,7 @@ fn narrow_text(alloc: Global, clue: &str, masks: &str) -> Result<String> {
     Ok(text)
 }
 
-// Puts what is left of so many cells behind a text.
+// Appends what is left of so many cells to a text.
 fn push_narrowed(text: &mut String, narrowed: &Narrowed, cells: usize) -> Result<()> {
     ensure!(cells <= 120, "a line has at most 120 cells");
     let left = &narrowed.left[..cells];
@@ -146,7 +146,7 @@ fn force_line(alloc: Global, facts: &mut Facts, line: LineId, clue: &str) -> Res
     Ok((forced, count))
 }
 
-// Puts the names of lines behind a text.
+// Appends the names of lines to a text.
 fn push_lines(text: &mut String, lines: &LineSet) -> Result<(), AllocError> {
     for axis in [Axis::Across, Axis::Down] {
         for at in 0..120u8 {

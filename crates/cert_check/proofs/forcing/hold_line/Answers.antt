@@ -1,5 +1,5 @@
 use Rattle.std.proofs.Common.{List, ℕ, arith, ap, refl, ◌∙◌}
-use Rattle.line_settle.specs.AlongLaws.{written_more, written_all}
+use Rattle.line_settle.proofs.AlongLaws.{written_more, written_all}
 use Rattle.trail.specs.Trail.{Trailed}
 use Rattle.cert_check.proofs.forcing.hold_line.Goals as goal
 
@@ -9,7 +9,8 @@ loop-i-preserved c =
     let held = c.in_ok-hold.ensures.holds in
     let at = ap {B = List (List ℕ)} (λ (s : Trailed). s.at_hand) held in
     record {
-      written = written_more c.args.line c.args.trail.now.at_hand c.loop-i.trail.at_hand c.hold.new.self.at_hand c.args.masks.now c.loop-i.i _ c.hold.ensures.facts c.requires.line c.requires.whole (omega arith) refl kept.written (rw (c.on-cell.ensures.row, c.on-cell.ensures.col) at at);
+      written = written_more c.args.line c.args.trail.now.at_hand c.loop-i.trail.at_hand c.hold.new.self.at_hand c.args.masks.now c.loop-i.i _ c.hold.ensures.facts c.requires.line c.requires.whole
+          (omega arith) refl kept.written (rw (c.on-cell.ensures.row, c.on-cell.ensures.col) at at);
       behind = ap (λ (s : Trailed). s.behind) held ∙ kept.behind;
     }
 

@@ -10,7 +10,8 @@ returns-then-not-going-clause-first g c = inr (trailing_first _ _ _ c.loop-i.goi
 pub returns-in_err-going-clause-first : goal.returns-in_err-going-clause-first
 returns-in_err-going-clause-first g c =
     let p = err_from_is_err_and c.from_residual.result c.from_residual.ensures.1 in
-    rw (p.1, p.2) (refused_first _ _ c.loop-i.trail c.take_line.new.trail c.loop-i.going c.args.first c.loop-i.i c.args.lines.now _ _ c.in_err-going.field-0.0 c.loop-i.invariant.so_far (omega arith) c.if-not-going.false refl c.in_err-going.ensures.takes)
+    rw (p.1, p.2) (refused_first _ _ c.loop-i.trail c.take_line.new.trail c.loop-i.going c.args.first c.loop-i.i c.args.lines.now _ _ c.in_err-going.field-0.0 c.loop-i.invariant.so_far
+    (omega arith) c.if-not-going.false refl c.in_err-going.ensures.takes)
 
 pub loop-i-preserved : goal.loop-i-preserved
 loop-i-preserved g c = record {
@@ -18,5 +19,6 @@ loop-i-preserved g c = record {
   can = subst (CanCheck c.args.claim.now.picture.now c.args.claim.now.clues.now) (sym c.in_ok-going.ensures.same_longest) c.loop-i.invariant.can;
   same_longest = c.in_ok-going.ensures.same_longest ∙ c.loop-i.invariant.same_longest;
   work = (let once = c.in_ok-going.ensures.work in let so_far = c.loop-i.invariant.work in omega arith);
-  so_far = taken_first _ _ c.loop-i.trail _ c.loop-i.going c.in_ok-going.going c.args.first c.loop-i.i c.args.lines.now _ _ c.loop-i.invariant.so_far (omega arith) c.if-not-going.false refl c.in_ok-going.ensures.takes;
+  so_far = taken_first _ _ c.loop-i.trail _ c.loop-i.going c.in_ok-going.going c.args.first c.loop-i.i c.args.lines.now _ _ c.loop-i.invariant.so_far
+      (omega arith) c.if-not-going.false refl c.in_ok-going.ensures.takes;
 }

@@ -1,7 +1,7 @@
 use Rattle.std.proofs.Common.{◌<◌, length, arith}
 use Rattle.std.proofs.lemmas.Result.{err_from_is_err_and}
-use Rattle.picture.specs.SendingLaws.{piece_cut}
-use Rattle.cert_text.specs.Writing.{given_text}
+use Rattle.picture.proofs.SendingLaws.{piece_cut}
+use Rattle.cert_text.specs.WrittenCert.{given_text}
 use Rattle.cert_text.proofs.writing.send_givens.Goals as goal
 
 pub returns-in_err-send_cell-clause-err : goal.returns-in_err-send_cell-clause-err

@@ -1,6 +1,6 @@
 use Rattle.std.proofs.Common.{take}
 use Rattle.std.specs.Io.KnownBytes.{Appends}
-use Rattle.cert_text.specs.Writing.{givens_text}
+use Rattle.cert_text.specs.WrittenCert.{givens_text}
 use Rattle.cert_text.proofs.writing.send_givens.Given as goal
 
 abbrev pub invariant-loop-i : goal.invariant-loop-i

@@ -1,6 +1,6 @@
 use Rattle.std.proofs.Common.{take}
 use Rattle.std.specs.Io.KnownBytes.{Appends}
-use Rattle.cert_text.specs.Writing.{lines_text}
+use Rattle.cert_text.specs.WrittenCert.{lines_text}
 use Rattle.cert_text.proofs.writing.send_lines.Given as goal
 
 abbrev pub invariant-loop-i : goal.invariant-loop-i

@@ -1,4 +1,4 @@
-use Rattle.certificate.specs.Making.{NamesUpTo}
+use Rattle.certificate.specs.MadeCert.{NamesUpTo}
 use Rattle.certificate.proofs.making.given_cells.Given as goal
 
 abbrev pub invariant-loop-row : goal.invariant-loop-row

@@ -1,4 +1,4 @@
-use Rattle.certificate.specs.Making.{NamesUpTo}
+use Rattle.certificate.specs.MadeCert.{NamesUpTo}
 use Rattle.certificate.proofs.making.put_row.Given as goal
 
 abbrev pub invariant-loop-col : goal.invariant-loop-col

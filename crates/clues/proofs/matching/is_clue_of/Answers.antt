@@ -1,8 +1,8 @@
--- Where the line ends, it has the clue when no block is left behind the last run.
+-- Where the line ends, it has the clue when no block is left after the last run.
 use Rattle.std.proofs.Common.{◌≡◌, length}
 use Rattle.std.proofs.lemmas.Bool.Decides.{Decides-at, Decides-like, Decides-eqb}
 use Rattle.clues.specs.Clue.{clue_of}
-use Rattle.clues.specs.RunLaws.{last_run-matches}
+use Rattle.clues.proofs.RunLaws.{last_run-matches}
 use Rattle.clues.proofs.matching.is_clue_of.Goals as goal
 
 pub returns : goal.returns

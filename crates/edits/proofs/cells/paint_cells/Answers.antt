@@ -4,13 +4,16 @@ use Rattle.edits.proofs.CellLemmas.{mapped_fits, with_one_painted}
 use Rattle.edits.proofs.cells.paint_cells.Goals as goal
 
 pub set-requires-clause-in_rows : goal.set-requires-clause-in_rows
-set-requires-clause-in_rows c = (mapped_fits c.args.edit.now c.args.picture.now c.loop-row.picture c.args.cells.now c.loop-row.row-index (0, 0, 0) c.requires.picture c.requires.cells c.loop-row-test.true c.loop-row.invariant).0
+set-requires-clause-in_rows c =
+    (mapped_fits c.args.edit.now c.args.picture.now c.loop-row.picture c.args.cells.now c.loop-row.row-index (0, 0, 0) c.requires.picture c.requires.cells c.loop-row-test.true c.loop-row.invariant).0
 
 pub set-requires-clause-in_columns : goal.set-requires-clause-in_columns
-set-requires-clause-in_columns c = (mapped_fits c.args.edit.now c.args.picture.now c.loop-row.picture c.args.cells.now c.loop-row.row-index (0, 0, 0) c.requires.picture c.requires.cells c.loop-row-test.true c.loop-row.invariant).1
+set-requires-clause-in_columns c =
+    (mapped_fits c.args.edit.now c.args.picture.now c.loop-row.picture c.args.cells.now c.loop-row.row-index (0, 0, 0) c.requires.picture c.requires.cells c.loop-row-test.true c.loop-row.invariant).1
 
 pub set-requires-clause-in_colours : goal.set-requires-clause-in_colours
-set-requires-clause-in_colours c = rw c.colour_after.ensures (mapped_fits c.args.edit.now c.args.picture.now c.loop-row.picture c.args.cells.now c.loop-row.row-index (0, 0, 0) c.requires.picture c.requires.cells c.loop-row-test.true c.loop-row.invariant).2
+set-requires-clause-in_colours c = rw c.colour_after.ensures
+    (mapped_fits c.args.edit.now c.args.picture.now c.loop-row.picture c.args.cells.now c.loop-row.row-index (0, 0, 0) c.requires.picture c.requires.cells c.loop-row-test.true c.loop-row.invariant).2
 
 pub loop-row-preserved : goal.loop-row-preserved
 loop-row-preserved c =

@@ -12,7 +12,8 @@ returns-clause-exact c =
     let new = c.args.new.now in
     let high = c.height.ensures.value in
     let wide = c.width.ensures.value in
-    let start : c.cells-change.result.moves ≡ still (length old) (width_of old) = c.cells-change.ensures.moves ∙ (ap (λ (h : ℕ). still h c.width.result) high ∙ ap (λ (w : ℕ). still (length old) w) wide) in
+    let start : c.cells-change.result.moves ≡ still (length old) (width_of old) = c.cells-change.ensures.moves
+    ∙ (ap (λ (h : ℕ). still h c.width.result) high ∙ ap (λ (w : ℕ). still (length old) w) wide) in
     let follows : FollowsCells c.cells-change.result.moves old new =
     c.cells-change.ensures.lines old new
     (record { is_picture = c.width.ensures.picture; row_count = sym high; column_count = sym wide })

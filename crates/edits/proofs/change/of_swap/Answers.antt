@@ -16,7 +16,8 @@ returns-clause-exact c =
     let second = c.args.second in
     let high = c.height.ensures.value in
     let wide = c.width.ensures.value in
-    let start : c.swap-change.result.moves ≡ moved_along axis (Swapped first second) (length old) (width_of old) = c.swap-change.ensures.moves ∙ (ap (λ (h : ℕ). moved_along axis (Swapped first second) h c.width.result) high ∙ ap (λ (w : ℕ). moved_along axis (Swapped first second) (length old) w) wide) in
+    let start : c.swap-change.result.moves ≡ moved_along axis (Swapped first second) (length old) (width_of old) = c.swap-change.ensures.moves
+    ∙ (ap (λ (h : ℕ). moved_along axis (Swapped first second) h c.width.result) high ∙ ap (λ (w : ℕ). moved_along axis (Swapped first second) (length old) w) wide) in
     let follows : FollowsSwap axis first second c.swap-change.result.moves old (lines_swapped axis first second old) =
     c.swap-change.ensures.lines old (record { is_picture = c.width.ensures.picture; row_count = sym high; column_count = sym wide }) in
     let all : c.loop-at.at ≡ cells_along axis old = omega (arith, c.line_length-at-end.ensures.value) in

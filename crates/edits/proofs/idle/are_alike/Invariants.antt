@@ -1,7 +1,7 @@
 -- the two lines are alike so far
 use Rattle.std.proofs.Common.{ℕ, ◌<◌}
 use Rattle.edits.specs.Design.{design_of}
-use Rattle.edits.specs.Painting.{AreAlikeAt}
+use Rattle.edits.specs.Areas.{AreAlikeAt}
 use Rattle.edits.proofs.idle.are_alike.Given as goal
 
 abbrev pub invariant-loop-position : goal.invariant-loop-position

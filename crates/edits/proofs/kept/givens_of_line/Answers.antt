@@ -13,9 +13,11 @@ loop-position-preserved c =
     let small = marks_small (length c.args.document.now.picture) (width_of c.args.document.now.picture) c.args.document.now.givens p.0 p.1 in
     elim c.if-is_given.branch [
       | then-is_given+in_ok-push w ↦
-          ap (λ (v : Vec (ℕ × ℕ) Global). v.items) w.givens-is ∙ (w.in_ok-push.ensures.items ∙ one_given_more m c.args.line c.loop-position.position c.loop-position.givens.items p c.loop-position.invariant c.place_on-row.ensures (c.is_given.ensures.0 w.if-is_given.true))
+          ap (λ (v : Vec (ℕ × ℕ) Global). v.items) w.givens-is ∙ (w.in_ok-push.ensures.items
+          ∙ one_given_more m c.args.line c.loop-position.position c.loop-position.givens.items p c.loop-position.invariant c.place_on-row.ensures (c.is_given.ensures.0 w.if-is_given.true))
       | else-is_given w ↦
-          ap (λ (v : Vec (ℕ × ℕ) Global). v.items) w.givens-is ∙ no_given_here m c.args.line c.loop-position.position c.loop-position.givens.items p c.loop-position.invariant c.place_on-row.ensures small (λ one. absurd (cc (c.is_given.ensures.1 one, w.if-is_given.false)))
+          ap (λ (v : Vec (ℕ × ℕ) Global). v.items) w.givens-is ∙ no_given_here m c.args.line c.loop-position.position c.loop-position.givens.items p c.loop-position.invariant c.place_on-row.ensures
+          small (λ one. absurd (cc (c.is_given.ensures.1 one, w.if-is_given.false)))
     ]
 
 pub returns : goal.returns

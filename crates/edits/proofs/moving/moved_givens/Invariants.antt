@@ -1,5 +1,5 @@
 -- the givens of the rows before, and those so far of this one
-use Rattle.edits.specs.Moving.{AreMovedTo}
+use Rattle.edits.specs.MovedGivens.{AreMovedTo}
 use Rattle.edits.proofs.moving.moved_givens.Given as goal
 
 abbrev pub invariant-loop-row : goal.invariant-loop-row

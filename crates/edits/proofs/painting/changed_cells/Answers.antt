@@ -11,7 +11,8 @@ loop-col-init c = row_begins _ _ _ _ _ _ c.area-area.ensures c.loop-row.row c.lo
 pub loop-row-preserved : goal.loop-row-preserved
 loop-row-preserved c =
     row_more c.args.edit.now c.args.picture.now c.loop-row.row c.loop-row.cells.items c.loop-col.cells.items c.loop-row.invariant
-    (row_ends _ _ _ _ _ _ c.area-area.ensures c.loop-row.row c.loop-col.col c.loop-col.cells.items c.loop-row.cells.items (omega (arith, c.area-area.ensures.rows_fit)) (omega (arith, c.area-area.ensures.columns_ordered)) c.loop-col.invariant)
+    (row_ends _ _ _ _ _ _ c.area-area.ensures c.loop-row.row c.loop-col.col c.loop-col.cells.items c.loop-row.cells.items (omega (arith, c.area-area.ensures.rows_fit))
+    (omega (arith, c.area-area.ensures.columns_ordered)) c.loop-col.invariant)
 
 pub returns : goal.returns
 returns c = c.loop-row.invariant ∙ sym (rows_end _ _ _ _ _ _ c.area-area.ensures c.loop-row.row (omega (arith, c.area-area.ensures.rows_ordered)))

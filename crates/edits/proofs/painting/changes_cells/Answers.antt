@@ -12,7 +12,8 @@ loop-col-init c = row_before _ _ _ _ _ _ c.area-area.ensures c.loop-row.row (ome
 pub loop-row-preserved : goal.loop-row-preserved
 loop-row-preserved c =
     row_none_more c.args.edit.now c.args.picture.now c.loop-row.row c.loop-row.invariant
-    (row_ends_none _ _ _ _ _ _ c.area-area.ensures c.loop-row.row c.loop-col.col (omega (arith, c.area-area.ensures.rows_fit)) (omega (arith, c.area-area.ensures.columns_ordered)) c.loop-col.invariant)
+    (row_ends_none _ _ _ _ _ _ c.area-area.ensures c.loop-row.row c.loop-col.col (omega (arith, c.area-area.ensures.rows_fit))
+    (omega (arith, c.area-area.ensures.columns_ordered)) c.loop-col.invariant)
 
 pub returns : goal.returns
 returns c =

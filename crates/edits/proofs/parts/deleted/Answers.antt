@@ -14,5 +14,6 @@ returns c =
     let h = c.height.ensures.value in
     let w = c.width.ensures.value in
     moved_to c.moved.result d.palette c.delete_line.new.self d.givens c.insert-back.result.moves _
-    (λ new there. moved_document line.axis (Deleted line.at) shift (deleted_is line.axis line.at) c.height.result c.width.result d.picture c.delete_line.new.self d.givens new c.insert-back.result.moves d.palette d.palette c.requires.picture c.requires.place (omega (arith, c.requires.others)) refl now h w c.insert-back.ensures.moves (rw (h, w) there))
+    (λ new there. moved_document line.axis (Deleted line.at) shift (deleted_is line.axis line.at) c.height.result c.width.result d.picture c.delete_line.new.self d.givens new
+    c.insert-back.result.moves d.palette d.palette c.requires.picture c.requires.place (omega (arith, c.requires.others)) refl now h w c.insert-back.ensures.moves (rw (h, w) there))
     c.moved.ensures.palette c.moved.ensures.picture c.moved.ensures.givens

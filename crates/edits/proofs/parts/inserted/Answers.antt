@@ -14,5 +14,6 @@ returns c =
     let h = c.height.ensures.value in
     let w = c.width.ensures.value in
     moved_to c.moved.result d.palette c.insert_line.new.self d.givens c.delete-back.result.moves _
-    (λ new there. moved_document line.axis (Inserted line.at) shift (inserted_is line.axis line.at) c.height.result c.width.result d.picture c.insert_line.new.self d.givens new c.delete-back.result.moves d.palette d.palette c.requires.picture c.requires.place (omega arith) refl now h w c.delete-back.ensures.moves (rw (h, w) there))
+    (λ new there. moved_document line.axis (Inserted line.at) shift (inserted_is line.axis line.at) c.height.result c.width.result d.picture c.insert_line.new.self d.givens new
+    c.delete-back.result.moves d.palette d.palette c.requires.picture c.requires.place (omega arith) refl now h w c.delete-back.ensures.moves (rw (h, w) there))
     c.moved.ensures.palette c.moved.ensures.picture c.moved.ensures.givens

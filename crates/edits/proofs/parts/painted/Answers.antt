@@ -7,7 +7,8 @@ pub invariant_of-after : goal.invariant_of-after
 invariant_of-after c =
     let d = c.args.document.now in
     let e = c.in_ok-after.ensures in
-    let same : c.paint_cells.new.picture ≡ with_cells d.picture (map (repainted c.args.edit.now) c.args.cells.now) = c.paint_cells.ensures ∙ ap (λ (r : List (List ℕ)). with_cells r (map (repainted c.args.edit.now) c.args.cells.now)) e.picture in
+    let same : c.paint_cells.new.picture ≡ with_cells d.picture (map (repainted c.args.edit.now) c.args.cells.now) = c.paint_cells.ensures
+    ∙ ap (λ (r : List (List ℕ)). with_cells r (map (repainted c.args.edit.now) c.args.cells.now)) e.picture in
     record {
       coloured = rw (same, e.palette) c.requires.coloured;
       inside = rw e.givens (changed_inside d.picture c.paint_cells.new.picture (map (repainted c.args.edit.now) c.args.cells.now) d.givens c.requires.picture c.requires.cells same d.inside);
@@ -17,4 +18,5 @@ pub returns : goal.returns
 returns c =
     let d = c.args.document.now in
     let e = c.in_ok-after.ensures in
-    rw e.givens (changed_document d.picture c.paint_cells.new.picture (map (repainted c.args.edit.now) c.args.cells.now) d.givens d.palette c.in_ok-after.after.palette c.requires.picture c.requires.cells e.palette (c.paint_cells.ensures ∙ ap (λ (r : List (List ℕ)). with_cells r (map (repainted c.args.edit.now) c.args.cells.now)) e.picture))
+    rw e.givens (changed_document d.picture c.paint_cells.new.picture (map (repainted c.args.edit.now) c.args.cells.now) d.givens d.palette c.in_ok-after.after.palette c.requires.picture
+    c.requires.cells e.palette (c.paint_cells.ensures ∙ ap (λ (r : List (List ℕ)). with_cells r (map (repainted c.args.edit.now) c.args.cells.now)) e.picture))

@@ -17,4 +17,5 @@ pub returns : goal.returns
 returns c =
     let d = c.args.document.now in
     let e = c.in_ok-after.ensures in
-    rw e.givens (changed_document d.picture c.put_cells.new.picture c.args.cells.now d.givens d.palette c.in_ok-after.after.palette c.requires.picture c.requires.cells e.palette (c.put_cells.ensures ∙ ap (λ (r : List (List ℕ)). with_cells r c.args.cells.now) e.picture))
+    rw e.givens (changed_document d.picture c.put_cells.new.picture c.args.cells.now d.givens d.palette c.in_ok-after.after.palette c.requires.picture c.requires.cells e.palette
+    (c.put_cells.ensures ∙ ap (λ (r : List (List ℕ)). with_cells r c.args.cells.now) e.picture))

@@ -1,6 +1,6 @@
 use Rattle.std.proofs.Common.{◌≡◌, ◌+◌, ◌<◌, ◌^◌, ℕ, List, arith, refl, sym, subst, get_or, length}
 use Rattle.justify.specs.declared.premise.Premise.{Premise}
-use Rattle.justify.specs.Gathering.{Gathered}
+use Rattle.justify.specs.GatheredCells.{Gathered}
 use Rattle.justify.specs.Premises.{premise}
 use Rattle.justify.proofs.GatherLemmas.{gathered_over, gathered_take, gathered_all}
 use Rattle.justify.proofs.masks.gather.Goals as goal
@@ -16,7 +16,8 @@ loop-place-preserved c =
           let room : s.count < length s.found = (let v = s.invariant.within in omega arith) in
           subst C (sym w.found-is) (rw w.count-is (gathered_take masks s.place s.found s.count (premise s.place (get_or masks s.place 0)) s.invariant room refl refl (omega arith)))
       | else-colours-ne0 w ↦
-          subst C (sym w.found-is) (rw w.count-is (gathered_over masks s.place (s.place + 1) s.found s.count (omega arith) (λ i h l. let e : i ≡ s.place = omega arith in let P : ℕ → Type 0 = λ n. get_or masks n 0 ≡ 0 in subst P (sym e) (omega arith)) s.invariant))
+          subst C (sym w.found-is) (rw w.count-is (gathered_over masks s.place (s.place + 1) s.found s.count (omega arith)
+          (λ i h l. let e : i ≡ s.place = omega arith in let P : ℕ → Type 0 = λ n. get_or masks n 0 ≡ 0 in subst P (sym e) (omega arith)) s.invariant))
     ]
 
 pub returns-clause-gathers : goal.returns-clause-gathers

@@ -1,5 +1,5 @@
 use Rattle.std.proofs.Common.{◌*◌}
-use Rattle.justify.specs.Gathering.{Gathered}
+use Rattle.justify.specs.GatheredCells.{Gathered}
 use Rattle.justify.proofs.masks.gather.Given as goal
 
 abbrev pub invariant-loop-chunk : goal.invariant-loop-chunk

@@ -1,5 +1,5 @@
 use Rattle.std.proofs.Common.{◌+◌, ◌-◌, ◌≤◌}
-use Rattle.justify.specs.Gathering.{AreColoured, Gathered}
+use Rattle.justify.specs.GatheredCells.{AreColoured, Gathered}
 use Rattle.justify.proofs.masks.gather_eight.Given as goal
 
 abbrev pub invariant-cells : goal.invariant-cells

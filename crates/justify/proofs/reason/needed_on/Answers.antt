@@ -15,7 +15,8 @@ needed_for-requires-clause-forced c =
     let clue = c.args.clue.now in
     let left = c.leave_rest.new.left in
     let len : length left ≡ c.args.cells = c.leave_rest.auto.left ∙ c.requires.left_room in
-    forces_mark clue c.args.premises.now left c.mark.new.masks c.args.exclusion.at c.args.exclusion.colour (rw (← c.as_slice.ensures.value) c.leave_rest.ensures) c.mark.ensures (rw len c.requires.forced)
+    forces_mark clue c.args.premises.now left c.mark.new.masks c.args.exclusion.at c.args.exclusion.colour (rw (← c.as_slice.ensures.value) c.leave_rest.ensures) c.mark.ensures
+    (rw len c.requires.forced)
 
 pub returns : goal.returns
 returns c =

@@ -18,4 +18,5 @@ returns-clause-forced g c =
     let left = c.leave_rest.new.left in
     let out = c.narrow.new.out in
     let len : length left ≡ c.args.cells = c.leave_rest.auto.left ∙ c.requires.left_room in
-    rw (← len) (forced_is clue step left out c.narrow.result (rw (← c.as_slice.ensures.value) c.leave_rest.ensures) c.narrow.ensures.narrows c.has_none.result (rw (← c.as_slice-2.ensures.value) c.has_none.ensures))
+    rw (← len) (forced_is clue step left out c.narrow.result (rw (← c.as_slice.ensures.value) c.leave_rest.ensures) c.narrow.ensures.narrows c.has_none.result
+    (rw (← c.as_slice-2.ensures.value) c.has_none.ensures))

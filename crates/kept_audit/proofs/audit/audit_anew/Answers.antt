@@ -32,20 +32,23 @@ pub returns-in_err-book-2-clause-memory : goal.returns-in_err-book-2-clause-memo
 returns-in_err-book-2-clause-memory g c =
     let p = err_from_is_err_and c.from_residual-in_err-book-2.result c.from_residual-in_err-book-2.ensures.1 in
     let over : c.in_ok-book.book.base ≡ c.in_ok-base.base = ap (λ (b : Account). b.base) c.in_ok-book.ensures in
-    rw (p.1, p.2) (no_fault_but_memory (design_of c.args.document.now) c.in_ok-base.base c.in_ok-clues.clues c.in_ok-book.book c.in_err-book-2.field-0.0 c.height.ensures.picture c.in_ok-clues.ensures c.in_ok-base.ensures over c.in_err-book-2.ensures.closes)
+    rw (p.1, p.2) (no_fault_but_memory (design_of c.args.document.now) c.in_ok-base.base c.in_ok-clues.clues c.in_ok-book.book c.in_err-book-2.field-0.0 c.height.ensures.picture c.in_ok-clues.ensures
+    c.in_ok-base.ensures over c.in_err-book-2.ensures.closes)
 
 pub returns-clause-audit : goal.returns-clause-audit
 returns-clause-audit g c =
     let start = c.in_ok-book.ensures in
     let over : c.in_ok-book.book.base ≡ c.in_ok-base.base = ap (λ (b : Account). b.base) start in
-    audit_of (design_of c.args.document.now) c.in_ok-base.base c.in_ok-clues.clues c.in_ok-book.book c.in_ok-book-2.book c.in_ok-clues.ensures c.in_ok-base.ensures over c.in_ok-book-2.ensures.closes c.facts-2.ensures.account
+    audit_of (design_of c.args.document.now) c.in_ok-base.base c.in_ok-clues.clues c.in_ok-book.book c.in_ok-book-2.book c.in_ok-clues.ensures c.in_ok-base.ensures over c.in_ok-book-2.ensures.closes
+    c.facts-2.ensures.account
     (c.in_ok-book-2.ensures.trimmed (starts_trimmed c.in_ok-clues.clues c.in_ok-base.base c.in_ok-book.book start))
 
 pub returns-clause-work : goal.returns-clause-work
 returns-clause-work g c =
     let P : List (List ℕ) → Type 0 = λ f. AllLines f c.all_lines-dirty.result in
     let over : c.in_ok-book.book.facts ≡ c.in_ok-base.base = ap (λ (b : Account). b.facts) c.in_ok-book.ensures in
-    is_anew c.in_ok-clues.clues c.in_ok-base.base _ c.in_ok-book.book c.in_ok-book-2.book _ _ _ _ c.in_ok-book.ensures (subst P over (subst P c.facts.ensures.value c.all_lines-dirty.ensures.lines)) c.in_ok-book-2.ensures.closes c.in_ok-book-2.ensures.works
+    is_anew c.in_ok-clues.clues c.in_ok-base.base _ c.in_ok-book.book c.in_ok-book-2.book _ _ _ _ c.in_ok-book.ensures
+    (subst P over (subst P c.facts.ensures.value c.all_lines-dirty.ensures.lines)) c.in_ok-book-2.ensures.closes c.in_ok-book-2.ensures.works
 
 pub returns-in_err-book-2-clause-calls : goal.returns-in_err-book-2-clause-calls
 returns-in_err-book-2-clause-calls g c = let k = c.in_err-book-2.ensures.works.1.calls in omega arith

@@ -1,6 +1,6 @@
 use Rattle.std.proofs.Common.{◌≡◌, ℕ, ◌<◌}
 use Rattle.line_settle.specs.Positions.{has}
-use Rattle.line_settle.specs.Laying.{moved, covers}
+use Rattle.line_settle.specs.LaidBlocks.{moved, covers}
 use Rattle.line_settle.proofs.block_steps.lay.Given as goal
 
 abbrev pub invariant-loop : goal.invariant-loop

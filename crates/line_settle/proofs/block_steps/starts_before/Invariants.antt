@@ -1,6 +1,6 @@
 use Rattle.std.proofs.Common.{◌≡◌, ℕ}
 use Rattle.line_settle.specs.Positions.{has}
-use Rattle.line_settle.specs.Laying.{lays}
+use Rattle.line_settle.specs.LaidBlocks.{lays}
 use Rattle.line_settle.proofs.block_steps.starts_before.Given as goal
 
 abbrev pub invariant-loop : goal.invariant-loop

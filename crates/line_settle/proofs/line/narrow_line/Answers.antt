@@ -1,6 +1,6 @@
 use Rattle.std.proofs.Common.{◌+◌, ◌<◌, sym, ap, ◌∙◌, arith, length}
 use Rattle.std.proofs.lemmas.List.{length-take}
-use Rattle.line_settle.specs.Spelling.{pattern_of}
+use Rattle.line_settle.specs.Patterns.{pattern_of}
 use Rattle.line_settle.proofs.NarrowLemmas.{narrows_long, narrows_some, narrows_stuck, written_colours}
 use Rattle.line_settle.proofs.line.narrow_line.Goals as goal
 use Rattle.line_settle.proofs.line.narrow_line.Goals.{in_default-via-in-Some+else-cells-left, in_default-via-in_default}

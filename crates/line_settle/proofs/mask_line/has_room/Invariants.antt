@@ -1,5 +1,5 @@
 use Rattle.std.proofs.Common.{◌≡◌, ◌+◌, ◌≤◌, length, drop}
-use Rattle.line_settle.specs.Spelling.{spelled_after, pattern_of}
+use Rattle.line_settle.specs.Patterns.{spelled_after, pattern_of}
 use Rattle.line_settle.proofs.mask_line.has_room.Given as goal
 
 abbrev pub invariant-loop-block : goal.invariant-loop-block

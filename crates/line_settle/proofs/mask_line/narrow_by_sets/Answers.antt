@@ -1,5 +1,5 @@
 use Rattle.std.proofs.Common.{◌≤◌, arith, length}
-use Rattle.line_settle.specs.Spelling.{spelled_after}
+use Rattle.line_settle.specs.Patterns.{spelled_after}
 use Rattle.line_settle.proofs.BlockLemmas.{blocks_spelled}
 use Rattle.line_settle.proofs.NarrowLemmas.{narrows_long}
 use Rattle.line_settle.proofs.mask_line.narrow_by_sets.Goals as goal

@@ -1,6 +1,6 @@
 use Rattle.std.proofs.Common.{◌++◌, ap, refl, arith}
 use Rattle.std.proofs.lemmas.List.{length-set}
-use Rattle.line_settle.specs.Spelling.{spelled_after}
+use Rattle.line_settle.specs.Patterns.{spelled_after}
 use Rattle.line_settle.proofs.WritingLemmas.{first_written, spelled_past}
 use Rattle.line_settle.proofs.pattern.spell.Goals as goal
 
@@ -13,5 +13,6 @@ loop-block-init c = record {
 pub returns-in_err-end : goal.returns-in_err-end
 returns-in_err-end c =
     let long = c.in_err-end.ensures in
-    let past = spelled_past c.loop-block.last c.args.blocks.now c.loop-block.block-index _ _ c.loop-block.buffer c.loop-block.end c.loop-block-test.true refl c.loop-block.invariant.within c.loop-block.invariant.so_far long in
+    let past = spelled_past c.loop-block.last c.args.blocks.now c.loop-block.block-index _ _ c.loop-block.buffer c.loop-block.end c.loop-block-test.true refl c.loop-block.invariant.within
+    c.loop-block.invariant.so_far long in
     rw c.from_residual.ensures (omega (arith, length-set c.args.buffer.now 0 0))

@@ -1,5 +1,5 @@
 use Rattle.std.proofs.Common.{◌≡◌, ◌≤◌, ◌++◌, length, take, drop}
-use Rattle.line_settle.specs.Spelling.{spelled_after, pattern_of}
+use Rattle.line_settle.specs.Patterns.{spelled_after, pattern_of}
 use Rattle.line_settle.proofs.pattern.spell.Given as goal
 
 abbrev pub invariant-loop-block : goal.invariant-loop-block

@@ -2,7 +2,7 @@ use Rattle.std.proofs.Common.{◌≡◌, true, below_more, arith, get_or, map}
 use Rattle.std.proofs.lemmas.List.Elements.{All-from_get_or}
 use Rattle.clues.specs.declared.block.Block.{Block}
 use Rattle.clues.specs.Clue.{block}
-use Rattle.line_settle.specs.Spelling.{allows}
+use Rattle.line_settle.specs.Patterns.{allows}
 use Rattle.line_settle.specs.Positions.{IsCellsWith}
 use Rattle.line_settle.proofs.position_tables.mark_allowed.Goals as goal
 

@@ -1,6 +1,6 @@
 use Rattle.std.proofs.Common.{◌≡◌, ℕ, ◌<◌, true, get_or, map}
 use Rattle.clues.specs.Clue.{block}
-use Rattle.line_settle.specs.Spelling.{allows}
+use Rattle.line_settle.specs.Patterns.{allows}
 use Rattle.line_settle.specs.Positions.{HasMade}
 use Rattle.line_settle.proofs.position_tables.mark_allowed.Given as goal
 

@@ -1,8 +1,8 @@
 use Rattle.std.proofs.Common.{ℕ, ◌-◌, ◌<◌, ◌≤◌, ◌∙◌, arith, length, map}
 use Rattle.std.proofs.lemmas.List.{length-set, map-set, length-map}
 use Rattle.clues.specs.Clue.{block, IsBlock}
-use Rattle.line_settle.specs.Spelling.{pattern_of}
-use Rattle.line_settle.specs.Laying.{IsBack, IsStart, state_before}
+use Rattle.line_settle.specs.Patterns.{pattern_of}
+use Rattle.line_settle.specs.LaidBlocks.{IsBack, IsStart, state_before}
 use Rattle.line_settle.proofs.BlockLemmas.{block_at}
 use Rattle.line_settle.proofs.MarkLemmas.{mark_block, mark_end, end_stored, first_position}
 use Rattle.line_settle.proofs.WordLemmas.{word_at, word_stored}
@@ -46,7 +46,9 @@ loop-j-preserved g c =
     let is_block : IsBlock (block_at blocks j) = c.requires.blocks_of_clue j (block 0 0) (omega arith) in
     let inside : c.from.result < length allowed = omega (arith, c.requires.sixteen, c.from.ensures, is_block.in_palette) in
     let cells = rw c.from.ensures at (word_at bits allowed c.from.result c.index-allowed-from.result inside c.index-allowed-from.is) in
-    let here = mark_block blocks left (map bits allowed) c.loop-j.j j (bits c.loop-j.later) (bits starts) (bits waits) (bits c.before_gap-later.result) c.meets.result c.requires.blocks_of_clue (omega arith) (omega arith) c.requires.allowed_is c.meets.ensures kept.later_is (rw cells at c.starts_before-starts.ensures) (rw background at (c.fill_down-waits.ensures back c.write_spans.ensures.each)) (λ e. rw (gap.none e)) (λ e. rw background at (gap.one e)) in
+    let here = mark_block blocks left (map bits allowed) c.loop-j.j j (bits c.loop-j.later) (bits starts) (bits waits) (bits c.before_gap-later.result) c.meets.result c.requires.blocks_of_clue
+    (omega arith) (omega arith) c.requires.allowed_is c.meets.ensures kept.later_is (rw cells at c.starts_before-starts.ensures)
+    (rw background at (c.fill_down-waits.ensures back c.write_spans.ensures.each)) (λ e. rw (gap.none e)) (λ e. rw background at (gap.one e)) in
     record {
       later_is = here.here_is;
       starts = word_stored bits P B c.loop-j.starting c.loop-j.j j starts (omega arith) (omega arith) here.starts_are kept.starts;

@@ -1,6 +1,6 @@
 use Rattle.std.proofs.Common.{ℕ, ◌<◌, ◌≤◌, length, map, get_or}
-use Rattle.line_settle.specs.Spelling.{pattern_of}
-use Rattle.line_settle.specs.Laying.{IsBack, IsStart, state_behind, state_before}
+use Rattle.line_settle.specs.Patterns.{pattern_of}
+use Rattle.line_settle.specs.LaidBlocks.{IsBack, IsStart, state_behind, state_before}
 use Rattle.line_settle.proofs.position_tables.mark_back.Given as goal
 
 abbrev pub invariant-loop-j : goal.invariant-loop-j

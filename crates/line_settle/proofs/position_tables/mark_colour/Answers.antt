@@ -15,4 +15,5 @@ returns-clause-after g c =
     let n = length-map allowed bits in
     let P : ℕ → Type 0 = λ n. HasMade left (bit_or made (1 * 2 ^ colour % 65536)) (map bits (set allowed n sets)) in
     let Q : List ℕ → Type 0 = λ ys. HasMade left (bit_or made (1 * 2 ^ colour % 65536)) ys in
-    subst P (sym c.from.ensures) (subst Q (sym (map-set bits allowed colour sets)) (made_more left (map bits allowed) made colour (bits sets) c.requires.colour (omega (arith, n, c.requires.sixteen)) c.cells_with.ensures c.requires.before))
+    subst P (sym c.from.ensures) (subst Q (sym (map-set bits allowed colour sets))
+    (made_more left (map bits allowed) made colour (bits sets) c.requires.colour (omega (arith, n, c.requires.sixteen)) c.cells_with.ensures c.requires.before))

@@ -25,4 +25,5 @@ returns g c = λ i h.
     let first = g.W.Word.bits c.low-2.result in
     let behind = c.up.ensures ∙ ap (λ s. s * 2 ^ 64 % 2 ^ w) c.low-3.ensures in
     let all = c.or.ensures ∙ (ap (λ s. bit_or s (g.W.Word.bits c.up.result)) c.low-2.ensures ∙ ap (λ s. bit_or front s) behind) in
-    ap (λ s. has s i) all ∙ two_halves w left front rest c.args.colour c.near_with-front.type_inv c.near_with-front.ensures (λ j. c.near_with-rest.ensures j ∙ whole_taken (drop 64 left) c.args.colour (length left - 64) j (omega (arith, length-drop 64 left))) i (omega (arith, c.requires.short))
+    ap (λ s. has s i) all ∙ two_halves w left front rest c.args.colour c.near_with-front.type_inv c.near_with-front.ensures
+    (λ j. c.near_with-rest.ensures j ∙ whole_taken (drop 64 left) c.args.colour (length left - 64) j (omega (arith, length-drop 64 left))) i (omega (arith, c.requires.short))

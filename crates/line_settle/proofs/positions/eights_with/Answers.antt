@@ -11,5 +11,6 @@ returns c =
     let small : low < 2 ^ 8 = omega (arith, c.eight_with-2.ensures.no_more) in
     let few : front < 2 ^ 8 = omega (arith, c.eight_with.ensures.no_more) in
     whole_both left front (low * 2 ^ (n - 8) % 2 ^ 64) c.args.colour (omega (arith, c.eight_with.ensures.no_more)) (omega arith) (omega (arith, c.requires.short))
-    (overlapped 64 8 left front low c.args.colour 8 (n - 8) (omega (arith, c.requires.some)) (omega (arith, c.requires.short)) c.requires.some (omega (arith, c.requires.short)) small c.eight_with-2.ensures.each
+    (overlapped 64 8 left front low c.args.colour 8 (n - 8) (omega (arith, c.requires.some)) (omega (arith, c.requires.short)) c.requires.some
+    (omega (arith, c.requires.short)) small c.eight_with-2.ensures.each
     (λ j h. gathered_first 8 left front c.args.colour few c.eight_with.ensures.each j))

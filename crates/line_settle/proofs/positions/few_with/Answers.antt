@@ -1,5 +1,5 @@
 use Rattle.std.proofs.Common.{◌≡◌, ◌+◌, ◌-◌, ◌∙◌, ap, arith, get_or}
-use Rattle.line_settle.specs.Spelling.{allows}
+use Rattle.line_settle.specs.Patterns.{allows}
 use Rattle.line_settle.proofs.GatheringLemmas.{none_gathered, gathered_one}
 use Rattle.line_settle.proofs.positions.few_with.Goals as goal
 
@@ -7,7 +7,8 @@ pub loop-i-init : goal.loop-i-init
 loop-i-init c = λ j h. none_gathered c.args.left.now c.args.colour j
 
 pub loop-i-preserved : goal.loop-i-preserved
-loop-i-preserved c = gathered_one 64 c.args.left.now c.loop-i.cells c.from.result c.args.colour (c.loop-i.i - 1) c.loop-i.i c.allows.result (omega arith) c.from.ensures c.allows.ensures c.loop-i.invariant
+loop-i-preserved c =
+    gathered_one 64 c.args.left.now c.loop-i.cells c.from.result c.args.colour (c.loop-i.i - 1) c.loop-i.i c.allows.result (omega arith) c.from.ensures c.allows.ensures c.loop-i.invariant
 
 pub returns : goal.returns
 returns c = λ i h.

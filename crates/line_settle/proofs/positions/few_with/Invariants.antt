@@ -1,5 +1,5 @@
 use Rattle.std.proofs.Common.{◌≡◌, ℕ, ◌+◌, ◌<◌, get_or}
-use Rattle.line_settle.specs.Spelling.{allows}
+use Rattle.line_settle.specs.Patterns.{allows}
 use Rattle.line_settle.specs.Positions.{has}
 use Rattle.line_settle.proofs.positions.few_with.Given as goal
 

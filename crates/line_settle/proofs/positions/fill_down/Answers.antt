@@ -18,7 +18,8 @@ returns-then-is_none g c = λ cells are i.
     let span = c.index-spans-k.result in
     let is = word_at bits c.args.spans.now k span (omega arith) c.index-spans-k.is in
     let l = step_below _ _ _ at.step_is c.loop-k-test.true in
-    filled_short (bits c.args.set) cells (bits c.loop-k.all) (bits span) c.loop-k.step i (eqb-true _ _ (sym c.is_none-then-k-ge-SHORT.ensures.value ∙ c.if-is_none.true)) (rw is (spanned_by _ cells _ _ k at.step_is (omega (arith, c.rounds-k-end.ensures.width)) are)) (at.reaching cells are)
+    filled_short (bits c.args.set) cells (bits c.loop-k.all) (bits span) c.loop-k.step i (eqb-true _ _ (sym c.is_none-then-k-ge-SHORT.ensures.value ∙ c.if-is_none.true))
+    (rw is (spanned_by _ cells _ _ k at.step_is (omega (arith, c.rounds-k-end.ensures.width)) are)) (at.reaching cells are)
 
 pub loop-k-preserved : goal.loop-k-preserved
 loop-k-preserved g c =
@@ -29,7 +30,8 @@ loop-k-preserved g c =
     let l = step_below _ _ _ at.step_is c.loop-k-test.true in
     record {
       step_is = step_next c.loop-k.step k (k + 1) at.step_is refl;
-      reaching = λ cells are j. rw (c.or-all.ensures, c.and.ensures, c.down.ensures, is) (fills_twice _ cells _ _ c.loop-k.step j (at.reaching cells are) (spanned_by _ cells _ _ k at.step_is (omega (arith, c.rounds-k-end.ensures.width)) are));
+      reaching = λ cells are j. rw (c.or-all.ensures, c.and.ensures, c.down.ensures, is)
+          (fills_twice _ cells _ _ c.loop-k.step j (at.reaching cells are) (spanned_by _ cells _ _ k at.step_is (omega (arith, c.rounds-k-end.ensures.width)) are));
     }
 
 pub returns : goal.returns

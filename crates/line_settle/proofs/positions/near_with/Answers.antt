@@ -1,5 +1,5 @@
 use Rattle.std.proofs.Common.{◌≡◌, ◌+◌, ◌-◌, ◌*◌, ◌/◌, ◌%◌, ◌^◌, ◌<◌, ◌∙◌, ap, arith, length, take, get_or}
-use Rattle.line_settle.specs.Spelling.{allows}
+use Rattle.line_settle.specs.Patterns.{allows}
 use Rattle.line_settle.proofs.GatheringLemmas.{none_taken, gathered_on, whole_word, whole_taken, whole_both, overlapped}
 use Rattle.line_settle.proofs.positions.near_with.Goals as goal
 
@@ -8,7 +8,8 @@ loop-chunk-init c = λ j h. none_taken c.args.left.now c.args.colour (16 * 0) j 
 
 pub loop-chunk-preserved : goal.loop-chunk-preserved
 loop-chunk-preserved c =
-    gathered_on 64 16 c.args.left.now c.loop-chunk.cells c.sixteen_with.result c.args.colour (16 * c.loop-chunk.chunk) (16 * (c.loop-chunk.chunk + 1)) (omega arith) (omega (arith, c.sixteen_with.ensures.no_more)) c.sixteen_with.ensures.each c.loop-chunk.invariant
+    gathered_on 64 16 c.args.left.now c.loop-chunk.cells c.sixteen_with.result c.args.colour (16 * c.loop-chunk.chunk) (16 * (c.loop-chunk.chunk + 1)) (omega arith)
+    (omega (arith, c.sixteen_with.ensures.no_more)) c.sixteen_with.ensures.each c.loop-chunk.invariant
 
 pub returns-then-left-lt8 : goal.returns-then-left-lt8
 returns-then-left-lt8 c = whole_word c.args.left.now c.few_with.result c.args.colour c.few_with.type_inv c.requires.short c.few_with.ensures

@@ -1,6 +1,6 @@
 use Rattle.std.proofs.Common.{◌+◌, ◌-◌, ◌*◌, ◌/◌, ◌∙◌, ap, arith}
 use Rattle.line_settle.specs.Positions.{has}
-use Rattle.line_settle.specs.Crossing.{differs}
+use Rattle.line_settle.specs.CrossedLines.{differs}
 use Rattle.line_settle.proofs.ApartLemmas.{none_apart, all_apart}
 use Rattle.line_settle.proofs.GatheringLemmas.{gathered_more}
 use Rattle.line_settle.proofs.positions.places_apart.Goals as goal
@@ -10,9 +10,11 @@ loop-chunk-init c = λ j h. none_apart c.args.before.now c.args.after.now c.args
 
 pub loop-chunk-preserved : goal.loop-chunk-preserved
 loop-chunk-preserved c =
-    gathered_more 128 16 (differs c.args.before.now c.args.after.now) c.loop-chunk.places c.from.result (16 * (c.loop-chunk.chunk - 1)) (16 * c.loop-chunk.chunk) (omega arith) (omega (arith, c.from.ensures, c.sixteen_apart.ensures.no_more))
+    gathered_more 128 16 (differs c.args.before.now c.args.after.now) c.loop-chunk.places c.from.result (16 * (c.loop-chunk.chunk - 1)) (16 * c.loop-chunk.chunk) (omega arith)
+    (omega (arith, c.from.ensures, c.sixteen_apart.ensures.no_more))
     (λ j h. ap (λ m. has m j) c.from.ensures ∙ c.sixteen_apart.ensures.each j h)
     c.loop-chunk.invariant
 
 pub returns : goal.returns
-returns c = all_apart c.args.before.now c.args.after.now c.args.cells c.loop-chunk.places c.loop-chunk.chunk (omega arith) (let p = c.loop-chunk.auto.places-fits in omega arith) (omega (arith, c.requires.room, c.requires.short)) c.requires.same_behind c.loop-chunk.invariant
+returns c = all_apart c.args.before.now c.args.after.now c.args.cells c.loop-chunk.places c.loop-chunk.chunk (omega arith)
+    (let p = c.loop-chunk.auto.places-fits in omega arith) (omega (arith, c.requires.room, c.requires.short)) c.requires.same_behind c.loop-chunk.invariant

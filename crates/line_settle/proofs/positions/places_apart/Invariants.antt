@@ -1,6 +1,6 @@
 use Rattle.std.proofs.Common.{◌≡◌, ℕ, ◌+◌, ◌*◌, ◌<◌}
 use Rattle.line_settle.specs.Positions.{has}
-use Rattle.line_settle.specs.Crossing.{differs}
+use Rattle.line_settle.specs.CrossedLines.{differs}
 use Rattle.line_settle.proofs.positions.places_apart.Given as goal
 
 abbrev pub invariant-loop-chunk : goal.invariant-loop-chunk

@@ -1,7 +1,7 @@
 use Rattle.std.proofs.Common.{ℕ, refl, sym, ◌∙◌, arith}
 use Rattle.std.proofs.lemmas.List.Elements.{All-get_or, All-from_get_or}
 use Rattle.std.specs.Prelude.{IsTrue}
-use Rattle.line_settle.specs.Spelling.{allows}
+use Rattle.line_settle.specs.Patterns.{allows}
 use Rattle.line_settle.proofs.ShownLemmas.{common_more}
 use Rattle.line_settle.proofs.shown_line.allow_background.Goals as goal
 

@@ -1,9 +1,9 @@
--- Where the line ends, it has the clue when no block is owed behind the last run.
+-- Where the line ends, it has the clue when no block is owed after the last run.
 use Rattle.std.proofs.Common.{◌≡◌, length}
 use Rattle.std.proofs.lemmas.Bool.Decides.{Decides-at, Decides-like, Decides-eqb}
 use Rattle.clues.specs.Clue.{clue_of}
 use Rattle.line_settle.specs.Shown.{lowest_colours}
-use Rattle.clues.specs.RunLaws.{last_run-matches}
+use Rattle.clues.proofs.RunLaws.{last_run-matches}
 use Rattle.line_settle.proofs.ShownLemmas.{colours_past}
 use Rattle.line_settle.proofs.shown_line.has_clue.Goals as goal
 

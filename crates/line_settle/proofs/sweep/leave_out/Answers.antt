@@ -1,5 +1,5 @@
 use Rattle.std.proofs.Common.{◌+◌, refl, length}
-use Rattle.line_settle.specs.Spelling.{pattern_of}
+use Rattle.line_settle.specs.Patterns.{pattern_of}
 use Rattle.line_settle.proofs.BlockLemmas.{no_room}
 use Rattle.line_settle.proofs.SweepLemmas.{leaves_all, leaves_open, leaves_out}
 use Rattle.line_settle.proofs.sweep.leave_out.Goals as goal

@@ -1,5 +1,5 @@
 use Rattle.std.proofs.Common.{◌≡◌, arith, length}
-use Rattle.line_settle.specs.Spelling.{pattern_of}
+use Rattle.line_settle.specs.Patterns.{pattern_of}
 use Rattle.line_settle.proofs.sweep.leave_out_by.Goals as goal
 
 pub returns : goal.returns

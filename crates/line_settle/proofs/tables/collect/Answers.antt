@@ -1,5 +1,5 @@
 use Rattle.std.proofs.Common.{arith, ◌∙◌, ◌+◌, ◌*◌, ◌-◌, length, take, drop}
-use Rattle.line_settle.specs.Spelling.{truth_at}
+use Rattle.line_settle.specs.Patterns.{truth_at}
 use Rattle.line_settle.proofs.FillLemmas.{reached_behind, written_more, later_row}
 use Rattle.line_settle.proofs.tables.collect.Goals as goal
 

@@ -1,5 +1,5 @@
 use Rattle.std.proofs.Common.{◌≡◌, ℕ, ◌+◌, ◌<◌, length, drop, get_or}
-use Rattle.line_settle.specs.Spelling.{allows, finishes, reaches, passes_below, truth_at}
+use Rattle.line_settle.specs.Patterns.{allows, finishes, reaches, passes_below, truth_at}
 use Rattle.line_settle.proofs.tables.collect.Given as goal
 
 abbrev pub invariant-loop-i : goal.invariant-loop-i

@@ -1,5 +1,5 @@
 use Rattle.std.proofs.Common.{◌≡◌, ℕ}
-use Rattle.line_settle.specs.Spelling.{allows, passes_below, truth_at}
+use Rattle.line_settle.specs.Patterns.{allows, passes_below, truth_at}
 use Rattle.line_settle.proofs.tables.colours_through.Given as goal
 
 abbrev pub invariant-loop-q : goal.invariant-loop-q

@@ -1,5 +1,5 @@
 use Rattle.std.proofs.Common.{arith, ◌-◌, length}
-use Rattle.line_settle.specs.Spelling.{truth_at}
+use Rattle.line_settle.specs.Patterns.{truth_at}
 use Rattle.line_settle.proofs.FillLemmas.{last_finishes, last_stored, stored_more, finishing_behind}
 use Rattle.line_settle.proofs.tables.mark_finishing.Goals as goal
 
@@ -20,5 +20,6 @@ loop-i-preserved c =
     let row = finishing_behind pattern left (i - 1) i (truth_at c.loop-i.row) (truth_at c.step_back.new.row) (omega arith) (omega arith) c.loop-i.invariant.row_is c.step_back.ensures in
     record {
       row_is = row;
-      stored = stored_more pattern left c.loop-i.table c.store_row-in-loop-i.new.table c.step_back.new.row w (length c.loop-i.row) (i - 1) i (omega arith) (omega arith) (omega arith) c.store_row-in-loop-i.ensures.stored c.store_row-in-loop-i.ensures.others row c.loop-i.invariant.stored;
+      stored = stored_more pattern left c.loop-i.table c.store_row-in-loop-i.new.table c.step_back.new.row w (length c.loop-i.row) (i - 1) i (omega arith) (omega arith)
+          (omega arith) c.store_row-in-loop-i.ensures.stored c.store_row-in-loop-i.ensures.others row c.loop-i.invariant.stored;
     }

@@ -1,5 +1,5 @@
 use Rattle.std.proofs.Common.{◌≡◌, ℕ, ◌<◌, ◌≤◌, length, drop}
-use Rattle.line_settle.specs.Spelling.{finishes, truth_at, table_row}
+use Rattle.line_settle.specs.Patterns.{finishes, truth_at, table_row}
 use Rattle.line_settle.proofs.tables.mark_finishing.Given as goal
 
 abbrev pub invariant-loop-i : goal.invariant-loop-i

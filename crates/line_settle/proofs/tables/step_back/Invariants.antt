@@ -1,5 +1,5 @@
 use Rattle.std.proofs.Common.{◌≡◌, ℕ, ◌<◌, ◌≤◌}
-use Rattle.line_settle.specs.Spelling.{finish_step, truth_at}
+use Rattle.line_settle.specs.Patterns.{finish_step, truth_at}
 use Rattle.line_settle.proofs.tables.step_back.Given as goal
 
 abbrev pub invariant-loop-q : goal.invariant-loop-q

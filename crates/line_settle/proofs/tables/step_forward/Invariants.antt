@@ -1,5 +1,5 @@
 use Rattle.std.proofs.Common.{◌≡◌, ℕ, ◌<◌, ◌≤◌, length}
-use Rattle.line_settle.specs.Spelling.{reach_step, truth_at}
+use Rattle.line_settle.specs.Patterns.{reach_step, truth_at}
 use Rattle.line_settle.proofs.tables.step_forward.Given as goal
 
 abbrev pub invariant-loop-q : goal.invariant-loop-q

@@ -1,6 +1,6 @@
 use Rattle.std.proofs.Common.{◌≡◌, ◌≤◌, ◌+◌, length}
 use Rattle.non_text.specs.Cut.{section_lines}
-use Rattle.non_text.specs.Counting.{count_after, count_of}
+use Rattle.non_text.specs.SectionCounts.{count_after, count_of}
 use Rattle.non_text.proofs.counting.leaves_blanks.Given as goal
 
 abbrev pub invariant-loop-line : goal.invariant-loop-line

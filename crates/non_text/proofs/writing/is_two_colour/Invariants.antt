@@ -1,5 +1,5 @@
 use Rattle.std.proofs.Common.{◌≡◌, drop}
-use Rattle.non_text.specs.Writing.{is_two_colour}
+use Rattle.non_text.specs.WrittenNon.{is_two_colour}
 use Rattle.non_text.proofs.writing.is_two_colour.Given as goal
 
 abbrev pub invariant-loop-at : goal.invariant-loop-at

@@ -1,5 +1,5 @@
 use Rattle.std.proofs.Common.{◌≡◌}
-use Rattle.non_text.specs.Writing.{is_two_colour_row}
+use Rattle.non_text.specs.WrittenNon.{is_two_colour_row}
 use Rattle.non_text.proofs.writing.is_two_colour_row.Given as goal
 
 abbrev pub invariant-loop-cell : goal.invariant-loop-cell

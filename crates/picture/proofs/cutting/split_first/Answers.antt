@@ -1,5 +1,5 @@
 use Rattle.std.proofs.Common.{eqb, sym}
-use Rattle.picture.specs.SplitLaws.{split_found, split_none}
+use Rattle.picture.proofs.SplitLaws.{split_found, split_none}
 use Rattle.picture.proofs.cutting.split_first.Goals as goal
 
 pub returns-in-Some-clause-pieces : goal.returns-in-Some-clause-pieces

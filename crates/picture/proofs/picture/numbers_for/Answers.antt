@@ -14,5 +14,6 @@ loop-cell-preserved c =
     record {
       among = among_more c.loop-cell.palette c.number_for.new.self c.args.colours.now c.rgb.result c.loop-cell.invariant.among (there triples _ c.rgb.result c.rgb.ensures.stands) step;
       palette = rw more (seen_more c.args.palette.now seen c.rgb.result c.loop-cell.palette c.number_for.new.self so_far step);
-      numbers = rw more (numbered_more c.args.palette.now seen c.rgb.result c.loop-cell.palette c.number_for.new.self c.loop-cell.numbers.items c.push.new.self.items _ so_far step c.loop-cell.invariant.numbers c.in_ok-number_for.ensures.number c.in_ok-push.ensures.items);
+      numbers = rw more (numbered_more c.args.palette.now seen c.rgb.result c.loop-cell.palette c.number_for.new.self c.loop-cell.numbers.items c.push.new.self.items _ so_far step
+          c.loop-cell.invariant.numbers c.in_ok-number_for.ensures.number c.in_ok-push.ensures.items);
     }

@@ -9,4 +9,11 @@ from_cells-requires c =
     let size : c.from.result * c.from-2.result ≡ c.in_ok-height.height * c.in_ok-width.width = rw (c.from.ensures, c.from-2.ensures) refl in
     let count = all_read _ _ _ _ _ _ _ c.in_ok-cells.ensures.read ∙ size in
     let some : 0 < length c.in_ok-palette.palette.triples = search rules in
-    record { has_row = high.0; rows_fit = high.1; has_column = wide.0; columns_fit = wide.1; count = count; colours = λ k. omega (arith, coloured_read _ _ _ _ _ _ _ c.in_ok-cells.ensures.read some k) }
+    record {
+      has_row = high.0;
+      rows_fit = high.1;
+      has_column = wide.0;
+      columns_fit = wide.1;
+      count = count;
+      colours = λ k. omega (arith, coloured_read _ _ _ _ _ _ _ c.in_ok-cells.ensures.read some k);
+    }

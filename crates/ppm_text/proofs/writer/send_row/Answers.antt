@@ -2,7 +2,7 @@ use Rattle.std.proofs.Common.{◌<◌, length, ap, ◌∙◌, arith}
 use Rattle.std.proofs.lemmas.Result.{err_from_is_err_and}
 use Rattle.picture.specs.Palette.{triple_at}
 use Rattle.picture.specs.Rows.{row_at}
-use Rattle.picture.specs.SendingLaws.{piece_cut, piece_sent}
+use Rattle.picture.proofs.SendingLaws.{piece_cut, piece_sent}
 use Rattle.ppm_text.specs.Text.{cell_text}
 use Rattle.ppm_text.proofs.writer.send_row.Goals as goal
 

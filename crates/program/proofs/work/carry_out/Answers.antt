@@ -19,4 +19,5 @@ returns-in_ok-cert-in-Check g c =
     let cert = c.in_ok-cert-in-Check in
     let e = c.run_check.ensures in
     checked _ _ _ _ _ _ _ _ c.args.task.now task.file task.cert task.background file.file.items cert.cert.items c.deref-in-Check.result.now c.deref-in-Check-2.result.now c.run_check.result task.is
-    (record { content = file.ensures.reads.0; first = file.ensures.opens; keeps = file.ensures.keeps; next = cert.ensures.opens }) cert.ensures.reads.0 c.deref-in-Check.ensures.value c.deref-in-Check-2.ensures.value e.writes e.only e.unique
+    (record { content = file.ensures.reads.0; first = file.ensures.opens; keeps = file.ensures.keeps; next = cert.ensures.opens }) cert.ensures.reads.0 c.deref-in-Check.ensures.value
+    c.deref-in-Check-2.ensures.value e.writes e.only e.unique

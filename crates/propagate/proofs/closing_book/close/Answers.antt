@@ -1,10 +1,10 @@
 use Rattle.std.proofs.Common.{ℕ, ◌+◌, Err, refl, ap, ◌∙◌, arith}
 use Rattle.std.proofs.lemmas.Result.{err_from_is_err_and}
 use Rattle.picture.specs.LineSet.{Lines}
-use Rattle.line_settle.specs.FitLaws.{counting_adds}
-use Rattle.line_settle.specs.ForceLaws.{gains_grows}
-use Rattle.worklist.specs.NameLaws.{filled}
-use Rattle.fixpoint.specs.ClosingLaws.{Closing, closing_starts}
+use Rattle.line_settle.proofs.FitLaws.{counting_adds}
+use Rattle.line_settle.proofs.ForceLaws.{gains_grows}
+use Rattle.worklist.proofs.NameLaws.{filled}
+use Rattle.fixpoint.proofs.ClosingLaws.{Closing, closing_starts}
 use Rattle.propagate.proofs.TurnLemmas.{dead_made, made_over}
 use Rattle.propagate.proofs.GrowLemmas.{ClosingBook, all_trimmed, book_closes, book_comes_nearer, book_dies, book_fails, book_goes_on, book_starts}
 use Rattle.propagate.proofs.closing_book.close.Goals as goal
@@ -23,7 +23,8 @@ returns-in_err-changed-clause-closes g c =
     let i = c.loop-line.invariant in
     let s = c.in-Some.ensures in
     let made = made_over _ _ _ _ _ c.clue.ensures.value i.closing.grows.derivation c.make_step-made.ensures.makes in
-    rw (p.1, p.2) (book_fails c.args.clues.now c.args.book _ (λ e. book_dies c.args.clues.now _ c.args.book c.loop-line.book _ _ c.facts.ensures.account c.requires.derivation i.closing.closing s.0 (dead_made _ _ _ _ made (c.in_err-changed.ensures.dead (ap Err e)))))
+    rw (p.1, p.2) (book_fails c.args.clues.now c.args.book _ (λ e. book_dies c.args.clues.now _ c.args.book c.loop-line.book _ _ c.facts.ensures.account c.requires.derivation i.closing.closing s.0
+    (dead_made _ _ _ _ made (c.in_err-changed.ensures.dead (ap Err e)))))
 
 pub returns-in_err-changed-clause-works : goal.returns-in_err-changed-clause-works
 returns-in_err-changed-clause-works g c =

@@ -1,11 +1,12 @@
 use Rattle.std.proofs.Common.{◌≡◌}
 use Rattle.propagate.proofs.GrowLemmas.{ClosingBook}
-use Rattle.fixpoint.specs.WorkLaws.{left_to_do}
+use Rattle.fixpoint.proofs.WorkLaws.{left_to_do}
 use Rattle.propagate.proofs.closing_book.close.Given as goal
 
 abbrev pub invariant-loop-line : goal.invariant-loop-line
 invariant-loop-line g l = record {
-  closing : ClosingBook l.clues (g.E.LineEngine.longest l.engine) l.dirty l.fn.book l.book (g.A.Agenda.members l.agenda) l.fn.meter l.meter (g.E.LineEngine.calls l.fn.engine) (g.E.LineEngine.calls l.engine);
+  closing : ClosingBook l.clues (g.E.LineEngine.longest l.engine) l.dirty l.fn.book l.book (g.A.Agenda.members l.agenda) l.fn.meter l.meter (g.E.LineEngine.calls l.fn.engine)
+      (g.E.LineEngine.calls l.engine);
   same_longest : g.E.LineEngine.longest l.engine ≡ g.E.LineEngine.longest l.fn.engine;
 }
 

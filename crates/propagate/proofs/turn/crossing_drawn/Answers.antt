@@ -1,7 +1,7 @@
 use Rattle.std.proofs.Common.{ap, arith}
 use Rattle.picture.specs.declared.line_id.LineId.{LineId}
 use Rattle.picture.specs.LineSet.{mask_along}
-use Rattle.picture.specs.BitLaws.{bit_or_not}
+use Rattle.picture.proofs.BitLaws.{bit_or_not}
 use Rattle.justify.proofs.StandingLemmas.{place_inside}
 use Rattle.propagate.proofs.TurnLemmas.{crosses_all, crosses_more}
 use Rattle.propagate.proofs.turn.crossing_drawn.Goals as goal

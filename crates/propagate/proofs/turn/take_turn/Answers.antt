@@ -26,4 +26,5 @@ pub returns-in_ok-add_step-in-Ok-Some-clause-comes_to :
 returns-in_ok-add_step-in-Ok-Some-clause-comes_to c clues is =
     let new = rw c.in-Ok-Some.field-0-is at (rw c.in-Ok-Some.is at is.makes) in
     turn_for_step clues c.args.line c.args.book.now c.add_step.new.self c.in-Ok-Some.step c.crossing_drawn-changed.result
-    c.facts.ensures.account is.derivation c.requires.line new c.in_ok-add_step-in-Ok-Some.ensures.ok c.crossing_drawn-changed.ensures.premises c.crossing_drawn-changed.ensures.names c.crossing_drawn-changed.ensures.few
+    c.facts.ensures.account is.derivation c.requires.line new c.in_ok-add_step-in-Ok-Some.ensures.ok c.crossing_drawn-changed.ensures.premises c.crossing_drawn-changed.ensures.names
+    c.crossing_drawn-changed.ensures.few

@@ -1,4 +1,4 @@
-use Rattle.retract.specs.Standing.{PutsSame}
+use Rattle.retract.specs.StandingSteps.{PutsSame}
 use Rattle.retract.proofs.same_clues.put_same.Given as goal
 
 abbrev pub invariant-loop-at : goal.invariant-loop-at

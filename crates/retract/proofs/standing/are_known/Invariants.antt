@@ -1,6 +1,6 @@
 use Rattle.std.proofs.Common.{ℕ, ◌<◌}
 use Rattle.justify.specs.Premises.{premise_at}
-use Rattle.retract.specs.Standing.{ExcludesAll}
+use Rattle.retract.specs.StandingSteps.{ExcludesAll}
 use Rattle.retract.proofs.standing.are_known.Given as goal
 
 abbrev pub invariant-loop-premise : goal.invariant-loop-premise

@@ -1,4 +1,4 @@
-use Rattle.second_search.specs.Carrying.{NamesAlong}
+use Rattle.second_search.specs.CarriedParts.{NamesAlong}
 use Rattle.second_search.proofs.carrying.are_named_along.Given as goal
 
 abbrev pub invariant-loop-at : goal.invariant-loop-at

@@ -1,4 +1,4 @@
-use Rattle.second_search.specs.Carrying.{PutsOn}
+use Rattle.second_search.specs.CarriedParts.{PutsOn}
 use Rattle.second_search.proofs.carrying.put_on.Given as goal
 
 abbrev pub invariant-loop-row : goal.invariant-loop-row

@@ -1,4 +1,4 @@
-use Rattle.second_search.specs.Carrying.{PutsRowOn}
+use Rattle.second_search.specs.CarriedParts.{PutsRowOn}
 use Rattle.second_search.proofs.carrying.put_row_on.Given as goal
 
 abbrev pub invariant-loop-col : goal.invariant-loop-col

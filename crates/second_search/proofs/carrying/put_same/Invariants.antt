@@ -1,4 +1,4 @@
-use Rattle.second_search.specs.Carrying.{PutsSame}
+use Rattle.second_search.specs.CarriedParts.{PutsSame}
 use Rattle.second_search.proofs.carrying.put_same.Given as goal
 
 abbrev pub invariant-loop-at : goal.invariant-loop-at

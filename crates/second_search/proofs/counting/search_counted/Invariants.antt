@@ -1,6 +1,7 @@
-use Rattle.std.proofs.Common.{◌≡◌, ◌<◌, ◌≤◌, ◌∷◌}
+use Rattle.std.proofs.Common.{◌≡◌, ◌<◌, ◌≤◌, ◌∷◌, length, suc}
 use Rattle.picture.specs.LineSet.{name_count}
 use Rattle.second_search.proofs.CountLemmas.{Counting}
+use Rattle.second_search.proofs.DrawLemmas.{AreLooks}
 use Rattle.second_search.proofs.KeepLemmas.{EachQuiet, IsReady}
 use Rattle.second_search.proofs.WeightLemmas.{load}
 use Rattle.second_search.proofs.counting.search_counted.Given as goal
@@ -12,6 +13,7 @@ invariant-loop-search g l = record {
   rows : l.search.due.rows ≡ l.fn.start.lines;
   some : 0 < name_count l.search.due.lines;
   behind : EachQuiet l.book l.known l.fn.start.lines l.fn.start.facts l.search.trail.behind l.search.trail.cells;
+  looks : AreLooks l.fn.start.allowance l.fn.start.facts (suc (length l.search.trail.behind)) l.search.budget.left (g.E.LineEngine.calls l.fn.engine) (g.E.LineEngine.calls l.engine);
   calls : g.E.LineEngine.calls l.fn.engine ≤ g.E.LineEngine.calls l.engine;
   same_longest : g.E.LineEngine.longest l.engine ≡ g.E.LineEngine.longest l.fn.engine;
 }

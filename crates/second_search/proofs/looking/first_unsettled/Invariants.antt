@@ -1,4 +1,4 @@
-use Rattle.second_search.specs.Looking.{AreRowsSettled}
+use Rattle.second_search.specs.SettledFacts.{AreRowsSettled}
 use Rattle.second_search.proofs.looking.first_unsettled.Given as goal
 
 abbrev pub invariant-loop-row : goal.invariant-loop-row

@@ -1,5 +1,5 @@
 use Rattle.std.proofs.Common.{Some, arith}
-use Rattle.line_settle.specs.GridLaws.{shape_sym, shape_trans}
+use Rattle.line_settle.proofs.GridLaws.{shape_sym, shape_trans}
 use Rattle.second_search.proofs.AloneLemmas.{closable_alone, lines_alone}
 use Rattle.second_search.proofs.KeepLemmas.{quiet_outside, show_others}
 use Rattle.second_search.proofs.WithinLemmas.{found_inside, opened_outside}
@@ -20,7 +20,8 @@ search_counted-requires g c =
     record {
       closable = closable_alone clues_are_of_lines s.clues.now window.cells s.picture.now facts _ c.requires.can.is_scene.has_clues keeps c.requires.can.tall c.requires.can.wide;
       lines = lines_alone window.cells s.picture.now s.facts.now facts window.lines c.requires.can.is_scene.sound.same_shape keeps c.requires.window.lines;
-      quiet = quiet_outside clues_are_of_lines s.clues.now window.cells s.picture.now facts window.lines c.requires.can.is_scene.is_picture c.requires.can.is_scene.has_clues keeps c.requires.window.through;
+      quiet = quiet_outside clues_are_of_lines s.clues.now window.cells s.picture.now facts window.lines c.requires.can.is_scene.is_picture c.requires.can.is_scene.has_clues keeps
+          c.requires.window.through;
       same_shape = keeps.same_shape;
       others = show_others window.cells s.picture.now facts window.lines c.requires.can.is_scene.is_picture keeps c.requires.window.through;
       some = omega arith;
@@ -31,4 +32,6 @@ returns-in-Found-clause-other g c =
     let s = c.args.scene.now in
     let facts = c.in_ok-open_in.field-0 in
     let window = c.args.window.now in
-    found_inside clues_are_of_lines books_are_their_clues closing_keeps_fillings only_is_closed fillings_are_of_facts s.clues.now s.givens.now s.facts.now s.picture.now c.requires.can.is_scene window.cells facts (rw c.requires.home at c.in_ok-open_in.ensures) (Some window.splits) _ _ c.in-Found.picture c.in-Found.is c.args.cells.now c.requires.window.among c.in_ok-searched.ensures.ends
+    found_inside clues_are_of_lines books_are_their_clues closing_keeps_fillings only_is_closed fillings_are_of_facts s.clues.now s.givens.now s.facts.now s.picture.now c.requires.can.is_scene
+    window.cells facts (rw c.requires.home at c.in_ok-open_in.ensures)
+    (Some window.splits) _ _ c.in-Found.picture c.in-Found.is c.args.cells.now c.requires.window.among c.in_ok-searched.ensures.ends

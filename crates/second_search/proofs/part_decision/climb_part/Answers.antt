@@ -16,7 +16,8 @@ pub returns-in_default-ending-clause-ends : goal.returns-in_default-ending-claus
 returns-in_default-ending-clause-ends g c =
     let s = c.args.scene.now in
     let e = c.in_ok-ending.ensures.ends in
-    fixed_true clues_are_of_lines books_are_their_clues closing_keeps_fillings only_is_closed fillings_are_of_facts s.clues.now s.givens.now s.facts.now s.picture.now c.requires.can.is_scene c.args.cells.now (Some c.args.bounds.again_splits) _ e.0 c.in_default-ending.not-BrokenOff e.1.1
+    fixed_true clues_are_of_lines books_are_their_clues closing_keeps_fillings only_is_closed fillings_are_of_facts s.clues.now s.givens.now s.facts.now s.picture.now c.requires.can.is_scene
+    c.args.cells.now (Some c.args.bounds.again_splits) _ e.0 c.in_default-ending.not-BrokenOff e.1.1
 
 pub find_near-requires-2 : goal.find_near-requires-2
 find_near-requires-2 g c = rw (c.search_part.ensures.same_longest ∙ c.find_near.ensures.same_longest) c.requires.can

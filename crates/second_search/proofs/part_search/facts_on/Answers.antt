@@ -7,7 +7,8 @@ pub loop-row-init : goal.loop-row-init
 loop-row-init c = leaves_none c.args.cells.now c.args.scene.now.picture.now c.args.scene.now.facts.now c.in_ok-facts.facts c.in_ok-facts.ensures
 
 pub loop-row-preserved : goal.loop-row-preserved
-loop-row-preserved c = leaves_more c.args.cells.now c.args.scene.now.picture.now c.args.scene.now.facts.now c.loop-row.facts c.leave_row_alone.new.facts c.loop-row.row _ refl c.loop-row.invariant c.leave_row_alone.ensures
+loop-row-preserved c = leaves_more c.args.cells.now c.args.scene.now.picture.now c.args.scene.now.facts.now c.loop-row.facts c.leave_row_alone.new.facts c.loop-row.row _ refl c.loop-row.invariant
+    c.leave_row_alone.ensures
 
 pub returns : goal.returns
 returns c =

@@ -1,5 +1,7 @@
 use Rattle.std.proofs.Common.{refl}
+use Rattle.line_settle.proofs.GridLaws.{shape_sym, shape_trans}
 use Rattle.second_search.proofs.AloneLemmas.{closable_alone, lines_alone, names_lines, names_some}
+use Rattle.second_search.proofs.DrawLemmas.{few_alike}
 use Rattle.second_search.proofs.KeepLemmas.{quiet_outside, show_others}
 use Rattle.second_search.proofs.KnownLaws.{clues_are_of_lines}
 use Rattle.second_search.proofs.part_search.search_part.Goals as goal
@@ -24,3 +26,9 @@ search_counted-requires g c =
 
 pub returns-clause-ends : goal.returns-clause-ends
 returns-clause-ends g c = rw (← c.in_ok-facts_on.ensures.alone) c.search_counted.ensures.ends
+
+pub returns-clause-few : goal.returns-clause-few
+returns-clause-few g c =
+    let s = c.args.scene.now in
+    let shape = shape_trans (shape_sym c.requires.can.is_scene.sound.same_shape) c.in_ok-facts_on.ensures.outside.same_shape in
+    few_alike c.args.allowance s.facts.now c.in_ok-facts_on.field-0 1 _ shape c.search_counted.ensures.few

@@ -8,7 +8,8 @@ pub turn-requires : goal.turn-requires
 turn-requires g c =
     let s = c.args.scene.now in
     let i = c.loop-growing.invariant in
-    can_close_like s.clues.now (g.E.LineEngine.longest c.args.engine.now) (g.E.LineEngine.longest c.loop-growing.engine) s.facts.now c.loop-growing.growing.trail.at_hand (shape_said s.clues.now s.picture.now s.facts.now i.said.0 c.loop-growing.growing i.said.1.1) i.same_longest c.requires
+    can_close_like s.clues.now (g.E.LineEngine.longest c.args.engine.now) (g.E.LineEngine.longest c.loop-growing.engine) s.facts.now c.loop-growing.growing.trail.at_hand
+    (shape_said s.clues.now s.picture.now s.facts.now i.said.0 c.loop-growing.growing i.said.1.1) i.same_longest c.requires
 
 pub returns-in-Some-clause-decides : goal.returns-in-Some-clause-decides
 returns-in-Some-clause-decides g c =
@@ -20,14 +21,22 @@ pub returns-then-not-goes-clause-decides : goal.returns-then-not-goes-clause-dec
 returns-then-not-goes-clause-decides g c =
     let s = c.args.scene.now in
     let i = c.loop-growing.invariant in
-    tree_decides s.clues.now s.picture.now s.facts.now c.args.keeps i.said.0 c.advance.new.self.lines i.said.1.0 (ends_said s.clues.now s.picture.now s.facts.now i.said.0 c.advance.new.self.lines c.loop-growing.growing c.turn.new.self c.advance.new.self i.said.1.1 (rw c.in-None.is at c.in_ok-found.ensures.turns) (rw c.if-not-goes.true at c.in_ok-goes.ensures) refl)
+    tree_decides s.clues.now s.picture.now s.facts.now c.args.keeps i.said.0 c.advance.new.self.lines i.said.1.0 (ends_said s.clues.now s.picture.now s.facts.now i.said.0 c.advance.new.self.lines
+    c.loop-growing.growing c.turn.new.self c.advance.new.self i.said.1.1 (rw c.in-None.is at c.in_ok-found.ensures.turns) (rw c.if-not-goes.true at c.in_ok-goes.ensures) refl)
 
 pub loop-growing-preserved : goal.loop-growing-preserved
 loop-growing-preserved g c =
     let s = c.args.scene.now in
     let i = c.loop-growing.invariant in
     record {
-      said = (i.said.0, (i.said.1.0, goes_said s.clues.now s.picture.now s.facts.now i.said.0 c.loop-growing.growing c.turn.new.self c.advance.new.self i.said.1.1 (rw c.in-None.is at c.in_ok-found.ensures.turns) (rw c.if-not-goes.false at c.in_ok-goes.ensures)));
+      said = (
+        i.said.0,
+        (
+          i.said.1.0,
+          goes_said s.clues.now s.picture.now s.facts.now i.said.0 c.loop-growing.growing c.turn.new.self c.advance.new.self i.said.1.1
+              (rw c.in-None.is at c.in_ok-found.ensures.turns) (rw c.if-not-goes.false at c.in_ok-goes.ensures),
+        ),
+      );
       calls = omega arith;
       same_longest = c.turn.ensures.same_longest ∙ i.same_longest;
     }
@@ -41,7 +50,14 @@ pub loop-growing-init : goal.loop-growing-init
 loop-growing-init g c =
     let s = c.args.scene.now in
     record {
-      said = (c.no_lines.result, (c.no_lines.ensures, starts_said s.clues.now s.picture.now s.facts.now c.in_ok-copy.field-0 c.no_lines.result (record { trail = c.start.result; lines = c.no_lines.result; due = c.all_lines.result }) c.in_ok-copy.ensures c.start.ensures refl));
+      said = (
+        c.no_lines.result,
+        (
+          c.no_lines.ensures,
+          starts_said s.clues.now s.picture.now s.facts.now c.in_ok-copy.field-0 c.no_lines.result
+              (record { trail = c.start.result; lines = c.no_lines.result; due = c.all_lines.result }) c.in_ok-copy.ensures c.start.ensures refl,
+        ),
+      );
       calls = omega arith;
       same_longest = refl;
     }

@@ -15,7 +15,8 @@ loop-init g c = record {
 pub returns-in-Dead-clause-settles : goal.returns-in-Dead-clause-settles
 returns-in-Dead-clause-settles g c =
     let clues = c.args.clues.now in
-    settles_on clues c.args.facts.now c.loop.facts c.take_line.new.facts c.args.lines.now c.loop.lines c.take_line.new.lines Dead c.loop.invariant.settles (rw c.in-Dead.is at c.in_ok-forced.ensures.settles)
+    settles_on clues c.args.facts.now c.loop.facts c.take_line.new.facts c.args.lines.now c.loop.lines c.take_line.new.lines Dead c.loop.invariant.settles
+    (rw c.in-Dead.is at c.in_ok-forced.ensures.settles)
 
 pub loop-preserved : goal.loop-preserved
 loop-preserved g c =
@@ -23,7 +24,8 @@ loop-preserved g c =
     let here = rw c.in-Narrowed.is at c.in_ok-forced.ensures.settles in
     record {
       settles = settles_on clues c.args.facts.now c.loop.facts c.take_line.new.facts c.args.lines.now c.loop.lines c.take_line.new.lines Narrowed c.loop.invariant.settles here;
-      closable = can_close_like clues (g.E.LineEngine.longest c.loop.engine) (g.E.LineEngine.longest c.take_line.new.engine) c.loop.facts c.take_line.new.facts here.0.same_shape c.take_line.ensures.same_longest c.loop.invariant.closable;
+      closable = can_close_like clues (g.E.LineEngine.longest c.loop.engine)
+          (g.E.LineEngine.longest c.take_line.new.engine) c.loop.facts c.take_line.new.facts here.0.same_shape c.take_line.ensures.same_longest c.loop.invariant.closable;
       calls = omega arith;
       same_longest = c.take_line.ensures.same_longest ∙ c.loop.invariant.same_longest;
     }

@@ -16,9 +16,11 @@ returns-then-has_clues-clause-continues g c =
 pub returns-clause-continues : goal.returns-clause-continues
 returns-clause-continues g c =
     let s = c.args.scene.now in
-    dead_continues s.clues.now s.picture.now c.args.facts.now c.in-Some-dead.line c.line_number.result (rw c.in-Some-dead.is at c.in_ok-dead.ensures.dead) c.line_number.ensures.axis c.line_number.ensures.number
+    dead_continues s.clues.now s.picture.now c.args.facts.now c.in-Some-dead.line c.line_number.result
+    (rw c.in-Some-dead.is at c.in_ok-dead.ensures.dead) c.line_number.ensures.axis c.line_number.ensures.number
 
 pub unreachable-requires : goal.unreachable-requires
 unreachable-requires g c =
     let s = c.args.scene.now in
-    false≢true (c.if-has_clues.ensures.1 (none_dead clues_are_of_lines books_are_their_clues s.clues.now (g.E.LineEngine.longest c.args.engine.now) c.args.facts.now c.in_ok-shown.shown c.height.ensures.facts c.requires (rw c.in-None.is at c.in_ok-dead.ensures.dead) c.in_ok-shown.ensures))
+    false≢true (c.if-has_clues.ensures.1 (none_dead clues_are_of_lines books_are_their_clues s.clues.now
+    (g.E.LineEngine.longest c.args.engine.now) c.args.facts.now c.in_ok-shown.shown c.height.ensures.facts c.requires (rw c.in-None.is at c.in_ok-dead.ensures.dead) c.in_ok-shown.ensures))

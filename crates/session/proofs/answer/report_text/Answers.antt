@@ -2,7 +2,8 @@ use Rattle.std.proofs.Common.{◌≡◌, ◌∙◌, arith}
 use Rattle.std.proofs.lemmas.Result.{err_from_is_err_and}
 use Rattle.live_audit.specs.declared.verdict.Verdict.{Verdict}
 use Rattle.report_text.specs.Report.{front_text}
-use Rattle.session.specs.Session.{Judges, verdict_word}
+use Rattle.session.specs.Session.{Judges}
+use Rattle.session.specs.Texts.{verdict_word}
 use Rattle.session.proofs.AnswerLemmas.{from_nothing, judged_now, reported, unjudged_now}
 use Rattle.session.proofs.RoomLemmas.{word_fits}
 use Rattle.session.proofs.answer.report_text.Goals as goal

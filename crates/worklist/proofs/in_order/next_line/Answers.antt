@@ -13,10 +13,13 @@ returns-in-Some-first_from c =
 
 pub returns : goal.returns
 returns c =
-    let f = c.in_ok-at.ensures.value in
-    (f.within, next_behind c.args.lines.now c.args.axis c.args.from c.in_default.ensures.set c.requires c.in_default.ensures.value _ c.crossing-crossing.ensures c.in_default-first_from.ensures.value _ f)
+    let f = c.in_ok-at.ensures.value in (
+      f.within,
+      next_behind c.args.lines.now c.args.axis c.args.from c.in_default.ensures.set c.requires c.in_default.ensures.value _ c.crossing-crossing.ensures c.in_default-first_from.ensures.value _ f,
+    )
 
 pub returns-in_err-at : goal.returns-in_err-at
 returns-in_err-at c =
     rw c.from_residual.ensures
-    (no_next c.args.lines.now c.args.axis c.args.from c.in_default.ensures.set c.requires c.in_default.ensures.value _ c.crossing-crossing.ensures c.in_default-first_from.ensures.value c.in_err-at.ensures.value)
+    (no_next c.args.lines.now c.args.axis c.args.from c.in_default.ensures.set c.requires c.in_default.ensures.value _ c.crossing-crossing.ensures c.in_default-first_from.ensures.value
+    c.in_err-at.ensures.value)

@@ -8,7 +8,8 @@ use Rattle.clues.proofs.clue.Clue.same.Goals as goal
 
 decides : (a b : Block) → Decides ((a.len == b.len) && (a.colour == b.colour)) (a ≡ b)
 decides a b =
-    Decides-like _ (λ (e : (a.len ≡ b.len) × (a.colour ≡ b.colour)). let joined : block a.len a.colour ≡ block b.len b.colour = cc (e.0, e.1) in joined) (λ (e : a ≡ b). (ap (λ (x : Block). x.len) e, ap (λ (x : Block). x.colour) e))
+    Decides-like _ (λ (e : (a.len ≡ b.len) × (a.colour ≡ b.colour)). let joined : block a.len a.colour ≡ block b.len b.colour = cc (e.0, e.1) in joined)
+    (λ (e : a ≡ b). (ap (λ (x : Block). x.len) e, ap (λ (x : Block). x.colour) e))
     (Decides-and _ _ (Decides-eqb a.len b.len) (Decides-eqb a.colour b.colour))
 
 pub returns : goal.returns

@@ -10,13 +10,17 @@ pub painted-requires-clause-cells : goal.painted-requires-clause-cells
 painted-requires-clause-cells c =
     let d = design_of c.args.document.now in
     let p = paints c.args.self.now.edit c.in-Paint.is in
-    rw (c.deref.ensures.value ∙ ap (λ (n : Note). n.cells) c.requires.kept ∙ p.kept c.args.document.now.picture) (cells_fit d c.args.self.now.edit c.requires.is_design (lawful d c.args.self.now.edit c.requires.lawful) p)
+    rw (c.deref.ensures.value ∙ ap (λ (n : Note). n.cells) c.requires.kept ∙ p.kept c.args.document.now.picture)
+    (cells_fit d c.args.self.now.edit c.requires.is_design (lawful d c.args.self.now.edit c.requires.lawful) p)
 
 pub painted-requires-clause-coloured : goal.painted-requires-clause-coloured
 painted-requires-clause-coloured c =
     let d = design_of c.args.document.now in
     let p = paints c.args.self.now.edit c.in-Paint.is in
-    rw (c.deref.ensures.value ∙ ap (λ (n : Note). n.cells) c.requires.kept ∙ p.kept c.args.document.now.picture, paints_cells c.args.self.now.edit c.args.document.now.picture c.requires.is_design.is_picture)
+    rw (
+      c.deref.ensures.value ∙ ap (λ (n : Note). n.cells) c.requires.kept ∙ p.kept c.args.document.now.picture,
+      paints_cells c.args.self.now.edit c.args.document.now.picture c.requires.is_design.is_picture,
+    )
     (painted_coloured d c.args.self.now.edit c.requires.is_design (lawful d c.args.self.now.edit c.requires.lawful) p)
 
 pub inserted-requires : goal.inserted-requires

@@ -26,7 +26,8 @@ with_cells-requires-clause-coloured c =
 pub deleted-requires : goal.deleted-requires
 deleted-requires c =
     let d = design_of c.args.document.now in
-    let fits = reinsert_fits c.requires.0 d c.requires.1.is_design c.in-InsertLine.line (lawful c.requires.0 _ (rw c.in-InsertLine.is at c.requires.1.lawful)) (rw c.in-InsertLine.is at c.requires.1.gives) in
+    let fits =
+    reinsert_fits c.requires.0 d c.requires.1.is_design c.in-InsertLine.line (lawful c.requires.0 _ (rw c.in-InsertLine.is at c.requires.1.lawful)) (rw c.in-InsertLine.is at c.requires.1.gives) in
     record { picture = c.know.ensures.is_picture; place = fits.0; others = fits.1; coloured = rw c.in-InsertLine.is at (step_coloured c.requires.0 (note_of c.args.self.now) d c.requires.1) }
 
 pub restored-requires : goal.restored-requires
@@ -45,7 +46,8 @@ restored-requires c =
       picture = known.is_picture;
       place = fits.0;
       room = fits.1;
-      blank = rw (inserted_is line.axis line.at d.rows) (edited_below line.axis (Inserted line.at) (length d.colours.triples) d.rows known.is_picture fits.0 known.is_palette.has_background known.is_coloured);
+      blank = rw (inserted_is line.axis line.at d.rows)
+          (edited_below line.axis (Inserted line.at) (length d.colours.triples) d.rows known.is_picture fits.0 known.is_palette.has_background known.is_coloured);
       cells = rw (c.deref-in-DeleteLine.ensures.value, cells) (line_cells_fit b d c.requires.1.is_design line is_lawful gives);
       givens = rw (c.deref-in-DeleteLine-2.ensures.value, givens) (line_givens_fit b d c.requires.1.is_design line is_lawful gives);
       coloured = rw (c.deref-in-DeleteLine.ensures.value) (rw c.in-DeleteLine.is at (step_coloured b n d c.requires.1));
@@ -54,7 +56,8 @@ restored-requires c =
 pub swapped-requires : goal.swapped-requires
 swapped-requires c =
     let d = design_of c.args.document.now in
-    let fits = reswap_fits c.requires.0 d c.requires.1.is_design c.in-SwapLines.axis c.in-SwapLines.first c.in-SwapLines.second (lawful c.requires.0 _ (rw c.in-SwapLines.is at c.requires.1.lawful)) (rw c.in-SwapLines.is at c.requires.1.gives) in
+    let fits = reswap_fits c.requires.0 d c.requires.1.is_design c.in-SwapLines.axis c.in-SwapLines.first c.in-SwapLines.second (lawful c.requires.0 _ (rw c.in-SwapLines.is at c.requires.1.lawful))
+    (rw c.in-SwapLines.is at c.requires.1.gives) in
     record { picture = c.know.ensures.is_picture; first_in = fits.0; second_in = fits.1; coloured = rw c.in-SwapLines.is at (step_coloured c.requires.0 (note_of c.args.self.now) d c.requires.1) }
 
 pub returns-in-Paint : goal.returns-in-Paint
@@ -89,6 +92,7 @@ pub returns-in-DeleteLine : goal.returns-in-DeleteLine
 returns-in-DeleteLine c =
     let d = design_of c.args.document.now in
     let line = c.in-DeleteLine.line in
-    let givens_put : List (ℕ × ℕ) → List Cell → Design = λ givens cells. design d.colours (with_cells (line_inserted d.rows line) cells) (with_cells (line_inserted d.marks line) (map as_mark givens)) in
+    let givens_put : List (ℕ × ℕ) → List Cell
+    → Design = λ givens cells. design d.colours (with_cells (line_inserted d.rows line) cells) (with_cells (line_inserted d.marks line) (map as_mark givens)) in
     gives_before c.restored.result (givens_put c.deref-in-DeleteLine-2.result.now c.deref-in-DeleteLine.result.now) d (note_of c.args.self.now)
     (rw (c.in-DeleteLine.is, c.deref-in-DeleteLine.ensures.value, c.deref-in-DeleteLine-2.ensures.value) refl) c.restored.ensures

@@ -25,7 +25,8 @@ redo_of-requires c =
 pub returns-in_err-redo_of-clause-refused : goal.returns-in_err-redo_of-clause-refused
 returns-in_err-redo_of-clause-refused c =
     let first : slice_get c.self.inside.future.items 0 ≡ Some c.in_ok-entry.entry.now = sym c.front.ensures ∙ ap option_copied c.in_ok-entry.ensures.ok_part in
-    let none : redo_fault c.args.self.now ≡ None = ap redo_fault (sym c.self.view_is) ∙ has_redo (design_of c.self.inside.document) c.self.inside.past c.self.inside.future c.in_ok-entry.entry.now first in
+    let none : redo_fault c.args.self.now ≡ None = ap redo_fault (sym c.self.view_is)
+    ∙ has_redo (design_of c.self.inside.document) c.self.inside.past c.self.inside.future c.in_ok-entry.entry.now first in
     rw none (search rules)
 
 pub returns-clause-lawful : goal.returns-clause-lawful
@@ -39,7 +40,8 @@ returns-clause-ready c =
     let p : Plan = c.in_ok-redo_of.field-0 in
     let first : slice_get c.self.inside.future.items 0 ≡ Some c.in_ok-entry.entry.now = sym c.front.ensures ∙ ap option_copied c.in_ok-entry.ensures.ok_part in
     rw (← c.self.view_is)
-    (subst (λ (q : Plan). IsPlanFor (history_from d c.self.inside.past c.self.inside.future) q) (plan_is p ByRedo (edited d c.in_ok-entry.entry.now.edit) c.in_ok-redo_of.ensures.advances c.in_ok-redo_of.ensures.gives)
+    (subst (λ (q : Plan). IsPlanFor (history_from d c.self.inside.past c.self.inside.future) q)
+    (plan_is p ByRedo (edited d c.in_ok-entry.entry.now.edit) c.in_ok-redo_of.ensures.advances c.in_ok-redo_of.ensures.gives)
     (redo_plan d c.self.inside.past c.self.inside.future c.in_ok-entry.entry.now first c.self.invariant p.change))
 
 pub returns-clause-change : goal.returns-clause-change

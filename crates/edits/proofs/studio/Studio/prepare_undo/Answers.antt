@@ -19,13 +19,16 @@ returns-in_err-entry-clause-refused c =
 
 pub undo_of-requires : goal.undo_of-requires
 undo_of-requires c =
-    let last : last_item c.self.inside.past.items ≡ Some c.in_ok-entry.entry.now = sym c.back.ensures ∙ ap option_copied c.in_ok-entry.ensures.ok_part in
-    (reverted (design_of c.self.inside.document) (note_of c.in_ok-entry.entry.now), (last_step (design_of c.self.inside.document) c.self.inside.past.items c.in_ok-entry.entry.now last c.self.invariant.are_past).0)
+    let last : last_item c.self.inside.past.items ≡ Some c.in_ok-entry.entry.now = sym c.back.ensures ∙ ap option_copied c.in_ok-entry.ensures.ok_part in (
+      reverted (design_of c.self.inside.document) (note_of c.in_ok-entry.entry.now),
+      (last_step (design_of c.self.inside.document) c.self.inside.past.items c.in_ok-entry.entry.now last c.self.invariant.are_past).0,
+    )
 
 pub returns-in_err-undo_of-clause-refused : goal.returns-in_err-undo_of-clause-refused
 returns-in_err-undo_of-clause-refused c =
     let last : last_item c.self.inside.past.items ≡ Some c.in_ok-entry.entry.now = sym c.back.ensures ∙ ap option_copied c.in_ok-entry.ensures.ok_part in
-    let none : undo_fault c.args.self.now ≡ None = ap undo_fault (sym c.self.view_is) ∙ has_undo (design_of c.self.inside.document) c.self.inside.past c.self.inside.future c.in_ok-entry.entry.now last in
+    let none : undo_fault c.args.self.now ≡ None = ap undo_fault (sym c.self.view_is)
+    ∙ has_undo (design_of c.self.inside.document) c.self.inside.past c.self.inside.future c.in_ok-entry.entry.now last in
     rw none (search rules)
 
 pub returns-clause-lawful : goal.returns-clause-lawful

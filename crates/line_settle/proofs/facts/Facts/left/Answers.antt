@@ -2,7 +2,7 @@ use Rattle.std.proofs.Common.{◌∙◌, sym, arith}
 use Rattle.std.proofs.lemmas.List.{get_or_read}
 use Rattle.line_settle.proofs.FactLemmas.{known}
 use Rattle.line_settle.proofs.facts.Facts.left.Goals as goal
-use Rattle.picture.specs.FlatLaws.{place_inside}
+use Rattle.picture.proofs.FlatLaws.{place_inside}
 
 pub index-requires : goal.index-requires
 index-requires c =

@@ -1,7 +1,7 @@
 use Rattle.std.proofs.Common.{◌∙◌, ◌*◌, ◌≡◌, sym, ap, subst, replicate, List, ℕ, ◌<◌}
 use Rattle.std.specs.Prelude.{IsBitSet}
 use Rattle.picture.specs.Rows.{rows_of, cell_at}
-use Rattle.line_settle.specs.GridLaws.{all_left}
+use Rattle.line_settle.proofs.GridLaws.{all_left}
 use Rattle.line_settle.proofs.FactLemmas.{rows_of_one}
 use Rattle.line_settle.proofs.facts.Facts.none.Goals as goal
 

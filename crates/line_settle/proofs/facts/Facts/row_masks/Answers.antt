@@ -1,6 +1,6 @@
 use Rattle.std.proofs.Common.{◌≡◌, ℕ, ◌+◌, ◌-◌, ◌*◌, List, take, drop, ap, sym, ◌∙◌, arith}
-use Rattle.picture.specs.Rows.{row_at}
-use Rattle.picture.specs.FlatLaws.{row_at-rows_of}
+use Rattle.picture.specs.Rows.{row_at, Rows}
+use Rattle.picture.proofs.FlatLaws.{row_at-rows_of}
 use Rattle.line_settle.proofs.FactLemmas.{known}
 use Rattle.line_settle.proofs.facts.Facts.row_masks.Goals as goal
 
@@ -14,4 +14,4 @@ returns c =
     ap (λ (n : ℕ). take n (drop start c.deref.result.now)) wide
     ∙ ap (λ (masks : List ℕ). take f.width (drop start masks)) same
     ∙ sym (row_at-rows_of f.height f.width f.masks.items c.args.row (omega (arith, k.tall)))
-    ∙ ap (λ (rows : List (List ℕ)). row_at rows c.args.row) c.self.view_is
+    ∙ ap (λ (rows : Rows). row_at rows c.args.row) c.self.view_is

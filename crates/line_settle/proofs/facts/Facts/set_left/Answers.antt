@@ -1,6 +1,6 @@
 use Rattle.std.proofs.Common.{◌∙◌, ap, arith}
 use Rattle.picture.specs.Rows.{with_cell}
-use Rattle.picture.specs.FlatLaws.{place_inside, rows_of-set}
+use Rattle.picture.proofs.FlatLaws.{place_inside, rows_of-set}
 use Rattle.line_settle.proofs.FactLemmas.{known}
 use Rattle.line_settle.proofs.facts.Facts.set_left.Goals as goal
 

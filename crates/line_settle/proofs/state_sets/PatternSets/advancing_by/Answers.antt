@@ -32,7 +32,8 @@ colours-preserved g c =
     let here = word_at bits c.args.self.now.next.now lowest x (omega arith) c.index-self-rest.is in
     let added = bit_or (bits c.colours.advancing) in
     record {
-      taken = subst P (ap added (sym here) ∙ (ap (λ y. added (bits y)) c.index-self-rest.is ∙ sym c.or-advancing.ensures)) (taken_more next c.args.colours rest (bits c.colours.advancing) c.colours-test.true (omega arith) c.colours.invariant.taken);
+      taken = subst P (ap added (sym here) ∙ (ap (λ y. added (bits y)) c.index-self-rest.is ∙ sym c.or-advancing.ensures))
+          (taken_more next c.args.colours rest (bits c.colours.advancing) c.colours-test.true (omega arith) c.colours.invariant.taken);
     }
 
 pub colours-smaller : goal.colours-smaller

@@ -1,7 +1,7 @@
 use Rattle.std.proofs.Common.{◌≡◌, ℕ, suc, ◌-◌, arith, drop, get_or, map}
 use Rattle.std.proofs.lemmas.List.{length-map, map-set}
-use Rattle.line_settle.specs.Spelling.{finishes}
-use Rattle.line_settle.specs.Marking.{finishes_marked, reached_of}
+use Rattle.line_settle.specs.Patterns.{finishes}
+use Rattle.line_settle.specs.MarkedLists.{finishes_marked, reached_of}
 use Rattle.line_settle.proofs.SweepLemmas.{before_cell, noted_more}
 use Rattle.line_settle.proofs.state_sets.PatternSets.note_behind.Goals as goal
 
@@ -23,7 +23,8 @@ loop-i-preserved g c =
     record {
       later_is = λ pattern are.
           before_cell pattern left drawn i (reached_of bits c.back-later.result) (omega arith) (omega arith)
-          (c.back-later.ensures pattern (get_or left i 0) (finishes pattern (drop (suc i) left)) (finishes_marked pattern (drop (suc i) left) (drop (suc i) drawn)) are (c.moves_after-cell.ensures.moves pattern are) (later pattern are));
+          (c.back-later.ensures pattern (get_or left i 0) (finishes pattern (drop (suc i) left)) (finishes_marked pattern (drop (suc i) left) (drop (suc i) drawn)) are
+          (c.moves_after-cell.ensures.moves pattern are) (later pattern are));
       cell_is = rw c.moves_after-cell.ensures.mask c.moves_after-cell.ensures.moves;
       noted = λ pattern are.
           let l = length-map c.loop-i.plain bits in

@@ -1,7 +1,7 @@
 use Rattle.std.proofs.Common.{◌≡◌, ℕ, suc, ◌-◌, refl, arith, length, drop, get_or, map}
 use Rattle.std.proofs.lemmas.List.{length-map, map-set}
-use Rattle.line_settle.specs.Spelling.{finishes}
-use Rattle.line_settle.specs.Marking.{finishes_marked, unmarked}
+use Rattle.line_settle.specs.Patterns.{finishes}
+use Rattle.line_settle.specs.MarkedLists.{finishes_marked, unmarked}
 use Rattle.line_settle.specs.StateSets.{sets_of}
 use Rattle.line_settle.proofs.SweepLemmas.{at_end, before_cell, noted_more, foreign_is, unmarked_back, undrawn_more, undrawn_past}
 use Rattle.line_settle.proofs.state_sets.PatternSets.note_last.Goals as goal
@@ -32,11 +32,13 @@ cells-preserved g c =
       later_is = λ pattern are.
           let later = behind pattern are in
           before_cell pattern left drawn i (unmarked (bits c.back-states.result)) (omega arith) (omega arith)
-          (unmarked_back g.W.Word.width pattern sets (get_or left i 0) (get_or drawn i 0) _ (finishes pattern (drop (suc i) left)) (finishes_marked pattern (drop (suc i) left) (drop (suc i) drawn)) are here later.marked_are (c.back-states.ensures pattern _ _ (c.moves_after-cell.ensures.moves pattern are) later.all_are));
+          (unmarked_back g.W.Word.width pattern sets (get_or left i 0) (get_or drawn i 0) _ (finishes pattern (drop (suc i) left)) (finishes_marked pattern (drop (suc i) left) (drop (suc i) drawn))
+          are here later.marked_are (c.back-states.ensures pattern _ _ (c.moves_after-cell.ensures.moves pattern are) later.all_are));
       cell_is = rw c.moves_after-cell.ensures.mask c.moves_after-cell.ensures.moves;
       noted = λ pattern are.
           let l = length-map c.cells.plain bits in
           let k = length-map c.cells.marked bits in
-          rw (map-set, map-set, c.low.ensures) (noted_more pattern left drawn (map bits c.cells.plain) (map bits c.cells.marked) i (unmarked (bits c.cells.states)) (omega arith) (omega arith) (behind pattern are)
+          rw (map-set, map-set, c.low.ensures)
+          (noted_more pattern left drawn (map bits c.cells.plain) (map bits c.cells.marked) i (unmarked (bits c.cells.states)) (omega arith) (omega arith) (behind pattern are)
           (λ j h b. c.cells.invariant.noted pattern are j (omega arith) b));
     }

@@ -1,6 +1,6 @@
 use Rattle.std.proofs.Common.{◌≡◌, ◌+◌, ◌<◌, ℕ, List, refl, sym, subst, arith, length}
 use Rattle.clues.specs.Clue.{block}
-use Rattle.line_settle.specs.Spelling.{pattern_of}
+use Rattle.line_settle.specs.Patterns.{pattern_of}
 use Rattle.line_settle.specs.StateSets.{AreNext, AreWaiting}
 use Rattle.line_settle.proofs.BlockLemmas.{block_at}
 use Rattle.line_settle.proofs.StateSetLemmas.{none_next, none_waiting, first_colour, piece_here, next_state, end_state, gap_cells, block_cells, waiting_more, waiting_all, colours_more}
@@ -55,7 +55,8 @@ loop-j-preserved g c =
       next_are = c.see_run-in-loop-j.ensures pattern
           (c.see_run.ensures pattern c.loop-j.invariant.next_are (gap_cells pattern q b.len b.colour s m piece c.start_behind-start.ensures))
           (block_cells pattern q b.len b.colour s e m piece c.start_behind-start.ensures to);
-      waiting_are = subst P (sym c.or-waiting.ensures) (waiting_more pattern q b.len b.colour s e (bits c.loop-j.waiting) (bits c.place.result) m piece c.start_behind-start.ensures to c.place.ensures.each c.loop-j.invariant.waiting_are);
+      waiting_are = subst P (sym c.or-waiting.ensures)
+          (waiting_more pattern q b.len b.colour s e (bits c.loop-j.waiting) (bits c.place.result) m piece c.start_behind-start.ensures to c.place.ensures.each c.loop-j.invariant.waiting_are);
       colours_are = colours_more pattern q b.len b.colour s e c.loop-j.colours m piece c.start_behind-start.ensures to is.in_palette c.loop-j.invariant.colours_are;
     }
 

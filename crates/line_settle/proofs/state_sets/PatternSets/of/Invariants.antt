@@ -1,6 +1,6 @@
 use Rattle.std.proofs.Common.{◌≡◌, map}
-use Rattle.line_settle.specs.Spelling.{pattern_of}
-use Rattle.line_settle.specs.Laying.{state_behind}
+use Rattle.line_settle.specs.Patterns.{pattern_of}
+use Rattle.line_settle.specs.LaidBlocks.{state_behind}
 use Rattle.line_settle.specs.StateSets.{AreNext, AreWaiting, HasColours}
 use Rattle.line_settle.proofs.state_sets.PatternSets.of.Given as goal
 

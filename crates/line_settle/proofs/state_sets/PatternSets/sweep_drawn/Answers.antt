@@ -1,7 +1,7 @@
 use Rattle.std.proofs.Common.{◌≡◌, ◌<◌, sym, ◌∙◌, arith, length, get_or, add-one}
 use Rattle.std.proofs.lemmas.Bool.{false≢true}
-use Rattle.line_settle.specs.Spelling.{reaches}
-use Rattle.line_settle.specs.Marking.{reaches_marked, reached_of}
+use Rattle.line_settle.specs.Patterns.{reaches}
+use Rattle.line_settle.specs.MarkedLists.{reaches_marked, reached_of}
 use Rattle.line_settle.specs.StateSets.{sets_of}
 use Rattle.std.proofs.lemmas.List.{get_or-map}
 use Rattle.line_settle.proofs.SweepLemmas.{Reaches, step_kept, step_out}
@@ -28,11 +28,13 @@ loop-i-preserved g c =
     record {
       swept = λ old start.
           let swept = c.loop-i.invariant.swept old start in
-          let ons : Reaches w sets drawn left i 65535 on = λ pattern are. c.reach-on.ensures pattern 65535 (reaches pattern left i) (reaches_marked pattern left drawn i) are (c.moves_by-full.ensures.moves pattern are) (swept.from_is pattern are) in
+          let ons : Reaches w sets drawn left i 65535 on = λ pattern are.
+          c.reach-on.ensures pattern 65535 (reaches pattern left i) (reaches_marked pattern left drawn i) are (c.moves_by-full.ensures.moves pattern are) (swept.from_is pattern are) in
           rw add-one (elim c.if-meets_marked.branch [
             | then-meets_marked x ↦
                 let to = reached_of bits x.reach-from.result in
-                let nexts : Reaches w sets drawn left i (get_or left i 0) to = λ pattern are. x.reach-from.ensures pattern (get_or left i 0) (reaches pattern left i) (reaches_marked pattern left drawn i) are (x.moves_by.ensures.moves pattern are) (swept.from_is pattern are) in
+                let nexts : Reaches w sets drawn left i (get_or left i 0) to = λ pattern are. x.reach-from.ensures pattern (get_or left i 0) (reaches pattern left i)
+                (reaches_marked pattern left drawn i) are (x.moves_by.ensures.moves pattern are) (swept.from_is pattern are) in
                 rw (x.from-is, x.left-is) (step_kept w sets drawn _ _ old left _ on to i inside same swept ons nexts (meets.0 x.if-meets_marked.true))
             | else-meets_marked x ↦ rw (x.from-is, x.left-is) (step_out w sets drawn _ _ old left _ on i inside same swept ons (λ s. false≢true (sym x.if-meets_marked.false ∙ meets.1 s)))
           ]);

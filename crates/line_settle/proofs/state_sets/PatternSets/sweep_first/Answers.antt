@@ -1,6 +1,6 @@
 use Rattle.std.proofs.Common.{◌≡◌, ◌<◌, refl, arith, bit_and, inr, length, get_or, map, add-one}
-use Rattle.line_settle.specs.Spelling.{reaches}
-use Rattle.line_settle.specs.Marking.{reaches_marked, unmarked}
+use Rattle.line_settle.specs.Patterns.{reaches}
+use Rattle.line_settle.specs.MarkedLists.{reaches_marked, unmarked}
 use Rattle.line_settle.specs.StateSets.{sets_of}
 use Rattle.std.proofs.lemmas.List.{get_or-map}
 use Rattle.line_settle.proofs.SweepLemmas.{Reaches, first_reached, foreign_is, none_swept, step_kept, step_out, share_test, test_first, unmarked_forward}
@@ -12,7 +12,8 @@ cells-init g c = record {
   inside = omega arith;
   swept = record {
     small = λ t. let fits = c.type_inv.left t in omega arith;
-    from_is = λ pattern are. first_reached g.W.Word.width pattern c.args.left.now c.args.drawn.now (sets_of g.W.Word.bits c.args.self.now) (g.W.Word.bits c.low-states.result) 0 c.low-states.ensures refl are;
+    from_is = λ pattern are.
+        first_reached g.W.Word.width pattern c.args.left.now c.args.drawn.now (sets_of g.W.Word.bits c.args.self.now) (g.W.Word.bits c.low-states.result) 0 c.low-states.ensures refl are;
     so_far = λ pattern are tables none. none_swept pattern c.args.drawn.now c.args.left.now none;
   };
 }
@@ -37,7 +38,8 @@ cells-preserved g c =
     let first = test_first on (get_or (map bits c.args.behind.now.plain.now) i 0) (get_or marked i 0) in
     let ons : Reaches w sets drawn left i 65535 (unmarked on) = λ pattern are.
     (let from = swept.from_is pattern are in
-    unmarked_forward w pattern sets 65535 (get_or drawn i 0) on (reaches pattern left i) (reaches_marked pattern left drawn i) are foreign from.marked_are (c.forward-on.ensures pattern 65535 (reaches pattern left i) (c.moves_by-full.ensures.moves pattern are) from.all_are)) in
+    unmarked_forward w pattern sets 65535 (get_or drawn i 0) on (reaches pattern left i) (reaches_marked pattern left drawn i) are foreign from.marked_are
+    (c.forward-on.ensures pattern 65535 (reaches pattern left i) (c.moves_by-full.ensures.moves pattern are) from.all_are)) in
     record {
       inside = omega arith;
       swept = rw add-one (elim c.if-is_none.branch [
@@ -46,7 +48,8 @@ cells-preserved g c =
             let to = bits x.forward-states.result in
             let nexts : Reaches w sets drawn left i (get_or left i 0) (unmarked to) = λ pattern are.
             (let from = swept.from_is pattern are in
-            unmarked_forward w pattern sets (get_or left i 0) (get_or drawn i 0) to (reaches pattern left i) (reaches_marked pattern left drawn i) are foreign from.marked_are (x.forward-states.ensures pattern _ (reaches pattern left i) (x.moves_by.ensures.moves pattern are) from.all_are)) in
+            unmarked_forward w pattern sets (get_or left i 0) (get_or drawn i 0) to (reaches pattern left i) (reaches_marked pattern left drawn i) are foreign from.marked_are
+            (x.forward-states.ensures pattern _ (reaches pattern left i) (x.moves_by.ensures.moves pattern are) from.all_are)) in
             rw (x.states-is, x.left-is) (step_kept w sets drawn _ _ _ left _ (unmarked on) (unmarked to) i inside same swept ons nexts (inr (test.0 x.if-is_none.false)))
       ]);
     }

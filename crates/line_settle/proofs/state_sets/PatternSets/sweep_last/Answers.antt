@@ -1,6 +1,6 @@
 use Rattle.std.proofs.Common.{◌≡◌, ◌<◌, refl, arith, bit_and, length, get_or, map, add-one}
-use Rattle.line_settle.specs.Marking.{reaches_marked}
-use Rattle.line_settle.specs.Sweeping.{IsUndrawn}
+use Rattle.line_settle.specs.MarkedLists.{reaches_marked}
+use Rattle.line_settle.specs.Sweeps.{IsUndrawn}
 use Rattle.line_settle.specs.StateSets.{sets_of}
 use Rattle.std.proofs.lemmas.List.{get_or-map}
 use Rattle.line_settle.proofs.SweepLemmas.{Marks, last_kept, last_out, share_test}
@@ -29,12 +29,14 @@ loop-place-preserved g c =
     record {
       swept = λ old start.
           let swept = c.loop-place.invariant.swept old start in
-          let ons : Marks w sets drawn left i 65535 on = λ pattern are. c.forward-on.ensures pattern 65535 (reaches_marked pattern left drawn i) (c.moves_by-full.ensures.moves pattern are) (swept.from_is pattern are) in
+          let ons : Marks w sets drawn left i 65535 on =
+          λ pattern are. c.forward-on.ensures pattern 65535 (reaches_marked pattern left drawn i) (c.moves_by-full.ensures.moves pattern are) (swept.from_is pattern are) in
           rw add-one (elim c.if-is_none.branch [
             | then-is_none x ↦ rw (x.marked-is, x.left-is) (last_out w sets drawn _ _ old left _ on i inside same none swept ons (test.1 x.if-is_none.true))
             | else-is_none x ↦
                 let to = bits x.forward-marked.result in
-                let nexts : Marks w sets drawn left i (get_or left i 0) to = λ pattern are. x.forward-marked.ensures pattern (get_or left i 0) (reaches_marked pattern left drawn i) (x.moves_by.ensures.moves pattern are) (swept.from_is pattern are) in
+                let nexts : Marks w sets drawn left i (get_or left i 0) to =
+                λ pattern are. x.forward-marked.ensures pattern (get_or left i 0) (reaches_marked pattern left drawn i) (x.moves_by.ensures.moves pattern are) (swept.from_is pattern are) in
                 rw (x.marked-is, x.left-is) (last_kept w sets drawn _ _ old left _ on to i inside same none swept ons nexts (test.0 x.if-is_none.false))
           ]);
     }

@@ -31,4 +31,5 @@ returns-clause-book g c =
     let p = c.args.prepared in
     let was = ap (λ (x : Seen). x.history) c.self.view_is in
     let to = goes_to c.document-4.result.now p.document p.advance s.studio c.args.self.now.history c.commit.new.self c.document-4.ensures c.requires.plan.gives was c.commit.ensures in
-    carries_on p.change.moves _ c.document-3.result.now c.document-4.result.now s.studio c.commit.new.self s.audit.clues _ s.audit.book _ s.keeper _ s.allowance s.work _ _ _ c.args.self.now c.document-3.ensures to c.self.view_is (ap (λ (x : Changes). x.moves) c.change.ensures) c.in-Ok.ensures.goes_on c.in_ok-keeper.ensures.carries
+    carries_on p.change.moves _ c.document-3.result.now c.document-4.result.now s.studio c.commit.new.self s.audit.clues _ s.audit.book _ s.keeper _ s.allowance s.work _ _ _ c.args.self.now
+    c.document-3.ensures to c.self.view_is (ap (λ (x : Changes). x.moves) c.change.ensures) c.in-Ok.ensures.goes_on c.in_ok-keeper.ensures.carries

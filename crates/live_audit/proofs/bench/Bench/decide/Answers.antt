@@ -18,8 +18,14 @@ pub returns-clause-decides : goal.returns-clause-decides
 returns-clause-decides g c =
     let s = c.self.inside in
     let j = c.in_ok-is_decided.ensures.judges in
-    let told = subst (λ (d : Design). IsToldBy d s.allowance c.rule.new.keeper c.in_ok-is_decided.is_decided j.0) c.document.ensures j.1.0 in
-    (j.0, (told, decided c.document.result.now s.studio s.audit.clues s.audit.book s.keeper _ s.allowance s.work _ _ _ _ _ c.args.self.now _ c.document.ensures c.self.view_is j.1.1))
+    let told = subst (λ (d : Design). IsToldBy d s.allowance c.rule.new.keeper c.in_ok-is_decided.is_decided j.0) c.document.ensures j.1.0 in (
+      j.0,
+      (
+        told,
+        decided c.document.result.now s.studio s.audit.clues s.audit.book s.keeper _ s.allowance s.work _ _ _ _ _ c.args.self.now _ c.document.ensures c.self.view_is j.1.1
+            c.in_ok-is_decided.ensures.few,
+      ),
+    )
 
 pub returns-clause-audited : goal.returns-clause-audited
 returns-clause-audited g c =

@@ -1,6 +1,6 @@
 use Rattle.std.proofs.Common.{List, ap, subst}
 use Rattle.second_search.specs.declared.keeper.KeptPart.{KeptPart}
-use Rattle.second_search.specs.Judging.{FirstFilling}
+use Rattle.second_search.specs.JudgedParts.{FirstFilling}
 use Rattle.live_audit.specs.Bench.{IsAudited, Seen}
 use Rattle.live_audit.proofs.LearnLemmas.{found_at_once, none_at_once}
 use Rattle.live_audit.proofs.bench.Bench.find_certificate.Goals as goal

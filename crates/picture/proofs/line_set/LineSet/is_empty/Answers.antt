@@ -1,7 +1,7 @@
 use Rattle.std.proofs.Common.{sym, ◌∙◌}
 use Rattle.std.proofs.lemmas.Bool.{eqb-true, eq-eqb}
 use Rattle.picture.proofs.line_set.LineSet.is_empty.Goals as goal
-use Rattle.picture.specs.LineSetLaws.{members}
+use Rattle.picture.proofs.LineSetLaws.{members}
 
 pub returns-clause-value : goal.returns-clause-value
 returns-clause-value c =

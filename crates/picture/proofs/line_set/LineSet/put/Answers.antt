@@ -1,6 +1,6 @@
 use Rattle.picture.specs.declared.line_id.Axis.TheVariants.{Across, Down}
 use Rattle.picture.specs.LineSet.{Lines}
-use Rattle.picture.specs.LineSetLaws.{known_put, more_put}
+use Rattle.picture.proofs.LineSetLaws.{known_put, more_put}
 use Rattle.picture.proofs.LineSetLemmas.{puts, puts_table}
 use Rattle.picture.proofs.line_set.LineSet.put.Goals as goal
 

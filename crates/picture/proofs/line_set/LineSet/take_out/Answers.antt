@@ -1,6 +1,6 @@
 use Rattle.picture.specs.declared.line_id.Axis.TheVariants.{Across, Down}
 use Rattle.picture.specs.LineSet.{Lines}
-use Rattle.picture.specs.LineSetLaws.{absent_out, fewer_out}
+use Rattle.picture.proofs.LineSetLaws.{absent_out, fewer_out}
 use Rattle.picture.proofs.LineSetLemmas.{takes_out, takes_table}
 use Rattle.picture.proofs.line_set.LineSet.take_out.Goals as goal
 

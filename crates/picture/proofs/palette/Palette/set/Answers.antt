@@ -6,7 +6,8 @@ use Rattle.picture.proofs.palette.Palette.set.Goals as goal
 
 pub returns-then-stands_elsewhere-clause-same : goal.returns-then-stands_elsewhere-clause-same
 returns-then-stands_elsewhere-clause-same c some own =
-    absurd (false≢true (sym (own_nowhere c.args.self.now c.args.number c.args.rgb c.stands_elsewhere.ensures.palette c.requires own) ∙ sym c.stands_elsewhere.ensures.value ∙ c.if-stands_elsewhere.true))
+    absurd
+    (false≢true (sym (own_nowhere c.args.self.now c.args.number c.args.rgb c.stands_elsewhere.ensures.palette c.requires own) ∙ sym c.stands_elsewhere.ensures.value ∙ c.if-stands_elsewhere.true))
 
 pub returns-then-eq-clause-ok : goal.returns-then-eq-clause-ok
 returns-then-eq-clause-ok c = kept_over c.args.self.now c.args.number c.args.rgb c.rgb.result _ c.rgb.ensures.stands c.eq.ensures c.if-eq.true

@@ -5,7 +5,8 @@ use Rattle.picture.proofs.picture.Picture.renumbered.Goals as goal
 pub numbers_for-requires-clause-coloured : goal.numbers_for-requires-clause-coloured
 numbers_for-requires-clause-coloured c =
     let p = c.self.inside in
-    λ k lt. cells_coloured p.height p.width p.cells.items c.args.self.now c.self.view_is c.self.invariant c.args.colours.now.triples c.deref.result.now c.deref.ensures.value _ c.len.ensures.palette.has_background c.requires.coloured k
+    λ k lt. cells_coloured p.height p.width p.cells.items c.args.self.now c.self.view_is c.self.invariant c.args.colours.now.triples c.deref.result.now c.deref.ensures.value _
+    c.len.ensures.palette.has_background c.requires.coloured k
 
 pub from_cells-requires : goal.from_cells-requires
 from_cells-requires c =

@@ -9,7 +9,8 @@ pub returns-then-self-other-2 : goal.returns-then-self-other-2
 returns-then-self-other-2 c =
     let a = c.self.inside in
     let b = c.other.inside in
-    let cells = c.eq.ensures ∙ ap (λ xs. pointwise eqb xs c.as_slice-then-self-other-2.result.now) c.as_slice.ensures.value ∙ ap (pointwise eqb a.cells.items) c.as_slice-then-self-other-2.ensures.value in
+    let cells = c.eq.ensures ∙ ap (λ xs. pointwise eqb xs c.as_slice-then-self-other-2.result.now) c.as_slice.ensures.value
+    ∙ ap (pointwise eqb a.cells.items) c.as_slice-then-self-other-2.ensures.value in
     elim c.if-self-other.branch [
       | then-self-other w ↦
           same_when a.height a.width b.height b.width a.cells.items b.cells.items _ _ c.self.view_is c.other.view_is c.self.invariant c.other.invariant

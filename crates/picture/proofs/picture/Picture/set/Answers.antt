@@ -1,6 +1,6 @@
 use Rattle.std.proofs.Common.{◌∙◌, ap, arith}
 use Rattle.picture.specs.Rows.{with_cell}
-use Rattle.picture.specs.FlatLaws.{place_inside, rows_of-set}
+use Rattle.picture.proofs.FlatLaws.{place_inside, rows_of-set}
 use Rattle.picture.proofs.FlatLemmas.{facts}
 use Rattle.picture.proofs.picture.Picture.set.Goals as goal
 

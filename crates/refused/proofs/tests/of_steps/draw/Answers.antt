@@ -3,7 +3,7 @@ use Rattle.picture.specs.declared.line_id.Axis.TheVariants.{Across}
 use Rattle.picture.specs.declared.line_id.LineId.{LineId}
 use Rattle.picture.specs.Rows.{line_of, width_of}
 use Rattle.justify.specs.declared.step.Step.{Step}
-use Rattle.justify.specs.Making.{Makes}
+use Rattle.justify.specs.NewSteps.{Makes}
 use Rattle.refused.proofs.tests.of_steps.draw.Goals as goal
 
 pub add_step-requires : goal.add_step-requires

@@ -1,4 +1,4 @@
-use Rattle.second_search.specs.Carrying.{KnowsNothing}
+use Rattle.second_search.specs.CarriedParts.{KnowsNothing}
 use Rattle.second_search.proofs.keeper.Keeper.knows_nothing.Given as goal
 
 abbrev pub invariant-loop-i : goal.invariant-loop-i

@@ -1,4 +1,4 @@
-use Rattle.second_search.specs.Judging.{HasNoFilling}
+use Rattle.second_search.specs.JudgedParts.{HasNoFilling}
 use Rattle.second_search.proofs.keeper.Keeper.other.Given as goal
 
 abbrev pub invariant-loop-i : goal.invariant-loop-i

@@ -1,6 +1,6 @@
 use Rattle.std.proofs.Common.{ℕ, ◌<◌}
 use Rattle.picture.specs.CellSet.{HasCell}
-use Rattle.second_search.specs.Judging.{cells_at}
+use Rattle.second_search.specs.JudgedParts.{cells_at}
 use Rattle.second_search.proofs.keeper.Keeper.part_with.Given as goal
 
 abbrev pub invariant-loop-i : goal.invariant-loop-i

@@ -1,4 +1,4 @@
-use Rattle.second_search.specs.Judging.{Changes}
+use Rattle.second_search.specs.JudgedParts.{Changes}
 use Rattle.second_search.proofs.keeper.Keeper.pass_to.Given as goal
 
 abbrev pub invariant-loop-i : goal.invariant-loop-i

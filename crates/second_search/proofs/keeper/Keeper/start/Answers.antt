@@ -14,4 +14,5 @@ loop-i-preserved c =
 pub returns : goal.returns
 returns c =
     let count = ap length c.parts.view_is in
-    all_started c.args.facts.now c.parts.inside.parts.items c.loop-i.kept.items c.loop-i.i (rw c.parts.view_is c.in_ok-parts.ensures) c.loop-i.invariant (omega (arith, count, c.loop-i-test.false, c.loop-i.auto.i-end, c.len-i-end.ensures))
+    all_started c.args.facts.now c.parts.inside.parts.items c.loop-i.kept.items c.loop-i.i (rw c.parts.view_is c.in_ok-parts.ensures) c.loop-i.invariant
+    (omega (arith, count, c.loop-i-test.false, c.loop-i.auto.i-end, c.len-i-end.ensures))

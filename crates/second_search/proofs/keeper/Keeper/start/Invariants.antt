@@ -1,4 +1,4 @@
-use Rattle.second_search.specs.Judging.{StartsWith}
+use Rattle.second_search.specs.JudgedParts.{StartsWith}
 use Rattle.second_search.proofs.keeper.Keeper.start.Given as goal
 
 abbrev pub invariant-loop-i : goal.invariant-loop-i

@@ -1,5 +1,5 @@
 use Rattle.std.proofs.Common.{List, ℕ, ◌+◌, subst, arith}
-use Rattle.second_search.specs.Growing.{ArePartsAbove}
+use Rattle.second_search.specs.GrownParts.{ArePartsAbove}
 use Rattle.second_search.proofs.RowLemmas.{all_rows, no_more}
 use Rattle.second_search.proofs.parts.Parts.of.Goals as goal
 use Rattle.second_search.proofs.parts.Parts.of.Goals.{in-Some+in_ok-take_in-in-Some, in-None}

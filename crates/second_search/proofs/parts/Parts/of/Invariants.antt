@@ -1,4 +1,4 @@
-use Rattle.second_search.specs.Growing.{ArePartsAbove}
+use Rattle.second_search.specs.GrownParts.{ArePartsAbove}
 use Rattle.second_search.proofs.parts.Parts.of.Given as goal
 
 abbrev pub invariant-loop-row : goal.invariant-loop-row

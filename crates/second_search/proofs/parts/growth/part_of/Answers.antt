@@ -18,7 +18,8 @@ leave-requires-clause-unvisited c =
 pub loop-line-preserved : goal.loop-line-preserved
 loop-line-preserved c =
     let cell = c.args.cell in
-    grown_left c.args.facts.now cell.row cell.col c.in-Some.line c.gather.new.self c.leave.new.self c.gather.ensures.open_cells c.leave.ensures.leaves (c.gather.ensures.grown cell.row cell.col c.loop-line.invariant)
+    grown_left c.args.facts.now cell.row cell.col c.in-Some.line c.gather.new.self c.leave.new.self c.gather.ensures.open_cells c.leave.ensures.leaves
+    (c.gather.ensures.grown cell.row cell.col c.loop-line.invariant)
 
 pub returns-clause-members : goal.returns-clause-members
 returns-clause-members c = grown_whole c.args.facts.now c.args.cell.row c.args.cell.col c.loop-line.growth c.loop-line.invariant c.in_default.ensures

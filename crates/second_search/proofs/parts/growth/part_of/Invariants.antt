@@ -1,5 +1,5 @@
 use Rattle.picture.specs.LineSet.{name_count}
-use Rattle.second_search.specs.Growing.{IsGrown}
+use Rattle.second_search.specs.GrownParts.{IsGrown}
 use Rattle.second_search.proofs.parts.growth.part_of.Given as goal
 
 abbrev pub invariant-loop-line : goal.invariant-loop-line

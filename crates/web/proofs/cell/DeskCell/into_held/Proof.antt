@@ -1,4 +1,4 @@
--- `into_held` compares the pointer with null, and what lies behind it goes with the two fields.
+-- `into_held` compares the pointer with null, and what lies after it goes with the two fields.
 use mathlib.Core.Path.{◌≡◌, refl, sym, subst}
 use mathlib.Core.List.{List, [], ◌∷◌, ◌++◌}
 use Prim.Native.Nat.{ℕ}
@@ -73,13 +73,15 @@ module _ {M : Type 1} {𝓤 : Ura M} (𝓛 : Logic 𝓤) (at_mem : Memory → SP
     tested : (p : Ptr) (x : Desk.the_row.Denot) → ent 𝓤 (sem 𝓛 (held_owns a p x)) (guard 𝓤 (Testable p) (sem 𝓛 (held_owns a p x)))
     tested p x =
         let block : Ty = bare (lone Desk.the_row.mir) in
-        fact_use 𝓤 (Testable p) (via 𝓤 _ (snd∗ 𝓤 (sem 𝓛 (lies_at Desk.the_row full_share p x)) (sem 𝓛 (ghosts.dealloc_token a block p))) (dealloc_token-Testable 𝓛 a block p)) (guard_i 𝓤 (Testable p) (sem 𝓛 (held_owns a p x)))
+        fact_use 𝓤 (Testable p) (via 𝓤 _ (snd∗ 𝓤 (sem 𝓛 (lies_at Desk.the_row full_share p x)) (sem 𝓛 (ghosts.dealloc_token a block p))) (dealloc_token-Testable 𝓛 a block p))
+        (guard_i 𝓤 (Testable p) (sem 𝓛 (held_owns a p x)))
 
     none : (hv : Val) → Fits E.al hv → z.0.3.0.ptr ≡ null_ptr → ent 𝓤 (sep 𝓤 (sem 𝓛 ftrue) (sem 𝓛 (handle E a hv))) (WpFn 𝓤 H 𝓣.C 𝓣.Λ code.function (word_at hv null_ptr ∷ []) Post)
     none hv fa e =
         qed 𝓛 (‵ ftrue ∷ ‵ (handle E a hv) ∷ []) ∵ drop ! $ drop ! $
         enter ! 𝓣.C 𝓣.Λ code.function (word_at hv null_ptr ∷ []) _ $ alloc_all ! (λ ls. pass_all ! refl ((and_tt (has_ty (α E.al) hv) fa.0, (record { fits = lit< tt }, (fa.1, tt))), tt) $
-        sets ! (of_opd ! (get_in ! (fld ! refl (stop !)) (sub ! 0 refl (whole !)))) refl (tt, record { fits = lit< tt }) $ sets ! (of_opd ! (get_in ! (fld ! refl (stop !)) (sub ! 1 refl (whole !)))) refl fa $
+        sets ! (of_opd ! (get_in ! (fld ! refl (stop !)) (sub ! 0 refl (whole !)))) refl (tt, record { fits = lit< tt }) $ sets !
+        (of_opd ! (get_in ! (fld ! refl (stop !)) (sub ! 1 refl (whole !)))) refl fa $
         sets ! (bin ! (get ! refl) (lit ! tt) (tests_null null_ptr (lit< tt))) refl (tt, tt) $
         first ! $ branches ! (get ! refl)
         (λ t. sets ! (agg ! (and_then ! (lit ! tt) (no_more !))) refl (tt, (record { fits = lit< tt }, tt)) $
@@ -89,7 +91,8 @@ module _ {M : Type 1} {𝓤 : Ura M} (𝓛 : Logic 𝓤) (at_mem : Memory → SP
         nothing ! $ nothing ! $ fjoin ! $ join ! $ nothing ! $ join ! $ done !)
         (λ t. absurd t))
 
-    one : (hv : Val) → Fits E.al hv → (b o : ℕ) (x : Desk.the_row.Denot) → z.0.3.0.desk ≡ Some x → ent 𝓤 (From_host (block_ptr b o) (Some x) hv) (WpFn 𝓤 H 𝓣.C 𝓣.Λ code.function (word_at hv (block_ptr b o) ∷ []) Post)
+    one : (hv : Val) → Fits E.al hv → (b o : ℕ) (x : Desk.the_row.Denot) → z.0.3.0.desk ≡ Some x
+        → ent 𝓤 (From_host (block_ptr b o) (Some x) hv) (WpFn 𝓤 H 𝓣.C 𝓣.Λ code.function (word_at hv (block_ptr b o) ∷ []) Post)
     one hv fa b o x e =
         let w : Val = word E hv b o in
         let d : D E = record { ptr = block_ptr b o; alloc = a; value = x } in
@@ -124,10 +127,13 @@ module _ {M : Type 1} {𝓤 : Ura M} (𝓛 : Logic 𝓤) (at_mem : Memory → SP
       → ent 𝓤 ((walk_of 𝓛 F.ended stayed (F.clauses 𝓛 at_mem run)).pre z) (WpFn 𝓤 H 𝓣.C 𝓣.Λ code.function (z.0.4.0 ++ []) (Post z))
   walk z =
       let p = z.0.3.0.ptr in let vs : List Val = z.0.4.0 in
-      qed 𝓛 ((‵ ftrue ⊛ ‵ (fsep ((type_at (From) tt).own_val z.0.3.0 vs) ftrue)) ∷ raw (fact 𝓤 (z.0.3.0.desk ≡ None → p ≡ null_ptr)) ∷ []) ∵ move ! (1 ∷ []) $ heard ! _ (λ none_there. split ! $ drop ! $ fsplit ! $
+      qed 𝓛 ((‵ ftrue ⊛ ‵ (fsep ((type_at (From) tt).own_val z.0.3.0 vs) ftrue)) ∷ raw (fact 𝓤 (z.0.3.0.desk ≡ None → p ≡ null_ptr)) ∷ []) ∵ move ! (1 ∷ []) $ heard ! _
+      (λ none_there. split ! $ drop ! $ fsplit ! $
       fsplit ! $ fpick ! (λ vss. fsplit ! $ feq_l ! (λ ev. fsplit ! $ feq_l ! (λ ep. fsplit ! $ handle_tells E.al ! z.0.3.0.alloc vss.1.0 (λ hv ea fa.
-      let ws : vs ≡ word_at hv p ∷ [] = subst (λ (us : List Val). vs ≡ vstruct (of_list (ptr_val p ∷ (us ++ []))) ∷ []) ea (subst (λ (ps : List Val). vs ≡ vstruct (of_list (ps ++ (vss.1.0 ++ []))) ∷ []) ep ev) in
-      keep ! (2 ∷ 0 ∷ []) $ by ! (subst (λ (us : List Val). ent 𝓤 (From_host z p z.0.3.0.desk hv) (WpFn 𝓤 H 𝓣.C 𝓣.Λ code.function (us ++ []) (Post z))) (sym ws) (at z hv fa p z.0.3.0.desk refl refl none_there)))))))
+      let ws : vs ≡ word_at hv p ∷ [] =
+      subst (λ (us : List Val). vs ≡ vstruct (of_list (ptr_val p ∷ (us ++ []))) ∷ []) ea (subst (λ (ps : List Val). vs ≡ vstruct (of_list (ps ++ (vss.1.0 ++ []))) ∷ []) ep ev) in
+      keep ! (2 ∷ 0 ∷ []) $ by !
+      (subst (λ (us : List Val). ent 𝓤 (From_host z p z.0.3.0.desk hv) (WpFn 𝓤 H 𝓣.C 𝓣.Λ code.function (us ++ []) (Post z))) (sym ws) (at z hv fa p z.0.3.0.desk refl refl none_there)))))))
 
 pub into_held_spec : {M : Type 1} → stated.statement M
 unfolding tables_of

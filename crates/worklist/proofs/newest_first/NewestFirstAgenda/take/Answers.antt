@@ -1,8 +1,8 @@
 use Rattle.std.proofs.Common.{◌≡◌, ◌-◌, ◌<◌, sym, ap, ◌∙◌, arith}
 use Rattle.picture.specs.LineSet.{no_names}
 use Rattle.worklist.specs.Orders.{Pile}
-use Rattle.picture.specs.LineSetLaws.{members}
-use Rattle.worklist.specs.NameLaws.{few_names}
+use Rattle.picture.proofs.LineSetLaws.{members}
+use Rattle.worklist.proofs.NameLaws.{few_names}
 use Rattle.worklist.proofs.StackLemmas.{below_one, popped_one}
 use Rattle.worklist.proofs.OrderLemmas.{newest_taken}
 use Rattle.worklist.proofs.newest_first.NewestFirstAgenda.take.Goals as goal

@@ -13,10 +13,13 @@ loop-i-preserved c =
     let line = c.args.line in
     let cell = c.on-cell.result in
     elim c.if-is_open.branch [
-      | then-is_open w ↦ rw w.self-is (gathered_open facts line c.args.self.now c.loop-i.self w.take_in.new.self c.loop-i.i cell.row cell.col c.on-cell.ensures.row c.on-cell.ensures.col (c.is_open.ensures.0 w.if-is_open.true) w.take_in.ensures c.loop-i.invariant)
-      | else-is_open w ↦ rw w.self-is (gathered_shut facts line c.args.self.now c.loop-i.self c.loop-i.i cell.row cell.col c.on-cell.ensures.row c.on-cell.ensures.col (λ o. false≢true (sym w.if-is_open.false ∙ c.is_open.ensures.1 o)) c.loop-i.invariant)
+      | then-is_open w ↦ rw w.self-is (gathered_open facts line c.args.self.now c.loop-i.self w.take_in.new.self c.loop-i.i cell.row cell.col c.on-cell.ensures.row c.on-cell.ensures.col
+          (c.is_open.ensures.0 w.if-is_open.true) w.take_in.ensures c.loop-i.invariant)
+      | else-is_open w ↦ rw w.self-is (gathered_shut facts line c.args.self.now c.loop-i.self c.loop-i.i cell.row cell.col c.on-cell.ensures.row c.on-cell.ensures.col
+          (λ o. false≢true (sym w.if-is_open.false ∙ c.is_open.ensures.1 o)) c.loop-i.invariant)
     ]
 
 pub returns-clause-open_cells : goal.returns-clause-open_cells
 returns-clause-open_cells c =
-    whole_line c.args.facts.now c.args.line c.loop-i.self.cells c.line_len-i-end.result c.line_len-i-end.ensures.facts c.requires.has c.line_len-i-end.ensures.len (λ k l. c.loop-i.invariant.here k (omega (arith, c.loop-i-test.false)))
+    whole_line c.args.facts.now c.args.line c.loop-i.self.cells c.line_len-i-end.result c.line_len-i-end.ensures.facts c.requires.has c.line_len-i-end.ensures.len
+    (λ k l. c.loop-i.invariant.here k (omega (arith, c.loop-i-test.false)))

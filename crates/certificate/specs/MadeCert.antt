@@ -1,0 +1,94 @@
+-- Certificates that are made.
+use Rattle.std.specs.Prelude.{◌≡◌, ◌⊎◌, ℕ, ◌+◌, ◌*◌, ◌<◌, ◌↔◌, List, [], ◌∷◌, ◌++◌, Option, None, Some}
+use Rattle.std.proofs.Common.{Vec, Global}
+use Rattle.line_settle.specs.Masks.{Masks}
+use Rattle.picture.specs.Rows.{Rows}
+use Rattle.picture.specs.CellSet.{HasCell}
+use Rattle.picture.specs.Picture.{IsPicture}
+use Rattle.clues.specs.ClueBook.{clues_of}
+use Rattle.clues.specs.Solution.{IsOther}
+use Rattle.line_settle.specs.FactSets.{IsBase}
+use Rattle.fixpoint.specs.Fillings.{Fills}
+use Rattle.cert_text.specs.declared.tree_line.CellNumber.{CellNumber}
+use Rattle.cert_text.specs.declared.tree_line.CertLine.{CertLine}
+use Rattle.cert_text.specs.declared.tree_line.CertLine.TheVariants.{Line, Split, Dead, Done}
+use Rattle.second_search.specs.Trees.{IsUnsettledAt}
+use Rattle.cert_text.specs.Cert.{AreOrdered, AreWritable, Certificate, IsCert}
+use Rattle.cert_check.specs.FirstFault.{CertFirstFault, FirstFault, Leads}
+use Rattle.cert_check.specs.Puzzle.{HasCellNumbers, IsAmong, IsForced, IsUnique, base_of, line_id, numbered}
+use Rattle.cert_check.specs.Tree.{IsProof}
+
+-- ---- the lines
+
+-- A `line` excludes something: the facts with all that it forces are
+-- others. A `split` is of a cell in which not just one colour is left.
+abbrev pub Excludes : Rows → Masks → CertLine → Type 0
+Excludes picture facts (Line number) = (gained : Masks) → IsForced picture facts (line_id number) gained
+    → gained ≡ facts → ⊥
+Excludes picture facts (Split cell) = IsUnsettledAt facts cell
+Excludes picture facts (Dead number) = Unit {0}
+Excludes picture facts Done = Unit {0}
+
+-- the lines have no error where branches with these facts wait
+abbrev pub HasNoFault : Rows → List (List (List ℕ)) → List CertLine → Type 0
+HasNoFault picture waits lines = (n : ℕ) → FirstFault picture waits n lines None
+
+-- each `line` excludes something and no `split` is of a settled cell, where branches with these facts wait
+abbrev pub EachExcludes : Rows → List (List (List ℕ)) → List CertLine → Type 0
+EachExcludes picture [] [] = Unit {0}
+EachExcludes picture (facts ∷ others) [] = Unit {0}
+EachExcludes picture [] (line ∷ lines) = Unit {0}
+EachExcludes picture (facts ∷ others) (line ∷ lines) =
+    Excludes picture facts line × ((next : List (List (List ℕ)))
+    × (Leads picture facts line next × EachExcludes picture (next ++ others) lines))
+
+abbrev pub lines_seen : Option (Vec CertLine Global) → Option (List CertLine)
+lines_seen None = None
+lines_seen (Some lines) = Some lines.items
+
+-- the lines of a tree that proves the picture from facts; or another picture fills these
+abbrev pub WritesTree : Rows → Masks → Option (List CertLine) → Type 0
+WritesTree picture start None = (other : Rows) × (Fills (clues_of picture) start other × (other ≡ picture → ⊥))
+WritesTree picture start (Some lines) =
+    AreWritable lines × HasNoFault picture (start ∷ []) lines × EachExcludes picture (start ∷ []) lines
+
+-- ---- the certificate
+
+-- exactly the cells of a set, by their numbers, in the order of rows
+pub record NamesGivens (picture : Rows) (givens : List ℕ) (cells : List CellNumber) : Type 0 where
+  pub ordered : AreOrdered 0 cells
+  pub inside : HasCellNumbers picture cells
+  pub named : (row col : ℕ) → HasCell givens row col ↔ IsAmong (numbered row col) cells
+
+-- the facts at the root of a certificate with exactly the cells of a set are the base of that set
+abbrev pub BasesAreOne : Type 0
+BasesAreOne = (picture : Rows) (givens : List ℕ) (cells : List CellNumber) → IsPicture picture
+    → NamesGivens picture givens cells → IsBase givens picture (base_of picture cells)
+
+-- the givens of the rows before a row, and in it those before a column
+pub record NamesUpTo (givens : List ℕ) (row col : ℕ) (cells : List CellNumber) : Type 0 where
+  pub ordered : (more : List CellNumber) → AreOrdered ((row + 1) * 1000 + (col + 1)) more → AreOrdered 0 (cells ++ more)
+  pub named : (r c : ℕ) → IsAmong (numbered r c) cells ↔ (HasCell givens r c × ((r < row) ⊎ ((r ≡ row) × (c < col))))
+  pub real : (cell : CellNumber) → IsAmong cell cells → (r : ℕ) × ((c : ℕ) × (cell ≡ numbered r c))
+
+-- A certificate with exactly these givens that has no error: so it proves the picture, and there is no other with its
+-- givens or, which is the same, those of the set. It can be written and is read as itself. It has version 1 exactly
+-- where there are no givens. Each `line` excludes something, and no `split` is of a settled cell.
+pub record IsMade (picture : Rows) (givens : List ℕ) (cert : Certificate) : Type 0 where
+  pub is_cert : IsCert cert
+  pub accepted : CertFirstFault picture cert None
+  pub proof : IsProof picture cert
+  pub unique : IsUnique picture cert.givens
+  pub no_other : (other : Rows) → IsOther (clues_of picture) (HasCell givens) picture other → ⊥
+  pub names : NamesGivens picture givens cert.givens
+  pub version : (cert.version ≡ 1) ↔ (cert.givens ≡ [])
+  pub excludes : EachExcludes picture (base_of picture cert.givens ∷ []) cert.lines
+
+-- there is another picture
+abbrev pub HasOther : Rows → List ℕ → Type 0
+HasOther picture givens = (other : Rows) × IsOther (clues_of picture) (HasCell givens) picture other
+
+-- a certificate, or there is another picture
+abbrev pub Makes : Rows → List ℕ → Option Certificate → Type 0
+Makes picture givens None = HasOther picture givens
+Makes picture givens (Some cert) = IsMade picture givens cert

@@ -1,0 +1,26 @@
+use Rattle.std.proofs.Common.{inr, refl, arith, ◌∙◌, sym, subst}
+use Rattle.std.proofs.lemmas.Result.{err_from_is_err_and}
+use Rattle.cert_check.specs.Walk.{CanCheck}
+use Rattle.lemma_check.proofs.WalkLemmas.{refused_first, taken_first, trailing_first}
+use Rattle.lemma_check.proofs.checking.walk.Goals as goal
+
+pub returns-then-not-going-clause-first : goal.returns-then-not-going-clause-first
+returns-then-not-going-clause-first g c =
+    inr (trailing_first _ _ c.loop-i.machine.walk c.loop-i.going c.args.first c.loop-i.i c.args.lines.now (omega arith) c.loop-i.invariant.so_far c.if-not-going.true)
+
+pub returns-in_err-going-clause-first : goal.returns-in_err-going-clause-first
+returns-in_err-going-clause-first g c =
+    let p = err_from_is_err_and c.from_residual-in_err-going.result c.from_residual-in_err-going.ensures.1 in
+    rw (p.1, p.2) (refused_first _ _ c.loop-i.machine.walk c.loop-i.going c.args.first c.loop-i.i c.args.lines.now
+    (omega arith) c.loop-i.invariant.so_far _ _ c.if-not-going.false refl c.step.new.self c.in_err-going.field-0.0 c.in_err-going.ensures.takes)
+
+pub loop-i-preserved : goal.loop-i-preserved
+loop-i-preserved g c = record {
+  counted = c.in_ok-going.ensures.takes.0;
+  same_shape = c.in_ok-going.ensures.takes.1;
+  can = subst (CanCheck c.args.claim.now.picture.now c.args.claim.now.clues.now) (sym c.in_ok-going.ensures.same_longest) c.loop-i.invariant.can;
+  same_longest = c.in_ok-going.ensures.same_longest ∙ c.loop-i.invariant.same_longest;
+  work = (let once = c.in_ok-going.ensures.work in let so_far = c.loop-i.invariant.work in omega arith);
+  so_far = taken_first _ _ c.loop-i.machine.walk c.loop-i.going c.args.first c.loop-i.i c.args.lines.now
+      (omega arith) c.loop-i.invariant.so_far _ _ c.if-not-going.false refl c.step.new.self c.in_ok-going.going c.in_ok-going.ensures.takes;
+}

@@ -1,0 +1,3 @@
+pub mod FirstFault
+pub mod Opening
+pub mod Walk

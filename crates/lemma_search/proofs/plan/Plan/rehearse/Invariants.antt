@@ -1,0 +1,5 @@
+use Rattle.std.proofs.Common.{◌≡◌}
+use Rattle.lemma_search.proofs.plan.Plan.rehearse.Given as goal
+
+abbrev pub invariant-loop-step : goal.invariant-loop-step
+invariant-loop-step g l = g.E.LineEngine.longest l.engine ≡ g.E.LineEngine.longest l.fn.engine

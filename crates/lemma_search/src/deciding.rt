@@ -1,0 +1,88 @@
+//! What a search decides: the most active colour of an open cell.
+
+use crate::atom::{Atom, Literal, bit, has, is_settled};
+use crate::marks::Reason;
+use crate::search::Search;
+use picture::MAX_COLOURS;
+use std::alloc::{AllocError, Global};
+use trail::Cell;
+
+impl<'a> Search<'a> {
+    /// Begins with all open cells to decide, and prefers other colours than the picture's.
+    pub(crate) fn begin(&mut self, alloc: Global) -> Result<(), AllocError> {
+        self.first = Vec::from_slice(alloc, &self.marks.left)?;
+        for row in 0..self.board.height() {
+            for col in 0..self.board.width() {
+                self.begin_cell(Cell { row, col })?;
+            }
+        }
+        Ok(())
+    }
+
+    fn begin_cell(&mut self, cell: Cell) -> Result<(), AllocError> {
+        let left = self.marks.left(cell);
+        if is_settled(left) {
+            return Ok(());
+        }
+        for colour in 0..MAX_COLOURS {
+            let atom = Atom { cell, colour };
+            if !has(left, colour) {
+                continue;
+            }
+            let is_own = has(self.board.own(cell), colour);
+            self.prefer(atom, !is_own);
+            if self.standing(atom) == atom {
+                self.order.put(atom)?;
+            }
+        }
+        Ok(())
+    }
+
+    // The most active atom of an open cell.
+    fn next_atom(&mut self) -> Option<Atom> {
+        for _ in 0..u32::MAX {
+            let atom = self.order.take()?;
+            let left = self.marks.left(atom.cell);
+            if has(left, atom.colour) && !is_settled(left) {
+                return Some(atom);
+            }
+        }
+        None
+    }
+
+    // The colours that the decision of an atom excludes. The first decision denies the picture's colour, so that lemmas follow from the
+    // clues and the givens alone.
+    fn denied(&self, atom: Atom) -> u16 {
+        let left = self.marks.left(atom.cell);
+        if self.marks.is_at_root() {
+            left & self.board.own(atom.cell)
+        } else if self.prefers.get(atom.place()).copied().unwrap_or(false) {
+            left & !bit(atom.colour)
+        } else {
+            bit(atom.colour)
+        }
+    }
+
+    /// Decides. False where nothing can be decided.
+    pub(crate) fn decide(&mut self) -> Result<bool, AllocError> {
+        let Some(atom) = self.next_atom() else {
+            return Ok(false);
+        };
+        let colours = self.denied(atom);
+        if colours == 0 || colours == self.marks.left(atom.cell) {
+            return Ok(false);
+        }
+        // Other colours of the cell may still be open.
+        if self.marks.is_at_root() {
+            self.order.put(atom)?;
+        }
+        self.marks.begin_level()?;
+        let gone = Literal {
+            cell: atom.cell,
+            colours,
+        };
+        let since = self.marks.count();
+        self.exclude(gone, Reason::Decision, since)?;
+        Ok(true)
+    }
+}

@@ -1,0 +1,67 @@
+//! Another picture, or the lines of a proof that there is none.
+
+ghost use Rattle.std.specs.Prelude.{◌≡◌};
+
+use crate::board::Board;
+use crate::plan::Plan;
+use crate::rehearsal::Rehearsal;
+use crate::running::{Effort, Ended};
+use crate::search::Search;
+use crate::telling::Teller;
+use crate::writing::write_lines;
+use clues::ClueBook;
+use lemma_text::LemmaLine;
+use line_settle::LineEngine;
+use picture::{CellSet, Picture};
+use std::alloc::{AllocError, Global};
+
+/// What a search found. Nothing of it is proved: whoever answers by it has the lines checked, and compares the picture with the clues.
+#[derive(Drop)]
+pub enum Found {
+    /// The lines of a proof by lemmas.
+    Proof(Vec<LemmaLine>),
+    /// Another picture.
+    Other(Picture),
+    /// The search came to its bounds, or to a lemma that it could not tell.
+    Nothing,
+}
+
+/// Searches for another picture with the clues and the givens of a picture, and learns a lemma from each conflict. Where none is left,
+/// it answers the lines of a proof.
+pub fn learn<E: LineEngine>(
+    alloc: Global,
+    engine: &mut E,
+    clues: &ClueBook,
+    givens: &CellSet,
+    picture: &Picture,
+    effort: Effort,
+) -> Result<Found, AllocError>
+    ensures same_longest { E.longest engine.new ≡ E.longest engine.old }
+{
+    let board = Board::new(alloc, clues, givens, picture)?;
+    let mut search = Search::new(alloc, &board)?;
+    match search.run(alloc, engine, effort)? {
+        Ended::Other(other) => Ok(Found::Other(other)),
+        Ended::Undecided => Ok(Found::Nothing),
+        Ended::Unique => tell(alloc, engine, &search),
+    }
+}
+
+// Tells the proof of a search that left nothing.
+fn tell<E: LineEngine>(alloc: Global, engine: &mut E, search: &Search) -> Result<Found, AllocError>
+    ensures same_longest { E.longest engine.new ≡ E.longest engine.old }
+{
+    let mut plan = Plan::new(alloc, &search.log, &search.store)?;
+    let mut facts = Rehearsal::new(alloc, search.board)?;
+    if !plan.rehearse(engine, &mut facts)? {
+        return Ok(Found::Nothing);
+    }
+    plan.choose();
+    let facts = Rehearsal::new(alloc, search.board)?;
+    let mut teller = Teller::new(alloc, plan, facts);
+    if !teller.tell(engine)? {
+        return Ok(Found::Nothing);
+    }
+    let lines = write_lines(alloc, &teller)?;
+    Ok(Found::Proof(lines))
+}

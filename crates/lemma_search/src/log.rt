@@ -1,0 +1,44 @@
+//! What was learnt, in order.
+
+use crate::marks::Reason;
+use crate::store::Span;
+use std::alloc::{AllocError, Global};
+
+/// A step of the search that a proof may need: a lemma, with the hints that refute its denial; a reason that gave something at the
+/// root; or the end, by a reason or since no colour but the picture's is left.
+#[derive(Clone, Copy)]
+pub(crate) enum Step {
+    Lemma(u32, Span),
+    Root(Reason),
+    End(Reason),
+    Done,
+}
+
+/// The steps so far, and the hints of all lemmas.
+#[derive(Drop)]
+pub(crate) struct Log {
+    pub steps: Vec<Step>,
+    pub hints: Vec<Reason>,
+}
+
+impl Log {
+    /// Nothing yet.
+    pub(crate) fn new(alloc: Global) -> Log {
+        Log {
+            steps: Vec::new(alloc),
+            hints: Vec::new(alloc),
+        }
+    }
+
+    /// Adds a lemma whose hints are those after a place.
+    pub(crate) fn add_lemma(&mut self, number: u32, start: usize) -> Result<(), AllocError> {
+        let end = self.hints.len();
+        self.steps.push(Step::Lemma(number, Span { start, end }))?;
+        Ok(())
+    }
+
+    pub(crate) fn add(&mut self, step: Step) -> Result<(), AllocError> {
+        self.steps.push(step)?;
+        Ok(())
+    }
+}

@@ -1,0 +1,90 @@
+//! The search itself: propagate, learn from each conflict, decide.
+
+ghost use Rattle.std.specs.Prelude.{◌≡◌};
+
+use crate::log::Step;
+use crate::restarts::Restarts;
+use crate::search::Search;
+use line_settle::LineEngine;
+use picture::{Axis, LineId, LineSet, MAX_SIDE, Picture};
+use std::alloc::{AllocError, Global};
+
+/// How far a search goes: how many conflicts it learns from, and how many literals its lemmas have together.
+#[derive(Clone, Copy)]
+pub struct Effort {
+    pub conflicts: u32,
+    pub literals: usize,
+}
+
+/// How a search ended: it found no other picture, or it found this one, or it came to its bounds.
+#[derive(Drop)]
+pub(crate) enum Ended {
+    Unique,
+    Other(Picture),
+    Undecided,
+}
+
+impl<'a> Search<'a> {
+    // Makes all lines due.
+    fn make_all_due(&mut self) {
+        for axis in [Axis::Across, Axis::Down] {
+            for at in 0..self.board.picture.line_count(axis) {
+                if at < MAX_SIDE {
+                    self.due.put(LineId { axis, at });
+                }
+            }
+        }
+    }
+
+    fn end(&mut self, step: Step) -> Result<Ended, AllocError> {
+        self.log.add(step)?;
+        Ok(Ended::Unique)
+    }
+
+    /// Searches.
+    pub(crate) fn run<E: LineEngine>(
+        &mut self,
+        alloc: Global,
+        engine: &mut E,
+        effort: Effort,
+    ) -> Result<Ended, AllocError>
+        ensures same_longest { E.longest engine.new ≡ E.longest engine.old }
+    {
+        self.make_all_due();
+        if let Some(reason) = self.propagate(engine)? {
+            return self.end(Step::End(reason));
+        }
+        self.begin(alloc)?;
+        let mut restarts = Restarts::new();
+        for _ in 0..u64::MAX {
+            if let Some(reason) = self.propagate(engine)? {
+                if self.is_over(effort) {
+                    return Ok(Ended::Undecided);
+                }
+                if !self.learn(reason)? {
+                    return self.end(Step::End(reason));
+                }
+                restarts.count_conflict();
+                continue;
+            }
+            if self.marks.is_at_root() && self.is_settled() {
+                return self.end(Step::Done);
+            }
+            if restarts.is_due() {
+                self.back_to(0)?;
+                continue;
+            }
+            if let Some(picture) = self.other(alloc)? {
+                return Ok(Ended::Other(picture));
+            }
+            if !self.decide()? {
+                return Ok(Ended::Undecided);
+            }
+        }
+        Ok(Ended::Undecided)
+    }
+
+    fn is_over(&self, effort: Effort) -> bool {
+        self.store.len() >= effort.conflicts as usize || self.store.literals() >= effort.literals
+    }
+}

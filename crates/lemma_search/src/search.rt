@@ -1,0 +1,181 @@
+//! The state of a search: facts, lemmas, what is due, and what is preferred.
+
+use crate::atom::{Atom, Literal, STRIDE, first_colour, has, is_settled, spot};
+use crate::board::Board;
+use crate::log::Log;
+use crate::marks::{Marks, Reason};
+use crate::order::Order;
+use crate::store::Store;
+use picture::{Axis, LineId, LineSet, MAX_COLOURS, MAX_SIDE};
+use std::alloc::{AllocError, Global};
+use trail::Cell;
+
+/// A search.
+#[derive(Drop)]
+pub(crate) struct Search<'a> {
+    pub board: &'a Board<'a>,
+    pub marks: Marks,
+    pub store: Store,
+    pub order: Order,
+    pub log: Log,
+    // The lines that wait to be evaluated.
+    pub due: LineSet,
+    // How many events the lemmas have been looked at for.
+    pub seen: u32,
+    // The colours that were left in each cell before the first decision.
+    pub first: Vec<u16>,
+    // Which atoms a decision chooses, and does not exclude.
+    pub prefers: Vec<bool>,
+    // How many events exclude the picture's colour.
+    pub differing: u32,
+    // A line that does not have its clue in the picture shown.
+    pub broken: Option<LineId>,
+    pub learning: Learning,
+}
+
+/// What a conflict is explained with.
+#[derive(Drop)]
+pub(crate) struct Learning {
+    pub premises: Vec<Atom>,
+    pub touched: Vec<u32>,
+    pub used: Vec<(u32, Reason)>,
+    pub literals: Vec<Literal>,
+}
+
+impl<'a> Search<'a> {
+    pub(crate) fn new(alloc: Global, board: &'a Board<'a>) -> Result<Search<'a>, AllocError> {
+        let height = board.height();
+        let atoms = usize::from(height) * STRIDE * usize::from(MAX_COLOURS);
+        let mut marks = Marks::new(alloc, height)?;
+        for row in 0..height {
+            for col in 0..board.width() {
+                let cell = Cell { row, col };
+                marks.set_left(cell, board.base(cell));
+            }
+        }
+        Ok(Search {
+            board,
+            marks,
+            store: Store::new(alloc, height)?,
+            order: Order::new(alloc, height)?,
+            log: Log::new(alloc),
+            due: LineSet::empty(),
+            seen: 0,
+            first: Vec::new(alloc),
+            prefers: vec![in alloc; false; atoms]?,
+            differing: 0,
+            broken: None,
+            learning: Learning {
+                premises: Vec::new(alloc),
+                touched: Vec::new(alloc),
+                used: Vec::new(alloc),
+                literals: Vec::new(alloc),
+            },
+        })
+    }
+
+    // Makes a line of a cell due, unless it is along the axis of the line that changed the cell.
+    fn make_due(&mut self, line: LineId, reason: Reason) {
+        let along = match reason {
+            Reason::Line(by) => by.axis == line.axis,
+            _ => false,
+        };
+        if !along && line.at < MAX_SIDE {
+            self.due.put(line);
+        }
+    }
+
+    /// Excludes colours of a cell.
+    pub(crate) fn exclude(
+        &mut self,
+        gone: Literal,
+        reason: Reason,
+        since: u32,
+    ) -> Result<(), AllocError> {
+        self.marks.exclude(gone, reason, since)?;
+        let Cell { row, col } = gone.cell;
+        if gone.colours & self.board.own(gone.cell) != 0 {
+            self.differing = self.differing.saturating_add(1);
+        }
+        self.make_due(
+            LineId {
+                axis: Axis::Across,
+                at: row,
+            },
+            reason,
+        );
+        self.make_due(
+            LineId {
+                axis: Axis::Down,
+                at: col,
+            },
+            reason,
+        );
+        Ok(())
+    }
+
+    /// The atom that stands for another: where a cell had two colours at first, the higher one stands for both.
+    pub(crate) fn standing(&self, atom: Atom) -> Atom {
+        let mask = self.first.get(spot(atom.cell)).copied().unwrap_or(0);
+        let lowest = first_colour(mask);
+        let rest = mask & mask.wrapping_sub(1);
+        if is_settled(rest) && has(mask, lowest) {
+            Atom {
+                colour: first_colour(rest),
+                ..atom
+            }
+        } else {
+            atom
+        }
+    }
+
+    pub(crate) fn prefer(&mut self, atom: Atom, chooses: bool) {
+        if let Some(slot) = self.prefers.get_mut(atom.place()) {
+            *slot = chooses;
+        }
+    }
+
+    /// Takes back all events above a level.
+    pub(crate) fn back_to(&mut self, level: u32) -> Result<(), AllocError> {
+        let Some(count) = self.marks.before_level(level) else {
+            return Ok(());
+        };
+        for _ in count..self.marks.count() {
+            self.take_back()?;
+        }
+        self.marks.end_levels(level);
+        self.seen = count;
+        self.due = LineSet::empty();
+        Ok(())
+    }
+
+    // Takes the newest event back, and prefers what was there.
+    fn take_back(&mut self) -> Result<(), AllocError> {
+        let Some(event) = self.marks.last() else {
+            return Ok(());
+        };
+        let left = self.marks.left(event.gone.cell);
+        if is_settled(left) {
+            let atom = self.standing(event.gone.atom(first_colour(left)));
+            self.prefer(atom, true);
+            self.order.put(atom)?;
+        }
+        let Some(gone) = self.marks.take_back() else {
+            return Ok(());
+        };
+        for colour in 0..MAX_COLOURS {
+            if !has(gone.colours, colour) {
+                continue;
+            }
+            let atom = self.standing(gone.atom(colour));
+            if atom.colour == colour {
+                self.prefer(atom, false);
+            }
+            self.order.put(atom)?;
+        }
+        if gone.colours & self.board.own(gone.cell) != 0 {
+            self.differing = self.differing.saturating_sub(1);
+        }
+        Ok(())
+    }
+}

@@ -1,0 +1,193 @@
+//! The lines of a proof as its text has them: lemmas that are needed, numbered as they begin, and dropped after their
+//! last use.
+
+use crate::atom::{Literal, small};
+use crate::log::Step;
+use crate::plan::{Plan, Way};
+use crate::store::Span;
+use crate::telling::{Teller, Told};
+use cert_text::{CellNumber, LineNumber};
+use lemma_text::LemmaLine;
+use picture::LineId;
+use std::alloc::{AllocError, Global};
+
+// No use of a lemma.
+const NONE: u32 = u32::MAX;
+
+/// The lines of a proof so far, and for each lemma its number there and the step that uses it last.
+#[derive(Drop)]
+pub(crate) struct Writer<'a> {
+    plan: &'a Plan<'a>,
+    told: &'a [Told],
+    spans: &'a [Span],
+    lines: Vec<LemmaLine>,
+    numbers: Vec<u16>,
+    last: Vec<u32>,
+    begun: u16,
+}
+
+/// Writes what was told.
+pub(crate) fn write_lines(alloc: Global, teller: &Teller) -> Result<Vec<LemmaLine>, AllocError> {
+    let lemmas = teller.plan.lemmas.len();
+    let mut writer = Writer {
+        plan: &teller.plan,
+        told: &teller.lines,
+        spans: &teller.spans,
+        lines: Vec::new(alloc),
+        numbers: vec![in alloc; 0; lemmas]?,
+        last: vec![in alloc; NONE; lemmas]?,
+        begun: 0,
+    };
+    writer.find_last_uses();
+    writer.write_steps()?;
+    let Writer { lines, .. } = writer;
+    Ok(lines)
+}
+
+impl<'a> Writer<'a> {
+    fn step(&self, at: u32) -> Option<Step> {
+        self.plan.steps.get(at as usize).copied()
+    }
+
+    fn steps(&self) -> u32 {
+        small(self.plan.steps.len())
+    }
+
+    // What tells a step.
+    fn told(&self, at: u32) -> &'a [Told] {
+        match self.spans.get(at as usize) {
+            Some(span) => self.told.get(span.start..span.end).unwrap_or(&[]),
+            None => &[],
+        }
+    }
+
+    fn last_use(&self, number: u32) -> u32 {
+        self.last.get(number as usize).copied().unwrap_or(NONE)
+    }
+
+    // Whether a step is written: a lemma only where it is kept, and used.
+    fn is_written(&self, step: Step) -> bool {
+        match step {
+            Step::Lemma(number, _) => {
+                self.plan.lemma(number).way == Way::Kept && self.last_use(number) != NONE
+            }
+            _ => true,
+        }
+    }
+
+    // Finds from the end which step uses each lemma last.
+    fn find_last_uses(&mut self) {
+        for at in (0..self.steps()).rev() {
+            let Some(step) = self.step(at) else {
+                continue;
+            };
+            if !self.is_written(step) {
+                continue;
+            }
+            for told in self.told(at) {
+                if let Told::Use(number) | Told::Broken(number) = *told {
+                    self.note_use(number, at);
+                }
+            }
+        }
+    }
+
+    fn note_use(&mut self, number: u32, at: u32) {
+        if let Some(last) = self.last.get_mut(number as usize)
+            && *last == NONE
+        {
+            *last = at;
+        }
+    }
+
+    fn write_steps(&mut self) -> Result<(), AllocError> {
+        for at in 0..self.steps() {
+            let Some(step) = self.step(at) else {
+                break;
+            };
+            if !self.is_written(step) {
+                continue;
+            }
+            if let Step::Lemma(number, _) = step {
+                self.begin_lemma(number)?;
+            }
+            for told in self.told(at) {
+                let line = self.line_of(*told);
+                self.lines.push(line)?;
+            }
+            self.drop_lemmas(at)?;
+        }
+        Ok(())
+    }
+
+    // Writes a lemma with its literals, which gets the next number.
+    fn begin_lemma(&mut self, number: u32) -> Result<(), AllocError> {
+        self.begun = self.begun.saturating_add(1);
+        if let Some(slot) = self.numbers.get_mut(number as usize) {
+            *slot = self.begun;
+        }
+        self.lines.push(LemmaLine::Lemma)?;
+        for literal in self.plan.store.lemma(number) {
+            self.lines.push(LemmaLine::Deny(written(*literal)))?;
+        }
+        Ok(())
+    }
+
+    fn number(&self, number: u32) -> u16 {
+        self.numbers.get(number as usize).copied().unwrap_or(0)
+    }
+
+    fn line_of(&self, told: Told) -> LemmaLine {
+        match told {
+            Told::Line(line) => LemmaLine::Line(line_number(line)),
+            Told::Dead(line) => LemmaLine::Dead(line_number(line)),
+            Told::Use(number) => LemmaLine::Use(self.number(number)),
+            Told::Broken(number) => LemmaLine::Broken(self.number(number)),
+            Told::Done => LemmaLine::Done,
+            Told::Part(literal) => LemmaLine::Part(written(literal)),
+        }
+    }
+
+    // Drops the lemmas that a step uses last. After the end nothing is dropped.
+    fn drop_lemmas(&mut self, at: u32) -> Result<(), AllocError> {
+        if let Some(Step::End(_)) = self.step(at) {
+            return Ok(());
+        }
+        for told in self.told(at) {
+            if let Told::Use(number) | Told::Broken(number) = *told
+                && self.last_use(number) == at
+            {
+                let line = LemmaLine::Forget(self.number(number));
+                self.lines.push(line)?;
+                self.forget(number);
+            }
+        }
+        Ok(())
+    }
+
+    // A lemma is dropped once.
+    fn forget(&mut self, number: u32) {
+        if let Some(last) = self.last.get_mut(number as usize) {
+            *last = NONE;
+        }
+    }
+}
+
+// A line as a proof names it.
+fn line_number(line: LineId) -> LineNumber {
+    LineNumber {
+        axis: line.axis,
+        number: u16::from(line.at) + 1,
+    }
+}
+
+// A literal as a proof writes it.
+fn written(literal: Literal) -> lemma_text::Literal {
+    lemma_text::Literal {
+        cell: CellNumber {
+            row: u16::from(literal.cell.row) + 1,
+            col: u16::from(literal.cell.col) + 1,
+        },
+        colours: literal.colours,
+    }
+}

@@ -1,0 +1,88 @@
+//! A program for tests and for measuring: it checks and makes proofs by lemmas. Each line of standard input names a P3 picture's file
+//! and a proof's, with a space between them, and what the checker answers is printed; or it names a picture's file alone, and a proof is
+//! printed, or `ambiguous` or `undecided`.
+#![tactic(auto)]
+
+use anyhow::{Result, bail};
+use cert_text::CertFault;
+use lemma_check::check_proof;
+use lemma_proof::{Made, make_proof};
+use lemma_text::{LemmaProof, read_proof, write_proof};
+use line_settle::MaskEngine;
+use picture::{MAX_SIDE, Picture};
+use ppm_text::read_ppm;
+use std::alloc::Global;
+use std::io::{BufWriter, Write};
+use std::rt::Files;
+use std::{fs, io};
+
+fn main(rt: HostRuntime) -> Result<()> {
+    for line in rt.lines(rt.alloc()) {
+        let line = line?;
+        match line.as_str().split_once(' ') {
+            Some((file, proof)) => tell(&rt, file, proof)?,
+            None => prove(&rt, line.as_str())?,
+        }
+    }
+    Ok(())
+}
+
+// Prints what is answered to the proof in a file, for the picture in another.
+fn tell(rt: &(impl AllocGlobal + Print + Files), file: &str, proof: &str) -> Result<()> {
+    let text = fs::read(rt, file)?;
+    let proof = fs::read(rt, proof)?;
+    let document = match read_ppm(rt.alloc(), &text, None) {
+        Ok(document) => document,
+        Err(fault) => {
+            println!(rt; "ppm {}", fault.name())?;
+            return Ok(());
+        }
+    };
+    match checked(rt.alloc(), &document.picture, &proof) {
+        Ok(0) => println!(rt; "accepted")?,
+        Ok(givens) => println!(rt; "accepted, givens {givens}")?,
+        Err(fault) => {
+            let line = fault.place().unwrap_or(0);
+            println!(rt; "{} at line {line}", fault.name())?;
+        }
+    }
+    Ok(())
+}
+
+// Prints a proof of the picture in a file, or why there is none.
+fn prove(rt: &(impl AllocGlobal + Print + Files), file: &str) -> Result<()> {
+    let text = fs::read(rt, file)?;
+    let document = match read_ppm(rt.alloc(), &text, None) {
+        Ok(document) => document,
+        Err(fault) => {
+            println!(rt; "ppm {}", fault.name())?;
+            return Ok(());
+        }
+    };
+    let _ = document.picture.height();
+    let mut engine = MaskEngine::make(rt.alloc(), MAX_SIDE)?;
+    match make_proof(rt.alloc(), &mut engine, &document.picture)? {
+        Made::Proof(proof) => print_proof(rt, &proof),
+        Made::Other(_) => Ok(println!(rt; "ambiguous")?),
+        Made::Undecided => Ok(println!(rt; "undecided")?),
+    }
+}
+
+// Prints the text of a proof.
+fn print_proof(rt: &(impl AllocGlobal + Print), proof: &LemmaProof) -> Result<()> {
+    let mut writer = BufWriter::new(rt.alloc(), io::writer(rt))?;
+    if write_proof(proof, &mut writer).is_err() {
+        bail!("write failed");
+    }
+    writer.flush()?;
+    Ok(())
+}
+
+// How many cells a proof gives, where it is accepted.
+fn checked(alloc: Global, picture: &Picture, text: &[u8]) -> Result<usize, CertFault> {
+    let proof = read_proof(alloc, text)?;
+    let _ = picture.height();
+    let mut engine = MaskEngine::make(alloc, MAX_SIDE)?;
+    check_proof(alloc, &mut engine, picture, &proof)?;
+    Ok(proof.givens().len())
+}

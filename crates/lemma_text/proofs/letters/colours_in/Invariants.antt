@@ -1,0 +1,10 @@
+use Rattle.std.proofs.Common.{◌≡◌, ◌≤◌, ◌<◌, ◌^◌, drop}
+use Rattle.lemma_text.specs.Letters.{colours_behind}
+use Rattle.lemma_text.proofs.letters.colours_in.Given as goal
+
+abbrev pub invariant-loop-i : goal.invariant-loop-i
+invariant-loop-i l = record {
+  least : l.least ≤ 16;
+  small : l.colours < 2 ^ l.least;
+  so_far : colours_behind 0 0 l.word ≡ colours_behind l.colours l.least (drop l.i l.word);
+}

@@ -1,0 +1,4 @@
+pub mod Letters
+pub mod Proof
+pub mod Text
+pub mod Writing

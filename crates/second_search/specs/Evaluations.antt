@@ -1,0 +1,29 @@
+-- How many lines a judgement evaluates at most under an allowance.
+use Rattle.std.specs.Prelude.{◌≡◌, ℕ, ◌+◌, ◌*◌, ◌≤◌, Option, None, Some, [], ◌∷◌, length, refl}
+use Rattle.line_settle.specs.Masks.{Masks}
+use Rattle.picture.specs.Rows.{width_of}
+
+-- Facts are closed by one evaluation for each line at most, and one more for each colour that a cell can lose.
+unfoldable pub most_to_close : Masks → ℕ
+most_to_close facts = length facts + width_of facts + 16 * (length facts * width_of facts)
+
+-- They are closed once, and once more for each colour of a cell that is split, of which there are sixteen at most.
+unfoldable pub most_to_search : Masks → ℕ → ℕ
+most_to_search facts splits = (1 + 16 * splits) * most_to_close facts
+
+-- Under an allowance of splits for each, some parts of facts take
+-- so many evaluations at most; without one there is no bound.
+abbrev pub AreFew : Option ℕ → Masks → ℕ → ℕ → Type 0
+AreFew None facts parts evaluations = Unit {0}
+AreFew (Some splits) facts parts evaluations = evaluations ≤ parts * most_to_search facts splits
+
+-- ---- worked by hand
+
+-- two cells in a row: 3 lines and 32 colours; and the same once more for each of 16 colours, where one cell is split
+worked_pair : most_to_close ((3 ∷ 3 ∷ []) ∷ []) ≡ 35
+unfolding most_to_close
+worked_pair = refl
+
+worked_split : most_to_search ((3 ∷ 3 ∷ []) ∷ []) 1 ≡ 595
+unfolding most_to_search most_to_close
+worked_split = refl

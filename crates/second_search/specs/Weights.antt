@@ -1,0 +1,20 @@
+-- What facts weigh: the sum of their masks. A search ends since what waits weighs less with each step.
+use Rattle.std.specs.Prelude.{ℕ, ◌+◌, ◌*◌, ◌^◌, List, [], ◌∷◌}
+use Rattle.line_settle.specs.Masks.{Masks}
+
+-- the sum over a list
+abbrev pub total : {X : Type 0} → (X → ℕ) → List X → ℕ
+total f [] = 0
+total f (x ∷ xs) = f x + total f xs
+
+unfoldable pub row_weight : List ℕ → ℕ
+row_weight row = total (λ (x : ℕ). x) row
+
+unfoldable pub weight : Masks → ℕ
+weight facts = total row_weight facts
+
+abbrev pub loads : Masks → ℕ
+loads facts = 2 ^ (5 * weight facts)
+
+unfoldable pub load : List Masks → ℕ
+load many = total loads many
