@@ -393,6 +393,8 @@ static size_t held(void) { return mallinfo2().uordblks; }
 static size_t held(void) { return 0; }
 #endif
 
+enum { WARM = 200 }; /* calls until malloc keeps no more blocks for later ones; some 60 to 100 were seen */
+
 /* Calls in a loop, on a desk that stays and on desks of their own: no memory stays taken. */
 static void test_growth(int times) {
     nonobench_desk *desk;
@@ -400,10 +402,10 @@ static void test_growth(int times) {
     size_t before = 0;
     bool holds = true;
     expect(nonobench_start(&desk) == NONOBENCH_DONE, "a desk", "");
-    for (int i = 0; i < 50 + times; i++) {
+    for (int i = 0; i < WARM + times; i++) {
         nonobench_audited found;
         /* What malloc keeps for the next call of a size counts as taken, so the first calls do not count. */
-        if (i == 50) before = held();
+        if (i == WARM) before = held();
         holds = holds && nonobench_check_pair(DIAGONAL, strlen(DIAGONAL), GIVEN, strlen(GIVEN), &ONE, NULL) == NONOBENCH_DONE;
         holds = holds && nonobench_check_pair("P4", 2, "", 0, NULL, NULL) == NONOBENCH_REFUSED;
         holds = holds && nonobench_audit(TILE, strlen(TILE), NULL, 9, &found, NULL) == NONOBENCH_DONE && found.certificate;
