@@ -1,7 +1,7 @@
 // The runner of page_test.sh: the built page in headless Chromium. Usage: node tests/page_test.mjs FOLDER [TEST ..], where TEST is
 // the name of a trial or the beginning of one: 'drawing:' are all that begin so.
 import { resolve } from 'node:path';
-import { Browser } from './page_browser.mjs';
+import { Browser, pause } from './page_browser.mjs';
 import { Trial, hookedPage } from './page_trial.mjs';
 import * as coming from './page_coming.mjs';
 import * as drawing from './page_drawing.mjs';
@@ -40,8 +40,9 @@ for (const [name, test] of tests) {
     } catch (fault) {
         failed++;
         console.log(`FAILED: ${name}: ${fault.stack ?? fault}`);
-        await page.shot(`${folder}/failed-${name}.png`).catch(() => {});
+        await Promise.race([page.shot(`${folder}/failed-${name}.png`), pause(5000)]).catch(() => {}); // of a tab behind others none comes
     }
+    await page.run(() => localStorage.clear()).catch(() => {}); // what was chosen holds for this trial alone
     await page.close().catch(() => {});
 }
 await browser.close();
