@@ -267,6 +267,22 @@ const steps = {
         writeFileSync(join(folder, 'sheet.pdf'), pdf);
         assert.equal(pdf.subarray(0, 5).toString(), '%PDF-');
     },
+    async 'a link opens in the editor, and in the player alone'({ page, trial }) {
+        await trial.load();
+        await drop(page, 'duck.ppm', example('duck.ppm'));
+        await isOpen(page);
+        const { picture } = await trial.state();
+        const links = await page.run(async () => [await fragmentOf(bench.state, 'edit'), await fragmentOf(bench.state, 'play')]);
+        for (const link of links) {
+            await page.goto('about:blank');
+            await page.goto(`${trial.url}${link}`);
+            await isOpen(page);
+            assert.deepEqual((await trial.state()).picture, picture);
+        }
+        await page.until(() => document.getElementById('play-room')?.open, 5000);
+        await page.press('Escape');
+        assert.equal(await page.run(() => document.getElementById('play-room').open), true);
+    },
 };
 
 rmSync(downloads, { recursive: true, force: true });

@@ -3,6 +3,7 @@
 import { resized } from '../document/shapes.js';
 import { sheet } from '../draw/sheet.js';
 import { bench } from '../engine/bench.js';
+import { fragmentOf } from '../formats/link.js';
 import { takeFile } from '../import/taking.js';
 import { keep } from '../library/keep.js';
 import { openDoc } from '../library/open.js';
@@ -17,5 +18,5 @@ import { certificateText, searches, setHatching, setSeconds } from '../view/verd
 
 Object.assign(window, {
   bench, sheet, searches, tools, play, keep, takeFile, actions, runAction, useColour, certificateText, selection, showSelection, resized, cursor, openDoc, setHatching,
-  setSeconds, saving,
+  setSeconds, saving, fragmentOf,
 });
