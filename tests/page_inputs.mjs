@@ -24,7 +24,10 @@ export class Hands {
     /** Presses a button. */
     async press(selector) {
         await this.page.until((wanted) => document.querySelector(wanted)?.checkVisibility({ visibilityProperty: true }), 5000 * SLACK, selector);
-        if (this.input === 'mouse') return this.page.click(selector);
+        if (this.input === 'mouse') {
+            await pause(120); // no hand is quicker, and the header has the file's name by then
+            return this.page.click(selector);
+        }
         if (this.input === 'touch') {
             await this.page.middle(selector); // it is scrolled into view, and a finger comes when that is drawn
             await pause(120);
