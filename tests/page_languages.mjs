@@ -1,6 +1,7 @@
 // Tests in the browser of the page's languages: a walk in German by mouse, keys and fingers, another language with all that was done, and
 // what is written from right to left.
 import assert from 'node:assert/strict';
+import { clean } from './page_hands.mjs';
 import { SIZES, SLACK, Trial } from './page_trial.mjs';
 
 const KEPT = 'nonobench-language';
@@ -133,6 +134,7 @@ export async function languageOfTheBrowser({ browser, url, folder }) {
 // ---- another language
 
 export async function languageKeepsAll({ trial, page }) {
+    await clean(page);
     await page.click('#examples li:nth-child(1) button');
     await opened(page);
     await trial.judged();
