@@ -1,6 +1,7 @@
 // Trials in Chromium of small things that a designer stumbles over: forced colours, help on phones, the order of the library, an
 // archive that comes back, what is refused in the palette, tiles. Each is a test of the runner tests/page_test.mjs.
 import assert from 'node:assert/strict';
+import { pause } from './page_browser.mjs';
 import { clean, downloaded, drop, fresh, isKept, isOpen, said } from './page_hands.mjs';
 import { SIZES, SLACK, ppmOf } from './page_trial.mjs';
 
@@ -45,6 +46,8 @@ export async function helpOnPhones({ browser, url, folder }) {
     await trial.open(ppmOf(THREE), 'help');
     await page.tap('#menus [popovertarget="menu-file"]');
     await page.until(() => document.querySelector('#menu-file:popover-open [data-action="keys"]'), 3000 * SLACK);
+    await page.middle('#menu-file [data-action="guide"]'); // it is scrolled into view, and a finger comes when that is drawn
+    await pause(150);
     await page.tap('#menu-file [data-action="guide"]');
     await page.until(() => document.querySelector('#version'), 3000 * SLACK);
     assert.match(await trial.text('#version'), /^nonobench [0-9.]+, commit [0-9a-f]{12}\. .*: git’s names/);
