@@ -98,15 +98,14 @@ class Walk:
         return None
 
 
-def check_cert(rows, cert):
-    """The number of givens of a certificate that proves a picture, or the first fault."""
-    _, givens, tree = cert
+def walked(rows, givens, lines, walk_of):
+    """The number of givens of a text whose lines a walk takes to their end, or the first fault."""
     for number, (row, col) in enumerate(givens, 2):
         if not (1 <= row <= len(rows) and 1 <= col <= len(rows[0])):
             raise Fault('Place', number)
-    walk = Walk(rows, [(row - 1, col - 1) for row, col in givens])
+    walk = walk_of(rows, [(row - 1, col - 1) for row, col in givens])
     number = 2 + len(givens)
-    for line in tree:
+    for line in lines:
         fault = walk.take(line)
         if fault:
             raise Fault(fault, number)
@@ -114,6 +113,12 @@ def check_cert(rows, cert):
     if not walk.is_whole():
         raise Fault('Ended', number)
     return len(givens)
+
+
+def check_cert(rows, cert):
+    """The number of givens of a certificate that proves a picture, or the first fault."""
+    _, givens, tree = cert
+    return walked(rows, givens, tree, Walk)
 
 
 def line_text(line):

@@ -1,7 +1,7 @@
 """Proofs by lemmas: read, checked line by line, and written by chance for tests."""
 import re
 
-from .certificates import GIVEN, NUMBER
+from .certificates import GIVEN, NUMBER, walked
 from .faults import Fault
 from .lines import base_of, clues_of, line_of, mask_letters, narrow, put_line
 
@@ -186,19 +186,7 @@ class Walk:
 def check_proof(rows, proof):
     """The number of givens of a proof by lemmas, or the first fault."""
     givens, steps = proof
-    for number, (row, col) in enumerate(givens, 2):
-        if not (1 <= row <= len(rows) and 1 <= col <= len(rows[0])):
-            raise Fault('Place', number)
-    walk = Walk(rows, [(row - 1, col - 1) for row, col in givens])
-    number = 2 + len(givens)
-    for line in steps:
-        fault = walk.take(line)
-        if fault:
-            raise Fault(fault, number)
-        number += 1
-    if not walk.is_whole():
-        raise Fault('Ended', number)
-    return len(givens)
+    return walked(rows, givens, steps, Walk)
 
 
 def line_text(line):
