@@ -2,13 +2,11 @@
 import assert from 'node:assert/strict';
 import { readFileSync, writeFileSync } from 'node:fs';
 import { join } from 'node:path';
-import { downloaded, drop, examples, fresh, isOpen, said } from './page_hands.mjs';
+import { downloaded, drop, examples, fresh, isOpen, said, withHands } from './page_hands.mjs';
 import { drawn } from './page_icons.mjs';
-import { Hands } from './page_inputs.mjs';
 import { pause } from './page_browser.mjs';
-import { SIZES, SLACK, ppmOf } from './page_trial.mjs';
+import { SLACK, ppmOf } from './page_trial.mjs';
 
-const INPUTS = [['small', 'mouse'], ['small', 'keys'], ['large', 'mouse'], ['large', 'keys'], ['phone', 'touch'], ['phone', 'keys']];
 const colours = (page) => page.run(() => [...document.querySelectorAll('#import-palette button')].map((one) => one.title));
 const facts = (page, text, ms = 10000) => page.until((wanted) => document.querySelector('#import-facts')?.textContent.includes(wanted), ms * SLACK, text);
 
@@ -43,21 +41,6 @@ async function slide(hands, id, toMost) {
     }
     await pause(100); // at rest: else the browser takes the next tap for the end of a fling
     return send('touchEnd', []);
-}
-
-async function withHands({ browser, url, folder }, what, act) {
-    for (const [size, input] of INPUTS) {
-        const { page, trial, own } = await fresh(browser, url, folder, `${what}-${size}-${input}`, { size: SIZES[size] });
-        try {
-            await act(new Hands(page, trial, input), { page, trial, own });
-            assert.deepEqual(page.faults, []);
-        } catch (fault) {
-            await page.shot(join(folder, `failed-${what}-${size}-${input}.png`)).catch(() => {});
-            throw new Error(`${size}, ${input}: ${fault.stack ?? fault}`);
-        } finally {
-            await page.close().catch(() => {});
-        }
-    }
 }
 
 /** The palette is shown while one chooses: a colour is locked, replaced, dropped, and all of that taken back. */

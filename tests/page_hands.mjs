@@ -2,6 +2,7 @@
 import assert from 'node:assert/strict';
 import { mkdirSync, readFileSync, readdirSync, rmSync, writeFileSync } from 'node:fs';
 import { join } from 'node:path';
+import { Hands } from './page_inputs.mjs';
 import { SIZES, SLACK, Trial } from './page_trial.mjs';
 
 export const examples = new URL('../examples/', import.meta.url);
@@ -72,3 +73,33 @@ export const menu = async (page, id) => {
     await page.run(() => document.querySelector('#menus [popovertarget="menu-file"]').click());
     await page.run((one) => document.querySelector(`#menu-file [data-action="${one}"]`).click(), id);
 };
+
+const INPUTS = [['small', 'mouse'], ['small', 'keys'], ['large', 'mouse'], ['large', 'keys'], ['phone', 'touch'], ['phone', 'keys']];
+
+/** An act of a trial by each input in the sizes that have it, each in a tab of its own. */
+export async function withHands({ browser, url, folder }, what, act) {
+    for (const [size, input] of INPUTS) {
+        const { page, trial, own } = await fresh(browser, url, folder, `${what}-${size}-${input}`, { size: SIZES[size] });
+        try {
+            await act(new Hands(page, trial, input), { page, trial, own });
+            assert.deepEqual(page.faults, []);
+        } catch (fault) {
+            await page.shot(join(folder, `failed-${what}-${size}-${input}.png`)).catch(() => {});
+            throw new Error(`${size}, ${input}: ${fault.stack ?? fault}`);
+        } finally {
+            await page.close().catch(() => {});
+        }
+    }
+}
+
+/** Colours of what is seen at points, each by its share of the window's width and height. */
+export async function coloursAt(page, points) {
+    const { data } = await page.send('Page.captureScreenshot', { format: 'png' });
+    return page.run(async (shot, all) => {
+        const image = Object.assign(new Image(), { src: `data:image/png;base64,${shot}` });
+        await image.decode();
+        const pen = Object.assign(document.createElement('canvas'), { width: image.width, height: image.height }).getContext('2d');
+        pen.drawImage(image, 0, 0);
+        return all.map(([x, y]) => [...pen.getImageData(Math.floor(x * image.width), Math.floor(y * image.height), 1, 1).data].slice(0, 3).join());
+    }, data, points);
+}

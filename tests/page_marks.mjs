@@ -2,21 +2,15 @@
 // archive that comes back, what is refused in the palette, tiles. Each is a test of the runner tests/page_test.mjs.
 import assert from 'node:assert/strict';
 import { pause } from './page_browser.mjs';
-import { clean, downloaded, drop, fresh, isKept, isOpen, said } from './page_hands.mjs';
+import { clean, coloursAt, downloaded, drop, fresh, isKept, isOpen, said } from './page_hands.mjs';
 import { SIZES, SLACK, ppmOf } from './page_trial.mjs';
 
 const THREE = ['aabb.', 'a..b.', 'cc...'];
 
 // Colours of the window at points, as they are seen.
 async function seenAt(page, points) {
-    const { data } = await page.send('Page.captureScreenshot', { format: 'png' });
-    return page.run(async (shot, all) => {
-        const image = Object.assign(new Image(), { src: `data:image/png;base64,${shot}` });
-        await image.decode();
-        const pen = Object.assign(document.createElement('canvas'), { width: image.width, height: image.height }).getContext('2d');
-        pen.drawImage(image, 0, 0);
-        return all.map(([x, y]) => [...pen.getImageData(Math.floor((x * image.width) / innerWidth), Math.floor((y * image.height) / innerHeight), 1, 1).data].slice(0, 3).join());
-    }, data, points);
+    const [width, height] = await page.run(() => [innerWidth, innerHeight]);
+    return coloursAt(page, points.map(([x, y]) => [x / width, y / height]));
 }
 
 /** Where the system takes over all colours, swatches, cells and the chosen tool and colour are still told apart. */

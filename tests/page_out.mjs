@@ -3,7 +3,7 @@ import assert from 'node:assert/strict';
 import { execFileSync } from 'node:child_process';
 import { readFileSync, writeFileSync } from 'node:fs';
 import { join } from 'node:path';
-import { act, clean, downloaded, drop, examples, fresh, isOpen, menu } from './page_hands.mjs';
+import { act, clean, coloursAt, downloaded, drop, examples, fresh, isOpen, menu } from './page_hands.mjs';
 import { SLACK, ppmOf } from './page_trial.mjs';
 
 /** Ctrl+S downloads an XML text under the document's name that opens as it was, texts and names too; then nothing asks on leaving. */
@@ -125,14 +125,7 @@ export async function exportsAndPrint({ browser, url, folder }) {
 // Colours of points of the page as it is printed, each by its share of width and height.
 async function printedPoints(page, points) {
     await page.send('Emulation.setEmulatedMedia', { media: 'print', features: [{ name: 'prefers-color-scheme', value: 'dark' }] });
-    const { data } = await page.send('Page.captureScreenshot', { format: 'png' });
-    return page.run(async (shot, all) => {
-        const image = Object.assign(new Image(), { src: `data:image/png;base64,${shot}` });
-        await image.decode();
-        const pen = Object.assign(document.createElement('canvas'), { width: image.width, height: image.height }).getContext('2d');
-        pen.drawImage(image, 0, 0);
-        return all.map(([x, y]) => [...pen.getImageData(Math.floor(x * image.width), Math.floor(y * image.height), 1, 1).data].slice(0, 3).join());
-    }, data, points);
+    return coloursAt(page, points);
 }
 
 /** Paper is white: neither a dark scheme nor hatching nor a dark background of the picture goes to the empty puzzle. */

@@ -3,28 +3,11 @@
 import assert from 'node:assert/strict';
 import { writeFileSync } from 'node:fs';
 import { join } from 'node:path';
-import { fresh } from './page_hands.mjs';
-import { Hands } from './page_inputs.mjs';
-import { SIZES, SLACK, noise, ppmOf } from './page_trial.mjs';
+import { fresh, withHands } from './page_hands.mjs';
+import { SLACK, noise, ppmOf } from './page_trial.mjs';
 import { pause } from './page_browser.mjs';
 
-const INPUTS = [['small', 'mouse'], ['small', 'keys'], ['large', 'mouse'], ['large', 'keys'], ['phone', 'touch'], ['phone', 'keys']];
 const blank = (rows, columns) => [...Array(rows - 1).fill('.'.repeat(columns)), `${'.'.repeat(columns - 2)}ab`];
-
-async function withHands({ browser, url, folder }, what, act) {
-    for (const [size, input] of INPUTS) {
-        const { page, trial, own } = await fresh(browser, url, folder, `${what}-${size}-${input}`, { size: SIZES[size] });
-        try {
-            await act(new Hands(page, trial, input), { page, trial, own });
-            assert.deepEqual(page.faults, []);
-        } catch (fault) {
-            await page.shot(join(folder, `failed-${what}-${size}-${input}.png`)).catch(() => {});
-            throw new Error(`${size}, ${input}: ${fault.stack ?? fault}`);
-        } finally {
-            await page.close().catch(() => {});
-        }
-    }
-}
 
 async function undo(hands) {
     const before = await strokes(hands.trial);
