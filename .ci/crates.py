@@ -16,7 +16,7 @@ ARCHITECTURE = ROOT / 'docs' / 'ARCHITECTURE.md'
 # The rooms, in reading order: what stands there, and its crates.
 ROOMS = {
     'Ground': ('pictures and their clues', 'picture clues clue_laws'),
-    'Line': ('one line and its clue', 'line_settle'),
+    'Line': ('one line and its clue', 'line_facts line_settle'),
     'Settling': ('all lines together, with a reason for each step', 'justify worklist fixpoint propagate retract'),
     'Checking': ('certificates as texts, and their checker', 'trail cert_text lemma_text cert_check lemma_check'),
     'Search': ('other pictures, and certificates that there is none',

@@ -5,12 +5,12 @@ use Rattle.picture.specs.Document.{AreInside}
 use Rattle.picture.specs.Picture.{IsPicture}
 use Rattle.picture.specs.Rows.{width_of, cell_at, Rows}
 use Rattle.std.specs.Prelude.{IfSome}
-use Rattle.line_settle.specs.Masks.{Masks}
+use Rattle.line_facts.specs.Masks.{Masks}
 use Rattle.clues.specs.ClueBook.{Clues, clues_of}
 use Rattle.clues.specs.Solution.{IsOther}
 use Rattle.clues.proofs.SolutionLaws.{solves_fewer}
-use Rattle.line_settle.specs.FactSets.{Leaves, SameShape, nothing_excluded}
-use Rattle.line_settle.proofs.GridLaws.{full_shape, shape_sym, shape_trans}
+use Rattle.line_facts.specs.FactSets.{Leaves, SameShape, nothing_excluded}
+use Rattle.line_facts.proofs.GridLaws.{full_shape, shape_sym, shape_trans}
 use Rattle.cert_text.specs.declared.tree_line.CellNumber.{CellNumber}
 use Rattle.cert_text.specs.declared.tree_line.CertLine.{CertLine}
 use Rattle.second_search.specs.Laws.{SoundFacts}

@@ -1,13 +1,13 @@
 -- Certificates that are made.
 use Rattle.std.specs.Prelude.{◌≡◌, ◌⊎◌, ℕ, ◌+◌, ◌*◌, ◌<◌, ◌↔◌, List, [], ◌∷◌, ◌++◌, Option, None, Some}
 use Rattle.std.proofs.Common.{Vec, Global}
-use Rattle.line_settle.specs.Masks.{Masks}
+use Rattle.line_facts.specs.Masks.{Masks}
 use Rattle.picture.specs.Rows.{Rows}
 use Rattle.picture.specs.CellSet.{HasCell}
 use Rattle.picture.specs.Picture.{IsPicture}
 use Rattle.clues.specs.ClueBook.{clues_of}
 use Rattle.clues.specs.Solution.{IsOther}
-use Rattle.line_settle.specs.FactSets.{IsBase}
+use Rattle.line_facts.specs.FactSets.{IsBase}
 use Rattle.fixpoint.specs.Fillings.{Fills}
 use Rattle.cert_text.specs.declared.tree_line.CellNumber.{CellNumber}
 use Rattle.cert_text.specs.declared.tree_line.CertLine.{CertLine}

@@ -6,13 +6,13 @@ ghost use Rattle.picture.specs.Rows.{width_of};
 ghost use Rattle.cert_text.specs.Cert.{AreOrdered, AreWritable, IsCert};
 ghost use Rattle.certificate.specs.MadeCert.{HasOther, Makes, NamesGivens, NamesUpTo, WritesTree, lines_seen};
 ghost use Rattle.cert_check.specs.Walk.{CanCheck};
-ghost use Rattle.line_settle.specs.FactSets.{SameShape};
+ghost use Rattle.line_facts.specs.FactSets.{SameShape};
 ghost use Rattle.second_search.specs.Parts.{IsScene};
 
 use cert_check::set_givens;
 use cert_text::{CellNumber, Cert, CertLine};
 use clues::ClueBook;
-use line_settle::{Facts, LineEngine};
+use line_facts::{Facts, LineEngine};
 use picture::{CellSet, MAX_SIDE, Picture};
 use second_search::{
     BOUNDS, Bounds, Decided, Ladder, Lines, Scene, cell_number, climb, find_near_other,

@@ -2,7 +2,7 @@
 
 ghost use Rattle.std.specs.Prelude.{◌≡◌, ◌+◌, ◌≤◌, ◌<◌, ◌^◌, length, IfErr, OnOk, Some};
 ghost use Rattle.picture.specs.Rows.{width_of};
-ghost use Rattle.line_settle.specs.FactSets.{SameShape};
+ghost use Rattle.line_facts.specs.FactSets.{SameShape};
 ghost use Rattle.cert_check.specs.FirstFault.{AnswersFirst};
 ghost use Rattle.cert_check.specs.Puzzle.{HasCellNumbers, IsUnique};
 ghost use Rattle.cert_check.specs.Walk.{CanCheck};
@@ -14,7 +14,7 @@ use cert_check::{Claim, set_givens};
 use cert_text::CertFault;
 use clues::ClueBook;
 use lemma_text::{LemmaLine, LemmaProof};
-use line_settle::{Facts, LineEngine};
+use line_facts::{Facts, LineEngine};
 use picture::Picture;
 use std::alloc::Global;
 

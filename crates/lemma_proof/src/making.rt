@@ -10,7 +10,7 @@ use clues::ClueBook;
 use lemma_check::check_proof;
 use lemma_search::{Effort, Found, learn};
 use lemma_text::{LemmaLine, LemmaProof};
-use line_settle::LineEngine;
+use line_facts::LineEngine;
 use picture::{CellSet, Picture};
 use std::alloc::{AllocError, Global};
 

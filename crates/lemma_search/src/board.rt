@@ -6,7 +6,7 @@ ghost use Rattle.clues.specs.ClueBook.{HasClue};
 use crate::atom::bit;
 use crate::automaton::Automaton;
 use clues::ClueBook;
-use line_settle::{LineEngine, Outcome};
+use line_facts::{LineEngine, Outcome};
 use picture::{Axis, CellSet, LineId, MAX_SIDE, Picture};
 use std::alloc::{AllocError, Global};
 use trail::Cell;

@@ -11,7 +11,7 @@ use crate::telling::Teller;
 use crate::writing::write_lines;
 use clues::ClueBook;
 use lemma_text::LemmaLine;
-use line_settle::LineEngine;
+use line_facts::LineEngine;
 use picture::{CellSet, Picture};
 use std::alloc::{AllocError, Global};
 

@@ -7,7 +7,7 @@ use crate::log::{Log, Step};
 use crate::marks::Reason;
 use crate::rehearsal::{Gained, Rehearsal, Said};
 use crate::store::{Span, Store};
-use line_settle::LineEngine;
+use line_facts::LineEngine;
 use std::alloc::{AllocError, Global};
 
 /// How a lemma is told: not at all; once, and kept; or each time inside the branch that uses it.

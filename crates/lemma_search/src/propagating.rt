@@ -8,7 +8,7 @@ use crate::log::Step;
 use crate::marks::Reason;
 use crate::search::Search;
 use crate::store::Watched;
-use line_settle::{LineEngine, Outcome};
+use line_facts::{LineEngine, Outcome};
 use picture::{Axis, LineId, MAX_COLOURS};
 use std::alloc::AllocError;
 use trail::Cell;

@@ -4,7 +4,7 @@ ghost use Rattle.std.specs.Prelude.{◌≡◌};
 
 use crate::atom::{Literal, STRIDE, spot};
 use crate::board::{Board, Masks};
-use line_settle::{LineEngine, Outcome};
+use line_facts::{LineEngine, Outcome};
 use picture::LineId;
 use std::alloc::{AllocError, Global};
 use trail::Cell;

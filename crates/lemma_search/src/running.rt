@@ -5,7 +5,7 @@ ghost use Rattle.std.specs.Prelude.{◌≡◌};
 use crate::log::Step;
 use crate::restarts::Restarts;
 use crate::search::Search;
-use line_settle::LineEngine;
+use line_facts::LineEngine;
 use picture::{Axis, LineId, LineSet, MAX_SIDE, Picture};
 use std::alloc::{AllocError, Global};
 

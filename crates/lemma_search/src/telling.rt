@@ -8,7 +8,7 @@ use crate::marks::Reason;
 use crate::plan::{Plan, Way};
 use crate::rehearsal::{Gained, Rehearsal, Said};
 use crate::store::Span;
-use line_settle::LineEngine;
+use line_facts::LineEngine;
 use picture::{Axis, LineId};
 use std::alloc::{AllocError, Global};
 

@@ -9,7 +9,7 @@ ghost use Rattle.report_text.specs.Report.{audit_text, colour_line, colour_lines
 use crate::clue_text::{push_clues, push_number};
 use crate::shown::{letter_of, push_map, push_picture};
 use clues::ClueBook;
-use line_settle::Facts;
+use line_facts::Facts;
 use picture::{Document, Palette, Picture, Rgb};
 use std::alloc::AllocError;
 

@@ -7,7 +7,7 @@ ghost use Rattle.picture.specs.Rows.{row_at, width_of};
 ghost use Rattle.report_text.specs.Room.{TakesRoom, picture_room};
 ghost use Rattle.report_text.specs.Shown.{letter, map_text, mask_letter, picture_text, row_text};
 
-use line_settle::Facts;
+use line_facts::Facts;
 use picture::{MAX_SIDE, Picture};
 use std::alloc::AllocError;
 

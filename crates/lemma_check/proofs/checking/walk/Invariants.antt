@@ -1,5 +1,5 @@
 use Rattle.std.proofs.Common.{◌≡◌, ◌+◌, ◌≤◌, true, Some, drop}
-use Rattle.line_settle.specs.FactSets.{SameShape}
+use Rattle.line_facts.specs.FactSets.{SameShape}
 use Rattle.cert_check.specs.Walk.{CanCheck}
 use Rattle.lemma_check.specs.FirstFault.{reached}
 use Rattle.lemma_check.specs.Walk.{IsCounted, root}
