@@ -77,7 +77,7 @@ MADE = {os.path.join("docs", "BASE.md")}
 # Folders in which a path that is named must exist, and commands that build, prove or serve rather than answer.
 FOLDERS = "docs|crates|measure|tests|examples|page|web|python|\\.ci"
 BUILDS = ["bash .ci/run", "(cd crates/nonobench && rt try ", "(cd crates/nonobench && rt run ", "install -D ",
-          "export PATH=", "web/build", "pip install dist/", "nonobench-audit "]
+          "export PATH=", "web/build", "python3 -m venv env", "env/bin/pip install dist/", "env/bin/nonobench-audit "]
 
 
 def documents():

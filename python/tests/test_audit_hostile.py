@@ -331,9 +331,9 @@ class Processes(Case):
         self.assertIn("nonobench-audit: 1 not read, since defusedxml is not installed\n", done.stderr)
         rows = self.read("rows")
         self.assertEqual(rows["site/one.ppm"]["verdict"], "unique")
-        self.assertEqual(rows["site/image.png"]["error"], "Pillow is not installed, which reads images (pip install nonobench[audit])")
+        self.assertEqual(rows["site/image.png"]["error"], "Pillow, which reads images, is not installed (pip install Pillow)")
         done = subprocess.run([*words[:2], "-c", code, "site", "--html", "x"], cwd=self.folder, env=self.env(), capture_output=True, text=True)
-        self.assertEqual((done.returncode, done.stderr), (3, "nonobench-audit: jinja2 is not installed, which makes the report (pip install nonobench[audit])\n"))
+        self.assertEqual((done.returncode, done.stderr), (3, "nonobench-audit: jinja2, which makes the report, is not installed (pip install jinja2)\n"))
 
 
 class Terminal(Case):
