@@ -44,7 +44,7 @@ WIDTHS = {'specs': 120, 'proofs': 200}
 QUOTED = 'A certificate proves uniqueness'
 HEAD = '''# What the claims depend on
 
-For somebody who wants to read all that a claim of [README](../README.md#what-is-proved) means: its definitions, in reading order. Proofs, code and the definitions of the toolchain are left out. A definition that an earlier claim has is counted again, but not listed again. Made by `.ci/base.py --write`.
+This page is for those who want to read all that a claim of [README](../README.md#what-is-proved) means. It lists the definitions of each claim, in reading order. Proofs, code and the definitions of the toolchain are left out. A definition that an earlier claim has is counted again, but not listed again. `.ci/base.py --write` makes this page.
 '''
 WORD = re.compile(r'[^\s(){},;λ→×⊎≡≢≤≥+*/∷∘\[\]↔=<>]+')
 
