@@ -1,5 +1,5 @@
 #!/usr/bin/env python3
-"""Writes docs/COSTS.md: what a change in each crate costs, out of what `bash .ci/run` printed when it proved everything.
+"""Writes docs/COSTS.md: what a change in each crate costs, from what `bash .ci/run` printed when it proved everything.
 
 Usage: .ci/costs.py LOG, where LOG is that output. Each crate has the processor minutes of its own proofs, tests and builds, of its
 must-fail edits, and of both together with all crates that depend on it.
