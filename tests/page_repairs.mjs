@@ -115,7 +115,7 @@ export async function mixedRepairs({ trial, page }) {
     await page.click('#fix-paint');
     await fixSaid(page, '^No repaint was found');
     const texts = await proposals(page);
-    assert.match(texts[0], /Nearer only: other solutions differ in 8 → 4 cells/, texts.join('\n'));
+    assert.match(texts[0], /Closer, but not enough: other solutions differ in 8 → 4 cells/, texts.join('\n'));
     const mixed = texts.findIndex((text) => /Repaint 1 cell: .* and give 1 cell: row [67], column [67]/.test(text));
     assert.ok(mixed > 0, texts.join('\n'));
     assert.match(texts.at(-1), /^→Give 3 cells, the fewest/);
