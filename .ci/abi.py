@@ -6,11 +6,11 @@ arguments and result: the prototypes of c/nonobench.h and of web/guard.c, the ta
 LLVM's module of the crate where one is named, as text. Of the calls in web/nonobench.mjs the number of arguments is compared with what web/guard.c exports.
 
 The statuses are those of crates/web/src/status.rt, and what is refused has the one of crates/program_options/src/fault.rt.
-They stand again in c/nonobench.h, web/guard.c, web/nonobench.mjs and python/nonobench/_library.py.
+They are repeated in c/nonobench.h, web/guard.c, web/nonobench.mjs and python/nonobench/_library.py.
 
-Then it plants differences, and fails where one is not found.
+Then it plants differences, and fails if one is not found.
 
-Usage: .ci/abi.py [MODULE.ll]. The last line says how much was compared. Status 1 where something differs.
+Usage: .ci/abi.py [MODULE.ll]. The last line says how much was compared. The status is 1 if something differs.
 """
 import pathlib
 import re

@@ -1,12 +1,12 @@
 #!/usr/bin/env python3
-"""Follows the clauses that README claims to every definition that they stand on, and keeps docs/BASE.md.
+"""Follows the clauses of README's claims to every definition that they depend on, and keeps docs/BASE.md.
 
-For each claim: its clauses and laws by name, and from the words in them, through the imports of each file, all definitions
-in specs/ that they need, in reading order. docs/BASE.md lists these with file, line and the comment's first sentence. It must be what
-this script makes, no claim may need more lines than MOST says, and docs/PROOF.md must quote the whole base of QUOTED. And no line
-of an .antt file may have more columns than WIDTHS says.
+For each claim it takes the clauses and laws by name. From the names in them, through the imports of each file, it collects all
+definitions in specs/ that they need, in reading order. docs/BASE.md lists these with file, line and the comment's first sentence. It
+must be what this script makes, no claim may need more lines than MOST says, and docs/PROOF.md must quote the whole base of QUOTED.
+And no line of an .antt file may have more columns than WIDTHS says.
 
-Usage: .ci/base.py [--write | --counts]: with --write docs/BASE.md is written, with --counts the counts alone are printed.
+Usage: .ci/base.py [--write | --counts]: --write writes docs/BASE.md, and --counts prints only the counts.
 """
 import collections
 import re
@@ -44,7 +44,7 @@ WIDTHS = {'specs': 120, 'proofs': 200}
 QUOTED = 'A certificate proves uniqueness'
 HEAD = '''# What the claims depend on
 
-For somebody who wants to read all that a claim of [README](../README.md#what-is-proved) means: its definitions, in reading order. Proofs, code and the definitions of the toolchain are left out. A definition that an earlier claim has is counted again, but not listed again. Made by `.ci/base.py --write`.
+This page is for those who want to read all that a claim of [README](../README.md#what-is-proved) means. It lists the definitions of each claim, in reading order. Proofs, code and the definitions of the toolchain are left out. A definition that an earlier claim has is counted again, but not listed again. `.ci/base.py --write` makes this page.
 '''
 WORD = re.compile(r'[^\s(){},;λ→×⊎≡≢≤≥+*/∷∘\[\]↔=<>]+')
 

@@ -1,5 +1,5 @@
 #!/usr/bin/env python3
-"""Writes docs/COSTS.md: what a change in each crate costs, out of what `bash .ci/run` printed when it proved everything.
+"""Writes docs/COSTS.md: what a change in each crate costs, from what `bash .ci/run` printed when it proved everything.
 
 Usage: .ci/costs.py LOG, where LOG is that output. Each crate has the processor minutes of its own proofs, tests and builds, of its
 must-fail edits, and of both together with all crates that depend on it.
@@ -13,9 +13,9 @@ ROOT = pathlib.Path(__file__).resolve().parent.parent
 LINE = re.compile(r'^ {4}([a-z_]+): ((?:proofs|edits|tests|builds) .*)$')
 HEAD = """# What a change costs
 
-For somebody who changes the code. A changed crate is proved again, its must-fail edits are tried again, and so are all crates that depend on it. These are processor minutes of one run of `bash .ci/run` from nothing, on {date}, in the order of the last column. `.ci/costs.py` makes this page of the output of such a run; crates that are newer are missing.
+This page is for those who change the code. A changed crate is proved again, its must-fail edits are tried again, and so are all crates that depend on it. These are processor minutes of one run of `bash .ci/run` from nothing, on {date}, in the order of the last column. `.ci/costs.py` makes this page from the output of such a run; newer crates are missing.
 
-| crate | its proofs, tests and builds | its edits | with all crates above it |
+| crate | its proofs, tests and builds | its must-fail edits | with all crates above it |
 |---|---|---|---|
 """
 

@@ -29,7 +29,7 @@ ROOMS = {
 }
 HEAD = '''# Crates
 
-For somebody who looks for a place in the code: the crates in reading order. [ARCHITECTURE.md](../docs/ARCHITECTURE.md) names their main items, and `crates.txt` what they depend on. Made by `.ci/crates.py --write`.
+This page is for those who look for a place in the code. It lists the crates in reading order. [ARCHITECTURE.md](../docs/ARCHITECTURE.md) names their main items, and `crates.txt` has what each depends on. `.ci/crates.py --write` makes this page.
 
 '''
 

@@ -1,7 +1,7 @@
 #!/usr/bin/env python3
-"""Counts what makes the house hard to live in, and prints a line for each: names repeated, long heads, dead definitions.
+"""Counts what makes the code harder to read, and prints a line for each kind: repeated names, long heads, dead definitions.
 
-Usage: .ci/house.py [-v]: with -v each place is printed too. The crates of tests count for nothing here.
+Usage: .ci/house.py [-v]: with -v it also prints each place. The crates of tests are not counted.
 """
 
 import pathlib

@@ -1,11 +1,11 @@
 #!/usr/bin/env python3
-"""Tells where the processor time of a run of the gate goes, by looking at its processes every second.
+"""Measures where the processor time of a run of CI goes, by looking at its processes every second.
 
 Usage: .ci/minutes.py PID FILE CRATES: looks at the processes below PID until it is terminated, and then writes the processor
-minutes that it saw. To FILE, one a line, those of each kind: proofs (of crates), edits (their tries, with one more proof of
-the crate to begin with), tests (proofs of test functions) and builds (of programs). To CRATES, a line for each crate, the
-dearest first, its minutes by kind. What a process does after the last look is not seen, so the sum is a little less than
-what the shell's `times` tells; the rest are the runs of tests, programs and scripts.
+minutes that it saw. FILE gets one line for each kind: proofs (of crates), edits (must-fail edits, with one more proof of the
+crate at first), tests (proofs of test functions) and builds (of programs). CRATES gets a line for each crate, the slowest first,
+with its minutes by kind. What a process does after the last look is not seen, so the sum is a little less than what the shell's
+`times` prints; the rest is spent on tests, programs and scripts.
 """
 
 import os

@@ -11,8 +11,8 @@ does not exist. Of some documents also:
 - docs/TRUST.md: a file that has another number of lines than is written after its name.
 
 A sentence's words are those that have a letter or a digit. And the file KIT must have a line with the logic that `rt version`
-prints, where there is an rt. It counts, and with --words lists, the words for which INSTEAD has a better one; each of these is a
-fault, but for sentences that come from the heads of crates.
+prints, if there is an rt. It counts, and with --words lists, the words for which INSTEAD has a better one; each of these is an
+error, except in sentences that come from the heads of crates.
 
 A block of README.md that begins with ```sh is run by .ci/tutorial, so its commands pass. A block that begins with
 ```sh build holds commands that only build or serve; each must begin as one of BUILDS. No other block may be named sh.
@@ -77,7 +77,7 @@ MADE = {os.path.join("docs", "BASE.md")}
 # Folders in which a path that is named must exist, and commands that build, prove or serve rather than answer.
 FOLDERS = "docs|crates|measure|tests|examples|page|web|python|\\.ci"
 BUILDS = ["bash .ci/run", "(cd crates/nonobench && rt try ", "(cd crates/nonobench && rt run ", "install -D ",
-          "export PATH=", "web/build", "pip install dist/", "nonobench-audit "]
+          "export PATH=", "web/build", "python3 -m venv env", "env/bin/pip install dist/", "env/bin/nonobench-audit "]
 
 
 def documents():

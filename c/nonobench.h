@@ -27,7 +27,7 @@
 extern "C" {
 #endif
 
-/* The version of this header. That of the library is asked for by nonobench_version. */
+/* The version of this header. nonobench_version gives the version of the library. */
 #define NONOBENCH_VERSION "0.3.0"
 
 /* How many bytes a picture or a certificate may have, as for the program. The library itself accepts any length. */
@@ -49,13 +49,13 @@ enum {
  * bytes it has. No NUL is added. It needs no desk. */
 size_t nonobench_version(uint8_t *out, size_t room);
 
-/* Benches under handles, and the text of the last call. Made by nonobench_start alone. */
+/* Benches (open pictures) under handles, and the text of the last call. Only nonobench_start makes one. */
 typedef struct nonobench_desk nonobench_desk;
 
 /* Puts a new desk in the cell: DONE or MEMORY. The calls below take the address of this cell. */
 uint32_t nonobench_start(nonobench_desk **desk);
 
-/* Ends a desk with all its benches. At a null it does nothing. */
+/* Ends a desk with all its benches. Does nothing for a null. */
 void nonobench_end(nonobench_desk *desk);
 
 /* Opens a bench on a P3 picture, or a .non text where `non` is true. `background` is a text such as 255,0,0, or empty for white;

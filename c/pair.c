@@ -169,7 +169,7 @@ static uint32_t look_givens(const void *certificate, size_t size, const char *ac
     char said[64] = "certificate accepted\n";
     if (count > 0) snprintf(said, sizeof said, "certificate accepted, givens %zu\n", count);
     if (strcmp(accepted, said) != 0) {
-        put(text, "the library tells other givens");
+        put(text, "the library names other givens");
         return NONOBENCH_REFUSED;
     }
     if (line == 0) return NONOBENCH_DONE;

@@ -1,13 +1,13 @@
 #!/usr/bin/env python3
-"""Draws collections, and measures nonobench-audit on them. A library of nonobench is needed (NONOBENCH_LIBRARY, or c/build).
+"""Draws collections, and measures nonobench-audit on them. It needs nonobench's library (NONOBENCH_LIBRARY, or c/build).
 
 measure/audit.py draw FOLDER [COUNT [SEED]]   pictures of blobs, 20 by 20 in 2 to 5 colours: of four, three have one solution
 measure/audit.py run FOLDER                   wall time, processor time and the parent's memory of an audit with certificates
 measure/audit.py first FOLDER                 seconds until the first row is in its file
-measure/audit.py cost FOLDER                  processor time of a run in one process beside a C program's with the same answers
+measure/audit.py cost FOLDER                  processor time of a run in one process, and of a C program with the same answers
 measure/audit.py resume FOLDER                seconds until `--resume` of 50,000 rows has begun, and until it has ended
 
-The same pictures come each time for one count and seed (1): each is drawn by a generator of its own number. `cost` builds
+One count and one seed (by default 1) always give the same pictures: each has a generator seeded by its number. `cost` builds
 measure/audit_native.c with cc.
 """
 

@@ -1,7 +1,7 @@
 #!/usr/bin/env python3
 """Makes a set of icons as plain PPM pictures: glyphs of two fonts in black and white, and emoji in three to six colours.
 
-Usage: measure/icons.py FOLDER [SEED [SET]]. The code points are drawn by the seed (7) from what the fonts of the set have. SET is
+Usage: measure/icons.py FOLDER [SEED [SET]]. The seed (by default 7) chooses code points among those of the set's fonts. SET is
 `first`, `second` or `third`; no glyph is in two of them. It needs Pillow (python3-pil). Fonts are Debian's: fonts-symbola,
 fonts-dejavu-core and fonts-noto-color-emoji; fonts-font-awesome and fonts-opensymbol; fonts-materialdesignicons-webfont and
 fonts-elusive-icons. A font that is missing is named.

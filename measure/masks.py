@@ -1,8 +1,8 @@
 #!/usr/bin/env python3
-"""Tells what share of a line's evaluation goes to making masks of the facts and writing them back: measure/masks.py
+"""Measures which share of a line's evaluation is spent on making masks of the facts and writing them back: measure/masks.py
 
 The mask engine's files are compiled as Rust, without their clauses and with unchecked places where these are proved, and callgrind
-counts instructions by source lines. The lines are those of pictures of blobs and of noise, every second cell settled. Needed are
+counts instructions by source lines. The lines are those of pictures of blobs and of noise, every second cell settled. It needs
 rustc, with its portable SIMD, and valgrind.
 """
 import os

@@ -1,20 +1,21 @@
 #!/usr/bin/env python3
-"""Measures in instructions beside a native program: measure/native.py NATIVE [FIGURE ..]
+"""Counts instructions, compared with a native program: measure/native.py NATIVE [FIGURE ..]
 
 NATIVE is a folder with the sources `nonoref.cpp` and `treecert.cpp`, P3 files in `pictures/` and `hard/`, and sessions in
-`sessions/`, each named for a picture of these as `NUMBER-KIND_PICTURE.txt`. The sources are built into a folder that is deleted in
-the end. They settle, judge and write trees by the same lines, with words of 64 bits where a picture has at most 63 cells a side. Needed are g++, valgrind, and the programs
-`nonobench`, `tables` and `search_tables` that bash .ci/run leaves. A FIGURE is one of these; without any all are measured:
+`sessions/`, each named after one of these pictures, as `NUMBER-KIND_PICTURE.txt`. The sources are built in a folder that is deleted
+at the end. They settle, judge and write trees in the same way, with words of 64 bits for pictures of at most 63 cells a side. It
+needs g++, valgrind, and the programs `nonobench`, `tables` and `search_tables` that bash .ci/run leaves. A FIGURE is one of these;
+without any, all are measured:
 
-settle    forcing lines until nothing follows: `settle` of `search_tables`, beside the evaluations of `nonoref map`
+settle    forcing lines until nothing follows: `settle` of `search_tables`, compared with the evaluations of `nonoref map`
 line      an evaluation and leaving out by `tables`, in instructions; lines that are open and half settled
-strokes   sessions with `map` after each edit in place of what they ask, opening and start taken off
-verdict   a session of one `verdict`, start taken off; then beside the search in the fixed order
-judge     a verdict of at most 10,000 splits on `hard/`, beside the search in the fixed order, start taken off
-certify   a session of one `certify` on `hard/`, beside treecert, starts taken off
+strokes   sessions with `map` after each edit instead of their questions, without opening and start
+verdict   a session of one `verdict`, without the start; then compared with the search in the fixed order
+judge     a verdict of at most 10,000 splits on `hard/`, compared with the search in the fixed order, without the start
+certify   a session of one `certify` on `hard/`, compared with treecert, without the starts
 
 A start is what a picture of one cell takes. It prints a row for each picture or session, and the median and the largest of each
-figure. A picture for which the native program takes over SECONDS is left out.
+figure. A picture for which the native program takes more than SECONDS is left out.
 """
 import re
 import statistics

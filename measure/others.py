@@ -1,21 +1,24 @@
 #!/usr/bin/env python3
 """Measures who decides within a time whether a picture is the only one with its clues: measure/others.py PROGRAM FOLDER .. [--seconds N]
-[--only SOLVER] [--class NAME=PATTERN,..] [--unnamed CLASS] [--csv FILE] [--svg FILE]
+[--only SOLVER] [--others CSV] [--class NAME=PATTERN,..] [--unnamed CLASS] [--csv FILE] [--svg FILE]
 
-Each P3 picture of the folders is handed to nonobench (`verdict`) and to the solvers that are installed: minisat and cadical (clauses),
+Each P3 picture of the folders is given to nonobench (`verdict`) and to the solvers that are installed: minisat and cadical (clauses),
 gringo with clasp (an answer set program), gecode (`extensional` for each line, the cell of most failures for its colours first).
 In Debian: apt-get install minisat cadical gringo clasp libgecode-dev g++.
-Each gets N seconds of one processor (10 where N is not given) for the whole answer, with what gringo takes; the making of the texts
-that it is handed is not counted. Answers are compared with each other, and each other picture that a solver finds is checked. Where
-nonobench answers `unique`, its certificate is made, checked by `nonobench check` and measured, each step in a process of its own.
+Each gets N seconds of one processor (by default 10) for the whole answer, including gringo's; writing the text that a solver reads
+is not counted. Answers are compared with each other, and each other picture that a solver finds is checked. If nonobench answers
+`unique`, its certificate is made, checked by `nonobench check` and measured, each step in a process of its own.
+
+With `--others`, only nonobench is measured, and the rows of the other solvers are taken from the CSV of an earlier run over the same
+pictures and classes.
 
 It prints the tables of docs/COMPARISON.md, and writes its rows as CSV and its plot as SVG; others_plot.py makes tables and plot again
-from the CSV. A picture is of the first class with a pattern that its file's name matches, else of `other`; the pictures of the class
-`--unnamed` are numbered in the rows.
+from the CSV. A picture belongs to the first class with a pattern that its file's name matches, or else to `other`; the pictures of the
+class `--unnamed` are numbered in the rows.
 
-A line is told by a deterministic automaton over its cells, the same for all: its states are how many of the clue's cells, and of the
-gaps that must stand between blocks of one colour, are read. A solver is asked for a picture that these automata accept and that
-differs from the known one in some cell.
+A line is described by a deterministic automaton over its cells, the same for all: its state is how many of the clue's cells, and of
+the gaps that must be between blocks of one colour, have been read. A solver is asked for a picture that these automata accept and
+that differs from the known one in some cell.
 """
 import argparse
 import fnmatch
@@ -31,7 +34,7 @@ from statistics import median
 sys.dont_write_bytecode = True
 ROOT = Path(__file__).resolve().parent.parent
 sys.path.insert(0, str(ROOT / 'tests'))
-from others_plot import CERTIFY, CHECK, print_tables, write_plot, write_rows  # noqa: E402
+from others_plot import CERTIFY, CHECK, by, of_solvers, print_tables, read_rows, write_plot, write_rows  # noqa: E402
 from reference.faults import Fault  # noqa: E402
 from reference.lines import clues_of, line_of, names  # noqa: E402
 from reference.pictures import read_ppm  # noqa: E402
@@ -54,7 +57,7 @@ def automaton(clue):
     steps, at = {(0, 0): 0}, 0
     for number, (length, colour) in enumerate(clue):
         if number and clue[number - 1][1] == colour:
-            # A gap must stand before a block of the same colour: the state behind a block does not stay.
+            # A gap must come before a block of the same colour: the state after a block does not stay.
             del steps[at, 0]
             steps[at, 0] = at + 1
             at += 1
@@ -166,20 +169,20 @@ def write_numbers(task, file):
 
 
 def rows_of_cells(task, cells):
-    """A picture from its cells, or None where one is missing."""
+    """A picture from its cells, or None if one is missing."""
     rows = [[cells.get((row, col)) for col in range(task.width)] for row in range(task.height)]
     return None if any(cell is None for row in rows for cell in row) else rows
 
 
 class Limit:
-    """What a solver gets: a folder, and seconds of a processor."""
+    """What a solver gets: a folder, and seconds of one processor."""
 
     def __init__(self, folder, seconds):
         self.folder = Path(folder)
         self.seconds = seconds
 
     def run(self, words, text=None):
-        """What a command prints, or None where the time is over; and its time."""
+        """What a command prints, or None if the time is over; and its time."""
         def limited():
             resource.setrlimit(resource.RLIMIT_CPU, (math.ceil(self.seconds), math.ceil(self.seconds) + 1))
         before = resource.getrusage(resource.RUSAGE_CHILDREN)
@@ -205,7 +208,7 @@ def by_nonobench(program):
 
 
 def by_clauses(words, unsatisfied):
-    """Hands clauses to a solver that writes a model as `v` lines, or into a file."""
+    """Gives clauses to a solver that writes a model as `v` lines, or into a file."""
     def solve(task, limit, _):
         cells_of = write_clauses(task, limit.folder / 'clauses')
         (limit.folder / 'model').write_text('')
@@ -330,6 +333,21 @@ class Naming:
         return kind, f'{kind} {self.numbered}'
 
 
+def earlier_rows(path):
+    """The rows of the other solvers from an earlier run, by the name of the picture."""
+    return by('picture', [row for row in of_solvers(read_rows(path)) if row['program'] != 'nonobench'])
+
+
+def kept_rows(earlier, own):
+    """The earlier rows of a picture, whose row by nonobench is given. It is an error if they are missing, or if they disagree."""
+    rows = earlier.get(own['picture'], [])
+    if not rows or any(str(row[key]) != str(own[key]) for row in rows for key in ('class', 'width', 'height', 'colours')):
+        raise SystemExit(f'{own["picture"]}: not in the earlier run')
+    if len({row['answer'] for row in [own, *rows]} - {'open'}) > 1:
+        raise SystemExit(f'{own["picture"]}: they disagree: {own["answer"]}, earlier {[row["answer"] for row in rows]}')
+    return rows
+
+
 def arguments():
     """The arguments of the command line."""
     parser = argparse.ArgumentParser(description=__doc__.splitlines()[0])
@@ -337,6 +355,7 @@ def arguments():
     parser.add_argument('folder', nargs='+')
     parser.add_argument('--seconds', type=float, default=10)
     parser.add_argument('--only', help='the name of one solver')
+    parser.add_argument('--others', help='the CSV of an earlier run, for the rows of the other solvers')
     parser.add_argument('--class', dest='classes', action='append', default=[], help='NAME=PATTERN,..: pictures that are counted together')
     parser.add_argument('--unnamed', action='append', default=[], help='a class whose pictures are numbered, not named')
     parser.add_argument('--csv', help='a file for the rows')
@@ -351,7 +370,8 @@ def main():
     with tempfile.TemporaryDirectory() as folder:
         limit = Limit(folder, asked.seconds)
         print(f'a process that does nothing: {1000 * start(limit):.1f} ms', file=sys.stderr)
-        found = solvers(program, folder)
+        earlier = earlier_rows(asked.others) if asked.others else None
+        found = {'nonobench': by_nonobench(program)} if asked.others else solvers(program, folder)
         if asked.only:
             found = {asked.only: found[asked.only]}
         for picture in sorted(file for one in asked.folder for file in Path(one).rglob('*.ppm')):
@@ -362,7 +382,8 @@ def main():
                 continue
             kind, name = naming.of(picture)
             known = {'picture': name, 'class': kind, 'width': task.width, 'height': task.height, 'colours': len(task.colours)}
-            rows += [known | dict(zip(('program', 'answer', 'seconds', 'bytes'), row)) for row in done]
+            done = [known | dict(zip(('program', 'answer', 'seconds', 'bytes'), row)) for row in done]
+            rows += done[:1] + (kept_rows(earlier, done[0]) if earlier else []) + done[1:]
     if asked.csv:
         write_rows(asked.csv, rows)
     if asked.svg:

@@ -1,11 +1,11 @@
 #!/usr/bin/env python3
-"""How many checks, verdicts, and verdicts with certificates a second of one processor C, Python and JavaScript make.
+"""Measures how many checks, verdicts, and verdicts with certificates C, Python and JavaScript make per second of processor time.
 
-The pictures are noise of 20 by 20 cells in three colours, the same each time, of those that have one solution. A rate is of
-processor time, the best of three rounds; a machine that is busy makes rates smaller all the same, so its load is told.
+The pictures are noise of 20 by 20 cells in three colours, the same each time, and all have one solution. A rate is the best of
+three rounds. A busy machine still lowers the rates, so the load is printed.
 
-Usage: measure/rates.py [PICTURES], 500 where nothing is given. It takes what c/build left, and WASM, else the module of web/out;
-C without cc and JavaScript without node or module are left out, which it says.
+Usage: measure/rates.py [PICTURES], by default 500. It uses what c/build left, and WASM, or else the module of web/out. It leaves
+out C without cc, and JavaScript without node or module, and says so.
 """
 
 import os

@@ -1,4 +1,4 @@
-"""Draws pictures with sessions of strokes on them, and tells what callgrind says of the strokes.
+"""Draws pictures with sessions of strokes on them, and reports what callgrind counts for the strokes.
 
 strokes.py draw FOLDER SIDE STROKES                writes pictures NAME.ppm with sessions NAME.txt, without a stroke that is refused
 strokes.py head                                    writes the head of the table

@@ -1,10 +1,10 @@
 #!/usr/bin/env python3
-"""Draws pictures that no bound of a search was chosen on: measure/unseen.py FOLDER SEED
+"""Draws pictures that were not used to choose the bounds of a search: measure/unseen.py FOLDER SEED
 
-Into FOLDER/pictures go P3 files of six kinds: blobs, lines, icons (symmetric), noise (density 0.15 to 0.85), caves (a cellular
-automaton) and rings. 16 of each are drawn, 15 to 40 cells a side, in 2 to 5 colours with the background; those that lines settle are
-left out. With `nonoref.cpp` in FOLDER too, measure/native.py FOLDER verdict measures them. Needed is the program `nonobench` that bash
-.ci/run leaves.
+It writes P3 files of six kinds to FOLDER/pictures: blobs, lines, icons (symmetric), noise (density 0.15 to 0.85), caves (a cellular
+automaton) and rings. It draws 16 of each, of 15 to 40 cells a side, in 2 to 5 colours with the background, and leaves out those that
+line solving settles. With `nonoref.cpp` in FOLDER too, measure/native.py FOLDER verdict measures them. It needs the program
+`nonobench` that bash .ci/run leaves.
 """
 import math
 import random

@@ -1,9 +1,9 @@
 #!/usr/bin/env python3
-"""Certificates of a built program against the plain checker and the listings of tests/reference: tests/certificates.py PROGRAM
+"""Compares certificates of a built program with the plain checker and the brute force of tests/reference: tests/certificates.py PROGRAM
 
-A long certificate, cut off anywhere or changed in a line or a digit, is answered as the plain checker answers it. Which small
-pictures get a certificate is what a listing of all pictures says, and what is printed is a proof to the plain checker too. Trees
-of a million splits are checked, in bounded time and memory.
+A long certificate, cut off anywhere or changed in a line or a digit, gets the answer of the plain checker. Small pictures have a
+certificate exactly if brute force over all pictures says so, and the plain checker accepts each that is printed. Trees of a million
+splits are checked in bounded time and memory.
 """
 import random
 import re

@@ -1,4 +1,4 @@
-"""The driver of fuzz.sh: cases made by chance, run on the program and held against the reference.
+"""The driver of fuzz.sh: random cases, run on the program and compared with the reference.
 
 A case is a function of the seed and its number, so each can be run again alone. Usage:
 fuzz.py PROGRAM FOLDER SECONDS|CASES SEED [KIND ..], where SECONDS ends with `s`.

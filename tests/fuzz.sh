@@ -1,7 +1,7 @@
 #!/usr/bin/env bash
-# Fuzzes the program with P3 texts, certificates, and, where it has sessions, with commands and .non texts, made and changed
-# by chance from a seed, and compares each run with the plain reference of tests/reference, by meaning: clues, map, verdict,
-# first fault and its place, each reason and each certificate. A case in which they disagree is kept as files in a folder,
+# Fuzzes the program with P3 texts, certificates, and, if it has sessions, with commands and .non texts, made and changed
+# at random from a seed, and compares each run with the plain reference of tests/reference, by meaning: clues, map, verdict,
+# first error and its place, each reason and each certificate. A case in which they disagree is kept as files in a folder,
 # and the status is then 1.
 # Usage: tests/fuzz.sh SECONDSs|CASES SEED [KIND ..] [NUMBER]   (tests/fuzz.sh 60s 1; tests/fuzz.sh 100000 1)
 # KIND is clues, check, work or non (all that the program takes); NUMBER is the case to begin with.

@@ -1,9 +1,9 @@
 #!/usr/bin/env python3
 """Proofs by lemmas of all small pictures, by a built `lemma_tables`: tests/lemma_pictures.py PROGRAM [SEED]
 
-A listing of all pictures of a size says which of them are unique: each of these must be proved, by a proof that the plain checker of
-tests/reference accepts, and each other is ambiguous. The program's checker must take the same proofs. Then proofs of other pictures,
-with lines changed by chance, are handed to it: it takes those that the plain checker takes.
+Brute force over all pictures of a size says which of them are unique. Each of these must get a proof that the plain checker of
+tests/reference accepts, and each other one is ambiguous. The program's checker must accept the same proofs. Then it gets proofs of
+other pictures with lines changed at random: it must accept those that the plain checker accepts.
 """
 import random
 import subprocess

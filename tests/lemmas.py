@@ -1,8 +1,9 @@
 #!/usr/bin/env python3
-"""Proofs by lemmas, by a built `lemma_tables`, against the plain checker and the listings of tests/reference: tests/lemmas.py PROGRAM
+"""Compares a built `lemma_tables`, on proofs by lemmas, with the plain checker and the brute force of tests/reference: tests/lemmas.py
+PROGRAM
 
-The worked texts of tests/cases/lemmas.case are answered as they say. Proofs written by chance, cut off anywhere or changed in a line
-or a byte, are answered as the plain checker answers them. What is accepted is true by a listing of all pictures. The longest and
+The worked texts of tests/cases/lemmas.case get the answers that are written there. Random proofs, cut off anywhere or changed in a
+line or a byte, get the answers of the plain checker. What is accepted is true by brute force over all pictures. The longest and
 deepest texts are checked in bounded time and memory.
 """
 import random

@@ -1,7 +1,7 @@
 #!/usr/bin/env bash
-# Tries what web/library and web/build do with what is there, in a copy of their files with a toolchain that only notes how it is
-# called: nothing is removed before something else is built; what CI left is taken without being told, unless a source is newer;
-# and how long it takes is said. Usage: tests/library.sh, and counts what does not hold.
+# Tries what web/library and web/build do with existing files, in a copy of their files with a toolchain that only notes how it is
+# called: nothing is removed before something else is built; what CI left is used without being asked for, unless a source is newer;
+# and they say how long it takes. Usage: tests/library.sh, and counts what does not hold.
 set -uo pipefail
 root=$(cd "$(dirname "$0")/.." && pwd)
 work=$(mktemp -d)

@@ -30,7 +30,7 @@ test('palette files that are not read name why', () => {
     for (const [kind, texts] of Object.entries(faults)) {
         for (const text of texts) assert.throws(() => readPalette(text), (fault) => fault instanceof PaletteFault && fault.kind === kind && fault.message.length > 8, `${kind}: ${text.slice(0, 40)}`);
     }
-    assert.throws(() => readPalette('GIMP Palette\n#\n1 2 3\n300 0 0\n'), /line 4 is no colour/);
+    assert.throws(() => readPalette('GIMP Palette\n#\n1 2 3\n300 0 0\n'), /line 4 is not a colour/);
     assert.throws(() => readPalette('JASC-PAL\n0100\n3\n1 2 3\n'), /line 3/);
 });
 

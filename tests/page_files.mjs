@@ -38,7 +38,7 @@ test('a raw picture whose samples look like text', () => {
 
 test('pictures that are not read', () => {
     refused(() => readPpm(bytes('P3')), /ends before its width/);
-    refused(() => readPpm(bytes('P3 2x 1 255')), /width at byte 3 is no number/);
+    refused(() => readPpm(bytes('P3 2x 1 255')), /width at byte 3 is not a number/);
     refused(() => readPpm(bytes('P3 0 1 255')), /no pixels/);
     refused(() => readPpm(bytes('P3 4097 1 255')), /4,096/);
     refused(() => readPpm(bytes('P6 4096 99999999999999 255 ')), /4,096/);
@@ -46,7 +46,7 @@ test('pictures that are not read', () => {
     refused(() => readPpm(bytes('P3 1 1 65536 0 0 0')), /maxval/);
     refused(() => readPpm(bytes('P3 1 1 255 0 0')), /ends before its samples/);
     refused(() => readPpm(bytes('P3 1 1 255 0 256 0')), /above the maxval/);
-    refused(() => readPpm(bytes('P3 1 1 255 0 0 0 0')), /more behind/);
+    refused(() => readPpm(bytes('P3 1 1 255 0 0 0 0')), /more text after/);
     refused(() => readPpm(bytes('P6 1 1 255 ab')), /ends before its last sample/);
 });
 
@@ -100,7 +100,7 @@ test('XML: elements, attributes, texts and signs', () => {
 test('XML that is not read', () => {
     refused(() => readXml('<a>'), /not closed/);
     refused(() => readXml('<a></b>'), /closes nothing/);
-    refused(() => readXml('<a/><b/>'), /not one outermost/);
+    refused(() => readXml('<a/><b/>'), /not exactly one outermost/);
     refused(() => readXml('x<a/>'), /outside/);
     refused(() => readXml('<a b=1/>'), /no quotes/);
     refused(() => readXml('<a b="1>'), /no end/);

@@ -185,7 +185,7 @@ export async function certificateDropped({ browser, url, folder }) {
     await saysThat(page, 'only solution with its given cells');
     await page.run(() => bench.stroke(['unpin 1 1']));
     await drop(page, own, 'given.cert', given);
-    await saysThat(page, 'counts on cells that this puzzle does not give');
+    await saysThat(page, 'relies on given cells that this puzzle does not give');
     await page.close();
 }
 
@@ -249,10 +249,10 @@ export async function givensAndColours({ browser, url, folder }) {
     assert.match(await trial.text('#near'), /“black” \(a\) and “black” \(b\)|the background and “white” \(c\)/);
     await page.run(() => { window.print = () => {}; });
     await page.run(() => document.querySelector('[data-action="export-empty"]').click());
-    await page.until(() => /cannot be told from others/.test(document.body.textContent), 3000 * SLACK);
+    await page.until(() => /cannot tell the clues apart/.test(document.body.textContent), 3000 * SLACK);
     await page.press('Control+p');
     await page.until(() => document.querySelector('dialog[open]'), 3000 * SLACK);
-    assert.match(await trial.text('dialog'), /Too much alike.* So the sheet has letters/);
+    assert.match(await trial.text('dialog'), /Too similar.* So the sheet has letters/);
     assert.deepEqual(await page.run(() => [document.querySelector('#print-show').value, document.querySelector('#print-show [value="colours"]').disabled]), ['letters', true]);
     await page.press('Enter');
     await page.until(() => document.querySelectorAll('.printed').length === 2, 5000 * SLACK);

@@ -74,7 +74,7 @@ export async function repairsOfSeveralCells({ trial, page }) {
     await listed(page);
     const sizes = await page.run(() => [...document.querySelectorAll('#fix-list button')].map((button) => button.textContent));
     assert.match(sizes[0], /2 cells/);
-    assert.match(await trial.text('#fix-said'), /None is smaller/);
+    assert.match(await trial.text('#fix-said'), /No smaller one exists/);
     assert.match(sizes.at(-1), /Give \d+ cells?, the fewest/, 'given cells stand beside');
     assert.equal(await page.run(() => document.querySelectorAll('#fix-list li:first-child canvas').length), 2, 'before and after');
     assert.equal(await page.run(() => document.documentElement.scrollHeight - innerHeight), 0, 'the window itself has nothing to scroll');

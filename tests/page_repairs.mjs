@@ -115,7 +115,7 @@ export async function mixedRepairs({ trial, page }) {
     await page.click('#fix-paint');
     await fixSaid(page, '^No repaint was found');
     const texts = await proposals(page);
-    assert.match(texts[0], /Nearer only: other solutions differ in 8 → 4 cells/, texts.join('\n'));
+    assert.match(texts[0], /Closer, but not enough: other solutions differ in 8 → 4 cells/, texts.join('\n'));
     const mixed = texts.findIndex((text) => /Repaint 1 cell: .* and give 1 cell: row [67], column [67]/.test(text));
     assert.ok(mixed > 0, texts.join('\n'));
     assert.match(texts.at(-1), /^→Give 3 cells, the fewest/);
@@ -137,7 +137,7 @@ export async function looseIsSaid({ trial, page }) {
     await trial.action('fix');
     await page.click('#fix-paint');
     await fixSaid(page, 'found');
-    assert.match(await trial.text('#fix-said'), /More than 8 cells: the picture is too loose, and a bolder threshold at import/);
+    assert.match(await trial.text('#fix-said'), /More than 8 cells: the picture is too sparse, and a bolder threshold at import/);
     const texts = await proposals(page);
     assert.match(texts[0], /^→10 cells: .*; then no guessing$/, texts.join('\n'));
 }
@@ -235,7 +235,7 @@ export async function tutorialSteps({ browser, url, folder }) {
     await chosen(page, 'fix-goal', 'lines');
     await page.click('#fix-paint');
     await listed(page);
-    assert.match(await trial.text('#fix-said'), /None is smaller/);
+    assert.match(await trial.text('#fix-said'), /No smaller one exists/);
     const square = (await proposals(page)).findIndex((text) => /2 cells: row 3, column 4; row 3, column 13/.test(text));
     assert.ok(square >= 0, (await proposals(page)).join('\n'));
     await page.run((at) => document.querySelectorAll('#fix-list button')[at].click(), square);

@@ -1,7 +1,7 @@
 #!/usr/bin/env bash
 # Tries the built page in headless Chromium: by mouse, keys and fingers, at three sizes of the window. What is shown is
-# compared with sessions of `nonobench work` on the same picture. A table at the end tells which of the page's points hold, by
-# size and input. It is no part of the gate, which has no browser.
+# compared with sessions of `nonobench work` on the same picture. A table at the end says which of the page's points hold, by
+# size and input. CI does not run it, since it has no browser.
 # Usage: tests/page_test.sh [FOLDER [TEST ..]], where FOLDER gets pictures of the page (none: a scratch folder).
 # PAGE is the built page (dist/nonobench.html), NONOBENCH the program (none: nothing is compared), SLACK a factor for the
 # bounds of time, CHROMIUM the browser.
@@ -12,7 +12,7 @@ program="$PWD/crates/nonobench/out/nonobench"
 if [ -z "${NONOBENCH+set}" ] && [ -x "$program" ]; then NONOBENCH=$program; fi
 export NONOBENCH="${NONOBENCH:-}"
 for tool in node unzip pdfinfo pdftotext "${CHROMIUM:-chromium}"; do
-    command -v "$tool" >/dev/null || { echo "this test wants $tool: apt-get install -y nodejs chromium poppler-utils unzip" >&2; exit 2; }
+    command -v "$tool" >/dev/null || { echo "this test needs $tool: apt-get install -y nodejs chromium poppler-utils unzip" >&2; exit 2; }
 done
 [ -f "$PAGE" ] || { echo "no page at $PAGE: build it with web/build, or set PAGE" >&2; exit 2; }
 [ -n "$NONOBENCH" ] || echo "no program: what is shown is not compared with a session (set NONOBENCH)"

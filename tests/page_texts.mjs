@@ -72,7 +72,7 @@ test('each language has the texts of English, in its order, with the same places
 });
 
 // Words that are the same in German.
-const SAME = ['formats.maxval', 'view.name', 'play.pause', 'library.name', 'import.name', 'import.dithering', 'import.palette', 'import.format', 'import.gimpGpl', 'import.jascPal',
+const SAME = ['formats.maxval', 'view.name', 'play.pause', 'library.name', 'library.form', 'import.name', 'import.dithering', 'import.palette', 'import.format', 'import.gimpGpl', 'import.jascPal',
     'import.1Gib', 'import.256Mib', 'import.16Mib', 'export.copyright', 'export.usLetter', 'export.linkField', 'start.name', 'main.start'];
 
 test('no English is left in German', () => {

@@ -1,8 +1,8 @@
 #!/usr/bin/env bash
-# Refuses each growth of memory in turn, in the tests of the crate `refused`. Until no growth is left to refuse, a test must pass
-# each time: each refused call answers by memory and leaves what it was lent as it was, and answers when it is called again. The
-# tests are built as `rt test` builds them, and malloc and realloc are refused from outside, by a library that is loaded before
-# the C library. It takes seconds, once the tests are built and proved.
+# Makes each allocation fail in turn, in the tests of the crate `refused`. A test must pass each time, until there is no further
+# allocation: each refused call answers that memory ran out, leaves what it borrowed as it was, and answers when it is called again.
+# The tests are built as `rt test` builds them, and malloc and realloc fail from outside, by a library that is loaded before the C
+# library. It takes seconds, once the tests are built and proved.
 # Usage: tests/refuse.sh [SUBJECT ..]   (all modules of the crate's tests, or some: edits, books, ..)
 set -euo pipefail
 root=$(cd "$(dirname "$0")/.." && pwd)

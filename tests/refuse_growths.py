@@ -1,4 +1,4 @@
-"""The driver of refuse_growths.sh: runs of the program in which each growth of memory is refused in turn.
+"""The driver of refuse_growths.sh: runs of the program in which each allocation fails in turn.
 
 Usage: refuse_growths.py PROGRAM LIBRARY FOLDER [WORD ..]
 """

@@ -1,11 +1,11 @@
 #!/usr/bin/env bash
-# Refuses each growth of memory of the built program in turn: the clues of each picture in examples/, words that are refused
+# Makes each allocation of the built program fail in turn: the clues of each picture in examples/, arguments that are refused
 # or ask for help, checks of certificates, and sessions on pictures and puzzles.
 # A run that answers once must end with status 1, the line `nonobench: memory` and nothing of an answer; so must a session whose
 # file is not open yet. A command of a session must be answered
 # by `refused: Memory` alone, after which clues, map and picture are as before, and after `certify` the verdict; and the command is
-# answered when it is said again, as are all behind it. A growth may also be refused without a trace, where the program can go on with less memory than
-# it asked for: then all is as with ample memory.
+# answered when it is sent again, as are all after it. An allocation may also fail without a trace, if the program can go on with
+# less memory than it asked for: then all is as with enough memory.
 # Usage: tests/refuse_growths.sh [WORD ..]   (all runs, or those whose names hold a word; PROGRAM names another program than
 # the proved one)
 set -euo pipefail

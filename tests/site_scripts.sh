@@ -1,6 +1,6 @@
 #!/usr/bin/env bash
 # Tries the scripts for a site's pairs (examples/check-site, make-packs, answer_pack) on folders that cannot be searched, names that a
-# shell may read otherwise, and a program that does not run: tests/site_scripts.sh PROGRAM. Ends with status 0 where all is as it must be.
+# shell may misread, and a program that does not run: tests/site_scripts.sh PROGRAM. Ends with status 0 if all is well.
 set -uo pipefail
 program=$(realpath "$1")
 examples=$(cd "$(dirname "$0")/../examples" && pwd)

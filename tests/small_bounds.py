@@ -1,10 +1,10 @@
 #!/usr/bin/env python3
-"""The ladder of a search on all small pictures, within bounds so small that each way answers: tests/small_bounds.py PROGRAM ..
+"""Tries the ladder of searches on all small pictures, within bounds so small that each search answers: tests/small_bounds.py PROGRAM ..
 
-The programs are builds of the crate `search_tables`, and are asked by its call `within`. All pictures of three by three and of two by
-four in two colours, and every so manieth in three, are judged and certified, without givens and with some, within each of some
-bounds. A listing of all pictures says what each answer must be; a certificate must be accepted by the plain checker of
-tests/reference.
+The programs are builds of the crate `search_tables`, which are asked by its call `within`. All pictures of three by three and of two
+by four cells in two colours, and a sample of those in three, are judged and certified, with and without givens, within several
+bounds. Brute force over all pictures says what each answer must be; the plain checker of tests/reference must accept each
+certificate.
 """
 import functools
 import itertools

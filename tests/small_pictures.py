@@ -1,11 +1,11 @@
 #!/usr/bin/env python3
-"""All small pictures and puzzles against built programs: tests/small_pictures.py PROGRAM ..
+"""Tries built programs on all small pictures and puzzles: tests/small_pictures.py PROGRAM ..
 
-A listing of all pictures of a size says what each answer must be, and tests/reference reads each session again. Strokes: every
-picture of a size is reached, and each paint of each cell in each colour is made from it and taken back; verdict, other picture,
-clues and map after each. Givens: every set of given cells, with its verdict and its certificate. Puzzles: every list of clues of a
-size without a goal, of which a picture is opened where there is one. One session goes along many pictures; what a second program
-prints is judged anew only where it differs from what the first one printed.
+Brute force over all pictures of a size says what each answer must be, and tests/reference answers each session again. Strokes: from
+every picture of a size, each cell is painted in each colour, and the stroke undone; verdict, other picture, clues and map are
+compared after each. Givens: every set of given cells, with its verdict and its certificate. Puzzles: every list of clues of a size,
+without a goal, which opens as a picture if there is one. One session goes through many pictures; what a second program prints is
+compared again only where it differs from what the first one printed.
 """
 import itertools
 import subprocess

@@ -1,7 +1,7 @@
 #!/usr/bin/env bash
 # Runs a program on tables of calls and compares what it prints with what they expect: tables.sh PROGRAM [FILE ..].
-# Without files, on all of the folder tests/ that is named as the program is. A line of a table is a call; the lines below it that begin with '= ' are what the
-# program must print, without that; '#' begins a comment. The last line is 'N tables, M answers, F failed'.
+# Without files it takes the folder of tests/ that has the program's name. A line of a table is a call; the lines below it that begin
+# with '= ' have what the program must print; '#' begins a comment. The last line is 'N tables, M answers, F failed'.
 set -uo pipefail
 program=$(realpath "${1:?usage: tables.sh PROGRAM [FILE ..]}")
 shift

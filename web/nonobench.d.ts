@@ -11,11 +11,11 @@ declare global {
 export type Input = string | Uint8Array | ArrayBuffer;
 
 export interface OpenOptions {
-  /** How many edits can be undone, 1 to 1000; 100 where it is not given. */
+  /** How many edits can be undone, 1 to 1000; by default 100. */
   history?: number;
-  /** The colour of the background in a P3 picture, 'r,g,b'; white where it is not given. */
+  /** The colour of the background in a P3 picture, 'r,g,b'; by default white. */
   background?: string | null;
-  /** The file's format. Where it is not given, the file is looked at. */
+  /** The file's format; by default it is recognised by the file's contents. */
   format?: 'ppm' | 'non';
 }
 
@@ -23,51 +23,51 @@ export interface OpenOptions {
 export type Place = readonly [row: number, column: number];
 
 export interface CheckOptions {
-  /** The colour of the background, 'r,g,b'; white where it is not given. */
+  /** The colour of the background, 'r,g,b'; by default white. */
   background?: string | null;
-  /** The cells that are published with their colours; none where it is not given. 'any': those that the certificate gives. */
+  /** The cells whose colours are published; by default none. 'any' accepts all that the certificate gives. */
   givens?: readonly Place[] | 'any' | null;
 }
 
-/** What is said to a picture and a certificate. */
+/** The answer to a picture and a certificate. */
 export interface Checked {
-  /** The certificate proves that no other picture of that size has the clues and the givens, and these are published. */
+  /** The certificate proves that no other picture of that size has the clues and the givens' colours, and all givens are published. */
   accepted: boolean;
-  /** The program's status: 0 where it is accepted; 1 also where a given is not published. */
+  /** The program's status: 0 if it is accepted; 1 also if a given is not published. */
   status: number;
-  /** What the program says; or `certificate UnpublishedGiven at line N`, where a given is not published. */
+  /** What the program says; or `certificate UnpublishedGiven at line N`, if a given is not published. */
   text: string;
-  /** The cells that the certificate gives, where its proof holds: also where one is not published. */
+  /** The cells that the certificate gives, if its proof is right, even if one of them is not published. */
   givens: Place[];
 }
 
-/** A bench on a picture, until it is closed. One that nobody holds any more is closed at some time. */
+/** An open picture, until it is closed. A bench without references is closed some time later. */
 export interface Bench {
   /** Answers lines, each a command, with exactly what the program writes for them. */
   say(lines: Input): string;
   /** Ends the bench. Each further call throws a Fault. */
   close(): void;
-  /** As `close`, for `using`; of a closed bench nothing. It is there where the language has Symbol.dispose. */
+  /** As `close`, for `using`; it does nothing to a closed bench. It exists if the language has Symbol.dispose. */
   [Symbol.dispose](): void;
 }
 
-/** An instance of the module. Its benches are apart from those of another. */
+/** An instance of the module. It shares no benches with other instances. */
 export interface Engine {
   open(file: Input, options?: OpenOptions): Bench;
   check(picture: Input, certificate: Input, options?: CheckOptions): Checked;
   /** The clues of a file, a line each, as the program prints them. */
   clues(file: Input, options?: OpenOptions): string;
-  /** The version of the module, as the program prints it behind its name. */
+  /** The version of the module, as the program prints it after its name. */
   readonly version: string;
-  /** How many bytes of memory the module has taken. */
+  /** How many bytes of memory the module has allocated. */
   readonly memory: number;
-  /** For tests: lets the nth growth of memory from now on be refused; 0 for none. */
+  /** For tests: makes the nth allocation from now on fail; 0 for none. */
   refuse(nth: number): void;
 }
 
 /** Why a call was not answered. */
 export class Fault extends Error {
-  /** 'open': the input was refused; 'memory'; 'closed': the bench was closed; 'ended': the module is of no use any more. */
+  /** 'open': the input was refused; 'memory': out of memory; 'closed': the bench was closed; 'ended': the module cannot be used any more. */
   readonly kind: 'open' | 'memory' | 'closed' | 'ended';
   /** What the program says. */
   readonly text: string;

@@ -39,7 +39,7 @@ function bytesOf(input) {
   if (typeof input === 'string') return encoder.encode(input);
   if (input instanceof Uint8Array) return input;
   if (input instanceof ArrayBuffer) return new Uint8Array(input);
-  throw new TypeError('a string, a Uint8Array or an ArrayBuffer is wanted');
+  throw new TypeError('expected a string, a Uint8Array or an ArrayBuffer');
 }
 
 // Whether a file is a .non text: a line of it begins with a word of that format, and it does not begin as a picture does.
@@ -123,7 +123,7 @@ class Engine {
     const text = this.#text();
     if (status !== DONE) return { accepted: false, status, text, givens: [] };
     const givens = givensOf(proof);
-    if (text !== `certificate accepted${givens.length > 0 ? `, givens ${givens.length}` : ''}\n`) throw new Fault('ended', `the module tells other givens: ${text}`);
+    if (text !== `certificate accepted${givens.length > 0 ? `, givens ${givens.length}` : ''}\n`) throw new Fault('ended', `the module names other givens: ${text}`);
     const at = published ? givens.findIndex(([row, column]) => !published.has(`${row} ${column}`)) : -1;
     if (at >= 0) return { accepted: false, status: REFUSED, text: `certificate UnpublishedGiven at line ${at + 2}`, givens };
     return { accepted: true, status, text, givens };

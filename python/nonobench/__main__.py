@@ -13,9 +13,9 @@ LIBRARIES = (
     ("distributed", "distributed", "an audit on more machines"),
 )
 OFFERS = """
-  nonobench-audit PATH..    which puzzles of a collection have one solution; --help tells more
+  nonobench-audit PATH..    which puzzles of a collection have one solution; see --help
   python3 -m nonobench.audit PATH..    the same
-  import nonobench          check, clues, verdict and more in a program of your own; help(nonobench) tells more
+  import nonobench          check, clues, verdict and more in a program of your own; see help(nonobench)
 """
 
 
@@ -24,8 +24,7 @@ def main() -> None:
     print(f"nonobench {nonobench.version()}, of {nonobench._library._calls._name}\n{OFFERS}")
     for name, module, use in LIBRARIES:
         is_there = importlib.util.find_spec(module) is not None
-        extra = "cluster" if module == "distributed" else "audit"
-        print(f"  {name:12} {use:28} {_version(name) if is_there else f'not installed (pip install nonobench[{extra}])'}")
+        print(f"  {name:12} {use:28} {_version(name) if is_there else f'not installed (pip install {name})'}")
 
 
 def _version(name: str) -> str:

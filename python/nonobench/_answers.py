@@ -91,7 +91,7 @@ def result_of(text: str, certificate: bytes) -> Result:
         at = end + 1
     result = Result(tuple(givens))
     if str(result) != text:
-        raise RuntimeError(f"the library tells other givens: {text!r}")
+        raise RuntimeError(f"the library names other givens: {text!r}")
     return result
 
 

@@ -130,7 +130,7 @@ def picture_of(columns: int, rows: int, triples: Iterable[Colour], maxval: int =
     """A P3 text of cells by rows, each a red, a green and a blue from 0 to maxval."""
     cells = list(triples)
     if len(cells) != columns * rows:
-        raise ValueError(f"{columns} by {rows} cells are {columns * rows}, and {len(cells)} came")
+        raise ValueError(f"{columns} by {rows} cells need {columns * rows} colours, not {len(cells)}")
     lines = [f"P3\n{columns} {rows}\n{maxval}", *(f"{red:d} {green:d} {blue:d}" for red, green, blue in cells)]
     return ("\n".join(lines) + "\n").encode("ascii")
 
@@ -138,7 +138,7 @@ def picture_of(columns: int, rows: int, triples: Iterable[Colour], maxval: int =
 def bytes_of(file: Bytes) -> bytes:
     """The bytes of a file, not too many of them."""
     if not isinstance(file, (bytes, bytearray, memoryview)):
-        raise TypeError(f"bytes are wanted, and not {type(file).__name__}")
+        raise TypeError(f"expected bytes, not {type(file).__name__}")
     held = bytes(file)
     if len(held) > MOST_BYTES:
         raise LengthFault("TooLong", MOST_BYTES, "input too long")

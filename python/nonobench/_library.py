@@ -41,7 +41,7 @@ def _load(path: str) -> ctypes.CDLL:
     try:
         library = ctypes.CDLL(path)
     except OSError as error:
-        raise ImportError(f"{path} is not there; c/build makes it, and NONOBENCH_LIBRARY names it: {error}") from error
+        raise ImportError(f"cannot load {path}; build it with c/build, or set NONOBENCH_LIBRARY to its path: {error}") from error
     cell = ctypes.POINTER(ctypes.c_void_p)
     bytes_of = [ctypes.c_char_p, ctypes.c_size_t]
     number = ctypes.c_uint32

@@ -50,9 +50,9 @@ class Worker(Questions):
 
     def __init__(self, seconds: float = 10.0, memory: int = 1 << 30) -> None:
         if not isinstance(seconds, (int, float)):
-            raise TypeError(f"seconds must be a number, and not {type(seconds).__name__}")
+            raise TypeError(f"seconds must be a number, not {type(seconds).__name__}")
         if not 0 < seconds <= threading.TIMEOUT_MAX:
-            raise ValueError("seconds must be above 0, and have an end")
+            raise ValueError("seconds must be above 0 and finite")
         self._seconds = float(seconds)
         self._memory = operator.index(memory)
         if self._memory <= 0:
@@ -185,9 +185,9 @@ class _Process:
             self._stream.sendall(b"".join((QUESTION.pack(number, kind, limit, *map(len, files)), *files)), _NO_SIGNAL)
             answered, status, *sizes = ANSWER.unpack(self._read(ANSWER.size, deadline))
             if answered != number:
-                raise RuntimeError(f"the worker answered question {answered} in place of {number}")
+                raise RuntimeError(f"the worker answered question {answered} instead of {number}")
             if sum(sizes) > self._memory:
-                raise RuntimeError("the worker answers more than it has memory for")
+                raise RuntimeError("the worker's answer is larger than its memory")
             return status, [self._read(size, deadline) for size in sizes if size]
         except socket.timeout:
             if time.monotonic() < deadline:

@@ -156,8 +156,8 @@ class Reading(unittest.TestCase):
             (webpbn(UNIQUE, more=clue), "the clues of the rows are not those of the solution"),
             (webpbn(UNIQUE, kind="triddler"), "of the type triddler"),
             (webpbn(UNIQUE).replace("f00", "red"), "not three or six hexadecimal digits"),
-            (webpbn(UNIQUE).replace("|X.|", "|X?|"), "'\\?', which is no colour"),
-            (webpbn(UNIQUE).replace("|X.|", "|X.."), "does not stand between bars"),
+            (webpbn(UNIQUE).replace("|X.|", "|X?|"), "'\\?', which is not a colour"),
+            (webpbn(UNIQUE).replace("|X.|", "|X.."), "is not between bars"),
             (webpbn(UNIQUE).replace("|X.|", "|X|"), "several lengths"),
             (webpbn(["." * 121]), "larger than 120 by 120"),
             (webpbn(UNIQUE).replace('<puzzle type="grid"', '<puzzle type="grid" backgroundcolor="blue"'), "background of the puzzle"),
@@ -165,7 +165,7 @@ class Reading(unittest.TestCase):
         ):
             with self.subTest(words):
                 self.assertRegex(str(one(text.encode())), words)
-        for text, words in (("<html/>", "no puzzle"), ("<puzzle>", "the XML is not read"), (b"\xff\xfe<", "the XML is not read")):
+        for text, words in (("<html/>", "no puzzle"), ("<puzzle>", "the XML cannot be read"), (b"\xff\xfe<", "the XML cannot be read")):
             with self.subTest(words), self.assertRaisesRegex(Unreadable, words):
                 one(text if isinstance(text, bytes) else text.encode())
 
@@ -365,7 +365,7 @@ class Again(Case):
         self.put("one.ppm", p3(UNIQUE))
         (self.folder / "rows.jsonl").write_text('{"file":"site/one.ppm","verdict":"unique"}\nmy diary\n')
         done = self.run_audit("site", "--jsonl", "rows.jsonl", "--resume", status=3)
-        self.assertIn("rows.jsonl: line 2 is no row of an audit", done.stderr)
+        self.assertIn("rows.jsonl: line 2 is not a row of an audit", done.stderr)
         self.assertIn("my diary", (self.folder / "rows.jsonl").read_text())
 
     def test_shards_and_merge(self):

@@ -57,11 +57,11 @@ class Files(Case):
         self.put("text.png", png(8, 8, black, chunk(b"zTXt", b"k\0\0" + bomb(64))))
         self.put("whole.png", png(8, 8, black))
         errors = self.errors("--memory", "256")
-        self.assertRegex(errors["cut.png"], "^the image is not read: ")
+        self.assertRegex(errors["cut.png"], "^the image cannot be read: ")
         self.assertEqual(errors["empty.png"], "this does not begin as PNG does")
         self.assertEqual(errors["huge.png"], "60000 by 60000 pixels, and a puzzle has at most 120 by 120")
         self.assertIsNone(errors["bomb.png"])
-        self.assertEqual(errors["text.png"], "the image is not read: Decompressed Data Too Large")
+        self.assertEqual(errors["text.png"], "the image cannot be read: Decompressed Data Too Large")
         self.assertIsNone(errors["whole.png"])
 
     def test_texts(self):
@@ -91,7 +91,7 @@ class Files(Case):
         for name, words in (
             ("laughs.xml", "declares entities"), ("outside.xml", "declares entities"), ("deep.xml", "too many elements"),
             ("wide.xml", "too many elements"), ("bars.xml", "between bars"), ("spaces.xml", "between bars"),
-            ("broken.xml#2", "the XML is not read"),
+            ("broken.xml#2", "the XML cannot be read"),
         ):
             with self.subTest(name):
                 self.assertRegex(errors[name], words)
@@ -110,8 +110,8 @@ class Files(Case):
         self.put("real.ppm", p3(UNIQUE))
         os.symlink("real.ppm", self.site / "link.ppm")
         self.assertEqual(self.errors(), {
-            "pipe.ppm": "this is no file", "one.ppm": "Too many levels of symbolic links", "two.ppm": "Too many levels of symbolic links",
-            "self.ppm": "this folder is not read", "zero.ppm": "this is no file", "gone.ppm": "No such file or directory",
+            "pipe.ppm": "this is not a file", "one.ppm": "Too many levels of symbolic links", "two.ppm": "Too many levels of symbolic links",
+            "self.ppm": "this folder is not read", "zero.ppm": "this is not a file", "gone.ppm": "No such file or directory",
             "folder.ppm/in.ppm": None, "real.ppm": None, "link.ppm": None,
         })
 
@@ -331,9 +331,9 @@ class Processes(Case):
         self.assertIn("nonobench-audit: 1 not read, since defusedxml is not installed\n", done.stderr)
         rows = self.read("rows")
         self.assertEqual(rows["site/one.ppm"]["verdict"], "unique")
-        self.assertEqual(rows["site/image.png"]["error"], "Pillow is not installed, which reads images (pip install nonobench[audit])")
+        self.assertEqual(rows["site/image.png"]["error"], "Pillow, which reads images, is not installed (pip install Pillow)")
         done = subprocess.run([*words[:2], "-c", code, "site", "--html", "x"], cwd=self.folder, env=self.env(), capture_output=True, text=True)
-        self.assertEqual((done.returncode, done.stderr), (3, "nonobench-audit: jinja2 is not installed, which makes the report (pip install nonobench[audit])\n"))
+        self.assertEqual((done.returncode, done.stderr), (3, "nonobench-audit: jinja2, which makes the report, is not installed (pip install jinja2)\n"))
 
 
 class Terminal(Case):

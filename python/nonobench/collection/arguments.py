@@ -10,9 +10,9 @@ from typing import Optional
 
 from .readers import ground_of
 
-ABOUT = """Tells which puzzles of a collection have exactly one solution.
+ABOUT = """Says which puzzles of a collection have exactly one solution.
 
-PATH is a file, or a folder that is searched: pictures (plain and raw PPM, PGM and PBM, PNG, GIF, BMP, WebP, one pixel a cell),
+PATH is a file, or a folder that is searched: pictures (plain and raw PPM, PGM and PBM, PNG, GIF, BMP, WebP, one pixel per cell),
 .non puzzles, and Web Paint-by-Number's XML with every puzzle in it. NAME.cert beside NAME.png is checked; NAME.givens has the
 cells that are published with the puzzle, and NAME.background its background."""
 
@@ -20,14 +20,14 @@ EXAMPLES = """examples:
   nonobench-audit site                                      a table of all puzzles below the folder site
   nonobench-audit site --html report.html                   a report to look at, in one file
   nonobench-audit site --jsonl rows.jsonl --csv rows.csv --certify certificates
-  nonobench-audit site --jsonl rows.jsonl --resume          after a break: only what is new or changed
+  nonobench-audit site --jsonl rows.jsonl --resume          after an interruption: only what is new or changed
   nonobench-audit site --jsonl rows.$SLURM_ARRAY_TASK_ID --shard $SLURM_ARRAY_TASK_ID/16
   nonobench-audit merge rows.* --jsonl rows.jsonl --html report.html
   nonobench-audit site --scheduler tcp://ada.example:8786 --allow 20000 --jsonl rows.jsonl
 
 status:
-  0  every puzzle has one solution, and every certificate beside one is accepted without unpublished givens
-  1  some puzzles are ambiguous or undecided, or a certificate is not accepted
+  0  every puzzle has one solution, no two of its colours look alike, and each certificate is accepted without unpublished givens
+  1  some puzzles are ambiguous or undecided, have colours that look alike, or have a certificate that is not accepted
   2  the arguments are wrong
   3  a file could not be read or written, or a library is missing; what is done is kept
   130, 143  it was stopped; what is done is kept"""
@@ -84,28 +84,28 @@ def _parser() -> argparse.ArgumentParser:
     )
     parser.add_argument("paths", metavar="PATH", nargs="+", help="files, and folders to search; links to folders are not followed")
     _add_outputs(parser)
-    write = parser.add_argument_group("what is written besides")
+    write = parser.add_argument_group("what else is written")
     write.add_argument("--certify", metavar="DIR", help="write NAME.cert for each puzzle with one solution below this folder")
     read = parser.add_argument_group("what is read")
     read.add_argument("--certificates", metavar="DIR", help="the certificates are below this folder, not beside the puzzles")
     read.add_argument("--background", metavar="COLOUR", type=_ground, default="white",
-                      help="of pictures: white (as it is without this option), corner (the first pixel), or R,G,B")
+                      help="of pictures: white (the default), corner (the first pixel), or R,G,B")
     bounds = parser.add_argument_group("bounds")
-    bounds.add_argument("--jobs", metavar="N", type=_above_0, default=len(os.sched_getaffinity(0)), help="processes (one a processor)")
-    bounds.add_argument("--seconds", metavar="S", type=_seconds, help="for each puzzle (10)")
+    bounds.add_argument("--jobs", metavar="N", type=_above_0, default=len(os.sched_getaffinity(0)), help="processes (by default one per processor)")
+    bounds.add_argument("--seconds", metavar="S", type=_seconds, help="for each puzzle (by default 10)")
     bounds.add_argument("--allow", metavar="N", type=_allowance,
-                        help="splits of a search, 0 to 99999, in place of seconds: the same files give the same rows, without times")
-    bounds.add_argument("--memory", metavar="MIB", type=_memory, default=1024, help="for each process (1024)")
+                        help="splits of a search, 0 to 99999, instead of seconds: the same files give the same rows, without times")
+    bounds.add_argument("--memory", metavar="MIB", type=_memory, default=1024, help="for each process (by default 1024)")
     bounds.add_argument("--no-grade", action="store_true", help="no grades, which take most of the time")
-    parts = parser.add_argument_group("in parts, and on more machines")
-    parts.add_argument("--resume", action="store_true", help="keep the rows of --jsonl FILE that nothing has changed")
-    parts.add_argument("--shard", metavar="I/N", type=_shard, default=(1, 1), help="only one file of N, from the I-th; see merge")
-    parts.add_argument("--scheduler", metavar="ADDRESS", help="let the workers of this Dask scheduler judge")
+    parts = parser.add_argument_group("in parts, and on several machines")
+    parts.add_argument("--resume", action="store_true", help="keep the rows of --jsonl FILE whose puzzles have not changed")
+    parts.add_argument("--shard", metavar="I/N", type=_shard, default=(1, 1), help="only every N-th file, from the I-th; see merge")
+    parts.add_argument("--scheduler", metavar="ADDRESS", help="use the workers of this Dask scheduler")
     return parser
 
 
 def _add_outputs(parser: argparse.ArgumentParser) -> None:
-    outputs = parser.add_argument_group("output (a table on standard output where none is named)")
+    outputs = parser.add_argument_group("output (without any of these files, a table on standard output)")
     outputs.add_argument("--jsonl", metavar="FILE", help="a line of JSON for each puzzle; - is standard output")
     outputs.add_argument("--csv", metavar="FILE", help="for spreadsheets; - is standard output")
     outputs.add_argument("--html", metavar="FILE", help="a report to look at, in one file that needs no network")
@@ -116,7 +116,7 @@ def _add_outputs(parser: argparse.ArgumentParser) -> None:
 def _merge_options(words: list[str]) -> Options:
     parser = argparse.ArgumentParser(
         "nonobench-audit merge", usage="nonobench-audit merge [OPTION].. FILE..", allow_abbrev=False,
-        description="Joins files of --jsonl into one, as one run would have written it. Of a puzzle's rows the last file's counts.",
+        description="Joins files that --jsonl wrote into one, as a single run would have written it. If files have different rows for a puzzle, the last file counts.",
     )
     parser.add_argument("paths", metavar="FILE", nargs="+", help="as --jsonl wrote it")
     _add_outputs(parser)
@@ -125,7 +125,7 @@ def _merge_options(words: list[str]) -> Options:
         if not os.path.exists(path):
             parser.error(f"no such file: {path!r}")
         if told.jsonl is not None and os.path.exists(told.jsonl) and os.path.samefile(path, told.jsonl):
-            parser.error(f"{path!r} is to be read and to be written")
+            parser.error(f"{path!r} is both an input and an output")
     return Options(told.paths, told.jsonl, told.csv, told.html, told.title, told.quiet, is_merge=True)
 
 

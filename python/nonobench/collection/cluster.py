@@ -60,7 +60,7 @@ class Cluster:
         try:
             import distributed
         except ImportError:
-            raise Failure(str(Missing("distributed", "reaches Dask's workers", "cluster"))) from None
+            raise Failure(str(Missing("distributed", "reaches Dask's workers"))) from None
         try:
             connect: Any = distributed.Client
             self._client = connect(self._address, timeout=CONNECTING, set_as_default=False)

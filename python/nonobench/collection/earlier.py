@@ -27,7 +27,7 @@ class Earlier:
         for number, (place, line) in enumerate(lines_of(self._lines), 1):
             front = _FRONT.match(line)
             if front is None or not line.endswith(b"}\n"):
-                raise Failure(f"{name}: line {number} is no row of an audit")
+                raise Failure(f"{name}: line {number} is not a row of an audit")
             self._places[_key(row_of(front[1]), int(front[2] or 1))] = place
 
     def rows(self, name: str) -> list[tuple[int, Row]]:

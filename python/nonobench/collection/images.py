@@ -62,7 +62,7 @@ def _pixels(data: bytes, kind: str) -> tuple[int, list[Any]]:
     except (Unreadable, MemoryError):
         raise
     except Exception as error:  # whatever a decoder makes of a stranger's bytes
-        raise Unreadable(f"the image is not read: {one_line(str(error)) or type(error).__name__}") from error
+        raise Unreadable(f"the image cannot be read: {one_line(str(error)) or type(error).__name__}") from error
     if len(set(pixels)) > 256:
         raise Unreadable(f"more than {MOST_COLOURS} colours with the background")
     return columns, pixels

@@ -70,6 +70,6 @@ def _bar() -> Any:
     try:
         from tqdm import tqdm
     except ImportError:
-        print("nonobench-audit: tqdm is not installed, which draws a bar (pip install nonobench[audit])", file=sys.stderr)
+        print("nonobench-audit: tqdm, which draws a bar, is not installed (pip install tqdm)", file=sys.stderr)
         return None
     return tqdm(unit=" files", dynamic_ncols=True, smoothing=0.1, mininterval=0.2)

@@ -26,8 +26,8 @@ class Unreadable(Exception):
 class Missing(Unreadable):
     """A library is not installed that a file or an option needs."""
 
-    def __init__(self, library: str, what: str, extra: str = "audit") -> None:
-        super().__init__(f"{library} is not installed, which {what} (pip install nonobench[{extra}])")
+    def __init__(self, library: str, what: str) -> None:
+        super().__init__(f"{library}, which {what}, is not installed (pip install {library})")
         self.library = library
 
 

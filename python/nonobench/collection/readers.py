@@ -37,7 +37,7 @@ def bytes_of(path: Union[str, bytes], most: int = MOST_BYTES) -> bytes:
         try:
             found = os.fstat(handle)
             if not stat.S_ISREG(found.st_mode):
-                raise Unreadable("this is no file" if not stat.S_ISDIR(found.st_mode) else "this folder is not read")
+                raise Unreadable("this is not a file" if not stat.S_ISDIR(found.st_mode) else "this folder is not read")
             if found.st_size > most:
                 raise Unreadable(f"more than {most} bytes")
             data = os.read(handle, found.st_size)

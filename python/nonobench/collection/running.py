@@ -117,7 +117,7 @@ class Run:
                     row = row_of(line)
                     rows[order_of(row["file"]), row.get("puzzle", 1)] = (at, place)
                 except (ValueError, KeyError, TypeError):
-                    raise Failure(f"{path}: line {number} is no row of an audit") from None
+                    raise Failure(f"{path}: line {number} is not a row of an audit") from None
         self._open()
         return self._guarded(lambda: self._join(files, rows))
 

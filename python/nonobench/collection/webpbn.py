@@ -39,11 +39,11 @@ def puzzles_of_xml(data: bytes) -> Iterator[Puzzle | Unreadable]:
     try:
         yield from _puzzles(ElementTree.iterparse(io.BytesIO(data), events=("start", "end"), forbid_entities=True))
     except DefusedXmlException as error:
-        raise Unreadable(f"the XML is not read: it declares entities ({type(error).__name__})") from error
+        raise Unreadable(f"the XML cannot be read: it declares entities ({type(error).__name__})") from error
     except (ElementTree.ParseError, ValueError, LookupError) as error:
         if getattr(error, "code", 0) == NO_MEMORY:
             raise MemoryError from error
-        raise Unreadable(f"the XML is not read: {one_line(str(error))}") from error
+        raise Unreadable(f"the XML cannot be read: {one_line(str(error))}") from error
 
 
 def _puzzles(events: Any) -> Iterator[Puzzle | Unreadable]:
@@ -55,7 +55,7 @@ def _puzzles(events: Any) -> Iterator[Puzzle | Unreadable]:
             elements += 1
             outer = element if outer is None else outer
             if depth > MOST_DEPTH or elements > MOST_ELEMENTS:
-                raise Unreadable("the XML is not read: it has too many elements")
+                raise Unreadable("the XML cannot be read: it has too many elements")
             continue
         depth -= 1
         if element.tag != "puzzle" or depth > 1 or (depth == 1 and outer.tag != "puzzleset"):
@@ -124,7 +124,7 @@ def _order(colours: dict[str, Colour], ground: str, used: set[str]) -> tuple[lis
         if colour.sign and (colour.sign not in by_sign or colour.is_declared):
             by_sign[colour.sign] = colour
     for sign in sorted(used - by_sign.keys()):
-        raise Unreadable(f"the solution has a cell {one_line(sign, 2)!r}, which is no colour of the puzzle")
+        raise Unreadable(f"the solution has a cell {one_line(sign, 2)!r}, which is not a colour of the puzzle")
     seen = [colours[ground], *(by_sign[sign] for sign in sorted(used) if by_sign[sign].name != ground)]
     if len(seen) > MOST_COLOURS:
         raise Unreadable(f"more than {MOST_COLOURS} colours with the background")
@@ -145,7 +145,7 @@ def _image(solution: Any) -> Signs:
     """Rows of signs between bars. A backslash takes the next sign as it stands, and `[..]` is a cell that may have several."""
     text = solution.findtext("image") or ""
     if len(text) > 64 * MOST_CELLS * MOST_CELLS or not re.fullmatch(r"(\s*\|(?:\\.|\[[^]]*\]|[^|\\\[])*\|)+\s*", text, re.DOTALL):
-        raise Unreadable("a row of the solution does not stand between bars")
+        raise Unreadable("a row of the solution is not between bars")
     rows: Signs = []
     for row in re.findall(r"\|((?:\\.|\[[^]]*\]|[^|\\\[])*)\|", text, re.DOTALL):
         rows.append([_sign(cell) for cell in re.findall(r"\\.|\[[^]]*\]|[^|\\\[]", row, re.DOTALL)])
@@ -172,7 +172,7 @@ def _clues(element: Any, axis: str, usual: str) -> Optional[list[list[tuple[int,
         blocks = []
         for count in line.findall("count"):
             if not re.fullmatch(r"\s*[0-9]{1,6}\s*", count.text or ""):
-                raise Unreadable("a clue of the puzzle is no number")
+                raise Unreadable("a clue of the puzzle is not a number")
             if int(count.text):
                 blocks.append((int(count.text), count.get("color", usual)))
         found.append(blocks)
