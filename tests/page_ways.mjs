@@ -140,7 +140,7 @@ export async function largePhoto({ page }) {
 /** What is no picture, or too large, is told and changes nothing. */
 export async function refusedFiles({ page, folder }) {
     const head = Buffer.concat([Buffer.from('\x89PNG\r\n\x1a\n\0\0\0\rIHDR', 'latin1'), Buffer.from([0, 0, 0x4e, 0x20, 0, 0, 0x4e, 0x20, 8, 2, 0, 0, 0, 0, 0, 0, 0])]);
-    const tries = { 'large.png': [head, /20,000 by 20,000 pixels; the page reads at most 100,000,000/], 'broken.png': [Buffer.concat([head.subarray(0, 16), Buffer.from([0, 0, 0, 9, 0, 0, 0, 9]), head.subarray(24)]), /browser does not read/], 'long.bin': [Buffer.alloc(17 << 20, 65), /16 MiB/], 'noise.bin': [Buffer.from([0, 1, 2, 3, 255]), /no picture and no puzzle/], 'bad.ppm': ['P3 2 2 255 1 2 x', /no number/], 'bad.xml': ['<puzzle><b>', /not closed/], 'bad.non': ['width 2\nheight 1\nrows\n3\ncolumns\n1\n1\n', /longer than its line|not opened/], 'empty': ['', /no picture and no puzzle/] };
+    const tries = { 'large.png': [head, /20,000 by 20,000 pixels; the page reads at most 100,000,000/], 'broken.png': [Buffer.concat([head.subarray(0, 16), Buffer.from([0, 0, 0, 9, 0, 0, 0, 9]), head.subarray(24)]), /browser does not read/], 'long.bin': [Buffer.alloc(17 << 20, 65), /16 MiB/], 'noise.bin': [Buffer.from([0, 1, 2, 3, 255]), /neither a picture nor a puzzle/], 'bad.ppm': ['P3 2 2 255 1 2 x', /is not a number/], 'bad.xml': ['<puzzle><b>', /not closed/], 'bad.non': ['width 2\nheight 1\nrows\n3\ncolumns\n1\n1\n', /longer than its line|not opened/], 'empty': ['', /neither a picture nor a puzzle/] };
     for (const [name, [content, wanted]] of Object.entries(tries)) {
         await page.run(() => { document.getElementById('said').textContent = ''; });
         await drop(page, folder, name, content);

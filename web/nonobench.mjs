@@ -7,7 +7,7 @@
 //     bench.close()
 //     engine.check(picture, certificate, {givens: [[1, 1]]})    // {accepted, status, text, givens}
 //     engine.clues(picture)                                 // what the program `nonobench` prints for it
-//     engine.version                                        // as `nonobench --version` prints it behind the name
+//     engine.version                                        // as `nonobench --version` prints it after the name
 
 const DONE = 0;
 const REFUSED = 1;
@@ -15,7 +15,7 @@ const MEMORY = 4;
 const CLOSED = 5;
 const OPTIONS = 6;
 
-// How many bytes an input has at the most, as for the program.
+// How many bytes an input may have, as for the program.
 const MOST_BYTES = 16777216;
 
 // The room that a text is first taken in.
@@ -87,7 +87,7 @@ class Engine {
     if (this.#run(() => this.#calls.nonobench_start(this.#cell)) !== DONE) throw new Fault('memory', 'memory');
   }
 
-  /** Opens a bench. Throws a Fault where the file is refused. */
+  /** Opens a bench. Throws a Fault if the file is refused. */
   open(file, options = {}) {
     const bytes = this.#input(file);
     const history = options.history ?? 100;
@@ -109,10 +109,10 @@ class Engine {
   }
 
   /**
-   * Checks a certificate of a picture, and says what the program says, by its status: 0 where it is accepted. `givens` are the
-   * cells that are published, [row, column] each; none where nothing is given. A certificate that gives another cell is refused
-   * with the text `certificate UnpublishedGiven at line N`, which the program does not have. The answer has the cells that the
-   * certificate gives, where its proof holds. 'any' accepts it whatever it gives: for who then publishes these cells.
+   * Checks a certificate of a picture, and answers the program's text and status: 0 if it is accepted. `givens` are the cells that
+   * are published, [row, column] each; by default none. A certificate that gives another cell is refused with the text
+   * `certificate UnpublishedGiven at line N`, which the program does not have. The answer has the cells that the certificate
+   * gives, if its proof is right. 'any' accepts whatever it gives, for a site that then publishes these cells.
    */
   check(picture, certificate, options = {}) {
     const background = this.#background(options.background), published = publishedOf(options.givens);
@@ -129,7 +129,7 @@ class Engine {
     return { accepted: true, status, text, givens };
   }
 
-  /** The clues of a file, a line each, as the program prints them. Throws a Fault where the file is refused. */
+  /** The clues of a file, a line each, as the program prints them. Throws a Fault if the file is refused. */
   clues(file, options = {}) {
     const bench = this.open(file, options);
     try {
@@ -155,7 +155,7 @@ class Engine {
     if (status !== DONE) this.#refuse(status);
   }
 
-  /** The version of the module, as the program prints it behind its name. */
+  /** The version of the module, as the program prints it after its name. */
   get version() {
     return this.#put((out, room) => this.#calls.nonobench_version(out, room));
   }

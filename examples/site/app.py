@@ -53,16 +53,16 @@ WORDS = {
     "EmptySize": "The picture has no cells.",
     "TooLarge": "The picture has more than 120 rows or columns.",
     "BadMaxval": "The largest sample of the picture must be 1 to 65535.",
-    "SampleOver": "A sample of the picture is larger than it says that any is.",
+    "SampleOver": "A sample of the picture is larger than the picture's maximum.",
     "TooManyColours": "The picture has more than 16 colours, white included.",
-    "TrailingToken": "The picture goes on behind its last cell.",
-    "NotCert": "The certificate does not begin as one.",
-    "BadLine": "The certificate has a line of no form that there is.",
+    "TrailingToken": "The picture goes on after its last cell.",
+    "NotCert": "This is not a certificate.",
+    "BadLine": "The certificate has a line that no certificate may have.",
     "Place": "The certificate names a place outside the picture.",
-    "NotDead": "The certificate says that a line cannot be filled, and it can.",
-    "NotDone": "The certificate says that all cells are decided, and one is not.",
-    "Ended": "The certificate ends before its proof is whole.",
-    "Trailing": "The certificate goes on behind its proof.",
+    "NotDead": "The certificate says that a line cannot be filled, but it can.",
+    "NotDone": "The certificate says that all cells are decided, but one is not.",
+    "Ended": "The certificate ends before its proof is complete.",
+    "Trailing": "The certificate goes on after its proof.",
     "TooLong": "A file is too long.",
 }
 
@@ -78,7 +78,7 @@ th span { display: inline-block; min-width: 14px; padding: 0 2px; text-align: ce
 thead th span { display: block } td, th span { -webkit-print-color-adjust: exact; print-color-adjust: exact }
 .given { font: bold 15px/1 sans-serif; text-align: center; outline: 2px solid; outline-offset: -4px }
 @media print { nav { display: none } body { margin: 0 } }
-</style></head><body><nav><a href="{{ url_for('puzzles') }}">Puzzles</a> <a href="{{ url_for('form') }}">Bring one</a></nav>
+</style></head><body><nav><a href="{{ url_for('puzzles') }}">Puzzles</a> <a href="{{ url_for('form') }}">Upload one</a></nav>
 <h1 dir="auto">{{ title }}</h1>"""
 
 LIST = PAGE + """<ul>{% for puzzle in found %}
@@ -87,7 +87,7 @@ LIST = PAGE + """<ul>{% for puzzle in found %}
 FORM = PAGE + """{% if reason %}<p class="refused">{{ reason }}</p>{% endif %}
 <form method="post" action="{{ url_for('take') }}" enctype="multipart/form-data">
 <label>Title <input name="title" maxlength="100"></label>
-<label>Picture, a cell for each pixel (PNG, or PPM as P3 text) <input type="file" name="picture" required></label>
+<label>Picture, one cell per pixel (PNG, or PPM as P3 text) <input type="file" name="picture" required></label>
 <label>Certificate <input type="file" name="certificate" required></label><button>Check and publish</button></form>"""
 
 PUZZLE = PAGE + """{% macro clue(blocks) %}{% for length, letter in blocks %}<span style="{{ inks[letter] }}">{{ length }}</span>
@@ -97,7 +97,7 @@ PUZZLE = PAGE + """{% macro clue(blocks) %}{% for length, letter in blocks %}<sp
 {%- set given = givens.get((row, loop.index)) %}
 <td{% if given %} class="given" style="{{ given.style }}">{{ given.mark }}{% else %}>{% endif %}</td>{% endfor %}</tr>{% endfor %}
 </tbody></table><p>It has one solution{% if givens %} with the {{ givens|length }} framed
-{{ "cell that is" if givens|length == 1 else "cells that are" }} given (×: it stays empty){% endif %}: this was proved when it came.</p>"""
+{{ "cell that is" if givens|length == 1 else "cells that are" }} given (×: it stays empty){% endif %}: this was proved when it was uploaded.</p>"""
 
 
 class Refused(Exception):
@@ -113,7 +113,7 @@ def picture_of(file):
     if not file.startswith(PNG):
         return file
     if Image is None:
-        raise Refused("This site reads no PNG, since Pillow is not installed. Bring a plain PPM text (P3).")
+        raise Refused("This site cannot read PNG, since Pillow is not installed. Upload a plain PPM text (P3).")
     try:
         with Image.open(io.BytesIO(file), formats=["PNG"]) as image:
             if max(image.size) > MOST_CELLS:
@@ -177,7 +177,7 @@ def title_of(text):
     words = text.translate(BLANK).split()
     seen = "".join(sign for sign in " ".join(words) if sign in JOINERS or unicodedata.category(sign) not in UNSEEN)
     seen = seen[:MOST_TITLE].strip()
-    return seen if any(unicodedata.category(sign)[0] in "LNPS" for sign in seen) else "Without a title"
+    return seen if any(unicodedata.category(sign)[0] in "LNPS" for sign in seen) else "Untitled"
 
 
 def reason_of(fault):
@@ -260,7 +260,7 @@ class Site:
                     (title, file, certificate, puzzle, picture.sum()),
                 ).lastrowid
         except sqlite3.IntegrityError as error:
-            raise Refused("This puzzle is there already, with these given cells or with others.", 409) from error
+            raise Refused("This puzzle is already here, with these given cells or others.", 409) from error
 
 
 def create_app(**config):
@@ -301,13 +301,13 @@ def create_app(**config):
 
     @app.get("/new")
     def form():
-        return render_template_string(FORM, title="Bring a puzzle", reason="")
+        return render_template_string(FORM, title="Upload a puzzle", reason="")
 
     @app.post("/puzzles")
     def take():
         files = [request.files.get(name) for name in ("picture", "certificate")]
         if not all(files):
-            raise Refused("A picture and a certificate are wanted.")
+            raise Refused("Choose a picture and a certificate.")
         picture, certificate = (file.read() for file in files)
         number = site.store(title_of(request.form.get("title", "")), picture_of(picture), certificate)
         return redirect(url_for("puzzle", number=number), 303)

@@ -88,7 +88,7 @@ const steps = {
         writeFileSync(join(work, 'all.cert'), 'nonocert 2\ngiven 1 1\ngiven 1 2\ngiven 2 1\ngiven 2 2\ndone\n');
         assert.match(await bring(page, 'All', join(work, 'cross.ppm'), join(work, 'all.cert')), /The certificate gives every cell/);
         // given.ppm is the same picture.
-        assert.match(await bring(page, 'Again', join(work, 'cross.ppm'), join(work, 'empty.cert')), /This puzzle is there already/);
+        assert.match(await bring(page, 'Again', join(work, 'cross.ppm'), join(work, 'empty.cert')), /This puzzle is already here/);
         page.faults.length = 0; // the browser notes the statuses 422 and 409
         writeFileSync(join(work, 'other.ppm'), 'P3 2 2 1 1 1 1 0 0 0 0 0 0 1 1 1\n');
         writeFileSync(join(work, 'empty.cert'), 'nonocert 2\ngiven 1 1\nline r 1\nline c 1\nline r 2\ndone\n');

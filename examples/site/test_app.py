@@ -109,7 +109,7 @@ class Site(Case):
         for pair in ((DIAGONAL + b"# again\n", DIAGONAL_CERT), (finer, DIAGONAL_CERT), (DIAGONAL, one), (DIAGONAL, two)):
             answer = self.bring(*pair)
             self.assertEqual(answer.status_code, 409)
-            self.assertIn("there already", answer.text)
+            self.assertIn("already here", answer.text)
         self.assertEqual(self.client.get("/").text.count("<li "), 1)
         # The other picture with the clues of the cross is another puzzle.
         other = b"P3 2 2 1 1 1 1 0 0 0 0 0 0 1 1 1\n"
@@ -127,11 +127,11 @@ class Site(Case):
             ("two\r\n\tlines\u2028more", "two lines more"),
             ("\ufeffE\u00adnte\u061c \U0001f986", "Ente \U0001f986"),
             ("\u0645\u06cc\u200c\u062e\u0648\u0627\u0647\u0645", "\u0645\u06cc\u200c\u062e\u0648\u0627\u0647\u0645"),
-            ("\u202e\u2066", "Without a title"),
-            (" \u200d\u0301 ", "Without a title"),
-            ("\u3164\u2800\uffa0", "Without a title"),
+            ("\u202e\u2066", "Untitled"),
+            (" \u200d\u0301 ", "Untitled"),
+            ("\u3164\u2800\uffa0", "Untitled"),
             ("\u1160a\u3164b\u115f", "a b"),
-            ("", "Without a title"),
+            ("", "Untitled"),
             ("x" * 500, "x" * 100),
         ):
             with self.subTest(text):
@@ -146,11 +146,11 @@ class Site(Case):
 
     def test_what_is_refused(self):
         self.assert_refused(self.bring(b"GIF89a", DIAGONAL_CERT), "The picture is neither a PNG image nor a plain PPM text (P3).")
-        self.assert_refused(self.bring(DIAGONAL, b"no"), "The certificate does not begin as one. (line 1)")
+        self.assert_refused(self.bring(DIAGONAL, b"no"), "This is not a certificate. (line 1)")
         self.assert_refused(self.bring(DIAGONAL, b"nonocert 1\ndone\n"), "The certificate says that all cells are decided")
-        self.assert_refused(self.bring(GIVEN, DIAGONAL_CERT), "The certificate says that a line cannot be filled, and it can.")
+        self.assert_refused(self.bring(GIVEN, DIAGONAL_CERT), "The certificate says that a line cannot be filled, but it can.")
         self.assert_refused(self.bring(b"", b""), "The picture is neither a PNG")
-        self.assert_refused(self.client.post("/puzzles"), "A picture and a certificate are wanted.")
+        self.assert_refused(self.client.post("/puzzles"), "Choose a picture and a certificate.")
         self.assert_refused(self.bring(b"P3 121 1 1", b""), "The picture has more than 120 rows or columns. (byte 3)")
         self.assert_refused(self.bring(b" " * (3 << 20), b""), "The files have more than 2 MiB.", 413)
 

@@ -626,7 +626,7 @@ export const DE = /** @type {const} */ ({
   'import.brightness': 'Helligkeit',
   'import.contrast': 'Kontrast',
   'import.dithering': 'Dithering',
-  'import.removeSpecksUpSo': 'Flecken entfernen bis zu so vielen Feldern',
+  'import.removeSpecksUpSo': 'Größter Fleck zum Entfernen, in Feldern',
   'import.cellsColoursBackground': '{columns} × {rows} Felder, {colours|# Farbe|# Farben} mit dem Hintergrund',
   'import.palette': 'Palette',
   'import.background': 'Hintergrund',

@@ -3,15 +3,15 @@
     result = nonobench.check(picture, certificate, published=[(1, 1)])   # raises CertificateFault or PictureFault
     clues = nonobench.clues(picture)
     verdict = nonobench.verdict(picture, allowance=1000)
-    certificate = nonobench.certify(picture)                             # None where it has several solutions
+    certificate = nonobench.certify(picture)                             # None if the puzzle has several solutions
     audit = nonobench.audit(picture, allowance=1000)                     # both, of one opened picture
 
 A picture is the bytes of a plain PPM text (P3), of at most 120 by 120 cells in 16 colours with the background. The calls are
-those of libnonobench, which is proved (docs/PROMISES.md); this package hands bytes over and reads the texts that come back, and
-is tested. Each call makes a desk of its own, so threads may call at once. A child that was forked from a program with threads
-must not call before it has run another program; `Worker` starts a program anew. An answer may take long: `Worker` ends it.
+those of libnonobench, which is proved (docs/PROMISES.md); this package passes bytes to it and reads the texts that it returns, and
+is tested. Each call makes a desk of its own, so several threads may call at once. After a program with threads has forked, the
+child must not call the library; use `Worker` there, which starts a new program. An answer may take long: `Worker` limits the time.
 
-An image of Pillow goes in by one line, a cell for each pixel:
+One line converts an image of Pillow, a cell for each pixel:
 
     picture = nonobench.picture_of(*image.size, image.convert("RGB").getdata())
 """

@@ -9,7 +9,7 @@ from typing import NamedTuple, Optional
 
 
 class Fault(Exception):
-    """A file is refused. `name` is the fault's name in docs/FORMATS.md, and `text` what the program says behind `nonobench: `."""
+    """A file is refused. `name` is the error's name in docs/FORMATS.md, and `text` what the program says after `nonobench: `."""
 
     def __init__(self, name: str, place: int, text: str) -> None:
         super().__init__(name, place, text)
@@ -41,7 +41,7 @@ class CertificateFault(Fault):
 
 class UnpublishedGiven(CertificateFault):
     """The certificate gives a cell that is not published, at a line that is counted from 1. Its proof holds. `givens` has all cells
-    that it gives. The program has no such fault.
+    that it gives. The program has no such error.
     """
 
     def __init__(self, line: int, givens: tuple[Given, ...]) -> None:
@@ -138,7 +138,7 @@ class Ruling(enum.Enum):
 
 @dataclass(frozen=True)
 class Verdict:
-    """A verdict. `other` is another picture with the clues, its rows as letters, where the ruling is AMBIGUOUS."""
+    """A verdict. `other` is another picture with the clues, its rows as letters, if the ruling is AMBIGUOUS."""
 
     ruling: Ruling
     other: Optional[tuple[str, ...]] = None
@@ -146,7 +146,7 @@ class Verdict:
 
 @dataclass(frozen=True)
 class Audit:
-    """Verdict and certificate of a picture. There is a certificate where the ruling is UNIQUE."""
+    """Verdict and certificate of a picture. There is a certificate if the ruling is UNIQUE."""
 
     verdict: Verdict
     certificate: Optional[bytes] = None

@@ -1,4 +1,4 @@
-"""The questions: bytes in, an answer or a fault out."""
+"""The questions: bytes in, an answer or an error out."""
 
 from __future__ import annotations
 
@@ -43,19 +43,19 @@ Published = Union[Iterable[tuple[int, int]], AnyGiven]
 
 
 class Questions:
-    """The questions, wherever they are answered. Each raises PictureFault, LengthFault or MemoryError where a picture is refused,
-    and ValueError for a background that is no triple of numbers from 0 to 65,535. Without one the background is white.
+    """The questions, wherever they are answered. Each raises PictureFault, LengthFault or MemoryError if a picture is refused,
+    and ValueError for a background that is not a triple of numbers from 0 to 65,535. Without one the background is white.
     """
 
     def check(
         self, picture: Bytes, certificate: Bytes, background: Optional[Colour] = None, published: Published = ()
     ) -> Result:
-        """Checks a certificate of a picture, a P3 text. Raises CertificateFault where it is not accepted.
+        """Checks a certificate of a picture, a P3 text. Raises CertificateFault if it is not accepted.
 
-        A puzzle has one solution with the cells that its certificate gives, and these may be all. So a certificate is accepted
-        only where each cell that it gives is among `published`, pairs of row and column that count from 1: the cells that you
-        publish with their colours, none where nothing is said. Else it raises UnpublishedGiven, whose `givens` are the cells
-        that the certificate gives. `published=ANY_GIVEN` is for who publishes just those.
+        A puzzle has one solution with the cells that its certificate gives, and these may be all cells. So a certificate is
+        accepted only if each cell that it gives is among `published`: the cells whose colours you publish, as pairs of row and
+        column counted from 1; by default none. Otherwise it raises UnpublishedGiven, whose `givens` are the cells that the
+        certificate gives. `published=ANY_GIVEN` accepts all of them, for a site that then publishes exactly these.
         """
         picture, certificate, places = bytes_of(picture), bytes_of(certificate), _places(published)
         (text,) = self._ask(CHECK, picture, background, certificate)
@@ -73,20 +73,20 @@ class Questions:
     def verdict(self, picture: Bytes, allowance: Optional[int] = None, background: Optional[Colour] = None) -> Verdict:
         """Whether another picture has the clues of this one.
 
-        The allowance, 0 to 99,999, is how many splits the search of a part may make. Without one the search goes on to its end,
-        which may take very long; `Worker` bounds the time. Raises ValueError for another allowance.
+        The allowance, 0 to 99,999, is how many splits the search of a part may make. Without one the search has no bound, and may
+        take very long; `Worker` limits the time. Raises ValueError for another allowance.
         """
         return verdict_of(self._say(picture, background, _allow(allowance) + b"verdict\n")[-1])
 
     def certify(self, picture: Bytes, background: Optional[Colour] = None) -> Optional[bytes]:
-        """A certificate of a picture, which gives no cell, or None where another picture has its clues. It may take very long."""
+        """A certificate of a picture, which gives no cell, or None if another picture has its clues. It may take very long."""
         text = self._say(picture, background, b"certify\n")[-1]
         return None if text == b"ambiguous\n" else text
 
     def audit(self, picture: Bytes, allowance: Optional[int] = None, background: Optional[Colour] = None) -> Audit:
-        """Verdict and certificate of a picture that is opened once. There is a certificate where the ruling is UNIQUE.
+        """Verdict and certificate of a picture that is opened once. There is a certificate if the ruling is UNIQUE.
 
-        The allowance is that of `verdict`; to make a certificate has no bound of its own.
+        The allowance bounds the verdict, as in `verdict`; making the certificate has no bound.
         """
         texts = self._say(picture, background, _allow(allowance) + b"verdict\ncertify\n")
         if texts[-1].startswith(b"nonocert "):

@@ -9,7 +9,7 @@ _BOUND = 512 * 64 * 64
 
 
 def colour_shown(colour: Colour, maxval: int) -> Colour:
-    """A colour of samples from 0 to maxval as it is shown: from 0 to 255, rounded, a half up."""
+    """A colour of samples from 0 to maxval as it is shown: from 0 to 255, rounded, halves up."""
     red, green, blue = ((510 * sample + maxval) // (2 * maxval) for sample in colour)
     return red, green, blue
 

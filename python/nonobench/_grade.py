@@ -24,7 +24,7 @@ _VERY_HARD = {"splits": 3, "depth": 2}
 class NoGrade(Exception):
     """There is no grade.
 
-    `reason` is the verdict `ambiguous` or `undecided`, `map` where the plain solver ends elsewhere, or `certificate` where one
+    `reason` is the verdict `ambiguous` or `undecided`, `map` if the plain solver ends elsewhere, or `certificate` if one
     is needed.
     """
 
@@ -71,7 +71,7 @@ def grade_of(
     """The grade of a puzzle, whose proved verdict has that word.
 
     `picture` is its rows of letters, `givens` places that count from 1, `certificate` a text that `certify` printed, and
-    `settled` the rows of the proved map. Raises NoGrade where there is none, and ValueError for a text that is no certificate.
+    `settled` the rows of the proved map. Raises NoGrade if there is none, and ValueError for a text that is not a certificate.
     """
     if verdict != "unique":
         raise NoGrade(verdict)

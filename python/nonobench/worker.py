@@ -1,4 +1,4 @@
-"""The same questions to a process of their own, which is ended where an answer takes too long or too much memory."""
+"""The same questions, asked in a separate process, which is ended if an answer takes too long or too much memory."""
 
 from __future__ import annotations
 
@@ -37,15 +37,15 @@ _NO_SIGNAL = getattr(socket, "MSG_NOSIGNAL", 0)
 
 
 class Worker(Questions):
-    """Asks in another process. A call raises TimeoutError where the answer takes more seconds, and the next one starts anew.
+    """Asks in another process. A call raises TimeoutError if the answer takes too long, and the next one starts a new process.
 
         with nonobench.Worker(seconds=5) as worker:
             worker.check(picture, certificate)
 
-    Threads may share a worker: their calls come one after another. `memory` bounds the process, in bytes; where that is not
-    enough the call raises MemoryError. The process is started by the first call. It is ended by `close`, with the `with`, with
-    the last reference to the worker, and with this program; and where any exception is raised while a call waits, as by Ctrl-C
-    or a task queue's limit: an answer that is still to come is never taken for that of a later question.
+    Threads may share a worker: their calls are made one after another. `memory` bounds the process, in bytes; if that is not
+    enough, the call raises MemoryError. The first call starts the process. It ends with `close`, with the `with`, with the last
+    reference to the worker, and with this program. It also ends if an exception is raised while a call waits, for example by
+    Ctrl-C or a task queue's limit. So a late answer is never taken for the answer to a later question.
     """
 
     def __init__(self, seconds: float = 10.0, memory: int = 1 << 30) -> None:

@@ -218,7 +218,7 @@ class Interrupts(unittest.TestCase):
                 head = nonobench.worker.QUESTION.pack(number, 1, 300, len(DIAGONAL), 0, len(GIVEN))
                 worker._process._stream.sendall(head + DIAGONAL + GIVEN)
                 worker._process.is_waiting = lambda: True
-                with self.assertRaisesRegex(RuntimeError, f"^the worker answered question {number} in place of 2$"):
+                with self.assertRaisesRegex(RuntimeError, f"^the worker answered question {number} instead of 2$"):
                     worker.check(TILE, b"junk", published=nonobench.ANY_GIVEN)
                 with self.assertRaisesRegex(CertificateFault, "NotCert"):
                     worker.check(TILE, b"junk", published=nonobench.ANY_GIVEN)

@@ -1,10 +1,10 @@
 """Audits a collection of puzzles: which of them have exactly one solution.
 
-`nonobench-audit PATH..`, or `python3 -m nonobench.audit PATH..`, is the program; --help tells its options.
+The program is `nonobench-audit PATH..`, or `python3 -m nonobench.audit PATH..`; --help lists its options.
 
-The verdicts and the certificates are those of libnonobench, which is proved (docs/PROMISES.md). What reads files, hands them out
-and writes rows is plain Python, and tested. Beside Python it takes Pillow for images, defusedxml for XML, jinja2 for the report,
-tqdm for the bar, distributed for more machines; each is asked for only where it is needed.
+The verdicts and the certificates are those of libnonobench, which is proved (docs/PROMISES.md). What reads files, distributes them
+and writes rows is plain Python, and tested. Beside Python it uses Pillow for images, defusedxml for XML, jinja2 for the report,
+tqdm for the bar, and distributed for several machines; each is needed only for that.
 """
 
 from __future__ import annotations
