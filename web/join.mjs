@@ -60,10 +60,10 @@ const script = (file) => bundled(file, '--format=iife', `--define:LIMITS=${JSON.
 const hashOf = (text) => `'sha256-${createHash('sha256').update(text).digest('base64')}'`;
 
 // What the page may do: it runs its own script and style alone, known by their hashes, and fetches nothing. A served page has its
-// manifest and the worker that keeps it for use without a network besides.
+// manifest with its icon, and the worker that keeps it for use without a network besides.
 const policyOf = (code, style, served) => [
   "default-src 'none'", `script-src ${hashOf(code)} 'wasm-unsafe-eval'`, `worker-src blob:${served ? " 'self'" : ''}`, ...(served ? ["manifest-src 'self'"] : []), `style-src ${hashOf(style)}`,
-  'img-src data: blob:', 'connect-src blob: data:', "base-uri 'none'", "form-action 'none'",
+  `img-src data: blob:${served ? " 'self'" : ''}`, 'connect-src blob: data:', "base-uri 'none'", "form-action 'none'",
 ].join('; ');
 
 function pageTexts(version) {
