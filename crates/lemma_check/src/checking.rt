@@ -36,6 +36,7 @@ fn walk<E: LineEngine>(
     ensures first { AnswersFirst
         (FirstFault claim.now.picture.now (Some (root facts)) first lines.now) result }
     ensures work { E.calls engine.new ≤ E.calls engine.old + length lines.now }
+    ensures calls { E.calls engine.old ≤ E.calls engine.new }
     ensures same_longest { E.longest engine.new ≡ E.longest engine.old }
 {
     let mut machine = Machine::start(alloc, facts)?;
@@ -74,6 +75,7 @@ pub fn check_proof<E: LineEngine>(
     ensures work { E.calls engine.new ≤ E.calls engine.old + length proof.now.lines }
     ensures idle { (HasCellNumbers picture.now proof.now.givens → ⊥)
         → E.calls engine.new ≡ E.calls engine.old }
+    ensures calls { E.calls engine.old ≤ E.calls engine.new }
     ensures same_longest { E.longest engine.new ≡ E.longest engine.old }
 {
     let clues = ClueBook::of(alloc, picture)?;

@@ -72,6 +72,7 @@ impl Machine {
         requires same_shape { SameShape claim.now.picture.now self.old.walk.at_hand }
         ensures takes { Takes claim.now.picture.now (found_by self.old.walk line) self.new line number
             result }
+        ensures calls { E.calls engine.old ≤ E.calls engine.new }
         ensures same_longest { E.longest engine.new ≡ E.longest engine.old }
         ensures work { E.calls engine.new ≤ E.calls engine.old + 1 }
     {
@@ -105,6 +106,7 @@ impl Machine {
         requires counted { IsCounted self.old }
         requires same_shape { SameShape claim.now.picture.now self.old.walk.at_hand }
         ensures takes { Takes claim.now.picture.now self.old.walk self.new line number result }
+        ensures calls { E.calls engine.old ≤ E.calls engine.new }
         ensures same_longest { E.longest engine.new ≡ E.longest engine.old }
         ensures work { E.calls engine.new ≤ E.calls engine.old + 1 }
     {
@@ -133,9 +135,11 @@ impl Machine {
         requires counted { IsCounted self.old }
         requires same_shape { SameShape claim.now.picture.now self.old.walk.at_hand }
         ensures takes { Takes claim.now.picture.now self.old.walk self.new (LemmaLine.Line at) number result }
+        ensures calls { E.calls engine.old ≤ E.calls engine.new }
         ensures same_longest { E.longest engine.new ≡ E.longest engine.old }
         ensures work { E.calls engine.new ≤ E.calls engine.old + 1 }
     {
+        let _ = engine.calls();
         let Some(line) = line_at(claim.picture, at) else {
             return Err(CertFault::Place(number));
         };
@@ -170,9 +174,11 @@ impl Machine {
         requires counted { IsCounted self.old }
         requires same_shape { SameShape claim.now.picture.now self.old.walk.at_hand }
         ensures takes { Takes claim.now.picture.now self.old.walk self.new (LemmaLine.Dead at) number result }
+        ensures calls { E.calls engine.old ≤ E.calls engine.new }
         ensures same_longest { E.longest engine.new ≡ E.longest engine.old }
         ensures work { E.calls engine.new ≤ E.calls engine.old + 1 }
     {
+        let _ = engine.calls();
         let Some(line) = line_at(claim.picture, at) else {
             return Err(CertFault::Place(number));
         };

@@ -81,8 +81,10 @@ impl<'a> Board<'a> {
         line: LineId,
         masks: &mut Masks,
     ) -> Outcome
+        ensures calls { E.calls engine.old ≤ E.calls engine.new }
         ensures same_longest { E.longest engine.new ≡ E.longest engine.old }
     {
+        let _ = engine.calls();
         let cells = self.cells(line.axis);
         if cells > engine.longest() || !self.has_clue(line) {
             return Outcome::Narrowed;

@@ -1,6 +1,6 @@
 //! What lines and lemmas exclude, until none excludes more.
 
-ghost use Rattle.std.specs.Prelude.{◌≡◌};
+ghost use Rattle.std.specs.Prelude.{◌≡◌, ◌≤◌};
 
 use crate::atom::{Atom, Literal, has};
 use crate::board::Masks;
@@ -19,6 +19,7 @@ impl<'a> Search<'a> {
         &mut self,
         engine: &mut E,
     ) -> Result<Option<Reason>, AllocError>
+        ensures calls { E.calls engine.old ≤ E.calls engine.new }
         ensures same_longest { E.longest engine.new ≡ E.longest engine.old }
     {
         for _ in 0..u64::MAX {
@@ -118,6 +119,7 @@ impl<'a> Search<'a> {
         engine: &mut E,
         line: LineId,
     ) -> Result<Outcome, AllocError>
+        ensures calls { E.calls engine.old ≤ E.calls engine.new }
         ensures same_longest { E.longest engine.new ≡ E.longest engine.old }
     {
         let mut masks = [0; 128];

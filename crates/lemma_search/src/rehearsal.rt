@@ -1,6 +1,6 @@
 //! Facts as a checker of the proof has them, to see what each step gives there.
 
-ghost use Rattle.std.specs.Prelude.{◌≡◌};
+ghost use Rattle.std.specs.Prelude.{◌≡◌, ◌≤◌};
 
 use crate::atom::{Literal, STRIDE, spot};
 use crate::board::{Board, Masks};
@@ -92,6 +92,7 @@ impl<'a> Rehearsal<'a> {
         engine: &mut E,
         line: LineId,
     ) -> Result<Gained, AllocError>
+        ensures calls { E.calls engine.old ≤ E.calls engine.new }
         ensures same_longest { E.longest engine.new ≡ E.longest engine.old }
     {
         let mut masks = [0; 128];

@@ -1,6 +1,6 @@
 //! The search itself: propagate, learn from each conflict, decide.
 
-ghost use Rattle.std.specs.Prelude.{◌≡◌};
+ghost use Rattle.std.specs.Prelude.{◌≡◌, ◌≤◌};
 
 use crate::log::Step;
 use crate::restarts::Restarts;
@@ -48,6 +48,7 @@ impl<'a> Search<'a> {
         engine: &mut E,
         effort: Effort,
     ) -> Result<Ended, AllocError>
+        ensures calls { E.calls engine.old ≤ E.calls engine.new }
         ensures same_longest { E.longest engine.new ≡ E.longest engine.old }
     {
         self.make_all_due();

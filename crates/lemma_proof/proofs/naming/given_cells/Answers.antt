@@ -1,6 +1,6 @@
 use Rattle.std.proofs.Common.{arith}
-use Rattle.certificate.proofs.NumberLemmas.{all_named, row_named}
-use Rattle.certificate.proofs.making.given_cells.Goals as goal
+use Rattle.lemma_proof.proofs.NumberLemmas.{all_named, row_named}
+use Rattle.lemma_proof.proofs.naming.given_cells.Goals as goal
 
 pub loop-row-preserved : goal.loop-row-preserved
 loop-row-preserved c =

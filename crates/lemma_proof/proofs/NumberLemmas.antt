@@ -1,5 +1,5 @@
 -- Givens by their numbers, in the order of rows.
-use Rattle.std.proofs.Common.{◌≡◌, ◌⊎◌, ℕ, ◌+◌, ◌*◌, ◌<◌, ◌≤◌, List, [], ◌∷◌, ◌++◌, append_assoc, length, refl, sym, ap, subst, ◌∙◌, arith, inl, inr}
+use Rattle.std.proofs.Common.{◌≡◌, ◌⊎◌, ℕ, ◌+◌, ◌-◌, ◌*◌, ◌<◌, ◌≤◌, List, [], ◌∷◌, ◌++◌, append_assoc, length, refl, sym, ap, subst, ◌∙◌, arith, inl, inr}
 use Rattle.std.proofs.lemmas.Bool.{cases_lt}
 use Rattle.std.proofs.lemmas.List.{append-nil}
 use Rattle.picture.specs.CellSet.{HasCell}
@@ -7,7 +7,7 @@ use Rattle.picture.specs.Document.{AreInside}
 use Rattle.picture.specs.Rows.{width_of, Rows}
 use Rattle.cert_text.specs.declared.tree_line.CellNumber.{CellNumber}
 use Rattle.cert_text.specs.Cert.{AreOrdered, IsShort, rank}
-use Rattle.certificate.specs.MadeCert.{NamesGivens, NamesUpTo}
+use Rattle.lemma_proof.specs.Naming.{NamesGivens, NamesUpTo}
 use Rattle.cert_check.specs.Puzzle.{HasCellNumber, HasCellNumbers, IsAmong, numbered}
 
 less_ordered : (a b : ℕ) (cells : List CellNumber) → a ≤ b → AreOrdered b cells → AreOrdered a cells
@@ -154,5 +154,16 @@ all_named picture givens height cells inside tall n = record {
     (λ m. ((n.named r c).0 m).0),
   );
 }
+
+-- where no cell is given, no number is named
+pub none_given : (picture : Rows) (givens : List ℕ) (cells : List CellNumber) → NamesGivens picture givens cells → ((row col : ℕ) → HasCell givens row col → ⊥) → cells ≡ []
+none_given picture givens [] names none = refl
+none_given picture givens (cell ∷ cells) names none =
+    let inside = names.inside.0 in
+    let above : 0 < cell.row = inside.0 in
+    let left : 0 < cell.col = inside.2 in
+    let row : cell.row ≡ cell.row - 1 + 1 = omega arith in
+    let col : cell.col ≡ cell.col - 1 + 1 = omega arith in
+    absurd (none (cell.row - 1) (cell.col - 1) ((names.named (cell.row - 1) (cell.col - 1)).1 (inl (sym (same_number cell (cell.row - 1) (cell.col - 1) row col)))))
 
 pub ruleset naming = (none_named, more_named, same_named, row_named, all_named)
