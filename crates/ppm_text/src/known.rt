@@ -65,7 +65,8 @@ fn slot_of(colour: Rgb) -> usize
 // The number of a triple in the palette, which is added where it is new.
 fn find_or_add(palette: &mut Palette, triple: Triple) -> Read<u8>
     requires { IsTrue (fits palette.old.maxval triple.colour) }
-    ensures { Gives Memory (λ number. (number, palette.new)) result (number_with palette.old triple) }
+    ensures { Gives Memory (λ number. (number, palette.new)) result
+        (number_with palette.old triple) }
 {
     if let Some(number) = palette.number_of(triple.colour) {
         return Ok(number);
