@@ -48,4 +48,3 @@ other_found clues givens picture other its inside has differs agrees = record {
   };
   differs = differs;
 }
-

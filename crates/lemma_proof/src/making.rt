@@ -71,7 +71,13 @@ pub fn make_proof_within<E: LineEngine>(
     match learn(alloc, engine, &clues, givens, picture, effort)? {
         Found::Proof(lines) => {
             let cells = given_cells(alloc, picture, givens)?;
-            checked(alloc, engine, picture, givens, LemmaProof::new(cells, lines))
+            checked(
+                alloc,
+                engine,
+                picture,
+                givens,
+                LemmaProof::new(cells, lines),
+            )
         }
         Found::Other(other) => Ok(compared(&clues, givens, picture, other)),
         Found::Nothing => Ok(Made::Undecided),
