@@ -747,6 +747,7 @@ export const DE = /** @type {const} */ ({
   'export.notKnownYetWhether': 'Es ist noch nicht bekannt, ob dieses Bild die einzige Lösung ist.',
   'export.sheetsSavedPrintZip': '{sheets|# Blatt|# Blätter} als „{name}-print.zip“ gespeichert.',
   'export.othersLibrary': 'Mit anderen aus der Bibliothek, nach Namen geordnet ({count})',
+  'export.all': 'alle',
   'export.solutionsEnd': 'Lösungen am Ende',
   'export.gradeField': 'Schwierigkeit: {word}',
   'export.gradeWhereOneKnown': 'Schwierigkeit, wo sie bekannt ist',
