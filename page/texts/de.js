@@ -445,7 +445,7 @@ export const DE = /** @type {const} */ ({
   'view.wand': 'Zauberstab',
   'view.selectsConnectedCellsOne': 'Wählt zusammenhängende Felder einer Farbe aus; mit Umschalt oder durch das Menü „Bearbeiten“ weitere dazu.',
   'view.selectAllCellsColour': 'Alle Felder der gewählten Farbe auswählen',
-  'view.wandAdds': 'Zauberstab wählt weitere Felder dazu',
+  'view.wandAdds': 'Zauberstab erweitert die Auswahl',
   'view.fillSelection': 'Auswahl füllen',
   'view.outlineColour': 'Umriss in der gewählten Farbe',
   'view.shadowColour': 'Schatten in der gewählten Farbe',
