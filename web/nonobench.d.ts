@@ -25,21 +25,33 @@ export type Place = readonly [row: number, column: number];
 export interface CheckOptions {
   /** The colour of the background, 'r,g,b'; white where it is not given. */
   background?: string | null;
-  /** The cells that are published with their colours; none where it is not given. 'any': those that the certificate gives. */
+  /** The cells that are published with their colours; none where it is not given. 'any': those that certificate or proof give. */
   givens?: readonly Place[] | 'any' | null;
 }
 
-/** What is said to a picture and a certificate. */
+export interface ProveOptions {
+  /** The colour of the background, 'r,g,b'; white where it is not given. */
+  background?: string | null;
+}
+
+/** What is said to a picture and a certificate or a proof by lemmas. */
 export interface Checked {
-  /** The certificate proves that no other picture of that size has the clues and the givens, and these are published. */
+  /** It proves that no other picture of that size has the clues and the givens, and these are published. */
   accepted: boolean;
   /** The program's status: 0 where it is accepted; 1 also where a given is not published. */
   status: number;
   /** What the program says; or `certificate UnpublishedGiven at line N`, where a given is not published. */
   text: string;
-  /** The cells that the certificate gives, where its proof holds: also where one is not published. */
+  /** The cells that are given, where the proof holds: also where one is not published. */
   givens: Place[];
 }
+
+/** What comes of the search for a proof by lemmas. */
+export type Proved =
+  /** The proof, which gives no cell. */
+  | { ruling: 'unique'; proof: string }
+  /** Another picture has the clues; or neither it nor a proof was found within the bounds of the search. */
+  | { ruling: 'ambiguous' | 'undecided'; proof: null };
 
 /** A bench on a picture, until it is closed. One that nobody holds any more is closed at some time. */
 export interface Bench {
@@ -55,6 +67,10 @@ export interface Bench {
 export interface Engine {
   open(file: Input, options?: OpenOptions): Bench;
   check(picture: Input, certificate: Input, options?: CheckOptions): Checked;
+  /** Checks a proof by lemmas. */
+  verify(picture: Input, proof: Input, options?: CheckOptions): Checked;
+  /** Makes a proof by lemmas. It may take minutes. */
+  prove(picture: Input, options?: ProveOptions): Proved;
   /** The clues of a file, a line each, as the program prints them. */
   clues(file: Input, options?: OpenOptions): string;
   /** The version of the module, as the program prints it behind its name. */
