@@ -1,10 +1,12 @@
-/* Checks certificates of nonograms, and judges pictures, in a program of your own: over libnonobench, which is proved.
+/* Checks certificates of nonograms and proofs by lemmas, and judges pictures, in a program of your own: over libnonobench, which is
+ * proved.
  *
  * Link with libnonobench.a or libnonobench.so (c/build). There are two layers. The proved calls work on a desk. The functions at
  * the end of this file each make a desk, ask one question and end the desk; they suit most programs.
  *
  * Each call of the library is proved, from the bytes that it is passed to its status and text: docs/PROMISES.md has the clauses.
- * An accepted certificate proves that no other picture of that size has the clues and the colours in its givens.
+ * An accepted certificate proves that no other picture of that size has the clues and the colours in its givens. So does a proof by
+ * lemmas, which is shorter where a certificate would say the same thing in many branches.
  * Nothing checks that the caller meets its obligations:
  *   - a pointer leads to as many bytes as the length that goes with it says. In a call of the library it is not null, even with
  *     the length 0; only nonobench_end accepts a null and does nothing. The functions at the end of this file accept a null with
@@ -30,13 +32,13 @@ extern "C" {
 /* The version of this header. nonobench_version gives the version of the library. */
 #define NONOBENCH_VERSION "0.3.0"
 
-/* How many bytes a picture or a certificate may have, as for the program. The library itself accepts any length. */
+/* How many bytes a picture, a certificate or a proof may have, as for the program. The library itself accepts any length. */
 #define NONOBENCH_MOST_BYTES ((size_t)16777216)
 
 /* What a call answers. */
 enum {
-    NONOBENCH_DONE = 0,    /* done; a certificate is accepted */
-    NONOBENCH_REFUSED = 1, /* picture, puzzle or certificate is refused; the text is what the program says after `nonobench: ` */
+    NONOBENCH_DONE = 0,    /* done; a certificate or proof is accepted */
+    NONOBENCH_REFUSED = 1, /* picture, puzzle, certificate or proof is refused; the text is what the program says after `nonobench: ` */
     NONOBENCH_MEMORY = 4,  /* out of memory; of nonobench_say also: the lines have more than 4294963200 bytes */
     NONOBENCH_CLOSED = 5,  /* no bench has the handle */
     NONOBENCH_OPTIONS = 6  /* background, history or allowance is of another form; of the functions at the end of this file,
@@ -77,6 +79,15 @@ uint32_t nonobench_close(nonobench_desk **desk, uint32_t handle);
 uint32_t nonobench_check(nonobench_desk **desk, const uint8_t *picture, size_t picture_size, const uint8_t *certificate,
                          size_t certificate_size, const uint8_t *background, size_t background_size);
 
+/* Checks a proof by lemmas of a P3 picture. One that is wrong is refused as a certificate is: `certificate NAME at line N`. */
+uint32_t nonobench_verify(nonobench_desk **desk, const uint8_t *picture, size_t picture_size, const uint8_t *proof,
+                          size_t proof_size, const uint8_t *background, size_t background_size);
+
+/* Makes a proof by lemmas of a P3 picture, which gives no cell: the text. If another picture with the clues was found, the text is
+ * `ambiguous` with a line feed; if neither was found within the bounds of the search, `undecided`. It may take minutes. */
+uint32_t nonobench_prove(nonobench_desk **desk, const uint8_t *picture, size_t picture_size, const uint8_t *background,
+                         size_t background_size);
+
 /* ---- one question each: C, tested and not proved */
 
 /* Where a text is put. `size` becomes the bytes of the whole text. As much as fits is put at `at`, followed by a NUL. */
@@ -97,12 +108,12 @@ typedef enum nonobench_ruling {
     NONOBENCH_AMBIGUOUS
 } nonobench_ruling;
 
-/* What goes with a picture and its certificate. If all of it is zero, the background is white and no cell is published. */
+/* What goes with a picture and its certificate or proof. If all of it is zero, the background is white and no cell is published. */
 typedef struct nonobench_options {
     const char *background;           /* such as 255,0,0, or null for white */
     const nonobench_place *published; /* the cells that you publish with their colours, in any order */
     size_t published_count;
-    bool any_given; /* accept a certificate whatever cells it gives: for whoever then publishes these (nonobench_givens) */
+    bool any_given; /* accept whatever cells are given: for whoever then publishes these (nonobench_givens) */
 } nonobench_options;
 
 /* Checks a certificate of a P3 picture: DONE if it is accepted. A puzzle is unique WITH the cells that its certificate gives,
@@ -112,8 +123,12 @@ typedef struct nonobench_options {
 uint32_t nonobench_check_pair(const void *picture, size_t picture_size, const void *certificate, size_t certificate_size,
                               const nonobench_options *options, nonobench_text *text);
 
-/* Reads the places of the givens of a certificate that was accepted, or refused for one of them, as many as there is room for,
- * and answers how many there are. For other bytes the answer has no meaning, but nothing outside them is read. */
+/* The same for a proof by lemmas. One that gives a cell which is not published has the same text as a certificate that does. */
+uint32_t nonobench_verify_pair(const void *picture, size_t picture_size, const void *proof, size_t proof_size,
+                               const nonobench_options *options, nonobench_text *text);
+
+/* Reads the places of the givens of a certificate or proof that was accepted, or refused for one of them, as many as there is room
+ * for, and answers how many there are. For other bytes the answer has no meaning, but nothing outside them is read. */
 size_t nonobench_givens(const void *certificate, size_t size, nonobench_place *places, size_t room);
 
 /* The clues of a P3 picture, a line each, as the program prints them. `background` is such as 255,0,0, or null for white. */
@@ -125,7 +140,7 @@ uint32_t nonobench_clues(const void *picture, size_t size, const char *backgroun
 uint32_t nonobench_verdict(const void *picture, size_t size, const char *background, int32_t allowance, nonobench_ruling *ruling,
                            nonobench_text *text);
 
-/* A ruling, and a certificate if it is UNIQUE. */
+/* A ruling, and a certificate if it is UNIQUE; of nonobench_prove_picture a proof by lemmas. */
 typedef struct nonobench_audited {
     nonobench_ruling ruling;
     char *certificate;       /* followed by a NUL, for free(); null if there is none */
@@ -137,6 +152,12 @@ typedef struct nonobench_audited {
  * picture is refused; `text` may be null. */
 uint32_t nonobench_certify(const void *picture, size_t size, const char *background, nonobench_audited *found,
                            nonobench_text *text);
+
+/* A proof by lemmas of a P3 picture, which gives no cell: where a certificate is too long or does not come. The search has bounds, and
+ * if it reaches one, the ruling is UNDECIDED; it may take minutes. The text is `unique`, `ambiguous` or `undecided` with a line feed,
+ * or why the picture is refused; `text` may be null. */
+uint32_t nonobench_prove_picture(const void *picture, size_t size, const char *background, nonobench_audited *found,
+                                 nonobench_text *text);
 
 /* Verdict and certificate of a P3 picture that is opened once. Allowance and text are as for nonobench_verdict. There is a
  * certificate if the ruling is UNIQUE; making it has no bound. */

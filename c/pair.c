@@ -144,7 +144,7 @@ static size_t cell_of(nonobench_place place) {
     return is_inside ? (place.row - 1) * MOST_SIDE + place.column - 1 : MOST_SIDE * MOST_SIDE;
 }
 
-/* The line of the first given of an accepted certificate that is not published, or 0. `count` becomes the number of givens. */
+/* The line of the first given of an accepted certificate or proof that is not published, or 0. `count` becomes the number of givens. */
 static size_t unpublished_line(const void *certificate, size_t size, const nonobench_options *options, size_t *count) {
     const uint8_t *end = bytes_of(certificate) + size, *at = behind_line(bytes_of(certificate), end);
     cells published = {{0}};
@@ -162,12 +162,19 @@ static size_t unpublished_line(const void *certificate, size_t size, const nonob
     return options && options->any_given ? 0 : line;
 }
 
-/* The givens of a certificate that was accepted, against what the library says of their number, and against those published. */
-static uint32_t look_givens(const void *certificate, size_t size, const char *accepted, const nonobench_options *options,
-                            nonobench_text *text) {
+/* What is checked beside a picture: the call, and what the library calls it where it accepts it. */
+typedef struct kind {
+    uint32_t (*check)(nonobench_desk **, const uint8_t *, size_t, const uint8_t *, size_t, const uint8_t *, size_t);
+    const char *name;
+} kind;
+
+/* The givens of what was accepted, against what the library says of their number, and against those published. */
+static uint32_t look_givens(const char *name, const void *certificate, size_t size, const char *accepted,
+                            const nonobench_options *options, nonobench_text *text) {
     size_t count, line = unpublished_line(certificate, size, options, &count);
-    char said[64] = "certificate accepted\n";
-    if (count > 0) snprintf(said, sizeof said, "certificate accepted, givens %zu\n", count);
+    char said[64];
+    snprintf(said, sizeof said, "%s accepted\n", name);
+    if (count > 0) snprintf(said, sizeof said, "%s accepted, givens %zu\n", name, count);
     if (strcmp(accepted, said) != 0) {
         put(text, "the library names other givens");
         return NONOBENCH_REFUSED;
@@ -185,8 +192,9 @@ static uint32_t look_options(const nonobench_options *options, nonobench_text *t
     return NONOBENCH_OPTIONS;
 }
 
-uint32_t nonobench_check_pair(const void *picture, size_t picture_size, const void *certificate, size_t certificate_size,
-                              const nonobench_options *options, nonobench_text *text) {
+/* Checks a certificate or a proof of a picture. */
+static uint32_t check_pair(kind which, const void *picture, size_t picture_size, const void *certificate, size_t certificate_size,
+                           const nonobench_options *options, nonobench_text *text) {
     const char *background = options ? options->background : NULL;
     char line[64] = "";
     nonobench_text own = {line, sizeof line, 0};
@@ -196,13 +204,25 @@ uint32_t nonobench_check_pair(const void *picture, size_t picture_size, const vo
     if (status == NONOBENCH_DONE) status = look_options(options, text);
     if (status == NONOBENCH_DONE) status = start(&desk, text);
     if (status != NONOBENCH_DONE) return status;
-    status = nonobench_check(&desk, bytes_of(picture), picture_size, bytes_of(certificate), certificate_size,
-                             bytes_of(background), length_of(background));
+    status = which.check(&desk, bytes_of(picture), picture_size, bytes_of(certificate), certificate_size, bytes_of(background),
+                         length_of(background));
     tell(&desk, status, text);
     take(&desk, &own);
     nonobench_end(desk);
     if (status != NONOBENCH_DONE) return status;
-    return look_givens(certificate, certificate_size, line, options, text);
+    return look_givens(which.name, certificate, certificate_size, line, options, text);
+}
+
+uint32_t nonobench_check_pair(const void *picture, size_t picture_size, const void *certificate, size_t certificate_size,
+                              const nonobench_options *options, nonobench_text *text) {
+    kind which = {nonobench_check, "certificate"};
+    return check_pair(which, picture, picture_size, certificate, certificate_size, options, text);
+}
+
+uint32_t nonobench_verify_pair(const void *picture, size_t picture_size, const void *proof, size_t proof_size,
+                               const nonobench_options *options, nonobench_text *text) {
+    kind which = {nonobench_verify, "proof"};
+    return check_pair(which, picture, picture_size, proof, proof_size, options, text);
 }
 
 uint32_t nonobench_clues(const void *picture, size_t size, const char *background, nonobench_text *text) {
@@ -250,21 +270,25 @@ uint32_t nonobench_verdict(const void *picture, size_t size, const char *backgro
     return status;
 }
 
-/* Asks a bench for a certificate. What is found becomes UNIQUE with the certificate in room of its own, or AMBIGUOUS. */
-static uint32_t certify(nonobench_desk **desk, uint32_t handle, nonobench_audited *found, nonobench_text *text) {
+/* Keeps the text of the last call: UNIQUE with the certificate or proof that it is, in room of its own, or the ruling that it tells. */
+static uint32_t keep(nonobench_desk **desk, uint32_t status, nonobench_audited *found, nonobench_text *text) {
     char front[10] = "";
     nonobench_text own = {front, sizeof front, 0};
-    uint32_t status = ask(desk, handle, "certify\n", NULL);
     if (status != NONOBENCH_DONE) return tell(desk, status, text);
     take(desk, &own);
-    found->ruling = front[0] == 'n' ? NONOBENCH_UNIQUE : NONOBENCH_AMBIGUOUS;
-    if (found->ruling == NONOBENCH_AMBIGUOUS) return status;
+    found->ruling = front[0] == 'n' ? NONOBENCH_UNIQUE : front[0] == 'a' ? NONOBENCH_AMBIGUOUS : NONOBENCH_UNDECIDED;
+    if (found->ruling != NONOBENCH_UNIQUE) return status;
     found->certificate = (char *)malloc(own.size + 1);
     if (!found->certificate) return tell(desk, NONOBENCH_MEMORY, text);
     nonobench_text whole = {found->certificate, own.size + 1, 0};
     take(desk, &whole);
     found->certificate_size = own.size;
     return status;
+}
+
+/* Asks a bench for a certificate. */
+static uint32_t certify(nonobench_desk **desk, uint32_t handle, nonobench_audited *found, nonobench_text *text) {
+    return keep(desk, ask(desk, handle, "certify\n", NULL), found, text);
 }
 
 uint32_t nonobench_certify(const void *picture, size_t size, const char *background, nonobench_audited *found,
@@ -278,6 +302,22 @@ uint32_t nonobench_certify(const void *picture, size_t size, const char *backgro
     nonobench_end(desk);
     if (status != NONOBENCH_DONE) found->ruling = NONOBENCH_UNDECIDED;
     if (status == NONOBENCH_DONE) put(text, found->certificate ? "unique\n" : "ambiguous\n");
+    return status;
+}
+
+uint32_t nonobench_prove_picture(const void *picture, size_t size, const char *background, nonobench_audited *found,
+                                 nonobench_text *text) {
+    static const char *const RULINGS[] = {"undecided\n", "unique\n", "ambiguous\n"};
+    nonobench_desk *desk;
+    uint32_t status = look(picture, size, text);
+    *found = (nonobench_audited){NONOBENCH_UNDECIDED, NULL, 0};
+    if (status == NONOBENCH_DONE) status = start(&desk, text);
+    if (status != NONOBENCH_DONE) return status;
+    status = nonobench_prove(&desk, bytes_of(picture), size, bytes_of(background), length_of(background));
+    status = keep(&desk, status, found, text);
+    nonobench_end(desk);
+    if (status != NONOBENCH_DONE) found->ruling = NONOBENCH_UNDECIDED;
+    if (status == NONOBENCH_DONE) put(text, RULINGS[found->ruling]);
     return status;
 }
 

@@ -1,4 +1,4 @@
-/* Tests of libnonobench: test FOLDER [TIMES], with the folder that has pictures.case, certificates.case and published.case. TIMES is how often what could grow is done. Expected answers stand in those files, or follow from docs/FORMATS.md by hand. */
+/* Tests of libnonobench: test FOLDER [TIMES], with the folder that has pictures.case, certificates.case, lemmas.case and published.case. TIMES is how often what could grow is done. Expected answers stand in those files, or follow from docs/FORMATS.md by hand. */
 #include "nonobench.h"
 
 #include <malloc.h>
@@ -101,20 +101,21 @@ static void run_picture(char *line, const char *answer) {
     expect(is_answer(answer, status, said), line, said);
 }
 
-/* A picture and a certificate, `PICTURE TEXT`, under options; what it gives is put where there is room. */
-static void run_check(char *rows, char *proof, const char *answer, const nonobench_options *options) {
+/* A picture and a certificate or a proof by lemmas, `PICTURE TEXT`, under options; what it gives is put where there is room. */
+static void run_check(bool by_lemmas, char *rows, char *proof, const char *answer, const nonobench_options *options) {
     char picture[MOST], certificate[MOST], said[MOST];
     nonobench_text text = {said, sizeof said, 0};
     picture_of(rows, strlen(rows), picture);
-    size_t size = unescape(proof, strlen(proof), certificate);
-    uint32_t status = nonobench_check_pair(picture, strlen(picture), certificate, size, options, &text);
+    size_t size = unescape(proof, strlen(proof), certificate), picture_size = strlen(picture);
+    uint32_t status = by_lemmas ? nonobench_verify_pair(picture, picture_size, certificate, size, options, &text)
+                                : nonobench_check_pair(picture, picture_size, certificate, size, options, &text);
     expect(is_answer(answer, status, said), proof, said);
 }
 
-static void run_certificate(char *line, const char *answer) {
+static void run_proof(bool by_lemmas, char *line, const char *answer) {
     char *proof = strchr(line, ' ');
     *proof++ = 0;
-    run_check(line, proof, answer, &ANY);
+    run_check(by_lemmas, line, proof, answer, &ANY);
 }
 
 /* The cells of a word of cases, which may be - for none. */
@@ -135,7 +136,7 @@ static void run_published(char *line, char *answer) {
     *word++ = *proof++ = *told++ = 0;
     bool any = strcmp(word, "any") == 0;
     nonobench_options options = {NULL, published, any ? 0 : places_of(word, published), any};
-    run_check(line, proof, told, &options);
+    run_check(strncmp(proof, "nonolemma", 9) == 0, line, proof, told, &options);
     /* Of a proof that does not hold the givens mean nothing. */
     size_t count = places_of(answer, wanted), size = unescape(proof, strlen(proof), certificate);
     if (strncmp(told, "! ", 2) == 0 && !strstr(told, "UnpublishedGiven")) return;
@@ -149,8 +150,8 @@ static void run_case(char *line, const char *name) {
     if (!answer) return;
     if (strcmp(name, "pictures") == 0) {
         run_picture(line, answer);
-    } else if (strcmp(name, "certificates") == 0) {
-        run_certificate(line, answer);
+    } else if (strcmp(name, "published") != 0) {
+        run_proof(strcmp(name, "lemmas") == 0, line, answer);
     } else {
         run_published(line, answer);
     }
@@ -251,6 +252,36 @@ static void test_certificates(void) {
     expect(nonobench_audit(TILE, strlen(TILE), "0,0", 0, &found, &text) == NONOBENCH_OPTIONS, "no background", said);
 }
 
+/* Proofs by lemmas that are made, and checked again; and one of a picture with another one, which no line can prove. */
+static void test_proofs(void) {
+    static const char wrong[] = "nonolemma 1\nline r 1\nline c 1\nline r 2\nline c 2\ndone\n";
+    char said[MOST], rows[] = "a./.b", picture[MOST];
+    nonobench_text text = {said, sizeof said, 0};
+    nonobench_audited found;
+    picture_of(rows, strlen(rows), picture);
+    size_t size = strlen(picture);
+    expect(nonobench_prove_picture(picture, size, NULL, &found, &text) == NONOBENCH_DONE, "a proof", said);
+    expect(found.ruling == NONOBENCH_UNIQUE && strcmp(said, "unique\n") == 0, "it is told", said);
+    expect(found.certificate && strlen(found.certificate) == found.certificate_size, "how long it is", said);
+    expect(nonobench_verify_pair(picture, size, found.certificate, found.certificate_size, NULL, &text) == NONOBENCH_DONE, "it holds", said);
+    expect(strcmp(said, "proof accepted\n") == 0, "it is told", said);
+    expect(nonobench_check_pair(picture, size, found.certificate, found.certificate_size, NULL, &text) == NONOBENCH_REFUSED, "no certificate", said);
+    expect(nonobench_verify_pair(DIAGONAL, strlen(DIAGONAL), found.certificate, found.certificate_size, NULL, &text) == NONOBENCH_REFUSED, "of another", said);
+    expect(nonobench_verify_pair(picture, size, found.certificate, found.certificate_size - 1, NULL, &text) == NONOBENCH_DONE, "no line feed", said);
+    expect(nonobench_verify_pair(picture, size, found.certificate, found.certificate_size - 2, NULL, &text) == NONOBENCH_REFUSED, "cut", said);
+    free(found.certificate);
+    expect(nonobench_prove_picture(DIAGONAL, strlen(DIAGONAL), NULL, &found, &text) == NONOBENCH_DONE, "no proof", said);
+    expect(found.ruling == NONOBENCH_AMBIGUOUS && !found.certificate && strcmp(said, "ambiguous\n") == 0, "it is told", said);
+    expect(nonobench_verify_pair(DIAGONAL, strlen(DIAGONAL), wrong, sizeof wrong - 1, &ANY, &text) == NONOBENCH_REFUSED, "no proof", said);
+    expect(strcmp(said, "certificate NotDone at line 6") == 0, "it is said", said);
+    expect(nonobench_prove_picture("P4", 2, NULL, &found, &text) == NONOBENCH_REFUSED && !found.certificate, "no picture", said);
+    expect(strcmp(said, "ppm NotP3 at byte 0") == 0, "it is said", said);
+    expect(nonobench_prove_picture(picture, size, "0,0", &found, &text) == NONOBENCH_OPTIONS, "no background", said);
+    expect(nonobench_prove_picture(picture, size, "0,0,0", &found, NULL) == NONOBENCH_DONE && found.certificate, "a background", "");
+    expect(nonobench_verify_pair(picture, size, found.certificate, found.certificate_size, NULL, &text) == NONOBENCH_REFUSED, "white again", said);
+    free(found.certificate);
+}
+
 /* Nothing at all, nulls, and lengths above what a file may have. */
 static void test_bad_input(void) {
     char said[MOST];
@@ -288,6 +319,8 @@ static void test_nulls(void) {
     expect(nonobench_verdict(NULL, 1, NULL, 0, NULL, NULL) == NONOBENCH_OPTIONS, "a null for a verdict", "");
     expect(nonobench_audit(NULL, 1, NULL, 0, &found, NULL) == NONOBENCH_OPTIONS, "a null for an audit", "");
     expect(nonobench_certify(NULL, 1, NULL, &found, NULL) == NONOBENCH_OPTIONS, "a null for a certificate", "");
+    expect(nonobench_prove_picture(NULL, 1, NULL, &found, NULL) == NONOBENCH_OPTIONS, "a null for a proof", "");
+    expect(nonobench_verify_pair(DIAGONAL, strlen(DIAGONAL), NULL, 1, NULL, NULL) == NONOBENCH_OPTIONS, "a null proof", "");
     nonobench_end(NULL);
 }
 
@@ -299,13 +332,15 @@ static void test_no_text(void) {
     uint32_t handle;
     uint8_t none;
     expect(nonobench_start(&desk) == NONOBENCH_DONE, "a desk", "");
-    for (int which = 0; which < 4; which++) {
+    for (int which = 0; which < 6; which++) {
         uint32_t status = nonobench_check(&desk, picture, size, picture, size, picture, 0);
         expect(status == NONOBENCH_REFUSED && nonobench_take(&desk, &none, 0) == 29, "a text stands there", "");
         status = which == 0   ? nonobench_say(&desk, 1, picture, size)
                  : which == 1 ? nonobench_close(&desk, 1)
                  : which == 2 ? nonobench_open(&desk, picture, size, false, picture, 0, 0, &handle)
-                              : nonobench_check(&desk, picture, size, picture, size, picture, size);
+                 : which == 3 ? nonobench_check(&desk, picture, size, picture, size, picture, size)
+                 : which == 4 ? nonobench_verify(&desk, picture, size, picture, size, picture, size)
+                              : nonobench_prove(&desk, picture, size, picture, size);
         expect(status == (which < 2 ? NONOBENCH_CLOSED : NONOBENCH_OPTIONS), "it is refused", "");
         expect(nonobench_take(&desk, &none, 0) == 0, "no text stands there", "");
     }
@@ -346,7 +381,7 @@ static void answer_some(uint32_t seed, int times, char *out, size_t room) {
         if (next(&seed, 2)) cert[next(&seed, sizeof cert - 1)] = (char)(10 + next(&seed, 100));
         status[0] = nonobench_check_pair(picture, sizeof picture - 1, cert, sizeof cert - 1, &ANY, &text);
         status[1] = nonobench_check_pair(noise, size, noise, size, NULL, NULL);
-        status[2] = nonobench_check_pair(DIAGONAL, sizeof DIAGONAL - 1, noise, size, NULL, NULL);
+        status[2] = nonobench_verify_pair(DIAGONAL, sizeof DIAGONAL - 1, noise, size, NULL, NULL);
         status[3] = nonobench_verdict(noise, size, NULL, 100, NULL, NULL);
         used += (size_t)snprintf(out + used, room - used, "%u%u%u%u %s\n", status[0], status[1], status[2], status[3], said);
         if (used + MOST > room) return;
@@ -410,6 +445,9 @@ static void test_growth(int times) {
         holds = holds && nonobench_check_pair("P4", 2, "", 0, NULL, NULL) == NONOBENCH_REFUSED;
         holds = holds && nonobench_audit(TILE, strlen(TILE), NULL, 9, &found, NULL) == NONOBENCH_DONE && found.certificate;
         free(found.certificate);
+        holds = holds && nonobench_prove_picture(TILE, strlen(TILE), NULL, &found, NULL) == NONOBENCH_DONE && found.certificate;
+        holds = holds && nonobench_verify_pair(TILE, strlen(TILE), found.certificate, found.certificate_size, NULL, NULL) == NONOBENCH_DONE;
+        free(found.certificate);
         holds = holds && nonobench_open(&desk, (const uint8_t *)DIAGONAL, strlen(DIAGONAL), false, (const uint8_t *)"", 0, 9, &handle) == 0;
         holds = holds && nonobench_say(&desk, handle, (const uint8_t *)"pin 1 1\nverdict\nundo\n", 21) == NONOBENCH_DONE;
         holds = holds && nonobench_close(&desk, handle) == NONOBENCH_DONE && nonobench_close(&desk, handle) == NONOBENCH_CLOSED;
@@ -425,11 +463,13 @@ int main(int count, char **words) {
     if (count < 2) return 2;
     run_cases(words[1], "pictures");
     run_cases(words[1], "certificates");
+    run_cases(words[1], "lemmas");
     run_cases(words[1], "published");
     test_answers();
     test_undecided();
     test_places_outside();
     test_certificates();
+    test_proofs();
     test_bad_input();
     test_nulls();
     test_no_text();

@@ -1,6 +1,6 @@
 // Checks an upload by the module for JavaScript, in a thread that is ended after ten seconds. After web/build:
-// node examples/check_upload.mjs PICTURE CERTIFICATE [GIVENS]. GIVENS has a line `given R C` for each cell that is published;
-// without it none is. WASM names another nonobench.wasm than that of web/out.
+// node examples/check_upload.mjs PICTURE CERTIFICATE [GIVENS], where CERTIFICATE may be a proof by lemmas. GIVENS has a line
+// `given R C` for each cell that is published; without it none is. WASM names another nonobench.wasm than that of web/out.
 // Ends with status 0 where the pair is taken, 1 where it is refused or takes too long, 2 for other arguments, and 3 where a file
 // cannot be read.
 import { readFile } from 'node:fs/promises';
@@ -55,7 +55,8 @@ if (isMainThread) {
 } else {
   const { module, picture, certificate, givens } = workerData, engine = await load(module);
   try {
-    parentPort.postMessage(engine.check(picture, certificate, { givens }));
+    const isProof = new TextDecoder().decode(certificate.subarray(0, 9)) === 'nonolemma';
+    parentPort.postMessage(engine[isProof ? 'verify' : 'check'](picture, certificate, { givens }));
   } catch (fault) {
     parentPort.postMessage({ accepted: false, text: fault.message });
   }

@@ -86,7 +86,7 @@ test('what no bench would open', () => {
 });
 
 test('kinds of files', () => {
-    const kinds = { P3: 'ppm', 'P6 1': 'ppm', '\u0089PNG\r\n\u001a\n..': 'png', '\u00ff\u00d8\u00ff\u00e0': 'jpeg', GIF89a: 'gif', 'RIFF....WEBPVP8 ': 'webp', '<?xml?>': 'xml', '\u00ef\u00bb\u00bf\n <puzzle>': 'xml', 'width 3\nheight 2': 'non', '\u0000\u0001': null, '': null };
+    const kinds = { P3: 'ppm', 'P6 1': 'ppm', '\u0089PNG\r\n\u001a\n..': 'png', '\u00ff\u00d8\u00ff\u00e0': 'jpeg', GIF89a: 'gif', 'RIFF....WEBPVP8 ': 'webp', '<?xml?>': 'xml', '\u00ef\u00bb\u00bf\n <puzzle>': 'xml', 'width 3\nheight 2': 'non', 'nonocert 1': 'cert', 'nonolemma 1': 'cert', '\u0000\u0001': null, '': null };
     for (const [text, kind] of Object.entries(kinds)) assert.equal(kindOfFile(bytes(text)), kind, text);
 });
 

@@ -1,7 +1,7 @@
 // Trials, in Chromium, that nothing is lost and nothing moves: the library, texts under undo, keys after a choice, panels and pictures
 // that stay under the pointer, certificates, warnings, and marks that are seen. Each is a test of the runner tests/page_test.mjs.
 import assert from 'node:assert/strict';
-import { clean, downloaded, drop, fresh, goOn, isKept, isOpen, menu, said } from './page_hands.mjs';
+import { act, clean, downloaded, drop, fresh, goOn, isKept, isOpen, menu, said } from './page_hands.mjs';
 import { SLACK, noise, ppmOf } from './page_trial.mjs';
 
 const MIXED = ['..aa....bb', '.abba..b.b', 'a.bba.bb..', '..aaa.b...', '...a..cc..'];
@@ -186,6 +186,30 @@ export async function certificateDropped({ browser, url, folder }) {
     await page.run(() => bench.stroke(['unpin 1 1']));
     await drop(page, own, 'given.cert', given);
     await saysThat(page, 'relies on given cells that this puzzle does not give');
+    await page.close();
+}
+
+// A picture whose tree repeats much: its proof by lemmas is shorter.
+const LEARNT = ['a...a....a..', '.a..a.a.a.a.', 'a..aa.a..a..', 'aaaa...a.a..', 'aa..a..aaa..', '.a.......a..', '.a....aa.aaa', '..aaaa......', '...aa.a.a.aa', 'a..a..aa..aa', '.aa....aa.aa', '...a...aaa.a'];
+
+/** Where a proof by lemmas is shorter than the certificate it is saved; one that is dropped is checked against the picture at hand. */
+export async function proofSavedAndDropped({ browser, url, folder }) {
+    const { page, trial, own } = await fresh(browser, url, folder, 'proof');
+    await page.run((text) => takeFile(new File([text], 'learnt.ppm')), ppmOf(LEARNT));
+    await isOpen(page);
+    await trial.judged();
+    await act(page, 'certificate');
+    const proof = (await downloaded(page, own, '.proof')).content.toString();
+    assert.match(proof, /^nonolemma 1\n/);
+    await drop(page, own, 'learnt.proof', proof);
+    await saysThat(page, 'It proves that this picture is the only solution.');
+    await drop(page, own, 'cut.proof', proof.slice(0, -5));
+    await saysThat(page, 'does not prove this picture');
+    await page.run(() => bench.stroke(['paint 12 12 .']));
+    await drop(page, own, 'learnt.proof', proof);
+    await saysThat(page, 'does not prove this picture');
+    await drop(page, own, 'given.proof', `nonolemma 1\ngiven 1 1\n${proof.slice(12)}`);
+    await saysThat(page, 'does not prove this picture');
     await page.close();
 }
 

@@ -211,18 +211,19 @@ export async function onAPhone({ browser, url, folder }) {
     await page.close();
 }
 
-/** A certificate that is found in the second worker is told as the verdict, and the program accepts it. */
+/** A certificate or a proof by lemmas that is found in the second worker is told as the verdict, and the program accepts it. */
 export async function certificates({ trial, page, folder }) {
     const text = ppmOf(['.aa..', 'abba.', 'abba.', '.aa.c', '....c']);
     await trial.open(text, 'certified');
     const cert = await page.run(() => certificateText());
-    assert.match(cert, /^nonocert 1\n[^]*done\n$/);
+    assert.match(cert, /^nono(cert|lemma) 1\n/);
     assert.equal((await trial.state()).verdict.word, 'unique');
     if (process.env.NONOBENCH) {
         writeFileSync(join(folder, 'certified.ppm'), text);
         writeFileSync(join(folder, 'certified.cert'), cert);
-        const done = spawnSync(process.env.NONOBENCH, ['check', join(folder, 'certified.ppm'), join(folder, 'certified.cert')], { encoding: 'utf8' });
-        assert.equal(done.stdout, 'certificate accepted\n', done.stderr);
+        const [word, told] = cert.startsWith('nonolemma') ? ['verify', 'proof'] : ['check', 'certificate'];
+        const done = spawnSync(process.env.NONOBENCH, [word, join(folder, 'certified.ppm'), join(folder, 'certified.cert')], { encoding: 'utf8' });
+        assert.equal(done.stdout, `${told} accepted\n`, done.stderr);
     }
     await trial.open(ppmOf(AMBIGUOUS), 'pair');
     await trial.judged();

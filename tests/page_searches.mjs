@@ -62,9 +62,10 @@ test('the worker that was through with one search serves the next on the same pi
 });
 
 test('Stop, a stroke and the end of the time end the worker at once', async () => {
-    for (const [how, why] of [[(searches) => searches.stop(), 'stopped'], [(searches) => searches.strokeBegun(), 'stroke'], [() => {}, 'time']]) {
+    const ways = [[(searches) => searches.stop(), 'stopped'], [(searches) => searches.strokeBegun(), 'stroke'], [() => {}, 'time']];
+    for (const [how, why, search] of ways.flatMap((way) => [[...way, 'certify'], [...way, 'prove']])) {
         const { searches, log, seen } = searchesOf([], why === 'time' ? 0.05 : 60);
-        const found = searches.certify();
+        const found = searches[search]();
         await pause(20);
         how(searches);
         assert.equal(await found, null);
@@ -79,6 +80,19 @@ test('what a certificate finds is told as the verdict', async () => {
     const unique = searchesOf(['nonocert 1\ndone\n']);
     await unique.searches.certify();
     assert.deepEqual(unique.seen.judged.map((verdict) => verdict.word), ['unique']);
+});
+
+test('a proof by lemmas is made of the picture as it is written, and tells the verdict', async () => {
+    const ppm = 'P3\n2 2\n255\n0 0 0\n255 0 0\n0 0 255\n0 0 0\n', proof = 'nonolemma 1\ndone\n';
+    const { searches, log, seen } = searchesOf([ppm, { ok: { ruling: 'unique', proof } }]);
+    assert.equal(await searches.prove(), proof);
+    assert.deepEqual(log, ['start', 'open', 'write ppm', `prove ${JSON.stringify({ picture: ppm, background: '255,255,255' })}`]);
+    assert.deepEqual(seen.judged.map((verdict) => verdict.word), ['unique']);
+    for (const ruling of ['ambiguous', 'undecided']) {
+        const without = searchesOf([ppm, { ok: { ruling, proof: null } }]);
+        assert.equal(await without.searches.prove(), null);
+        assert.deepEqual(without.seen.judged, []);
+    }
 });
 
 test('an undecided verdict is searched for once no stroke comes', async () => {

@@ -11,6 +11,8 @@ unsigned nonobench_say(void *, unsigned, const byte *, u64);
 u64 nonobench_take(void *, byte *, u64);
 unsigned nonobench_close(void *, unsigned);
 unsigned nonobench_check(void *, const byte *, u64, const byte *, u64, const byte *, u64);
+unsigned nonobench_verify(void *, const byte *, u64, const byte *, u64, const byte *, u64);
+unsigned nonobench_prove(void *, const byte *, u64, const byte *, u64);
 u64 nonobench_version(byte *, u64);
 
 // What a refused call answers (crates/web/src/status.rt).
@@ -65,6 +67,18 @@ CALL(check)
 unsigned check_within(u64 desk, u64 file, u64 size, u64 cert, u64 cert_size, u64 word, u64 word_size) {
     if (!is_within(file, size) || !is_within(cert, cert_size) || !is_within(word, word_size)) return refuse(desk);
     return nonobench_check(here(desk), here(file), size, here(cert), cert_size, here(word), word_size);
+}
+
+CALL(verify)
+unsigned verify_within(u64 desk, u64 file, u64 size, u64 proof, u64 proof_size, u64 word, u64 word_size) {
+    if (!is_within(file, size) || !is_within(proof, proof_size) || !is_within(word, word_size)) return refuse(desk);
+    return nonobench_verify(here(desk), here(file), size, here(proof), proof_size, here(word), word_size);
+}
+
+CALL(prove)
+unsigned prove_within(u64 desk, u64 file, u64 size, u64 word, u64 word_size) {
+    if (!is_within(file, size) || !is_within(word, word_size)) return refuse(desk);
+    return nonobench_prove(here(desk), here(file), size, here(word), word_size);
 }
 
 CALL(version)

@@ -6,8 +6,8 @@
 // is below 2^32. So a pointer's place keeps its 8 bytes, a store of one writes both halves, a load of one reads the lower half,
 // and a load of several values at once is a load for each, at the offsets of 64-bit pointers. All other offsets are numbers in the
 // text already. Constant offsets are marked as ones that no address overflows by: memory ends at 1 GiB. Shifts of 128 bits by
-// distances that vary are put out as such of 64 bits. Each line must have a form that is named here; any other ends this with
-// status 1.
+// distances that vary are put out as such of 64 bits. A fence of a number is the number: arithmetic that may be reordered is refused.
+// Each line must have a form that is named here; any other ends this with status 1.
 import { readFileSync, writeFileSync } from 'node:fs';
 
 const [wide, layout, narrow] = process.argv.slice(2);
@@ -113,6 +113,7 @@ const CHANGED = [
     return [...first, `call void @llvm.memmove.p0.p0.i32(ptr ${to}, ptr ${from}, i32 ${size}, i1 false)`];
   }],
   ['(NAME) = (shl|lshr) i128 (NAME|\\d+), (NAME)', shifted],
+  ['(NAME) = call double @llvm\\.arithmetic\\.fence\\.f64\\(double (NAME|-?[\\w.+]+)\\)', (to, value) => [`${to} = fmul double ${value}, 1.000000e+00`]],
 ].map(([text, make]) => [form(text), make]);
 
 // The forms that stay: those of numbers, with pointers as whole values alone.
@@ -164,6 +165,7 @@ function outside(line) {
   if (line === 'target triple = "x86_64-unknown-linux-gnu"') return [];
   if (line.startsWith('attributes #')) return [line.replace(/ "(?:target-cpu|target-features|tune-cpu|frame-pointer|probe-stack|stack-probe-size)"="[^"]*"/g, '').replace('{ }', '{ nounwind }')];
   if (line.startsWith('declare void @llvm.memset.p0.i64(')) return ['declare void @llvm.memset.p0.i32(ptr, i8, i32, i1)'];
+  if (/^declare double @llvm\.arithmetic\.fence\.f64\(double\)(?: #\d+)?$/.test(line)) return [];
   if (line.startsWith('declare void @llvm.memmove.p0.p0.i64(')) return ['declare void @llvm.memmove.p0.p0.i32(ptr, ptr, i32, i1)'];
   if (CALLED.includes(line.replace(/ #\d+$/, ''))) return [line];
   if (!OUTSIDE.some((shape) => shape.test(line))) refuse(line);

@@ -38,10 +38,13 @@ test('what is narrowed computes as the module of 64-bit pointers does', async ()
     + body('i64 @second(ptr %from)', '%r = load { i8, i64 }, ptr %from, align 8', '%x = extractvalue { i8, i64 } %r, 1', 'ret i64 %x')
     + body('i64 @behind(ptr %from)', '%r = load { ptr, i64 }, ptr %from, align 8', '%x = extractvalue { ptr, i64 } %r, 1', 'ret i64 %x')
     + body('i64 @first(ptr %from)', '%r = load { ptr, i64 }, ptr %from, align 8', '%x = extractvalue { ptr, i64 } %r, 0',
-      '%y = ptrtoint ptr %x to i64', 'ret i64 %y')));
+      '%y = ptrtoint ptr %x to i64', 'ret i64 %y')
+    + body('i1 @below(double %x)', '%a = call double @llvm.arithmetic.fence.f64(double %x)',
+      '%b = call double @llvm.arithmetic.fence.f64(double 3.000000e+00)', '%c = fcmp olt double %a, %b', 'ret i1 %c')
+    + 'declare double @llvm.arithmetic.fence.f64(double)\n'));
   for (const level of ['-O0', '-O3']) {
     run(...TARGET, level, '-Wno-override-module', '-c', '-x', 'ir', at('narrow.ll'), '-o', at('narrow.o'));
-    execFileSync(at('wasm-ld'), ['--no-entry', '--fatal-warnings', ...['up', 'down', 'put', 'second', 'behind', 'first'].map((name) => `--export=${name}`),
+    execFileSync(at('wasm-ld'), ['--no-entry', '--fatal-warnings', ...['up', 'down', 'put', 'second', 'behind', 'first', 'below'].map((name) => `--export=${name}`),
       at('narrow.o'), '-o', at('narrow.wasm')], { stdio: 'pipe' });
     const { instance: { exports: calls } } = await WebAssembly.instantiate(readFileSync(at('narrow.wasm')));
     const words = () => new BigUint64Array(calls.memory.buffer, 1024, 2), all = (1n << 128n) - 1n, half = (1n << 64n) - 1n;
@@ -53,6 +56,7 @@ test('what is narrowed computes as the module of 64-bit pointers does', async ()
         }
       }
     }
+    assert.deepEqual([-Infinity, 2.9999999999999996, 3, Infinity, NaN].map((x) => calls.below(x)), [1, 1, 0, 0, 0]);
     words().fill(half);
     calls.put(1024, 0x12345678);
     assert.equal(words()[0], 0x12345678n);
@@ -69,6 +73,8 @@ test('forms whose meaning could change are refused', () => {
     'a step over values': body('ptr @f(ptr %p)', '%q = getelementptr i64, ptr %p, i64 1', 'ret ptr %q'),
     'a far step': body('ptr @f(ptr %p)', '%q = getelementptr i8, ptr %p, i64 1073741824', 'ret ptr %q'),
     'a record of three': body('void @f(ptr %p)', '%r = load { ptr, i64, i64 }, ptr %p, align 8', 'ret void'),
+    'a fence of another number': body('float @f(float %x)', '%r = call float @llvm.arithmetic.fence.f32(float %x)', 'ret float %r'),
+    'arithmetic that may be reordered': body('double @f(double %x)', '%r = fadd fast double %x, %x', 'ret double %r'),
     'a volatile load': body('i64 @f(ptr %p)', '%r = load volatile i64, ptr %p, align 8', 'ret i64 %r'),
   };
   assert.ok(narrowed(body('ptr @f(ptr %p)', '%q = getelementptr i8, ptr %p, i64 8', 'ret ptr %q')));

@@ -25,21 +25,33 @@ export type Place = readonly [row: number, column: number];
 export interface CheckOptions {
   /** The colour of the background, 'r,g,b'; by default white. */
   background?: string | null;
-  /** The cells whose colours are published; by default none. 'any' accepts all that the certificate gives. */
+  /** The cells whose colours are published; by default none. 'any' accepts all that the certificate or proof gives. */
   givens?: readonly Place[] | 'any' | null;
 }
 
-/** The answer to a picture and a certificate. */
+export interface ProveOptions {
+  /** The colour of the background, 'r,g,b'; by default white. */
+  background?: string | null;
+}
+
+/** The answer to a picture and a certificate or a proof by lemmas. */
 export interface Checked {
-  /** The certificate proves that no other picture of that size has the clues and the givens' colours, and all givens are published. */
+  /** It proves that no other picture of that size has the clues and the givens' colours, and all givens are published. */
   accepted: boolean;
   /** The program's status: 0 if it is accepted; 1 also if a given is not published. */
   status: number;
   /** What the program says; or `certificate UnpublishedGiven at line N`, if a given is not published. */
   text: string;
-  /** The cells that the certificate gives, if its proof is right, even if one of them is not published. */
+  /** The cells that it gives, if the proof is right, even if one of them is not published. */
   givens: Place[];
 }
+
+/** The answer of the search for a proof by lemmas. */
+export type Proved =
+  /** The proof, which gives no cell. */
+  | { ruling: 'unique'; proof: string }
+  /** Another picture has the clues; or neither it nor a proof was found within the bounds of the search. */
+  | { ruling: 'ambiguous' | 'undecided'; proof: null };
 
 /** An open picture, until it is closed. A bench without references is closed some time later. */
 export interface Bench {
@@ -55,6 +67,10 @@ export interface Bench {
 export interface Engine {
   open(file: Input, options?: OpenOptions): Bench;
   check(picture: Input, certificate: Input, options?: CheckOptions): Checked;
+  /** Checks a proof by lemmas. */
+  verify(picture: Input, proof: Input, options?: CheckOptions): Checked;
+  /** Makes a proof by lemmas. It may take minutes. */
+  prove(picture: Input, options?: ProveOptions): Proved;
   /** The clues of a file, a line each, as the program prints them. */
   clues(file: Input, options?: OpenOptions): string;
   /** The version of the module, as the program prints it after its name. */

@@ -1,11 +1,13 @@
-// The workbench as a module of JavaScript: benches on pictures, and the check of certificates. It imports nothing and runs in
-// browsers and in node from version 18 on.
+// The workbench as a module of JavaScript: benches on pictures, and the check of certificates and proofs by lemmas. It imports
+// nothing and runs in browsers and in node from version 18 on.
 //
 //     const engine = await load(bytes)                      // the bytes of nonobench.wasm
 //     const bench = engine.open(picture, {history: 100})    // a P3 picture or a two-colour .non text
 //     bench.say('clues\nverdict\n')                         // what the program `nonobench work` answers
 //     bench.close()
 //     engine.check(picture, certificate, {givens: [[1, 1]]})    // {accepted, status, text, givens}
+//     engine.prove(picture)                                 // {ruling, proof}, a proof by lemmas
+//     engine.verify(picture, proof)                         // as check, for such a proof
 //     engine.clues(picture)                                 // what the program `nonobench` prints for it
 //     engine.version                                        // as `nonobench --version` prints it after the name
 
@@ -62,11 +64,12 @@ function publishedOf(givens) {
   return new Set(givens.map(([row, column]) => `${row} ${column}`));
 }
 
-// The cells that an accepted certificate gives: their lines stand directly below its first one, `nonocert 2`.
+// The cells that an accepted certificate or proof gives: their lines stand directly below its first one.
 function givensOf(certificate) {
-  if (certificate[9] !== 0x32) return [];
+  const from = certificate.indexOf(0x0a) + 1;
+  if (certificate[from] !== 0x67) return []; // 'g'
   const text = decoder.decode(certificate), line = /given (\d+) (\d+)(?:\n|$)/y, givens = [];
-  line.lastIndex = text.indexOf('\n') + 1;
+  line.lastIndex = from;
   for (let found = line.exec(text); found; found = line.exec(text)) givens.push([Number(found[1]), Number(found[2])]);
   return givens;
 }
@@ -115,15 +118,38 @@ class Engine {
    * gives, if its proof is right. 'any' accepts whatever it gives, for a site that then publishes these cells.
    */
   check(picture, certificate, options = {}) {
+    return this.#checked('certificate', picture, certificate, options, (file, cert, word) =>
+      this.#calls.nonobench_check(this.#cell, file.at, file.size, cert.at, cert.size, word.at, word.size));
+  }
+
+  /** Checks a proof by lemmas of a picture, with the options and the answer of `check`. */
+  verify(picture, proof, options = {}) {
+    return this.#checked('proof', picture, proof, options, (file, lines, word) =>
+      this.#calls.nonobench_verify(this.#cell, file.at, file.size, lines.at, lines.size, word.at, word.size));
+  }
+
+  /**
+   * Makes a proof by lemmas of a picture: {ruling, proof}. The ruling is 'unique' with the proof, which gives no cell, or 'ambiguous'
+   * or 'undecided' with null. Throws a Fault where the picture is refused.
+   */
+  prove(picture, options = {}) {
+    const status = this.#lend([this.#input(picture), this.#background(options.background)], ([file, word]) =>
+      this.#calls.nonobench_prove(this.#cell, file.at, file.size, word.at, word.size));
+    if (status !== DONE) this.#refuse(status);
+    const text = this.#text();
+    return text.startsWith('nonolemma ') ? { ruling: 'unique', proof: text } : { ruling: text.trimEnd(), proof: null };
+  }
+
+  // Checks a certificate or a proof, as `word` says, by a call of the module.
+  #checked(word, picture, certificate, options, call) {
     const background = this.#background(options.background), published = publishedOf(options.givens);
     const held = this.#input(certificate), proof = held.buffer instanceof ArrayBuffer ? held : held.slice(); // shared memory may change
-    const status = this.#lend([this.#input(picture), proof, background], ([file, cert, word]) =>
-      this.#calls.nonobench_check(this.#cell, file.at, file.size, cert.at, cert.size, word.at, word.size));
+    const status = this.#lend([this.#input(picture), proof, background], (lent) => call(...lent));
     if (status === MEMORY || status === OPTIONS) this.#refuse(status);
     const text = this.#text();
     if (status !== DONE) return { accepted: false, status, text, givens: [] };
     const givens = givensOf(proof);
-    if (text !== `certificate accepted${givens.length > 0 ? `, givens ${givens.length}` : ''}\n`) throw new Fault('ended', `the module names other givens: ${text}`);
+    if (text !== `${word} accepted${givens.length > 0 ? `, givens ${givens.length}` : ''}\n`) throw new Fault('ended', `the module names other givens: ${text}`);
     const at = published ? givens.findIndex(([row, column]) => !published.has(`${row} ${column}`)) : -1;
     if (at >= 0) return { accepted: false, status: REFUSED, text: `certificate UnpublishedGiven at line ${at + 2}`, givens };
     return { accepted: true, status, text, givens };

@@ -1,6 +1,7 @@
 // The two sides that web/compare.mjs compares: the native program, and the module in node or in headless Chromium. Each has a call
 // `answer`, which gives {out, said, status}: what is written, what is said on standard error, and the status. It is asked
-// {call: 'work', file, lines, options}, {call: 'check', file, certificate, options} or {call: 'clues', file, options}, as bytes.
+// {call: 'work', file, lines, options}, {call: 'check' or 'verify', file, certificate, options}, {call: 'prove', file, options} or
+// {call: 'clues', file, options}, as bytes.
 import { spawnSync } from 'node:child_process';
 import { closeSync, mkdtempSync, openSync, readFileSync, rmSync, writeFileSync } from 'node:fs';
 import { tmpdir } from 'node:os';
@@ -24,8 +25,8 @@ export class Program {
     const { format, background, history } = options;
     if (call === 'clues') return this.#ran([], file);
     const words = [call, this.#kept('file', file)];
-    if (call === 'check') words.push(this.#kept('certificate', certificate));
-    else words.push('--format', format);
+    if (certificate !== undefined) words.push(this.#kept('certificate', certificate));
+    if (call === 'work') words.push('--format', format);
     if (background !== undefined) words.push('--background', background);
     if (history !== undefined) words.push('--history', String(history));
     return this.#ran(words, lines ?? '');
@@ -51,9 +52,13 @@ function answerOf(engine, { call, file, lines, certificate, options }) {
   const refused = (text, status) => ({ out: '', said: `nonobench: ${text}\n`, status });
   try {
     if (call === 'clues') return answered(engine.clues(file, options));
-    if (call === 'check') {
-      const { accepted, text, status } = engine.check(file, certificate, { ...options, givens: 'any' });
+    if (call === 'check' || call === 'verify') {
+      const { accepted, text, status } = engine[call](file, certificate, { ...options, givens: 'any' });
       return accepted ? answered(text) : refused(text, status);
+    }
+    if (call === 'prove') {
+      const { ruling, proof } = engine.prove(file, options);
+      return answered(proof ?? `${ruling}\n`);
     }
     const bench = engine.open(file, options);
     try {

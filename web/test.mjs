@@ -80,7 +80,8 @@ test('what files, options and words are refused, and how it is said', async () =
   }
   for (const background of ['', '1,2', '1,2,3,4', 'red', '1,2,65536', '1,2,-3']) {
     assert.deepEqual(faultOf(() => engine.open(DIAGONAL, { background })), ['open', 'background must be R,G,B']);
-    assert.deepEqual(faultOf(() => engine.check(DIAGONAL, '', { background })), ['open', 'background must be R,G,B']);
+    for (const call of ['check', 'verify']) assert.deepEqual(faultOf(() => engine[call](DIAGONAL, '', { background })), ['open', 'background must be R,G,B']);
+    assert.deepEqual(faultOf(() => engine.prove(DIAGONAL, { background })), ['open', 'background must be R,G,B']);
   }
   assert.deepEqual(faultOf(() => engine.open(PUZZLE, { background: '0,0,0' })), ['open', 'background goes with ppm']);
   assert.deepEqual(faultOf(() => engine.open(new Uint8Array(16777217))), ['open', 'input too long']);
@@ -186,11 +187,14 @@ test('lengths past the memory are refused by each plain call, there is no text, 
   const size = BigInt(DIAGONAL.length);
   const open = (at, length, word = [file, 0n], handle = cell + 8n) => calls.nonobench_open(cell, at, length, 0, ...word, 1, handle);
   const check = (...pairs) => calls.nonobench_check(cell, ...pairs.flat(), file, 0n);
+  const verify = (...words) => calls.nonobench_verify(cell, ...words.flat());
   assert.equal(open(file, size), 0);
   const past = [[file, 2n ** 32n + 1n], [file, 2n ** 64n - 1n], [2n ** 63n, 1n], [2n ** 64n - 1n, 1n]];
   const refused = [
     (...at) => open(...at), (...at) => open(file, size, at), (at) => open(file, size, [file, 0n], at - 2n), (...at) => calls.nonobench_say(cell, 1, ...at),
     (...at) => check(at, [file, size]), (...at) => check([file, size], at), (...at) => calls.nonobench_check(cell, file, size, file, size, ...at),
+    (...at) => verify(at, [file, size, file, 0n]), (...at) => verify([file, size], at, [file, 0n]), (...at) => verify([file, size, file, size], at),
+    (...at) => calls.nonobench_prove(cell, ...at, file, 0n), (...at) => calls.nonobench_prove(cell, file, size, ...at),
     (at) => calls.nonobench_start(at - 6n),
   ];
   const places = [() => [end(), 1n], () => [end() + 1n, 0n], () => [end() - 1n, 2n ** 32n], ...past.slice(2).map((place) => () => place)];
@@ -234,6 +238,11 @@ test('bytes up to the last of the memory are taken by each plain call, and the h
   assert.equal(calls.nonobench_check(cell, ...last(DIAGONAL), file, size, file, 0n), 1);
   assert.equal(calls.nonobench_check(cell, file, size, ...last('nonocert 2\n'), file, 0n), 1);
   assert.equal(calls.nonobench_check(cell, file, size, file, size, ...last('0,0,0')), 1);
+  assert.equal(calls.nonobench_verify(cell, ...last(DIAGONAL), file, size, file, 0n), 1);
+  assert.equal(calls.nonobench_verify(cell, file, size, ...last('nonolemma 1\n'), file, 0n), 1);
+  assert.equal(calls.nonobench_verify(cell, file, size, file, size, ...last('0,0,0')), 1);
+  assert.equal(calls.nonobench_prove(cell, ...last(DIAGONAL), file, 0n), 0);
+  assert.equal(calls.nonobench_prove(cell, file, size, ...last('0,0,0')), 0);
   assert.equal(calls.nonobench_say(cell, 1, ...last('verdict\n')), 0);
   assert.equal(calls.nonobench_take(cell, BigInt(end() - 3), 3n), 16n);
   assert.equal(new TextDecoder().decode(new Uint8Array(calls.memory.buffer, end() - 3, 3)), 'amb');
@@ -256,6 +265,13 @@ test('a null beside a length is refused by each plain call, and nothing is read 
   assert.equal(calls.nonobench_check(cell, 0n, 1n, file, size, 0n, 0n), 6);
   assert.equal(calls.nonobench_check(cell, file, size, 0n, 1n, 0n, 0n), 6);
   assert.equal(calls.nonobench_check(cell, file, size, file, size, 0n, 1n), 6);
+  assert.equal(calls.nonobench_verify(cell, 0n, 1n, file, size, 0n, 0n), 6);
+  assert.equal(calls.nonobench_verify(cell, file, size, 0n, 1n, 0n, 0n), 6);
+  assert.equal(calls.nonobench_verify(cell, file, size, file, size, 0n, 1n), 6);
+  assert.equal(calls.nonobench_prove(cell, 0n, 1n, 0n, 0n), 6);
+  assert.equal(calls.nonobench_prove(cell, file, size, 0n, 1n), 6);
+  assert.equal(calls.nonobench_prove(cell, file, size, 0n, 0n), 0);
+  assert.equal(calls.nonobench_verify(cell, file, size, file, size, 0n, 0n), 1);
   assert.equal(calls.nonobench_check(cell, file, size, file, size, 0n, 0n), 1);
   const low = () => new Uint8Array(calls.memory.buffer, 0, 8192).slice(), before = low();
   assert.equal(calls.nonobench_take(cell, 0n, 64n), 29n);
@@ -368,6 +384,8 @@ test('there is no text after memory was refused, behind a closed handle, or behi
   assert.equal(calls.nonobench_start(cell), 0);
   const open = (history = 1) => calls.nonobench_open(cell, file, size, 0, file, 0n, history, cell + 8n);
   const check = (word = 0n) => calls.nonobench_check(cell, file, size, file, size, file, word);
+  const verify = (word = 0n) => calls.nonobench_verify(cell, file, size, file, size, file, word);
+  const prove = (word = 0n) => calls.nonobench_prove(cell, file, size, file, word);
   const short = (call) => {
     calls.nonobench_refuse(1);
     const status = call();
@@ -377,6 +395,7 @@ test('there is no text after memory was refused, behind a closed handle, or behi
   const cases = [
     [4, () => short(() => open())], [4, () => short(() => check())], [0, () => open()], [5, () => calls.nonobench_say(cell, 9, file, size)],
     [5, () => calls.nonobench_close(cell, 9)], [0, () => calls.nonobench_close(cell, 1)], [6, () => open(0)], [6, () => check(size)],
+    [4, () => short(() => verify())], [4, () => short(() => prove())], [6, () => verify(size)], [6, () => prove(size)],
   ];
   for (const [status, call] of cases) {
     // What stood there before: that the picture is no certificate.
@@ -417,7 +436,7 @@ test('after a trap the engine is of no use, and says so', async () => {
   isTrap = true;
   assert.deepEqual(faultOf(() => bench.say('pin 1 2\n')), ['ended', 'the module has ended: unreachable']);
   isTrap = false;
-  for (const call of [() => bench.say('verdict\n'), () => bench.close(), () => engine.open(DIAGONAL), () => engine.check(DIAGONAL, '')]) {
+  for (const call of [() => bench.say('verdict\n'), () => bench.close(), () => engine.open(DIAGONAL), () => engine.check(DIAGONAL, ''), () => engine.prove(DIAGONAL)]) {
     assert.deepEqual(faultOf(call), ['ended', 'the module has ended']);
   }
 });
@@ -479,10 +498,45 @@ test('a certificate is accepted where its givens are among those that are publis
     const [, rows, published, proof, given, answer] = /^(\S+) (\S+) (.*) => (\S+) (.*)$/.exec(line);
     const refused = answer.startsWith('! '), givens = published === 'any' ? 'any' : placesOf(published);
     const wanted = { accepted: !refused, status: refused ? 1 : 0, text: refused ? answer.slice(2) : `${answer}\n`, givens: placesOf(given) };
-    assert.deepEqual(engine.check(pictureOf(rows), unescaped(proof), { givens }), wanted, line);
+    const call = proof.startsWith('nonolemma') ? 'verify' : 'check';
+    assert.deepEqual(engine[call](pictureOf(rows), unescaped(proof), { givens }), wanted, line);
     count += 1;
   }
-  assert.ok(count > 20, `${count}`);
+  assert.ok(count > 30, `${count}`);
+});
+
+test('a proof by lemmas that is made is accepted, with a byte changed it is refused or proves the same, and none proves two solutions', async () => {
+  const engine = await fresh(), picture = pictureOf('a./.b');
+  assert.deepEqual(engine.prove(DIAGONAL), { ruling: 'ambiguous', proof: null });
+  assert.deepEqual(faultOf(() => engine.prove('P4\n')), ['open', 'ppm NotP3 at byte 0']);
+  const { ruling, proof } = engine.prove(new TextEncoder().encode(picture), { background: null });
+  assert.equal(ruling, 'unique');
+  const accepted = { accepted: true, status: 0, text: 'proof accepted\n', givens: [] };
+  assert.deepEqual(engine.verify(picture, proof), accepted);
+  assert.deepEqual(engine.check(picture, proof), { accepted: false, status: 1, text: 'certificate NotCert at line 1', givens: [] });
+  let refused = 0;
+  for (let at = 0; at < proof.length; at += 1) {
+    for (const sign of ['', ' ', '1', '2', 'x', '\n']) {
+      const text = proof.slice(0, at) + sign + proof.slice(at + 1), answer = engine.verify(picture, text);
+      if (answer.accepted) assert.deepEqual(answer, accepted);
+      else refused += 1;
+      assert.equal(engine.verify(DIAGONAL, text, { givens: 'any' }).accepted, false, text);
+    }
+  }
+  assert.ok(refused > proof.length * 3, `${refused}`);
+});
+
+test('proofs by lemmas are answered as the cases say', async () => {
+  const engine = await fresh();
+  let count = 0;
+  for (const line of text('tests', 'cases', 'lemmas.case').split('\n')) {
+    if (line === '' || line.startsWith('#') || /\\[^n]/.test(line)) continue;
+    const [, rows, proof, answer] = /^(\S+) (.*) => (.*)$/.exec(line), refused = answer.startsWith('! ');
+    const { accepted, text: said } = engine.verify(pictureOf(rows), unescaped(proof), { givens: 'any' });
+    assert.deepEqual([accepted, said], refused ? [false, answer.slice(2)] : [true, `${answer}\n`], line);
+    count += 1;
+  }
+  assert.ok(count > 40, `${count}`);
 });
 
 test('what is read of a certificate is what was checked, also where its memory is shared', async () => {
@@ -563,27 +617,35 @@ test('each growth of memory refused in turn is an ordinary answer', async () => 
   assert.equal(engine.open(picture).say(lines), whole);
 });
 
-test('each growth refused in turn while a certificate is checked is a fault of memory', async () => {
+test('each growth refused in turn while a certificate or a proof is checked, or one made, is a fault of memory', async () => {
   const { engine, calls } = await watched();
-  const picture = text('examples', 'given.ppm'), certificate = text('examples', 'given.cert');
-  let refused = 0;
-  const turns = () => {
-    for (let nth = 1; ; nth += 1) {
-      engine.refuse(nth);
-      let answer = null;
-      try {
-        answer = engine.check(picture, certificate, { givens: [[1, 1]] });
-      } catch (fault) {
-        assert.deepEqual([fault.kind, fault.text], ['memory', 'memory'], `${nth}`);
+  const picture = text('examples', 'given.ppm'), certificate = text('examples', 'given.cert'), givens = [[1, 1]];
+  const proof = `nonolemma 1${certificate.slice(10)}`, unique = pictureOf('a./.b'), made = engine.prove(unique);
+  const accepted = (word) => ({ accepted: true, status: 0, text: `${word} accepted, givens 1\n`, givens });
+  const asked = [
+    [() => engine.check(picture, certificate, { givens }), accepted('certificate')], [() => engine.verify(picture, proof, { givens }), accepted('proof')],
+    [() => engine.prove(unique), made], [() => engine.prove(DIAGONAL), { ruling: 'ambiguous', proof: null }],
+  ];
+  for (const [call, wanted] of asked) {
+    let refused = 0;
+    const turns = () => {
+      for (let nth = 1; ; nth += 1) {
+        engine.refuse(nth);
+        let answer = null;
+        try {
+          answer = call();
+        } catch (fault) {
+          assert.deepEqual([fault.kind, fault.text], ['memory', 'memory'], `${nth}`);
+        }
+        engine.refuse(0);
+        if (answer) return assert.deepEqual(answer, wanted, `${nth}`);
+        refused += 1;
       }
-      engine.refuse(0);
-      if (answer) return assert.deepEqual(answer, { accepted: true, status: 0, text: 'certificate accepted, givens 1\n', givens: [[1, 1]] }, `${nth}`);
-      refused += 1;
-    }
-  };
-  turns();
-  assert.ok(refused > 10, `${refused}`);
-  assert.equal(taken(calls, turns), 0);
+    };
+    turns();
+    assert.ok(refused > 10, `${refused}`);
+    assert.equal(taken(calls, turns), 0);
+  }
 });
 
 test('any bytes are answered, and the module goes on', async () => {
@@ -607,6 +669,7 @@ test('any bytes are answered, and the module goes on', async () => {
         }
       }
       assert.equal(typeof engine.check(file, noise).text, 'string');
+      assert.equal(typeof engine.verify(file, noise).text, 'string');
     }
     assert.equal(typeof bench.say(noise), 'string');
   }
@@ -662,6 +725,9 @@ test('the example checks an upload in a thread of its own, and its status tells 
     const proof = file('cross.cert', 'nonocert 2\ngiven 1 1\ngiven 1 2\ngiven 2 1\ngiven 2 2\ndone\n');
     assert.deepEqual(said('diagonal.ppm', 'diagonal.cert'), ['taken: certificate accepted\n', 0]);
     assert.deepEqual(said('given.ppm', 'given.cert', one), ['taken: certificate accepted, givens 1\n', 0]);
+    const lemmas = file('given.proof', 'nonolemma 1\ngiven 1 1\nline r 1\nline c 1\nline r 2\ndone\n');
+    assert.deepEqual(said('given.ppm', lemmas, one), ['taken: proof accepted, givens 1\n', 0]);
+    assert.deepEqual(said('given.ppm', lemmas), ['refused: certificate UnpublishedGiven at line 2\n', 1]);
     assert.deepEqual(said('given.ppm', 'given.cert'), ['refused: certificate UnpublishedGiven at line 2\n', 1]);
     assert.deepEqual(said('given.ppm', 'diagonal.cert'), ['refused: certificate NotDead at line 5\n', 1]);
     assert.deepEqual(said(cross, proof), ['refused: certificate UnpublishedGiven at line 2\n', 1]);

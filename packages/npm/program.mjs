@@ -9,6 +9,12 @@ import { readWords } from './words.mjs';
 
 const beside = (name) => JSON.parse(readFileSync(new URL(name, import.meta.url), 'utf8'));
 
+// Prints what was accepted, or ends.
+function tell({ accepted, status, text }) {
+  if (!accepted) throw ended(status, text);
+  write(text);
+}
+
 const TASKS = {
   // The texts were printed by the native program when the package was made.
   help: async ({ page }) => write(beside('help.json')[page]),
@@ -22,9 +28,17 @@ const TASKS = {
 
   async check({ files, options: { background } }) {
     const [picture, certificate] = files.map(readFile);
-    const { accepted, status, text } = (await load()).check(picture, certificate, { background, givens: 'any' });
-    if (!accepted) throw ended(status, text);
-    write(text);
+    tell((await load()).check(picture, certificate, { background, givens: 'any' }));
+  },
+
+  async verify({ files, options: { background } }) {
+    const [picture, proof] = files.map(readFile);
+    tell((await load()).verify(picture, proof, { background, givens: 'any' }));
+  },
+
+  async prove({ files, options: { background } }) {
+    const { ruling, proof } = (await load()).prove(readFile(files[0]), { background });
+    write(proof ?? `${ruling}\n`);
   },
 
   async work({ files, options }) {

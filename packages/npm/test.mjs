@@ -43,14 +43,14 @@ function asked(args) {
   }
 }
 
-const PIECES = ['work', 'check', 'help', '--help', '-h', '--version', '-V', '--', '-', '', 'one', 'two', '-x', '-1', '--other', '--help=1', '-hV', '-Vh', '-xh',
+const PIECES = ['work', 'check', 'verify', 'prove', 'help', '--help', '-h', '--version', '-V', '--', '-', '', 'one', 'two', '-x', '-1', '--other', '--help=1', '-hV', '-Vh', '-xh',
   '--history', '--history=5', '--history=', '5', '+5', '007', '0', '1000', '1001', '5x', '--format', '--format=non', '--format=gif', 'non', 'ppm',
   '--background', '--background=1,2,3', '--background=', '1,2,3', '1,2', '0,0,65536', '00001,2,3', '--no-help', '---', '--=x', '-=', '-h=1', '--histor'];
 
 test('arguments are taken and refused as by the native program', () => {
   const chance = new Chance(20);
   for (let time = 0; time < 2000; time += 1) {
-    const front = chance.below(4) === 0 ? [] : [['work', 'check', 'help'][chance.below(3)]];
+    const front = chance.below(4) === 0 ? [] : [['work', 'check', 'verify', 'prove', 'help'][chance.below(5)]];
     const args = front.concat(Array.from({ length: chance.below(5) }, () => PIECES[chance.below(PIECES.length)]));
     const here = asked(args), there = done(args);
     // What a parser says of arguments is its own.

@@ -9,7 +9,10 @@ const TOP = { ...HELP, version: { type: 'boolean', short: 'V' } };
 const COMMANDS = {
   work: { files: 1, options: { ...HELP, ...BACKGROUND, format: { type: 'string' }, history: { type: 'string' } } },
   check: { files: 2, options: { ...HELP, ...BACKGROUND } },
+  verify: { files: 2, options: { ...HELP, ...BACKGROUND } },
+  prove: { files: 1, options: { ...HELP, ...BACKGROUND } },
 };
+const PROOFS = { check: 'certificate', verify: 'proof' };
 const MOST_SAMPLE = 65535;
 const MOST_HISTORY = 1000;
 
@@ -57,7 +60,7 @@ function commandOf(command, args) {
     if (token.kind === 'option') takeOption(found, token, options);
     if (token.kind === 'positional' && files.push(token.value) > wanted) refuse(`unexpected argument '${token.value}' found`);
   }
-  if (files.length < wanted) refuse(`${command} needs ${wanted === 1 ? 'a file' : 'a picture and a certificate'}`);
+  if (files.length < wanted) refuse(`${command} needs ${wanted === 1 ? 'a file' : `a picture and a ${PROOFS[command]}`}`);
   const { format = 'ppm', history = '100' } = found;
   return { task: command, files, options: { format, history: Number(history), background: backgroundOf(found) } };
 }
@@ -80,7 +83,7 @@ function topOf(args) {
 }
 
 /**
- * What the arguments ask for: {task}, which is 'clues', 'work', 'check', 'help' or 'version', with {files, options} or {page}.
+ * What the arguments ask for: {task}, which is 'clues', 'work', 'check', 'verify', 'prove', 'help' or 'version', with {files, options} or {page}.
  * Throws an Ending where they are refused. Node puts U+FFFD for bytes that are not UTF-8, so an argument with it is refused too.
  */
 export function readWords(args) {

@@ -1,6 +1,6 @@
 // Uses every type that the package for npm names, for TypeScript's compiler alone: tsc --noEmit --strict.
 import { Fault, load } from 'nonobench';
-import type { Bench, Checked, Engine, Input, OpenOptions, Place } from 'nonobench';
+import type { Bench, CheckOptions, Checked, Engine, Input, OpenOptions, Place, ProveOptions, Proved } from 'nonobench';
 
 const options: OpenOptions = { history: 100, background: null, format: 'ppm' };
 
@@ -13,13 +13,18 @@ function answer(engine: Engine, picture: Input): string {
   }
 }
 
+function proved(engine: Engine, picture: Input, options: ProveOptions, published: CheckOptions): Checked | string {
+  const found: Proved = engine.prove(picture, options);
+  return found.ruling === 'unique' ? engine.verify(picture, found.proof, published) : found.ruling;
+}
+
 export async function tried(picture: Uint8Array, certificate: string, published: Place[]): Promise<Checked | string> {
   const engine = await load();
   const other: Engine = await load(new Uint8Array(0).buffer);
   try {
     const checked: Checked = engine.check(picture, certificate, { givens: published });
     const { accepted, status, text }: { accepted: boolean; status: number; text: string } = checked;
-    return accepted ? checked : `${status} ${text} ${other.version} ${answer(engine, picture)}`;
+    return accepted ? checked : `${status} ${text} ${other.version} ${answer(engine, picture)} ${proved(other, picture, {}, {})}`;
   } catch (fault) {
     return fault instanceof Fault ? `${fault.kind}: ${fault.text}` : String(fault);
   }

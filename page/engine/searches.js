@@ -126,6 +126,17 @@ export class Searches {
     }, true);
   }
 
+  /** A proof by lemmas, which gives no cell: its text, or null. It tells the verdict too, but not another picture. */
+  async prove(seconds = this.hooks.seconds()) {
+    const { version } = this;
+    return this.job(phrase('engine.searchingCertificate'), seconds, async (copy, run) => {
+      const [{ text }] = await copy.say('write ppm');
+      const { proof } = await this.within(run, run.engine.call('prove', { picture: text, background: run.state.colours[0].join(',') }));
+      if (proof) this.tellVerdict(version, { kind: 'verdict', word: 'unique' });
+      return proof;
+    }, true);
+  }
+
   /**
    * A grade, `puzzle` being as page/grade has it, or null. Where line logic solves the puzzle that is a moment of the second worker,
    * which a stroke does not end. Else it is a job without a name, for it asks for a certificate.

@@ -24,7 +24,10 @@ export function serve(scope, load) {
       return opened.say(lines);
     },
     check({ picture, certificate, background, givens }) {
-      return engine.check(picture, certificate, { background, givens });
+      return engine[certificate.startsWith('nonolemma') ? 'verify' : 'check'](picture, certificate, { background, givens });
+    },
+    prove({ picture, background }) {
+      return engine.prove(picture, { background });
     },
     repair({ board, goal, seconds }, told) {
       return repair({ board: new Board(board), goal, seconds, say }, { found: (found) => told({ found }), nearer: (nearer) => told({ nearer }) });

@@ -69,7 +69,7 @@ async function exportCertificate() {
   await asSeen();
   const before = docOf(bench.state);
   const text = await certificateText();
-  if (text && bench.state && sameDoc(before, bench.state)) exportAs('cert', text);
+  if (text && bench.state && sameDoc(before, bench.state)) exportAs(text.startsWith('nonolemma') ? 'proof' : 'cert', text);
 }
 
 const ABOUT_FIELDS = { title: phrase('export.title'), author: phrase('export.author'), copyright: phrase('export.copyright'), description: phrase('export.description'), note: phrase('export.note') };

@@ -1,4 +1,4 @@
-// A certificate that comes in: checked against the picture at hand by the proved checker.
+// A certificate or a proof by lemmas that comes in: checked against the picture at hand by the proved checker.
 
 import { say } from '../base/elements.js';
 import { columnOf, rowOf } from '../document/document.js';
@@ -16,14 +16,14 @@ function pictureText({ rows, columns, maxval, colours, picture }) {
   return `P3\n${columns} ${rows}\n${maxval}\n${cells.join('\n')}\n`;
 }
 
-// The cells that a certificate has given, as places: its lines after the first one.
+// The cells that a certificate or a proof has given, as places: its lines after the first one.
 function givensOf(certificate, columns) {
   const lines = certificate.split('\n').slice(1);
   const end = lines.findIndex((line) => !line.startsWith('given '));
   return lines.slice(0, end < 0 ? lines.length : end).map((line) => line.split(' ').map(Number)).map(([, row, col]) => (row - 1) * columns + col - 1);
 }
 
-/** What a check says of a certificate and a document: a sentence, and whether it proves the puzzle. */
+/** What a check says of a certificate or a proof and a document: a sentence, and whether it proves the puzzle. */
 export async function checkedCertificate(certificate, doc, engine = startEngine()) {
   try {
     const givens = [...doc.givens].map((place) => [rowOf(doc, place) + 1, columnOf(doc, place) + 1]);
@@ -37,7 +37,7 @@ export async function checkedCertificate(certificate, doc, engine = startEngine(
   }
 }
 
-/** Checks a certificate against the picture at hand, and tells what came of it. */
+/** Checks a certificate or a proof against the picture at hand, and tells what came of it. */
 export async function takeCertificate(certificate, name) {
   if (!bench.state) {
     say(phrase('import.certificateOpenPictureFirst', { name }), 'alarm');

@@ -14,7 +14,7 @@ export function kindOfFile(bytes) {
   if (bytes[0] === 0xff && bytes[1] === 0xd8 && bytes[2] === 0xff) return 'jpeg';
   if (bytesBegin(bytes, 'GIF8')) return 'gif';
   if (bytesBegin(bytes, 'PK\u0003\u0004') || bytesBegin(bytes, 'PK\u0005\u0006')) return 'zip';
-  if (bytesBegin(bytes, 'nonocert')) return 'cert';
+  if (bytesBegin(bytes, 'nonocert') || bytesBegin(bytes, 'nonolemma')) return 'cert';
   if (bytesBegin(bytes, 'RIFF') && bytesBegin(bytes, 'WEBP', 8)) return 'webp';
   let at = bytesBegin(bytes, '\u00ef\u00bb\u00bf') ? 3 : 0;
   while (at < bytes.length && isBlankByte(bytes[at])) at++;

@@ -24,7 +24,7 @@ import { takePalette } from './palettes.js';
 import { NOT_READ, aboutNon, docOfNon, isNonText, readPpmFile, readXmlFile } from './reading.js';
 import { takeSeveral } from './several.js';
 
-const TAKEN_KINDS = '.ppm,.pnm,.non,.xml,.cert,.zip,.gpl,.pal,.hex,.png,.jpg,.jpeg,.gif,.webp,image/png,image/jpeg,image/gif,image/webp';
+const TAKEN_KINDS = '.ppm,.pnm,.non,.xml,.cert,.proof,.zip,.gpl,.pal,.hex,.png,.jpg,.jpeg,.gif,.webp,image/png,image/jpeg,image/gif,image/webp';
 const MOST_ARCHIVE = 1 << 30; // bytes
 
 /** Takes a file (or a blob that was pasted); `handle` is the browser's own for writing it again. */
@@ -176,7 +176,7 @@ export function hearFiles() {
     const text = event.clipboardData.getData('text/plain');
     if (isTyping(event.target) && (!file || text)) return; // a field takes a text itself
     if (file) takeDropped([file], null);
-    else if (/^\s*(P3\s|<\?xml|<puzzle|nonocert)/.test(text) || /^width [0-9]/m.test(text)) takeDropped([new File([text], 'pasted')], null);
+    else if (/^\s*(P3\s|<\?xml|<puzzle|nonocert|nonolemma)/.test(text) || /^width [0-9]/m.test(text)) takeDropped([new File([text], 'pasted')], null);
     else if (text && !event.defaultPrevented) say(phrase('import.whatPastedCouldNot', { why: NOT_READ }), 'alarm');
     else return;
     event.preventDefault();

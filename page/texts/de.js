@@ -120,7 +120,7 @@ export const DE = /** @type {const} */ ({
   'view.publish': 'Veröffentlichen.',
   'view.menuFilePrintsExports': 'Im Menü „Datei“ drucken Sie das Rätsel, allein oder mit anderen als Blätter für ein Buch, und exportieren es: XML für Rätselseiten, Bilder, Links und ein Zertifikat.',
   'view.certificateProvesYourPuzzle': 'Ein Zertifikat beweist, dass Ihr Rätsel nur eine Lösung hat. Wer es bekommt, muss dieser Seite nicht vertrauen: Ein kleines Prüfprogramm liest Bild und Zertifikat und vollzieht jeden Schritt nach.',
-  'view.exportFileExportCertificate': 'Exportieren Sie es mit „Datei“, „Zertifikat exportieren“ und geben Sie es zusammen mit dem Bild (PPM) ab. Eine Website prüft beide mit „nonobench check picture.ppm picture.cert“ oder mit ihrem eigenen Programm.',
+  'view.exportFileExportCertificate': 'Exportieren Sie es mit „Datei“, „Zertifikat exportieren“ und geben Sie es zusammen mit dem Bild (PPM) ab. Eine Website prüft beide mit „nonobench check picture.ppm picture.cert“ oder mit ihrem eigenen Programm. Ein Beweis mit Lemmata, der kürzer ist, wird als .proof gespeichert; ihn prüft „nonobench verify“.',
   'view.checkOneHereOpen': 'Um hier eines zu prüfen, öffnen Sie das Bild und ziehen das Zertifikat auf die Seite.',
   'view.yourPicturesStayLibrary': 'Ihre Bilder bleiben mit ihren rückgängig zu machenden Schritten in der Bibliothek dieses Browsers, bis Sie sie löschen. Ein Browser kann seine Daten verlieren: Speichern Sie Wichtiges in einer Datei, oder alles mit „Alles als Zip speichern“ auf der Startseite.',
   'view.commit': ', Commit {commit}',

@@ -192,14 +192,21 @@ function showOther(other) {
   sheet.redraw();
 }
 
-/** A certificate of the present picture as a text, or null; what its search finds is told as the verdict. */
+// Whether a proof by lemmas may do better than a tree, or than none: it gives no cell, and line logic alone needs neither.
+const mayProve = (state) => state && state.open > 0 && !state.givens.size && state.verdict.word !== 'ambiguous' && [null, 'time'].includes(verdictView.ended);
+
+/** A certificate of the present picture as a text, or a proof by lemmas if that is shorter, or null; what is found is told as the verdict. */
 export async function certificateText() {
   if (bench.state?.verdict.word === 'ambiguous') {
     say(phrase('view.thereNoCertificateAnother'), 'alarm');
     return null;
   }
   verdictView.ended = null;
-  const text = await searches.certify();
+  let text = await searches.certify();
+  if (mayProve(bench.state)) {
+    const proof = await searches.prove();
+    if (proof && !(text?.length <= proof.length)) text = proof;
+  }
   const why = {
     time: phrase('view.noCertificateFoundWithin', { secondsChosen: secondsChosen() }),
     stopped: phrase('view.searchCertificateStopped'),

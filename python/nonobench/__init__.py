@@ -1,10 +1,12 @@
-"""Checks certificates of nonograms and judges pictures.
+"""Checks certificates of nonograms and proofs by lemmas, and judges pictures.
 
     result = nonobench.check(picture, certificate, published=[(1, 1)])   # raises CertificateFault or PictureFault
     clues = nonobench.clues(picture)
     verdict = nonobench.verdict(picture, allowance=1000)
     certificate = nonobench.certify(picture)                             # None if the puzzle has several solutions
     audit = nonobench.audit(picture, allowance=1000)                     # both, of one opened picture
+    proof = nonobench.prove(picture).proof                               # by lemmas: where a certificate is too long
+    result = nonobench.verify(picture, proof)                            # as check
 
 A picture is the bytes of a plain PPM text (P3), of at most 120 by 120 cells in 16 colours with the background. The calls are
 those of libnonobench, which is proved (docs/PROMISES.md); this package passes bytes to it and reads the texts that it returns, and
@@ -25,12 +27,13 @@ from ._answers import (
     Given,
     LengthFault,
     PictureFault,
+    Proved,
     Result,
     Ruling,
     UnpublishedGiven,
     Verdict,
 )
-from ._calls import ANY_GIVEN, audit, certify, check, clues, picture_of, verdict
+from ._calls import ANY_GIVEN, audit, certify, check, clues, picture_of, prove, verdict, verify
 from ._colours import colour_shown, colours_too_near
 from ._library import version
 from .worker import Worker
@@ -47,6 +50,7 @@ __all__ = [
     "Given",
     "LengthFault",
     "PictureFault",
+    "Proved",
     "Result",
     "Ruling",
     "UnpublishedGiven",
@@ -59,6 +63,8 @@ __all__ = [
     "colour_shown",
     "colours_too_near",
     "picture_of",
+    "prove",
     "verdict",
+    "verify",
     "version",
 ]

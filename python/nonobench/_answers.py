@@ -31,7 +31,7 @@ class PictureFault(Fault):
 
 
 class CertificateFault(Fault):
-    """The certificate is refused, at a line that is counted from 1."""
+    """The certificate, or the proof by lemmas, is refused, at a line that is counted from 1."""
 
     @property
     def line(self) -> int:
@@ -40,8 +40,8 @@ class CertificateFault(Fault):
 
 
 class UnpublishedGiven(CertificateFault):
-    """The certificate gives a cell that is not published, at a line that is counted from 1. Its proof holds. `givens` has all cells
-    that it gives. The program has no such error.
+    """The certificate or proof gives a cell that is not published, at a line that is counted from 1. It is right with that cell.
+    `givens` has all cells that it gives. The program has no such error.
     """
 
     def __init__(self, line: int, givens: tuple[Given, ...]) -> None:
@@ -51,7 +51,7 @@ class UnpublishedGiven(CertificateFault):
 
 
 class LengthFault(Fault):
-    """A picture or a certificate has more than 16,777,216 bytes."""
+    """A picture, a certificate or a proof has more than 16,777,216 bytes."""
 
 
 def fault_of(text: str) -> Fault:
@@ -72,16 +72,17 @@ class Given(NamedTuple):
 
 @dataclass(frozen=True)
 class Result:
-    """A certificate was accepted: no other picture of that size has the clues, and these cells' colours."""
+    """A certificate or a proof by lemmas was accepted: no other picture of that size has the clues, and these cells' colours."""
 
     givens: tuple[Given, ...]
+    kind: str = "certificate"  # or "proof"
 
     def __str__(self) -> str:
-        return f"certificate accepted, givens {len(self.givens)}\n" if self.givens else "certificate accepted\n"
+        return f"{self.kind} accepted, givens {len(self.givens)}\n" if self.givens else f"{self.kind} accepted\n"
 
 
-def result_of(text: str, certificate: bytes) -> Result:
-    """What was accepted, by the line that tells it. The givens stand directly below the certificate's first line."""
+def result_of(text: str, certificate: bytes, kind: str) -> Result:
+    """What was accepted, by the line that tells it. The givens stand directly below the first line of certificate or proof."""
     givens = []
     at = certificate.find(b"\n") + 1
     while certificate.startswith(b"given ", at):
@@ -89,7 +90,7 @@ def result_of(text: str, certificate: bytes) -> Result:
         _, row, column = certificate[at:end].split(b" ")
         givens.append(Given(int(row), int(column)))
         at = end + 1
-    result = Result(tuple(givens))
+    result = Result(tuple(givens), kind)
     if str(result) != text:
         raise RuntimeError(f"the library names other givens: {text!r}")
     return result
@@ -150,6 +151,21 @@ class Audit:
 
     verdict: Verdict
     certificate: Optional[bytes] = None
+
+
+@dataclass(frozen=True)
+class Proved:
+    """What came of the search for a proof by lemmas. There is one where the ruling is UNIQUE. UNDECIDED: a bound was reached."""
+
+    ruling: Ruling
+    proof: Optional[bytes] = None
+
+
+def proved_of(text: bytes) -> Proved:
+    """What a text tells: a proof, or why there is none."""
+    if text.startswith(b"nonolemma "):
+        return Proved(Ruling.UNIQUE, text)
+    return Proved(Ruling(text.decode("ascii").rstrip("\n")))
 
 
 _UNIQUE = Verdict(Ruling.UNIQUE)

@@ -10,22 +10,24 @@ from ._answers import (
     Clues,
     Fault,
     LengthFault,
+    Proved,
     Result,
     Ruling,
     UnpublishedGiven,
     Verdict,
     clues_of,
     fault_of,
+    proved_of,
     result_of,
     verdict_of,
 )
 from ._library import DONE, MEMORY, OPTIONS
-from ._serve import CHECK, SESSION, answer
+from ._serve import CHECK, PROVE, SESSION, VERIFY, answer
 
 Bytes = Union[bytes, bytearray, memoryview]
 Colour = tuple[int, int, int]
 
-# How many bytes a picture or a certificate has at the most, as for the program.
+# How many bytes a picture, a certificate or a proof has at the most, as for the program.
 MOST_BYTES = 16_777_216
 MOST_ALLOWANCE = 99_999
 
@@ -57,9 +59,27 @@ class Questions:
         column counted from 1; by default none. Otherwise it raises UnpublishedGiven, whose `givens` are the cells that the
         certificate gives. `published=ANY_GIVEN` accepts all of them, for a site that then publishes exactly these.
         """
+        return self._checked(CHECK, "certificate", picture, certificate, background, published)
+
+    def verify(self, picture: Bytes, proof: Bytes, background: Optional[Colour] = None, published: Published = ()) -> Result:
+        """Checks a proof by lemmas of a picture, as `check` does a certificate: by its givens too, and with the same faults."""
+        return self._checked(VERIFY, "proof", picture, proof, background, published)
+
+    def prove(self, picture: Bytes, background: Optional[Colour] = None) -> Proved:
+        """A proof by lemmas of a picture, which gives no cell, or why there is none.
+
+        It is for puzzles whose certificate is too long or does not come. The search has bounds, and where it reaches one, the ruling
+        is UNDECIDED. Until then it may take minutes; `Worker` bounds the time.
+        """
+        return proved_of(self._ask(PROVE, bytes_of(picture), background, b"")[0])
+
+    def _checked(
+        self, kind: int, word: str, picture: Bytes, certificate: Bytes, background: Optional[Colour], published: Published
+    ) -> Result:
+        """Checks a certificate or a proof, as `word` says, and its givens."""
         picture, certificate, places = bytes_of(picture), bytes_of(certificate), _places(published)
-        (text,) = self._ask(CHECK, picture, background, certificate)
-        result = result_of(text.decode("ascii"), certificate)
+        (text,) = self._ask(kind, picture, background, certificate)
+        result = result_of(text.decode("ascii"), certificate, word)
         if places is not None:
             for line, given in enumerate(result.givens, 2):
                 if given not in places:
@@ -124,6 +144,7 @@ class Questions:
 
 _here = Questions()
 check, clues, verdict, certify, audit = _here.check, _here.clues, _here.verdict, _here.certify, _here.audit
+verify, prove = _here.verify, _here.prove
 
 
 def picture_of(columns: int, rows: int, triples: Iterable[Colour], maxval: int = 255) -> bytes:

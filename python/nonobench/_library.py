@@ -54,6 +54,8 @@ def _load(path: str) -> ctypes.CDLL:
         "take": (ctypes.c_size_t, [cell, ctypes.c_char_p, ctypes.c_size_t]),
         "close": (number, [cell, number]),
         "check": (number, [cell, *bytes_of, *bytes_of, *bytes_of]),
+        "verify": (number, [cell, *bytes_of, *bytes_of, *bytes_of]),
+        "prove": (number, [cell, *bytes_of, *bytes_of]),
     }
     for name, (answer, words) in kinds.items():
         call = getattr(library, f"nonobench_{name}")
@@ -99,6 +101,16 @@ class Desk:
         status: int = _calls.nonobench_check(
             self._at, picture, len(picture), certificate, len(certificate), background, len(background)
         )
+        return status
+
+    def verify(self, picture: bytes, proof: bytes, background: bytes) -> int:
+        """Checks a proof by lemmas of a picture, and answers the status."""
+        status: int = _calls.nonobench_verify(self._at, picture, len(picture), proof, len(proof), background, len(background))
+        return status
+
+    def prove(self, picture: bytes, background: bytes) -> int:
+        """Makes a proof by lemmas of a picture, and answers the status."""
+        status: int = _calls.nonobench_prove(self._at, picture, len(picture), background, len(background))
         return status
 
     def open(self, picture: bytes, background: bytes) -> tuple[int, int]:

@@ -12,8 +12,9 @@ import struct
 
 from ._library import DONE, Desk
 
-# What is asked: whether a certificate of a picture is accepted, or what a bench on a picture answers to lines.
-CHECK, SESSION = 1, 2
+# What is asked: whether a certificate of a picture is accepted, what a bench on a picture answers to lines, whether a proof by lemmas
+# is accepted, or for one.
+CHECK, SESSION, VERIFY, PROVE = 1, 2, 3, 4
 
 QUESTION = struct.Struct("!QBI3Q")
 ANSWER = struct.Struct("!QB3Q")
@@ -23,10 +24,16 @@ LAST = (b"refused: ", b"ambiguous\n", b"undecided ")
 
 
 def answer(kind: int, picture: bytes, background: bytes, rest: bytes) -> tuple[int, list[bytes]]:
-    """The status, and the texts that were said. `rest` is the certificate, or the lines."""
+    """The status, and the texts that were said. `rest` is the certificate, the proof, or the lines."""
     with Desk() as desk:
         if kind == CHECK:
             status = desk.check(picture, rest, background)
+            return status, [desk.text()]
+        if kind == VERIFY:
+            status = desk.verify(picture, rest, background)
+            return status, [desk.text()]
+        if kind == PROVE:
+            status = desk.prove(picture, background)
             return status, [desk.text()]
         status, handle = desk.open(picture, background)
         if status != DONE:

@@ -17,9 +17,15 @@ from pathlib import Path
 sys.path.insert(0, str(Path(__file__).resolve().parent))
 from audit_parts import AMBIGUOUS, BLACK, GIVEN_CERT, OTHER, RED, ROOT, UNIQUE, WHITE, Case, chequered, p3, webpbn  # noqa: E402
 
-from nonobench.collection import readers  # noqa: E402
+import nonobench  # noqa: E402
+from nonobench.collection import judging, readers  # noqa: E402
 from nonobench.collection.puzzles import Unreadable  # noqa: E402
 
+# One solution, whose certificate says much twice: it is three times as long as a proof by lemmas.
+LEARNT = (
+    "a...a....a..", ".a..a.a.a.a.", "a..aa.a..a..", "aaaa...a.a..", "aa..a..aaa..", ".a.......a..", ".a....aa.aaa", "..aaaa......",
+    "...aa.a.a.aa", "a..a..aa..aa", ".aa....aa.aa", "...a...aaa.a",
+)
 IMAGE = [BLACK, WHITE, WHITE, RED]
 NONE = readers.Ground()
 
@@ -245,6 +251,43 @@ class Running(Case):
             "site/twin.ppm": {"accepted": True}, "site/twin.png": {"accepted": True},
             "site/set.xml#1": {"accepted": True}, "site/set.xml#2": None, "site/set.xml#3": {"accepted": True},
         })
+
+    def test_proofs_are_written_beside_long_certificates(self):
+        self.put("one.ppm", p3(UNIQUE))
+        self.put("learnt.ppm", p3(LEARNT))
+        self.put("given.ppm", p3(LEARNT))
+        self.put("given.givens", "given 1 7\n")
+        for words in (["--prove", "1"], ["--prove", "x", "--certify", "certs"], ["--prove", "1", "--certify", "certs", "--scheduler", "tcp://none:1"]):
+            self.run_audit("site", *words, status=2)
+        made = self.folder / "certs"
+        rows = self.rows("site", "--certify", "certs", "--prove", "9999999", status=0)
+        self.assertEqual(sorted(place.name for place in made.iterdir()), ["given.cert", "learnt.cert", "one.cert"])
+        self.assertFalse(any("proof" in row for row in rows.values()))
+        # The certificate of `one.ppm` is short, and a proof gives no cell.
+        rows = self.rows("site", "--certify", "certs", "--prove", "1000", status=0)
+        self.assertEqual(sorted(place.name for place in made.iterdir()), ["given.cert", "learnt.cert", "learnt.proof", "one.cert"])
+        proof = (made / "learnt.proof").read_bytes()
+        self.assertEqual(rows["site/learnt.ppm"]["proof"], proof.count(b"\n"))
+        self.assertEqual(nonobench.verify(p3(LEARNT), proof).givens, ())
+        self.assertLess(len(proof), len((made / "learnt.cert").read_bytes()))
+        # One that is missing is made again, and one that is no longer wanted goes.
+        (made / "learnt.proof").unlink()
+        self.rows("site", "--certify", "certs", "--prove", "1000", "--resume", status=0)
+        self.assertEqual((made / "learnt.proof").read_bytes(), proof)
+        self.rows("site", "--certify", "certs", "--prove", "9999999", "--resume", status=0)
+        self.assertFalse((made / "learnt.proof").exists())
+
+    def test_a_proof_is_told_before_its_certificate_is_made(self):
+        class Slow(judging.Desk):
+            def say(self, lines):
+                if lines == b"certify\n":
+                    raise TimeoutError
+                return super().say(lines)
+
+        known = []
+        with self.assertRaises(TimeoutError):
+            judging.judge(Slow(), one(p3(LEARNT)), None, known.append, most=1000)
+        self.assertEqual([judged.proof[:12] for judged in known], ["", "nonolemma 1\n"])
 
     def test_certificates_beside(self):
         self.put("one.ppm", p3(UNIQUE))

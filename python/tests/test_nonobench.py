@@ -98,15 +98,24 @@ class Cases(unittest.TestCase):
             count += 1
         self.assertGreater(count, 40)
 
+    def test_lemmas(self):
+        count = 0
+        for asked, answer in cases("lemmas"):
+            rows, _, text = asked.partition(" ")
+            self.compare(asked, answer, lambda pair=(picture_of(rows), bytes_of(text)): nonobench.verify(*pair, published=ANY_GIVEN))
+            count += 1
+        self.assertGreater(count, 40)
+
     def test_published(self):
         count = 0
         for asked, answer in cases("published"):
             (rows, published, text), (givens, _, answer) = asked.split(" ", 2), answer.partition(" ")
             pair = picture_of(rows), bytes_of(text)
             places = ANY_GIVEN if published == "any" else places_of(published)
-            self.compare(asked, answer, lambda: nonobench.check(*pair, published=places))
+            call = nonobench.verify if text.startswith("nonolemma") else nonobench.check
+            self.compare(asked, answer, lambda: call(*pair, published=places))
             with self.subTest(asked):
-                self.assertEqual(givens_of(lambda: nonobench.check(*pair, published=places)), places_of(givens))
+                self.assertEqual(givens_of(lambda: call(*pair, published=places)), places_of(givens))
             count += 1
         self.assertGreater(count, 20)
 
@@ -162,6 +171,45 @@ class Answers(unittest.TestCase):
         with self.assertRaises(ValueError):
             nonobench.audit(tile, -1)
 
+    def test_prove_and_verify(self):
+        tile, pair = b"P3 1 1 1 0 0 0", picture_of("a./.b")
+        for picture in (tile, pair):
+            proved = nonobench.prove(picture)
+            self.assertEqual(proved.ruling, Ruling.UNIQUE)
+            result = nonobench.verify(picture, proved.proof)
+            self.assertEqual((result.givens, str(result)), ((), "proof accepted\n"))
+            with self.assertRaisesRegex(CertificateFault, "^certificate NotCert at line 1$"):
+                nonobench.check(picture, proved.proof)
+        self.assertEqual(nonobench.prove(DIAGONAL), nonobench.Proved(Ruling.AMBIGUOUS))
+        # Nothing proves a picture that has another one: not the proof of another picture, nor lines of its own.
+        for text in (nonobench.prove(pair).proof, b"nonolemma 1\nline r 1\nline c 1\nline r 2\nline c 2\ndone\n"):
+            with self.assertRaises(CertificateFault):
+                nonobench.verify(DIAGONAL, text, published=ANY_GIVEN)
+        with self.assertRaises(UnpublishedGiven) as caught:
+            nonobench.verify(DIAGONAL, b"nonolemma" + b" 1" + GIVEN[10:])
+        self.assertEqual((caught.exception.line, caught.exception.givens), (2, ((1, 1),)))
+        # By its background this picture has no cell that is filled in.
+        self.assertEqual(nonobench.prove(tile, (0, 0, 0)).ruling, Ruling.UNIQUE)
+        with self.assertRaisesRegex(PictureFault, "^ppm NotP3 at byte 0$"):
+            nonobench.prove(b"P4")
+        with self.assertRaises(ValueError):
+            nonobench.prove(tile, (1, 2))
+        with self.assertRaises(LengthFault):
+            nonobench.verify(tile, b" " * 16777217)
+
+    def test_proofs_with_a_byte_changed(self):
+        source, picture, count = random.Random(1), picture_of("a./.b"), 0
+        proof = nonobench.prove(picture).proof
+        for at in range(len(proof)):
+            text = proof[:at] + source.choice([b"", b" ", b"0", b"7", b"x", b"\n\n"]) + proof[at + 1:]
+            try:
+                self.assertEqual(nonobench.verify(picture, text).givens, ())
+            except CertificateFault:
+                count += 1
+            with self.assertRaises(CertificateFault):
+                nonobench.verify(DIAGONAL, text, published=ANY_GIVEN)
+        self.assertGreater(count, len(proof) // 2)
+
     def test_the_call_stays_where_the_module_is_imported(self):
         # `python3 -m nonobench.audit` has the name of a call.
         self.assertIs(importlib.import_module("nonobench.audit"), nonobench.audit)
@@ -206,7 +254,8 @@ class Answers(unittest.TestCase):
             noise = source.randbytes(source.randrange(200))
             near = bytearray(DIAGONAL)
             near[source.randrange(len(near))] = source.randrange(256)
-            for call in (lambda: nonobench.check(near, noise, published=ANY_GIVEN), lambda: nonobench.verdict(noise, 10), lambda: nonobench.clues(near)):
+            for call in (lambda: nonobench.check(near, noise, published=ANY_GIVEN), lambda: nonobench.verdict(noise, 10),
+                         lambda: nonobench.clues(near), lambda: nonobench.verify(near, noise)):
                 try:
                     call()
                 except nonobench.Fault as fault:
@@ -261,7 +310,7 @@ class Chance(unittest.TestCase):
 
     def test_program(self):
         source = random.Random(int(os.environ.get("SEED", "1")))
-        accepted = refused = ambiguous = 0
+        accepted = refused = ambiguous = proofs = 0
         for _ in range(int(os.environ.get("CASES", "1000"))):
             picture = marred(chance_picture(source), source, 4)
             background = source.choice([None, None, (0, 0, 0), (7, 80, 7)])
@@ -282,7 +331,15 @@ class Chance(unittest.TestCase):
                 answer = self.run_program(["check", "picture", "cert", *words])
                 self.assertEqual(told(lambda: nonobench.check(picture, certificate, background, ANY_GIVEN)), answer)
                 accepted += answer[2] == 0
-        self.assertGreater(min(accepted, refused, ambiguous), 20 if accepted + refused + ambiguous > 500 else 0)
+                answer = self.run_program(["prove", "picture", *words])
+                proved = nonobench.prove(picture, background)
+                self.assertEqual((proved.proof or proved.ruling.value.encode() + b"\n").decode(), answer[0])
+                proof = marred(proved.proof or b"", source, 3)
+                self.put("proof", proof)
+                answer = self.run_program(["verify", "picture", "proof", *words])
+                self.assertEqual(told(lambda: nonobench.verify(picture, proof, background, ANY_GIVEN)), answer)
+                proofs += answer[2] == 0
+        self.assertGreater(min(accepted, refused, ambiguous, proofs), 20 if accepted + refused + ambiguous > 500 else 0)
 
 
 def chance_picture(source):

@@ -55,6 +55,11 @@ class Workers(unittest.TestCase):
             self.assertEqual(worker.certify(TILE), nonobench.certify(TILE))
             self.assertEqual(worker.audit(TILE, 9), nonobench.audit(TILE))
             self.assertEqual(worker.audit(DIAGONAL), nonobench.audit(DIAGONAL))
+            self.assertEqual(worker.prove(TILE), nonobench.prove(TILE))
+            self.assertEqual(worker.prove(DIAGONAL), nonobench.prove(DIAGONAL))
+            self.assertEqual(str(worker.verify(TILE, worker.prove(TILE).proof)), "proof accepted\n")
+            with self.assertRaisesRegex(CertificateFault, "^certificate NotCert at line 1$"):
+                worker.verify(TILE, GIVEN)
             with self.assertRaises(CertificateFault) as caught:
                 worker.check(DIAGONAL, b"")
             self.assertEqual((caught.exception.name, caught.exception.line), ("NotCert", 1))

@@ -10,7 +10,9 @@ use Rattle.program_options.specs.declared.options.Options.{Options}
 use Rattle.answers.specs.Check.{IsCheckOf, IsOnlyPicture}
 use Rattle.program_options.specs.Faults.{fault_text, status_of}
 use Rattle.answers.specs.Open.{OpensFile}
+use Rattle.answers.specs.Prove.{IsProveOf}
 use Rattle.answers.specs.Start.{IsStarted}
+use Rattle.answers.specs.Verify.{IsOnlyByLemmas, IsVerifyOf}
 use Rattle.web.specs.declared.desk.Desk.{Desk}
 use Rattle.web.specs.declared.desk.Seat.{Seat}
 
@@ -104,3 +106,17 @@ abbrev pub Checks : List ℕ → Option Rgb → List ℕ → List ℕ → ℕ �
 Checks file background cert text status =
     ((status ≡ 0) × (IsCheckOf file background cert (Ok text) × IsOnlyPicture file background cert))
     ⊎ IsRefused (λ fault. IsCheckOf file background cert (Err fault)) text status
+
+-- ---- proofs by lemmas
+
+-- What is said to a proof by lemmas of a picture. If it is accepted, no other picture has the clues and the givens.
+abbrev pub Verifies : List ℕ → Option Rgb → List ℕ → List ℕ → ℕ → Type 0
+Verifies file background proof text status =
+    ((status ≡ 0) × (IsVerifyOf file background proof (Ok text) × IsOnlyByLemmas file background proof))
+    ⊎ IsRefused (λ fault. IsVerifyOf file background proof (Err fault)) text status
+
+-- What is made of a picture: a proof by lemmas, or the line that there is another picture, or that neither was found.
+abbrev pub Proves : List ℕ → Option Rgb → List ℕ → ℕ → Type 0
+Proves file background text status =
+    ((status ≡ 0) × IsProveOf file background (Ok text))
+    ⊎ IsRefused (λ fault. IsProveOf file background (Err fault)) text status

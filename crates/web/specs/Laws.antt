@@ -32,7 +32,7 @@ pub record IsOrderly (desk : Desk) : Type 0 where
 -- ---- calls
 
 -- What a host asks of a desk. All calls that are not named leave its benches: those for
--- the text, for the version and for a check, and an opening whose options are refused.
+-- the text, for the version, for certificates and proofs, and an opening whose options are refused.
 pub data Call : Type 0 where
   Open : List ℕ → Options → Call
   Say : ℕ → List ℕ → Call

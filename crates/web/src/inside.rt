@@ -2,7 +2,7 @@
 
 ghost use Rattle.std.specs.Prelude.{◌≡◌, [], ◌++◌, drop, length, take};
 ghost use Rattle.program_options.specs.Options.{IsLawful};
-ghost use Rattle.web.specs.Desk.{Checks, Closes, IsKept, Opens, Says};
+ghost use Rattle.web.specs.Desk.{Checks, Closes, IsKept, Opens, Proves, Says, Verifies};
 
 use crate::held::Held;
 use answers::Options;
@@ -46,6 +46,27 @@ pub fn check_in(held: Held, asked: (&[u8], &[u8], Option<Rgb>)) -> (Held, u32)
 {
     let mut desk = held.into_box();
     let status = desk.check(asked.0, asked.1, asked.2);
+    (Held::new(desk), status)
+}
+
+/// Checks a proof by lemmas: a file, its proof and the background.
+pub fn verify_in(held: Held, asked: (&[u8], &[u8], Option<Rgb>)) -> (Held, u32)
+    ensures verifies { Verifies asked.entry.0.now asked.entry.2 asked.entry.1.now
+        result.0.desk.text.items result.1 }
+    ensures kept { IsKept held.desk result.0.desk }
+{
+    let mut desk = held.into_box();
+    let status = desk.verify(asked.0, asked.1, asked.2);
+    (Held::new(desk), status)
+}
+
+/// Makes a proof by lemmas: a file and the background.
+pub fn prove_in(held: Held, asked: (&[u8], Option<Rgb>)) -> (Held, u32)
+    ensures proves { Proves asked.entry.0.now asked.entry.1 result.0.desk.text.items result.1 }
+    ensures kept { IsKept held.desk result.0.desk }
+{
+    let mut desk = held.into_box();
+    let status = desk.prove(asked.0, asked.1);
     (Held::new(desk), status)
 }
 

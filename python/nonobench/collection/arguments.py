@@ -55,6 +55,7 @@ class Options:
     shard: tuple[int, int] = (1, 1)
     scheduler: Optional[str] = None
     is_merge: bool = False
+    prove: Optional[int] = None
 
 
 def options_of(words: list[str]) -> Options:
@@ -68,12 +69,15 @@ def options_of(words: list[str]) -> Options:
     for path in told.paths:
         if not os.path.lexists(path):
             parser.error(f"no such file or folder: {path!r}" + (" (a folder of that name is ./merge)" if path == "merge" else ""))
+    if told.prove is not None and (told.certify is None or told.scheduler is not None):
+        parser.error("--prove goes with --certify DIR, and not with --scheduler")
     if told.certify is not None:
         _refuse_twins(parser, told.paths)
     seconds = told.seconds if told.seconds is not None else None if told.allow is not None else 10.0
     return Options(
         told.paths, told.jsonl, told.csv, told.html, told.title, told.quiet, told.jobs, seconds, told.allow, told.memory,
         told.background, told.certificates, told.certify, not told.no_grade, told.resume, told.shard, told.scheduler,
+        prove=told.prove,
     )
 
 
@@ -86,6 +90,8 @@ def _parser() -> argparse.ArgumentParser:
     _add_outputs(parser)
     write = parser.add_argument_group("what else is written")
     write.add_argument("--certify", metavar="DIR", help="write NAME.cert for each puzzle with one solution below this folder")
+    write.add_argument("--prove", metavar="BYTES", type=_bytes,
+                       help="write NAME.proof too, a proof by lemmas, where a certificate has more bytes or does not come")
     read = parser.add_argument_group("what is read")
     read.add_argument("--certificates", metavar="DIR", help="the certificates are below this folder, not beside the puzzles")
     read.add_argument("--background", metavar="COLOUR", type=_ground, default="white",
@@ -171,6 +177,10 @@ def _above_0(word: str) -> int:
 
 def _allowance(word: str) -> int:
     return _whole(word, 0, 99_999)
+
+
+def _bytes(word: str) -> int:
+    return _whole(word, 0, 999_999_999)
 
 
 def _memory(word: str) -> int:

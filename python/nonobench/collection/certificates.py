@@ -1,8 +1,9 @@
-"""Certificates that lie beside puzzles, and those that an audit writes."""
+"""Certificates that lie beside puzzles, and those that an audit writes, with proofs by lemmas."""
 
 from __future__ import annotations
 
 import base64
+import contextlib
 import os
 import zlib
 from typing import TYPE_CHECKING, Optional
@@ -42,7 +43,7 @@ def givens_of(certificate: bytes) -> list[tuple[int, int]]:
 
 
 def write(path: str, certificate: str) -> str:
-    """Writes a certificate. Answers why it could not be written, and then nothing is left of it; empty where it was.
+    """Writes a certificate or a proof. Answers why it could not be written, and then nothing is left of it; empty where it was.
 
     One that is there already stays until the new one is whole. A new file is written in its place: its row comes later, so that
     `--resume` does it again where a run ends in between.
@@ -60,6 +61,12 @@ def write(path: str, certificate: str) -> str:
     except (OSError, ValueError) as error:
         return f"{UNWRITTEN}: {one_line(getattr(error, 'strerror', None) or str(error))}"
     return ""
+
+
+def remove(path: str) -> None:
+    """Removes a proof that is not wanted any more."""
+    with contextlib.suppress(OSError):
+        os.unlink(path)
 
 
 def _write_new(path: str, data: bytes) -> None:

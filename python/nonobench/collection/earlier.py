@@ -65,8 +65,10 @@ def content_before(rows: list[tuple[int, Row]], made: str, limit: str, to: Optio
         if row.get("error", "").startswith("out of memory"):
             return ""
         number = row.get("puzzle", 1)
-        if to is not None and "lines" in row and not os.path.exists(f"{to if number == 1 else f'{to}.{number}'}.cert"):
-            return ""
+        name = to if number == 1 else f"{to}.{number}"
+        for ending in ("cert",) * ("lines" in row) + ("proof",) * ("proof" in row):
+            if to is not None and not os.path.exists(f"{name}.{ending}"):
+                return ""
     return rows[0][1].get("content", "") if rows else ""
 
 

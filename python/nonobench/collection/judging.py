@@ -19,6 +19,7 @@ class Judged(NamedTuple):
     report: str  # the session's report
     other: str  # the second solution, its rows with / between them
     certificate: str  # empty where there is none
+    proof: str = ""  # by lemmas, where one is wanted
 
 
 class Desk:
@@ -53,6 +54,16 @@ class Desk:
             return str(error)
         return ""
 
+    def prove(self, text: bytes, word: bytes) -> str:
+        """A proof by lemmas of a P3 picture; empty where none was found."""
+        self._look(_calls.nonobench_prove(self._at, text, len(text), word, len(word)))
+        proof = self._text()
+        return proof if proof.startswith("nonolemma ") else ""
+
+    def picture(self, puzzle: Puzzle) -> bytes:
+        """The P3 text of the puzzle that was opened."""
+        return self.say(b"write ppm\n").encode() if puzzle.is_non else puzzle.text
+
     def _look(self, status: int) -> None:
         if status == MEMORY:
             raise MemoryError
@@ -71,8 +82,15 @@ class Desk:
         self._room = room
 
 
-def judge(desk: Desk, puzzle: Puzzle, allowance: Optional[int], tell: Callable[[Judged], None], is_certified: bool = True) -> Judged:
-    """Judges a puzzle, and makes a certificate of it where it is unique. `tell` gets the verdict before the certificate is made."""
+def judge(
+    desk: Desk, puzzle: Puzzle, allowance: Optional[int], tell: Callable[[Judged], None], is_certified: bool = True,
+    most: Optional[int] = None,
+) -> Judged:
+    """Judges a puzzle, and makes a certificate of it where it is unique. `tell` gets the verdict before the certificate is made.
+
+    Where certificates may have `most` bytes, it gets a proof by lemmas before that too, which gives no cell. A proof is not kept beside
+    a certificate that has no more.
+    """
     desk.open(puzzle)
     front = b"".join(b"pin %d %d\n" % place for place in puzzle.givens)
     if allowance is not None:
@@ -89,10 +107,13 @@ def judge(desk: Desk, puzzle: Puzzle, allowance: Optional[int], tell: Callable[[
     if verdict != "unique" or not is_certified:
         return judged
     tell(judged)
+    if most is not None and not puzzle.givens and "\nopen 0\n" not in report:
+        judged = judged._replace(proof=desk.prove(desk.picture(puzzle), puzzle.word()))
+        tell(judged)
     certificate = desk.say(b"certify\n")
     if certificate.startswith("refused: "):
         raise MemoryError
-    return judged._replace(certificate=certificate)
+    return judged._replace(certificate=certificate, proof=judged.proof if most is not None and len(certificate) > most else "")
 
 
 def _without(text: str, count: int) -> str:

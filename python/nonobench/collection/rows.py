@@ -18,7 +18,7 @@ UNWRITTEN = "its certificate was not written"
 FIGURES = ("rounds", "evaluations", "wait", "splits", "depth")
 COLUMNS = (
     "file", "puzzle", "title", "rows", "columns", "colours", "verdict", "open", "grade", *(f"grade_{name}" for name in FIGURES),
-    "lines", "certificate", "givens", "near_colours", "error", "seconds",
+    "lines", "proof", "certificate", "givens", "near_colours", "error", "seconds",
 )
 
 Row = dict[str, Any]
@@ -46,6 +46,8 @@ def judged_row(puzzle: Puzzle, judged: Judged) -> Row:
     row["picture"] = rest[: row["rows"] * (row["columns"] + 1) - 1].replace("\n", "/")
     if judged.other:
         row["other"] = judged.other
+    if judged.proof:
+        row["proof"] = judged.proof.count("\n")
     return row
 
 

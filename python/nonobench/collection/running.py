@@ -61,9 +61,10 @@ def settings_of(options: Options) -> Settings:
     """What holds for all puzzles of a run, as its rows tell it too."""
     limit = f"{options.seconds:g} s" if options.allowance is None else f"{options.allowance} splits"
     made = f"{version()} {options.ground}{'' if options.has_grades else ' no-grade'}{'' if options.allowance is None else ' no-times'}"
+    made += "" if options.prove is None else f" prove {options.prove}"
     return Settings(
         made, limit, options.memory, options.allowance, options.ground, options.has_grades, options.allowance is None,
-        options.scheduler is not None,
+        options.scheduler is not None, options.prove,
     )
 
 

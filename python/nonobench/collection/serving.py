@@ -46,6 +46,7 @@ class Settings(NamedTuple):
     has_grades: bool
     has_times: bool
     is_inline: bool  # certificates go back, and are written where the run was begun
+    most: Optional[int]  # bytes of a certificate that no proof by lemmas is written beside; no proofs where there is none
 
 
 class Task(NamedTuple):
@@ -241,13 +242,21 @@ class Judging:
     def _row(self, task: Task, about: About, puzzle: Puzzle, beside: Optional[bytes]) -> tuple[Row, str]:
         """The row of a puzzle, and its certificate where that goes back."""
         settings, desk = self._settings, self._desk
+        number = about.front.get("puzzle", 1)
+        name = task.to if number == 1 else f"{task.to}.{number}"
+        notes: list[str] = []
 
         def tell(known: Judged) -> None:
-            if time.perf_counter() - about.begun > LONG:
+            if known.proof:
+                notes.append(certificates.write(f"{name}.proof", known.proof))
+            if known.proof or time.perf_counter() - about.begun > LONG:
                 self._put(task, about, judged_row(puzzle, known), "known", about.kind)
                 self._answers.flush()
 
-        judged = judge(desk, puzzle, FEW_SPLITS if task.mode == GLANCE else settings.allowance, tell, task.mode == FULL)
+        allowance = FEW_SPLITS if task.mode == GLANCE else settings.allowance
+        judged = judge(desk, puzzle, allowance, tell, task.mode == FULL, settings.most)
+        if notes and not judged.proof:
+            certificates.remove(f"{name}.proof")
         row = judged_row(puzzle, judged)
         if task.mode == GLANCE and judged.verdict == "unique":
             row["note"] = f"no certificate within {settings.limit}"
@@ -256,15 +265,12 @@ class Judging:
             if settings.has_grades:
                 row.update(_grade(puzzle, row, judged))
         if beside is not None:
-            text = desk.say(b"write ppm\n").encode() if puzzle.is_non else puzzle.text
-            row["certificate"] = certificates.told(desk, text, puzzle, beside)
+            row["certificate"] = certificates.told(desk, desk.picture(puzzle), puzzle, beside)
         if task.to is None or not judged.certificate:
             return row, ""
-        number = about.front.get("puzzle", 1)
-        name = task.to if number == 1 else f"{task.to}.{number}"
         if settings.is_inline:
             return row, certificates.packed(judged.certificate)
-        note = certificates.write(f"{name}.cert", judged.certificate)
+        note = certificates.write(f"{name}.cert", judged.certificate) or "".join(notes if judged.proof else [])
         return ({**row, "note": note} if note else row), ""
 
 
