@@ -4,6 +4,7 @@ use Rattle.picture.specs.declared.rgb.Rgb.{Rgb}
 use Rattle.picture.specs.Document.{Content}
 use Rattle.picture.specs.Rows.{Rows}
 use Rattle.clues.specs.ClueBook.{clues_of}
+use Rattle.clues.specs.Solution.{IsOther}
 use Rattle.ppm_text.specs.declared.fault.PpmFault.{PpmFault}
 use Rattle.ppm_text.specs.Ppm.{ppm_of}
 use Rattle.cert_check.specs.Puzzle.{IsUnique}
@@ -25,9 +26,9 @@ pub record IsProofText (picture : Rows) (text : List ℕ) : Type 0 where
   pub no_givens : lemmas.givens ≡ []
   pub unique : IsUnique picture lemmas.givens
 
--- another picture has the clues
+-- another picture of that size has the clues
 abbrev pub HasAnother : Rows → Type 0
-HasAnother picture = (other : Rows) × ((clues_of other ≡ clues_of picture) × (other ≡ picture → ⊥))
+HasAnother picture = (other : Rows) × IsOther (clues_of picture) (λ row col. ⊥) picture other
 
 abbrev pub ambiguous_text : List ℕ
 ambiguous_text = codes "ambiguous\n"

@@ -7,7 +7,7 @@ ghost use Rattle.answers.specs.Prove.{IsProofShown, IsProveOf, IsShownFor, Prove
 use lemma_proof::{Made, make_proof};
 use lemma_text::{LemmaProof, write_proof};
 use line_settle::MaskEngine;
-use picture::{MAX_SIDE, Picture, Rgb, send};
+use picture::{CellSet, MAX_SIDE, Picture, Rgb, send};
 use ppm_text::read_ppm;
 use program_options::ProgramFault;
 use std::alloc::{AllocError, Global};
@@ -48,7 +48,8 @@ fn made_text(alloc: Global, picture: &Picture) -> Result<Vec<u8>, AllocError>
 {
     let _ = picture.height();
     let mut engine = MaskEngine::make(alloc, MAX_SIDE)?;
-    let made = make_proof(alloc, &mut engine, picture)?;
+    let givens = CellSet::empty();
+    let made = make_proof(alloc, &mut engine, picture, &givens)?;
     let mut text = Vec::new(alloc);
     push_made(&mut text, &made)?;
     Ok(text)

@@ -3,7 +3,7 @@ use Rattle.std.proofs.Common.{◌≡◌, ◌∙◌, ℕ, List, Result, Ok, Err, 
 use Rattle.program_options.specs.declared.fault.ProgramFault.{ProgramFault}
 use Rattle.program_options.specs.declared.fault.ProgramFault.TheVariants as fault
 use Rattle.command_line.specs.declared.words.Task.{Task}
-use Rattle.command_line.specs.declared.words.Task.TheVariants.{Check, Clues, Help, Work}
+use Rattle.command_line.specs.declared.words.Task.TheVariants.{Check, Clues, Help, Prove, Verify, Work}
 use Rattle.program_options.specs.Faults.{status_of}
 use Rattle.program.specs.Endings.{status_after}
 use Rattle.program.specs.Files.{Held, Names}
@@ -55,6 +55,26 @@ done_by held before after (Check path cert background) law (inr (inr checked)) =
   shows = checked.writes.1.0;
   went_out = checked.writes.1.1;
 }
+done_by held before after (Prove path background) law (inl stopped) = absurd (let is = stopped.is in cc)
+done_by held before after (Prove path background) law (inr proving) = record {
+  file = proving.file;
+  content = proving.content;
+  text = proving.writes.0;
+  shows = proving.writes.1.0;
+  went_out = proving.writes.1.1;
+}
+done_by held before after (Verify path proof background) law (inl stopped) = absurd (let is = stopped.is in cc)
+done_by held before after (Verify path proof background) law (inr (inl half)) = absurd (let is = half.stopped.is in cc)
+done_by held before after (Verify path proof background) law (inr (inr verified)) = record {
+  file = verified.file;
+  content = verified.content;
+  proof = verified.proof;
+  proof_content = verified.proof_content;
+  only = verified.unique;
+  line = verified.writes.0;
+  shows = verified.writes.1.0;
+  went_out = verified.writes.1.1;
+}
 
 is_done : (held : List ℕ → Held) (before after : World) (task : Task) (r : Result (Unit {0}) ProgramFault) → SessionsAreTrue → CarriesOut held before after task r → status_after r ≡ 0
     → IsDone held before after task
@@ -69,6 +89,11 @@ opened held before after (Work path options) r (inr worked) = (1, worked.names)
 opened held before after (Check path cert background) r (inl stopped) = (1, stopped.only.names)
 opened held before after (Check path cert background) r (inr (inl half)) = (2, half.stopped.only.names)
 opened held before after (Check path cert background) r (inr (inr checked)) = (2, checked.names)
+opened held before after (Prove path background) r (inl stopped) = (1, stopped.only.names)
+opened held before after (Prove path background) r (inr proving) = (1, proving.names)
+opened held before after (Verify path proof background) r (inl stopped) = (1, stopped.only.names)
+opened held before after (Verify path proof background) r (inr (inl half)) = (2, half.stopped.only.names)
+opened held before after (Verify path proof background) r (inr (inr verified)) = (2, verified.names)
 opened held before after (Help text) r c = (0, c.names)
 
 refused : (f : ProgramFault) (before after : World) (r : Result (Unit {0}) ProgramFault) → IsRefused f before after r → status_after r ≡ 0 → ⊥

@@ -8,10 +8,12 @@ use Rattle.session.specs.Truth.{TellsTruth}
 use Rattle.program_options.specs.declared.fault.ProgramFault.{ProgramFault}
 use Rattle.program_options.specs.declared.options.Options.{Options}
 use Rattle.answers.specs.Check.{IsCheckOf, IsOnlyPicture}
+use Rattle.answers.specs.Prove.{IsProveOf}
 use Rattle.answers.specs.Run.{shown}
 use Rattle.answers.specs.Start.{IsStarted}
+use Rattle.answers.specs.Verify.{IsOnlyByLemmas, IsVerifyOf}
 use Rattle.command_line.specs.declared.words.Task.{Task}
-use Rattle.command_line.specs.declared.words.Task.TheVariants.{Check, Clues, Help, Work}
+use Rattle.command_line.specs.declared.words.Task.TheVariants.{Check, Clues, Help, Prove, Verify, Work}
 use Rattle.program.specs.Endings.{status_after}
 use Rattle.program.specs.Files.{Held, IsContent, Names}
 use Rattle.program.specs.Run.{IsTask}
@@ -22,6 +24,8 @@ abbrev pub files_of : Task → List (List ℕ)
 files_of Clues = []
 files_of (Work file options) = file.now ∷ []
 files_of (Check file cert background) = file.now ∷ cert.now ∷ []
+files_of (Prove file background) = file.now ∷ []
+files_of (Verify file proof background) = file.now ∷ proof.now ∷ []
 files_of (Help text) = []
 
 -- ---- a task that is done
@@ -56,11 +60,33 @@ pub record HasChecked (picture certificate : Held) (background : Option Rgb) (be
   pub shows : IsCheckOf file background cert (Ok line)
   pub went_out : Appends before.output after.output line
 
+-- a proof for the picture in the file went out, or word that there is none
+pub record HasMade (picture : Held) (background : Option Rgb) (before after : World) : Type 0 where
+  pub file : List ℕ
+  pub content : IsContent picture file
+  pub text : List ℕ
+  pub shows : IsProveOf file background (Ok text)
+  pub went_out : Appends before.output after.output text
+
+-- the same as of a certificate, of a proof by lemmas in the second file
+pub record HasVerified (picture proved : Held) (background : Option Rgb) (before after : World) : Type 0 where
+  pub file : List ℕ
+  pub content : IsContent picture file
+  pub proof : List ℕ
+  pub proof_content : IsContent proved proof
+  pub only : IsOnlyByLemmas file background proof
+  pub line : List ℕ
+  pub shows : IsVerifyOf file background proof (Ok line)
+  pub went_out : Appends before.output after.output line
+
 abbrev pub IsDone : (List ℕ → Held) → World → World → Task → Type 0
 IsDone held before after Clues = HasShown before after
 IsDone held before after (Work file options) = HasAnswered (held file.now) options before after
 IsDone held before after (Check file cert background) =
     HasChecked (held file.now) (held cert.now) background before after
+IsDone held before after (Prove file background) = HasMade (held file.now) background before after
+IsDone held before after (Verify file proof background) =
+    HasVerified (held file.now) (held proof.now) background before after
 IsDone held before after (Help text) = Appends before.output after.output (string_bytes text)
 
 -- ---- a run

@@ -36,8 +36,8 @@ pub fn run_refused<F: Files, R: Read, W: Write, V: Write>(
 
 /// The whole program: it opens only the first of the files that a task names for which the arguments ask. Its status is that of
 /// what came of it. With status 0 there is such a task, and it is done: the clues went out; or a true text to each line of the
-/// input; or the line of a check, and the picture of the first file is the only one of its size with its clues and its colours
-/// in the certificate's givens.
+/// input; or a proof, or word that there is none; or the line of a check, and the picture of the first file is the only one of
+/// its size with its clues and its colours in the givens of the certificate or proof.
 pub fn run_asked<F: Files, R: Read, W: Write, V: Write>(
     alloc: Global,
     arguments: Vec<String>,

@@ -11,7 +11,7 @@ mod verdict;
 mod work;
 
 pub use arguments::{run_asked, run_refused};
-pub use check::certificate_is_accepted;
+pub use check::{certificate_is_accepted, proof_is_accepted};
 pub use lines::{answered, answered_until};
 pub use list::{Call, call_all, edit_and_undo, edit_twice, verdict_after};
 pub use printed::check_printed;

@@ -19,7 +19,7 @@ module _ (cells : List CellNumber) (i least : ℕ) (cell : CellNumber) (l : i < 
   order_next r c up = record {
     whole = (
       λ o. (subst (λ (rest : List CellNumber). AreOrdered least rest) here (so_far.whole.0 o)).3,
-      λ o. so_far.whole.1 (subst (λ (rest : List CellNumber). AreOrdered least rest) (sym here) (r, c, omega (arith, up), o))
+      λ o. so_far.whole.1 (subst (λ (rest : List CellNumber). AreOrdered least rest) (sym here) (r, c, omega (arith, up), o)),
     );
   }
 

@@ -1,6 +1,6 @@
 -- The text that is written for a proof by lemmas is read as the same proof.
-use Rattle.std.proofs.Common.{◌≡◌, ℕ, ◌+◌, ◌*◌, ◌/◌, ◌%◌, ◌-◌, ◌^◌, ◌<◌, ◌≤◌, ◌==◌, ◌&&◌, ◌⊎◌, Bool, true, false, cond, not, eqb, bit_and, List, [], ◌∷◌, ◌++◌, length, append_assoc, Option, None, Some}
-use Rattle.std.proofs.Common.{Result, Ok, refl, sym, ap, ◌∙◌, arith, inl, inr, codes, decimal, nat_le, option_map, eq-eqb, subst, zero, suc}
+use Rattle.std.proofs.Common.{◌≡◌, ℕ, ◌+◌, ◌*◌, ◌/◌, ◌%◌, ◌-◌, ◌^◌, ◌<◌, ◌≤◌, ◌==◌, ◌&&◌, ◌⊎◌, Bool, true, false, cond, not, eqb, bit_and, List, [], ◌∷◌, ◌++◌, length, append_assoc, Option, None}
+use Rattle.std.proofs.Common.{Some, Result, Ok, refl, sym, ap, ◌∙◌, arith, inl, inr, codes, decimal, nat_le, option_map, eq-eqb, subst, zero, suc}
 use Rattle.std.specs.List.{All, flat_map, range_with_len}
 use Rattle.std.proofs.lemmas.Bool.{and_from, cases_lt, le-leb, ne_eqb, not_from_false}
 use Rattle.std.proofs.lemmas.Fmt.{length-decimal-le}
@@ -76,23 +76,23 @@ none_from n k l = ap (λ (x : ℕ). x * 2 ^ k) (div-eq_of_lt l) ∙ zero-mul (2 
 has_bit : (n k : ℕ) → (((bit_and n (2 ^ k) == 0) ≡ true) × (bit_and n (2 ^ k) ≡ 0)) ⊎ (((bit_and n (2 ^ k) == 0) ≡ false) × (bit_and n (2 ^ k) ≡ 2 ^ k))
 has_bit n k = elim (cases_lt (bit_at n k) 1) [
   | inl none ↦
-    let zero_bit : bit_at n k ≡ 0 = omega arith in
-    let no : bit_and n (2 ^ k) ≡ 0 = and_pow n k ∙ (ap (λ (x : ℕ). x * 2 ^ k) zero_bit ∙ zero-mul (2 ^ k)) in
-    inl (eq-eqb (bit_and n (2 ^ k)) 0 no, no)
+      let zero_bit : bit_at n k ≡ 0 = omega arith in
+      let no : bit_and n (2 ^ k) ≡ 0 = and_pow n k ∙ (ap (λ (x : ℕ). x * 2 ^ k) zero_bit ∙ zero-mul (2 ^ k)) in
+      inl (eq-eqb (bit_and n (2 ^ k)) 0 no, no)
   | inr some ↦
-    let one_bit : bit_at n k ≡ 1 = omega (arith, bit_at-lt n k) in
-    let yes : bit_and n (2 ^ k) ≡ 2 ^ k = and_pow n k ∙ (ap (λ (x : ℕ). x * 2 ^ k) one_bit ∙ one-mul (2 ^ k)) in
-    inr (ne_eqb (bit_and n (2 ^ k)) 0 (λ e. absurd (omega (arith, pow_pos k, yes, e))), yes)
+      let one_bit : bit_at n k ≡ 1 = omega (arith, bit_at-lt n k) in
+      let yes : bit_and n (2 ^ k) ≡ 2 ^ k = and_pow n k ∙ (ap (λ (x : ℕ). x * 2 ^ k) one_bit ∙ one-mul (2 ^ k)) in
+      inr (ne_eqb (bit_and n (2 ^ k)) 0 (λ e. absurd (omega (arith, pow_pos k, yes, e))), yes)
 ]
 
 letter_again : (k : ℕ) → k < 16 → colour_at (letter k) ≡ Some k
 letter_again k l = elim (cases_lt k 1) [
   | inl none ↦ (let e : 0 ≡ k = omega arith in subst (λ (j : ℕ). colour_at (letter j) ≡ Some j) e refl)
   | inr some ↦
-    ap (λ (t : Bool). colour_at (cond t 46 (96 + k))) (ne_eqb k 0 (λ e. absurd (omega (arith, e, some))))
-    ∙ (ap (λ (t : Bool). cond t (Some 0) (cond (nat_le 97 (96 + k) && nat_le (96 + k) 111) (Some (96 + k - 96)) None)) (ne_eqb (96 + k) 46 (λ e. absurd (omega (arith, e))))
-    ∙ (ap (λ (t : Bool). cond t (Some (96 + k - 96)) None) (and_from (nat_le 97 (96 + k)) (nat_le (96 + k) 111) (le-leb 97 (96 + k) (omega arith)) (le-leb (96 + k) 111 (omega arith)))
-    ∙ ap Some (let e : 96 + k - 96 ≡ k = omega arith in e)))
+      ap (λ (t : Bool). colour_at (cond t 46 (96 + k))) (ne_eqb k 0 (λ e. absurd (omega (arith, e, some))))
+      ∙ (ap (λ (t : Bool). cond t (Some 0) (cond (nat_le 97 (96 + k) && nat_le (96 + k) 111) (Some (96 + k - 96)) None)) (ne_eqb (96 + k) 46 (λ e. absurd (omega (arith, e))))
+      ∙ (ap (λ (t : Bool). cond t (Some (96 + k - 96)) None) (and_from (nat_le 97 (96 + k)) (nat_le (96 + k) 111) (le-leb 97 (96 + k) (omega arith)) (le-leb (96 + k) 111 (omega arith)))
+      ∙ ap Some (let e : 96 + k - 96 ≡ k = omega arith in e)))
 ]
 
 letters_from : (n k len colours least : ℕ) → k + len ≡ 16 → n < 2 ^ 16 → least ≤ k → colours_behind colours least (flat_map (letter_where n) (range_with_len k len)) ≡ Some (colours + from_bit n k)
@@ -106,13 +106,13 @@ letters_from n k (suc len) colours least e l m =
     let next = from_next n k in
     elim (has_bit n k) [
       | inl lack ↦
-        ap (λ (t : Bool). colours_behind colours least (cond t [] (letter k ∷ []) ++ rest)) lack.0
-        ∙ (letters_from n (k + 1) len colours least (omega (arith, e)) l (omega (arith, m)) ∙ ap Some (omega (arith, next, lack.1)))
+          ap (λ (t : Bool). colours_behind colours least (cond t [] (letter k ∷ []) ++ rest)) lack.0
+          ∙ (letters_from n (k + 1) len colours least (omega (arith, e)) l (omega (arith, m)) ∙ ap Some (omega (arith, next, lack.1)))
       | inr has ↦
-        ap (λ (t : Bool). colours_behind colours least (cond t [] (letter k ∷ []) ++ rest)) has.0
-        ∙ (ap (λ (o : Option ℕ). with_colour colours least o (λ more from. colours_behind more from rest)) (letter_again k (omega (arith, e)))
-        ∙ (ap (λ (t : Bool). cond t (colours_behind (colours + 2 ^ k) (k + 1) rest) None) (le-leb least k m)
-        ∙ (letters_from n (k + 1) len (colours + 2 ^ k) (k + 1) (omega (arith, e)) l (omega arith) ∙ ap Some (omega (arith, next, has.1)))))
+          ap (λ (t : Bool). colours_behind colours least (cond t [] (letter k ∷ []) ++ rest)) has.0
+          ∙ (ap (λ (o : Option ℕ). with_colour colours least o (λ more from. colours_behind more from rest)) (letter_again k (omega (arith, e)))
+          ∙ (ap (λ (t : Bool). cond t (colours_behind (colours + 2 ^ k) (k + 1) rest) None) (le-leb least k m)
+          ∙ (letters_from n (k + 1) len (colours + 2 ^ k) (k + 1) (omega (arith, e)) l (omega arith) ∙ ap Some (omega (arith, next, has.1)))))
     ]
 
 named_again : (word : List ℕ) (n : ℕ) → 0 < n → colours_behind 0 0 word ≡ Some n → colours_named word ≡ Some n
