@@ -821,7 +821,7 @@ export const EN = /** @type {const} */ ({
   'start.startPainting': 'Start painting',
   'start.openPicture': 'Open a picture',
   'start.dropFileHerePaste': 'Drop a file here, paste a picture (Ctrl+V), or choose one.',
-  'start.pngJpegGifWebp': 'A PNG, JPEG, GIF or WebP image becomes a puzzle. PPM, .non and Web Paint-by-Number’s XML open as they are. The pictures of a saved zip are added to the library, and a certificate is checked against the open picture.',
+  'start.pngJpegGifWebp': 'A PNG, JPEG, GIF or WebP image becomes a puzzle. PPM, .non and Web Paint-by-Number’s XML open as they are; a zip of the library goes back into it, and a certificate is checked against the open picture.',
   'start.chooseFile': 'Choose a file …',
   'start.examples': 'Examples',
   'start.back': 'Back to {name}',
