@@ -43,8 +43,11 @@ pub mod clues {
     }
 }
 pub mod tables { pub fn colour_bit(set: bool, colour: u8) -> u16 { if set { 1 << colour } else { 0 } } }
-pub mod line_engine { #[derive(Clone, Copy)] pub enum Outcome { Narrowed, Dead } }
-pub mod facts { pub fn only_colour(mask: u16) -> Option<u8> { (mask.count_ones() == 1).then(|| mask.trailing_zeros() as u8) } }
+pub mod line_facts {
+    #[derive(Clone, Copy)]
+    pub enum Outcome { Narrowed, Dead }
+    pub fn only_colour(mask: u16) -> Option<u8> { (mask.count_ones() == 1).then(|| mask.trailing_zeros() as u8) }
+}
 #[inline(never)]
 fn evaluate_all(lines: &[(Vec<clues::Block>, Vec<u16>)]) {
     let (mut starting, mut waiting, mut out) = ([0u64; 121], [0u64; 121], [0u16; 120]);
@@ -86,7 +89,7 @@ def plain(text):
             if depth == 0:
                 break
         text = text[:found.start()] + text[end + text[end:].startswith(';') * (found.group(1) == 'ghost'):]
-    for name in ('clues', 'picture'):
+    for name in ('clues', 'line_facts', 'picture'):
         text = text.replace(f'use {name}::', f'use crate::{name}::')
     return text.replace('pub(crate)', 'pub').replace(' + Drop', '')
 

@@ -9,7 +9,9 @@ import { baseOf } from '../page/document/cover.js';
 import { docOf, pageOf, sameDoc } from '../page/document/document.js';
 import { Bench } from '../page/engine/bench.js';
 import { Client } from '../page/engine/client.js';
+import { bytesOfSigns, signsOf } from '../page/engine/signs.js';
 import { readRecord, recordOf } from '../page/library/records.js';
+import { Chance } from '../web/chance.mjs';
 
 const test = (name, f) => testAlways(name, needsModule, f);
 const COLOURS = [[255, 255, 255], [0, 0, 0], [200, 30, 30]];
@@ -17,11 +19,21 @@ const empty = (rows, columns) => ({ rows, columns, maxval: 255, colours: COLOURS
 
 async function opened(doc = empty(3, 4), options = {}) {
   const made = [];
-  const bench = new Bench(() => new Client(workers({ ...options, made })));
+  const bench = new Bench(() => new Client(workers({ ...options, made })()));
   await bench.open(baseOf(doc));
   return { bench, made };
 }
 const words = (answers) => answers.map((answer) => answer.name ?? answer.kind);
+
+testAlways('bytes of any number are the same after they were signs', () => {
+  const chance = new Chance(1);
+  for (let size = 0; size < 200; size += 1) {
+    const bytes = Uint8Array.from({ length: size }, () => [0, 255, chance.below(256)][chance.below(3)]), signs = signsOf(bytes);
+    assert.match(signs, /^[!-~]*$/);
+    assert.doesNotMatch(signs, /["<\\]/);
+    assert.deepEqual(bytesOfSigns(signs, size), bytes);
+  }
+});
 
 test('an undo takes back a stroke, not a command', async () => {
   const { bench } = await opened();
@@ -191,7 +203,7 @@ test('a text that no session writes is not taken', async () => {
 // What is kept of a bench, opened in another one.
 async function reopened(bench) {
   const { doc, name, strokes } = readRecord(JSON.parse(JSON.stringify(recordOf(bench, 'x'))));
-  const again = new Bench(() => new Client(workers()));
+  const again = new Bench(() => new Client(workers()()));
   await again.open(baseOf(doc), { name, page: pageOf(doc), strokes });
   return again;
 }

@@ -2,7 +2,7 @@
 import assert from 'node:assert/strict';
 import { readFileSync, writeFileSync } from 'node:fs';
 import { join } from 'node:path';
-import { downloaded, drop, examples, fresh, isOpen, said, withHands } from './page_hands.mjs';
+import { downloaded, drop, examples, fresh, isOpen, said } from './page_hands.mjs';
 import { drawn } from './page_icons.mjs';
 import { pause } from './page_browser.mjs';
 import { SLACK, ppmOf } from './page_trial.mjs';
@@ -44,66 +44,62 @@ async function slide(hands, id, toMost) {
 }
 
 /** The palette is shown while one chooses: a colour is locked, replaced, dropped, and all of that taken back. */
-export async function paletteWhileChoosing(all) {
-    await withHands(all, 'palette', async (hands, { page, trial }) => {
-        await openIcon(page, 'house');
-        const first = await colours(page);
-        assert.deepEqual([...first].sort(), ['#285ac8', '#3c8c40', '#784a28', '#96cdf0', '#a83e2c', '#e8d3a8'].sort(), 'its own colours');
-        const choose = async (colour) => {
-            if (hands.byKeys) {
-                await hands.tabTo('#import-palette [aria-checked=true]');
-                for (let step = 0; step < 16 && await page.run((wanted) => document.querySelector('#import-palette [aria-checked=true]').title !== wanted, colour); step++) await page.press('ArrowRight');
-            } else await hands.press(`#import-palette [title="${colour}"]`);
-            await page.until((wanted) => document.querySelector('#import-palette [aria-checked=true]').title === wanted, 2000 * SLACK, colour);
-        };
-        await choose('#285ac8'); // the windows
+export async function choosingPoint(hands, { page, trial }) {
+    await openIcon(page, 'house');
+    const first = await colours(page);
+    assert.deepEqual([...first].sort(), ['#285ac8', '#3c8c40', '#784a28', '#96cdf0', '#a83e2c', '#e8d3a8'].sort(), 'its own colours');
+    const choose = async (colour) => {
         if (hands.byKeys) {
-            await hands.tabTo('#import-lock');
-            await page.press(' ');
-        } else await hands.press('#import-lock');
-        await page.until(() => document.querySelector('#import-ink').value.includes('locked'), 3000 * SLACK);
-        await slide(hands, 'import-colours', false);
-        await facts(page, '2 colours');
-        assert.ok((await colours(page)).includes('#285ac8'), 'what is locked stays');
-        await slide(hands, 'import-colours', true);
-        await facts(page, '6 colours');
-        await choose('#a83e2c');
-        await hands.press('#import-drop');
-        await facts(page, '5 colours');
-        assert.ok(!(await colours(page)).includes('#a83e2c'), 'dropped');
-        await choose('#3c8c40');
-        await hands.fill('.inks input[list]', 'gold');
-        await page.press('Tab');
-        await page.until(() => [...document.querySelectorAll('#import-palette button')].some((one) => one.title === '#ffd700'), 3000 * SLACK);
-        assert.ok(!(await colours(page)).includes('#3c8c40'), 'replaced');
-        await hands.press('dialog button.main');
-        await isOpen(page);
-        const { colours: made } = await trial.state();
-        assert.deepEqual(made.map((triple) => triple.join()).sort(), ['120,74,40', '150,205,240', '232,211,168', '255,215,0', '40,90,200'].sort());
-    });
+            await hands.tabTo('#import-palette [aria-checked=true]');
+            for (let step = 0; step < 16 && await page.run((wanted) => document.querySelector('#import-palette [aria-checked=true]').title !== wanted, colour); step++) await page.press('ArrowRight');
+        } else await hands.press(`#import-palette [title="${colour}"]`);
+        await page.until((wanted) => document.querySelector('#import-palette [aria-checked=true]').title === wanted, 2000 * SLACK, colour);
+    };
+    await choose('#285ac8'); // the windows
+    if (hands.byKeys) {
+        await hands.tabTo('#import-lock');
+        await page.press(' ');
+    } else await hands.press('#import-lock');
+    await page.until(() => document.querySelector('#import-ink').value.includes('locked'), 3000 * SLACK);
+    await slide(hands, 'import-colours', false);
+    await facts(page, '2 colours');
+    assert.ok((await colours(page)).includes('#285ac8'), 'what is locked stays');
+    await slide(hands, 'import-colours', true);
+    await facts(page, '6 colours');
+    await choose('#a83e2c');
+    await hands.press('#import-drop');
+    await facts(page, '5 colours');
+    assert.ok(!(await colours(page)).includes('#a83e2c'), 'dropped');
+    await choose('#3c8c40');
+    await hands.fill('.inks input[list]', 'gold');
+    await page.press('Tab');
+    await page.until(() => [...document.querySelectorAll('#import-palette button')].some((one) => one.title === '#ffd700'), 3000 * SLACK);
+    assert.ok(!(await colours(page)).includes('#3c8c40'), 'replaced');
+    await hands.press('dialog button.main');
+    await isOpen(page);
+    const { colours: made } = await trial.state();
+    assert.deepEqual(made.map((triple) => triple.join()).sort(), ['120,74,40', '150,205,240', '232,211,168', '255,215,0', '40,90,200'].sort());
 }
 
 /** Verdict and grade follow each change; the newest wins. */
-export async function verdictWhileSliding(all) {
-    await withHands(all, 'sliding', async (hands, { page, trial }) => {
-        await openIcon(page, 'mug');
-        const told = () => page.until(() => /^(✓ Unique.*(easy|medium|hard|expert)|≠ Ambiguous)/.exec(document.querySelector('#import-verdict').textContent)?.[0], 15000 * SLACK);
-        await told();
-        for (const [id, toMost] of [['import-brightness', true], ['import-brightness', false], ['import-contrast', false], ['import-colours', false], ['import-specks', true]]) {
-            const before = await page.run(() => document.querySelector('#import-preview').toDataURL());
-            await slide(hands, id, toMost);
-            await page.run(() => new Promise((go) => requestAnimationFrame(() => requestAnimationFrame(go))));
-            if (id === 'import-brightness') await page.until((from) => document.querySelector('#import-preview').toDataURL() !== from, 3000 * SLACK, before);
-            const box = await page.run(() => { const { top, bottom } = document.querySelector('#import-preview').getBoundingClientRect(); return [top, bottom, innerHeight]; });
-            if (hands.input === 'touch') assert.ok(box[0] >= 0 && box[1] <= box[2], `the preview is seen: ${box}`);
-        }
-        await slide(hands, 'import-specks', false);
-        const shown = await told();
-        await hands.press('dialog button.main');
-        await isOpen(page);
-        const word = await trial.judged();
-        assert.ok(shown.startsWith(word === 'unique' ? '✓ Unique' : '≠ Ambiguous'), `${shown}, but ${word}`);
-    });
+export async function slidingPoint(hands, { page, trial }) {
+    await openIcon(page, 'mug');
+    const told = () => page.until(() => /^(✓ Unique.*(easy|medium|hard|expert)|≠ Ambiguous)/.exec(document.querySelector('#import-verdict').textContent)?.[0], 15000 * SLACK);
+    await told();
+    for (const [id, toMost] of [['import-brightness', true], ['import-brightness', false], ['import-contrast', false], ['import-colours', false], ['import-specks', true]]) {
+        const before = await page.run(() => document.querySelector('#import-preview').toDataURL());
+        await slide(hands, id, toMost);
+        await page.run(() => new Promise((go) => requestAnimationFrame(() => requestAnimationFrame(go))));
+        if (id === 'import-brightness') await page.until((from) => document.querySelector('#import-preview').toDataURL() !== from, 3000 * SLACK, before);
+        const box = await page.run(() => { const { top, bottom } = document.querySelector('#import-preview').getBoundingClientRect(); return [top, bottom, innerHeight]; });
+        if (hands.input === 'touch') assert.ok(box[0] >= 0 && box[1] <= box[2], `the preview is seen: ${box}`);
+    }
+    await slide(hands, 'import-specks', false);
+    const shown = await told();
+    await hands.press('dialog button.main');
+    await isOpen(page);
+    const word = await trial.judged();
+    assert.ok(shown.startsWith(word === 'unique' ? '✓ Unique' : '≠ Ambiguous'), `${shown}, but ${word}`);
 }
 
 /** Line art keeps thin lines; dithering and specks change the picture. */
@@ -174,39 +170,37 @@ const COLOURS_OPEN = '#colours-open';
 const editColours = async (hands) => { if (await hands.page.run((one) => document.querySelector(one).checkVisibility(), COLOURS_OPEN)) await hands.press(COLOURS_OPEN); };
 
 /** A palette file gives colours to a picture, the picture's go into one, and a colour is changed by its name. */
-export async function paletteFiles(all) {
-    await withHands(all, 'palettes', async (hands, { page, trial, own }) => {
-        await trial.open(ppmOf(['ab.', '.aa']));
-        const palette = async () => (await trial.state()).colours.map((triple) => triple.join());
-        const path = join(own, 'sea.gpl');
-        writeFileSync(path, 'GIMP Palette\nName: Sea\n#\n  0   0 128\tnavy\n 70 130 180\tsteel\n250 250 250\n 10  10  10\n190  50  50\n');
-        const open = () => hands.chooseFile(() => hands.menu('picture', 'palette-open'), path);
-        await open();
-        await page.until(() => document.querySelectorAll('#palette-file button').length === 5, 5000 * SLACK);
-        await hands.press('dialog button.main');
-        await page.until(() => document.querySelector('dialog .wrong').textContent.includes('Choose a colour'), 2000 * SLACK);
-        await hands.press('#palette-file [title^="steel"]');
-        await hands.press('dialog button.main');
-        await page.until(() => bench.state.colours.length === 4, 5000 * SLACK);
-        assert.deepEqual(await palette(), ['255,255,255', '0,0,0', '200,40,40', '70,130,180']);
-        assert.equal(await page.run(() => bench.state.inks[3].name), 'steel');
-        await page.press('Control+z');
-        await trial.settled();
-        await open();
-        await page.until(() => document.querySelectorAll('#palette-file button').length === 5, 5000 * SLACK);
-        await hands.press('dialog .buttons button:nth-of-type(2)'); // the nearest
-        await page.until(() => bench.state.colours[1].join() === '10,10,10', 5000 * SLACK);
-        assert.deepEqual(await palette(), ['250,250,250', '10,10,10', '190,50,50']);
-        await hands.colour('b');
-        await editColours(hands);
-        await hands.fill('#colour-named', 'tomato');
-        await page.press('Enter');
-        await page.until(() => bench.state.colours[2].join() === '255,99,71', 5000 * SLACK);
-        await page.run(() => document.activeElement.blur());
-        await hands.menu('picture', 'palette-save');
-        await hands.press('dialog button.main');
-        assert.match((await downloaded(page, own, 'trial.gpl')).content.toString(), /^GIMP Palette\nName: trial\nColumns: 0\n#\n250 250 250\t.*\n 10  10  10\t.*\n255  99  71\t.*\n$/);
-    });
+export async function palettesPoint(hands, { page, trial, own }) {
+    await trial.open(ppmOf(['ab.', '.aa']));
+    const palette = async () => (await trial.state()).colours.map((triple) => triple.join());
+    const path = join(own, 'sea.gpl');
+    writeFileSync(path, 'GIMP Palette\nName: Sea\n#\n  0   0 128\tnavy\n 70 130 180\tsteel\n250 250 250\n 10  10  10\n190  50  50\n');
+    const open = () => hands.chooseFile(() => hands.menu('picture', 'palette-open'), path);
+    await open();
+    await page.until(() => document.querySelectorAll('#palette-file button').length === 5, 5000 * SLACK);
+    await hands.press('dialog button.main');
+    await page.until(() => document.querySelector('dialog .wrong').textContent.includes('Choose a colour'), 2000 * SLACK);
+    await hands.press('#palette-file [title^="steel"]');
+    await hands.press('dialog button.main');
+    await page.until(() => bench.state.colours.length === 4, 5000 * SLACK);
+    assert.deepEqual(await palette(), ['255,255,255', '0,0,0', '200,40,40', '70,130,180']);
+    assert.equal(await page.run(() => bench.state.inks[3].name), 'steel');
+    await page.press('Control+z');
+    await trial.settled();
+    await open();
+    await page.until(() => document.querySelectorAll('#palette-file button').length === 5, 5000 * SLACK);
+    await hands.press('dialog .buttons button:nth-of-type(2)'); // the nearest
+    await page.until(() => bench.state.colours[1].join() === '10,10,10', 5000 * SLACK);
+    assert.deepEqual(await palette(), ['250,250,250', '10,10,10', '190,50,50']);
+    await hands.colour('b');
+    await editColours(hands);
+    await hands.fill('#colour-named', 'tomato');
+    await page.press('Enter');
+    await page.until(() => bench.state.colours[2].join() === '255,99,71', 5000 * SLACK);
+    await page.run(() => document.activeElement.blur());
+    await hands.menu('picture', 'palette-save');
+    await hands.press('dialog button.main');
+    assert.match((await downloaded(page, own, 'trial.gpl')).content.toString(), /^GIMP Palette\nName: trial\nColumns: 0\n#\n250 250 250\t.*\n 10  10  10\t.*\n255  99  71\t.*\n$/);
 }
 
 /** A palette that is dropped is told what it is, with a picture or without one; one that is damaged says why. */
@@ -229,16 +223,14 @@ export async function droppedPalettes({ browser, url, folder }) {
 }
 
 /** The check for the colour-blind names the pairs that clash. */
-export async function colourBlind(all) {
-    await withHands(all, 'vision', async (hands, { page, trial }) => {
-        await trial.open(ppmOf(['abc', '..a'], { '.': '255 255 255', a: '200 90 60', b: '120 130 50', c: '40 60 220' }));
-        await hands.menu('check', 'vision');
-        await page.until(() => document.querySelectorAll('.visions figure').length === 3, 3000 * SLACK);
-        const texts = await page.run(() => Object.fromEntries([...document.querySelectorAll('.visions figure')].map((one) => [one.dataset.kind, one.querySelector('p').textContent])));
-        assert.match(texts.deutan, /^Look alike: “.*” \(a\) and “.*” \(b\)\.$/);
-        assert.equal(texts.tritan, 'No two colours look alike.');
-        if (hands.byKeys) await page.press('Enter');
-        else await hands.press('dialog button.main');
-        await page.until(() => !document.querySelector('dialog[open]'), 3000 * SLACK);
-    });
+export async function visionPoint(hands, { page, trial }) {
+    await trial.open(ppmOf(['abc', '..a'], { '.': '255 255 255', a: '200 90 60', b: '120 130 50', c: '40 60 220' }));
+    await hands.menu('check', 'vision');
+    await page.until(() => document.querySelectorAll('.visions figure').length === 3, 3000 * SLACK);
+    const texts = await page.run(() => Object.fromEntries([...document.querySelectorAll('.visions figure')].map((one) => [one.dataset.kind, one.querySelector('p').textContent])));
+    assert.match(texts.deutan, /^Look alike: “.*” \(a\) and “.*” \(b\)\.$/);
+    assert.equal(texts.tritan, 'No two colours look alike.');
+    if (hands.byKeys) await page.press('Enter');
+    else await hands.press('dialog button.main');
+    await page.until(() => !document.querySelector('dialog[open]'), 3000 * SLACK);
 }

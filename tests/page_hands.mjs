@@ -2,7 +2,6 @@
 import assert from 'node:assert/strict';
 import { mkdirSync, readFileSync, readdirSync, rmSync, writeFileSync } from 'node:fs';
 import { join } from 'node:path';
-import { Hands } from './page_inputs.mjs';
 import { SIZES, SLACK, Trial } from './page_trial.mjs';
 
 export const examples = new URL('../examples/', import.meta.url);
@@ -73,24 +72,6 @@ export const menu = async (page, id) => {
     await page.run(() => document.querySelector('#menus [popovertarget="menu-file"]').click());
     await page.run((one) => document.querySelector(`#menu-file [data-action="${one}"]`).click(), id);
 };
-
-const INPUTS = [['small', 'mouse'], ['small', 'keys'], ['large', 'mouse'], ['large', 'keys'], ['phone', 'touch'], ['phone', 'keys']];
-
-/** An act of a trial by each input in the sizes that have it, each in a tab of its own. */
-export async function withHands({ browser, url, folder }, what, act) {
-    for (const [size, input] of INPUTS) {
-        const { page, trial, own } = await fresh(browser, url, folder, `${what}-${size}-${input}`, { size: SIZES[size] });
-        try {
-            await act(new Hands(page, trial, input), { page, trial, own });
-            assert.deepEqual(page.faults, []);
-        } catch (fault) {
-            await page.shot(join(folder, `failed-${what}-${size}-${input}.png`)).catch(() => {});
-            throw new Error(`${size}, ${input}: ${fault.stack ?? fault}`);
-        } finally {
-            await page.close().catch(() => {});
-        }
-    }
-}
 
 /** Colours of what is seen at points, each by its share of the window's width and height. */
 export async function coloursAt(page, points) {

@@ -116,12 +116,35 @@ export class Hands {
         return this.trial.settled();
     }
 
-    /** Lets the browser's chooser of files have a file. */
-    async chooseFile(act, path) {
+    /** Ticks a box, or takes its tick away. */
+    async tick(selector) {
+        if (!this.byKeys) return this.press(selector);
+        await this.tabTo(selector);
+        return this.page.press(' ');
+    }
+
+    /** Marks cells in Play by a colour, rows and columns from 1. */
+    async mark(letter, cells) {
+        const { page } = this;
+        if (this.byKeys) await page.press(letter);
+        else await this.press(`#play-palette [data-letter="${letter}"]`);
+        for (const [row, col] of cells) {
+            const spot = await page.run((r, c) => {
+                const box = document.getElementById('play-field').getBoundingClientRect();
+                return [box.left + (c - 0.5) * play.side, box.top + (r - 0.5) * play.side];
+            }, row, col);
+            if (this.input === 'mouse') await page.drag([spot]);
+            else if (this.input === 'touch') await page.touch([spot]);
+            else await page.press(...waysBetween(await page.run(() => [play.at.row + 1, play.at.col + 1]), [row, col]), 'Enter');
+        }
+    }
+
+    /** Lets the browser's chooser of files have some files. */
+    async chooseFile(act, ...paths) {
         await this.page.send('Page.setInterceptFileChooserDialog', { enabled: true });
         const chooser = new Promise((go) => { this.page.hears = (method, params) => { if (method === 'Page.fileChooserOpened') go(params); }; });
         await act();
         const { backendNodeId } = await Promise.race([chooser, pause(8000 * SLACK).then(() => { throw new Error('no chooser of files opened'); })]);
-        await this.page.send('DOM.setFileInputFiles', { files: [path], backendNodeId });
+        await this.page.send('DOM.setFileInputFiles', { files: paths, backendNodeId });
     }
 }

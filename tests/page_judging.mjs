@@ -15,7 +15,7 @@ const GUESS = docOf(['a.', '.b'], { colours: [[255, 255, 255], [0, 0, 0], [200, 
 // What is told of documents that are asked for one behind the other; `until` says of what is told last.
 async function told(docs, { seconds = 5, made = [], pause = 0 } = {}) {
     const heard = [];
-    const start = () => new Client(workers({ made }));
+    const start = () => new Client(workers({ made })());
     let done = null;
     const end = new Promise((go) => { done = go; });
     const judging = new Judging((found) => {

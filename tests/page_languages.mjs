@@ -1,18 +1,17 @@
 // Tests in the browser of the page's languages: a walk in German by mouse, keys and fingers, another language with all that was done, and
 // what is written from right to left.
 import assert from 'node:assert/strict';
-import { clean } from './page_hands.mjs';
-import { SIZES, SLACK, Trial } from './page_trial.mjs';
+import { clean, fresh } from './page_hands.mjs';
+import { serve } from './page_sharing.mjs';
+import { SLACK, Trial, ppmOf } from './page_trial.mjs';
 
 const KEPT = 'nonobench-language';
 const MIRRORED = 'en-x-mirrored';
 
-// A trial in a language that was chosen before.
-async function trialIn(language, size, { browser, url, folder }) {
-    const trial = await Trial.start(browser, url, folder, size);
+// Starts the page in a language that was chosen before.
+async function chooseLanguage(trial, language) {
     await trial.page.run((name, value) => localStorage.setItem(name, value), KEPT, language);
     await trial.load();
-    return trial;
 }
 
 // What is cut, outside the window, or over something else, of what a user reads or presses.
@@ -79,46 +78,38 @@ async function overThePage(page, where, hears = false) {
 
 // ---- German
 
-export async function germanWalk(rooms) {
-    for (const [name, size] of Object.entries(SIZES)) {
-        const trial = await trialIn('de', size, rooms);
-        const { page } = trial;
-        const press = (selector) => (size.touch ? page.tap(selector) : page.click(selector));
-        assert.deepEqual(await page.run(() => [document.documentElement.lang, document.documentElement.dir]), ['de', 'ltr']);
-        assert.match(await trial.text('#start'), /Beispiele/);
-        assert.deepEqual(await page.run(MISLAID), [], `${name}, the start screen`);
-        await page.shot(`${rooms.folder}/german-${name}-start.png`);
-        await press('#examples li:nth-child(1) button');
-        await opened(page);
-        await trial.judged();
-        assert.equal(await trial.text('#verdict'), '✓ Eindeutig');
-        const [x, y] = await trial.cell(3, 3);
-        const before = (await trial.picture())[2][2];
-        await page.run((letter) => useColour(letter), before === '.' ? 'a' : '.');
-        if (size.touch) await page.touch([[x, y]]);
-        else await page.drag([[x, y]]);
-        await trial.settled();
-        assert.notEqual((await trial.picture())[2][2], before, `${name}: a cell is painted`);
-        await page.press('Control+z');
-        await trial.settled();
-        assert.equal((await trial.picture())[2][2], before, `${name}: and taken back`);
-        await trial.open('P3\n4 4\n255\n0 0 0 255 255 255 255 255 255 255 255 255\n255 255 255 0 0 0 255 255 255 255 255 255\n255 255 255 255 255 255 0 0 0 255 255 255\n255 255 255 255 255 255 255 255 255 0 0 0\n');
-        assert.equal(await trial.judged(), 'ambiguous');
-        assert.equal(await trial.text('#verdict'), '≠ Mehrdeutig');
-        if (size.touch) await press('#verdict-open');
-        await press('#verdict-do [data-action="fix"]');
-        assert.match(await trial.text('#fix'), /Felder zum Ummalen suchen/);
-        assert.deepEqual(await page.run(MISLAID), [], `${name}, Fix it`);
-        await page.shot(`${rooms.folder}/german-${name}-fix.png`);
-        await page.run(() => runAction('about'));
-        await page.until(() => document.querySelector('dialog[open]'), 3000 * SLACK);
-        assert.match(await trial.text('dialog[open]'), /Über das Rätsel/);
-        await page.shot(`${rooms.folder}/german-${name}-about.png`);
-        await closed(page);
-        await overThePage(page, `German, ${name}`, true);
-        assert.deepEqual(page.faults, []);
-        await page.close();
-    }
+/** German is chosen in the menu View; then a walk in it, in which nothing is cut and no English is left. */
+export async function germanPoint(hands, { page, trial }) {
+    await hands.press('#examples li:nth-child(1) button');
+    await opened(page);
+    const loaded = new Promise((go) => page.wakes.push(go));
+    await hands.menu('view', 'language-de');
+    await loaded;
+    await opened(page);
+    assert.deepEqual(await page.run(() => [document.documentElement.lang, document.documentElement.dir]), ['de', 'ltr']);
+    await trial.judged();
+    assert.equal(await trial.text('#verdict'), '✓ Eindeutig');
+    const before = (await trial.picture())[2][2];
+    await hands.colour(before === '.' ? 'a' : '.');
+    await hands.stroke([3, 3]);
+    assert.notEqual((await trial.picture())[2][2], before, 'a cell is painted');
+    await hands.undo();
+    assert.equal((await trial.picture())[2][2], before, 'and taken back');
+    await trial.open(ppmOf(['a...', '.a..', '..a.', '...a']));
+    assert.equal(await trial.judged(), 'ambiguous');
+    assert.equal(await trial.text('#verdict'), '≠ Mehrdeutig');
+    if (await page.run(() => document.getElementById('verdict-open').checkVisibility())) await hands.press('#verdict-open');
+    await hands.press('#verdict-do [data-action="fix"]');
+    assert.match(await trial.text('#fix'), /Felder zum Ummalen suchen/);
+    assert.deepEqual(await page.run(MISLAID), [], 'Fix it');
+    await hands.menu('file', 'about');
+    await page.until(() => document.querySelector('dialog[open]'), 3000 * SLACK);
+    assert.match(await trial.text('dialog[open]'), /Über das Rätsel/);
+    await closed(page);
+    await overThePage(page, 'German', true);
+    await hands.menu('file', 'new');
+    assert.match(await trial.text('#start'), /Beispiele/);
+    assert.deepEqual([await page.run(MISLAID), await page.run(ENGLISH)], [[], []], 'the start screen');
 }
 
 export async function languageOfTheBrowser({ browser, url, folder }) {
@@ -185,38 +176,54 @@ export async function languageWaitsWhereNothingIsKept({ trial, page }) {
     assert.equal(await page.run((name) => localStorage.getItem(name), KEPT), 'de', 'the next start has it');
 }
 
+/** The file that Ctrl+S writes stays the same; a page from a file cannot show it, since browsers give it no files of its own. */
+export async function languageKeepsTheFile({ browser, folder }) {
+    const { url, end } = await serve(folder);
+    const { page, trial } = await fresh(browser, url, folder, 'kept-file', { before: 'delete window.showOpenFilePicker; window.showSaveFilePicker = async () => (window.asked = true, (await navigator.storage.getDirectory()).getFileHandle("mine.ppm", { create: true }));' });
+    const written = () => page.run(async () => (await (await (await navigator.storage.getDirectory()).getFileHandle('mine.ppm')).getFile()).text());
+    await page.run((rows) => openDoc({ rows: 2, columns: 2, maxval: 255, colours: [[255, 255, 255], [0, 0, 0]], picture: rows, givens: new Set() }, { name: 'mine' }), ['a.', '.a']);
+    await page.press('Control+s');
+    await page.until(() => bench.isSaved && saving.handle?.name === 'mine.ppm', 5000 * SLACK);
+    const before = await written();
+    const loaded = new Promise((go) => page.wakes.push(go));
+    await page.run(() => { runAction('language-de'); });
+    await loaded;
+    await opened(page);
+    await page.until(() => saving.handle !== null, 3000 * SLACK);
+    await trial.drag([[1, 2]]);
+    await page.press('Control+s');
+    await page.until(() => bench.isSaved, 5000 * SLACK);
+    assert.deepEqual(await page.run(() => [window.asked ?? false, saving.form]), [false, 'ppm'], 'it is not asked for again');
+    assert.match(before, /\n2 2\n255\n0 0 0\n255 255 255\n/);
+    assert.match(await written(), /\n2 2\n255\n0 0 0\n0 0 0\n/);
+    await page.close();
+    await end();
+}
+
 // ---- from right to left
 
-export async function rightToLeft(rooms) {
-    for (const [name, size] of Object.entries(SIZES)) {
-        const trial = await trialIn(MIRRORED, size, rooms);
-        const { page } = trial;
-        assert.equal(await page.run(() => document.documentElement.dir), 'rtl');
-        assert.deepEqual(await page.run(MISLAID), [], `${name}, the start screen`);
-        await page.shot(`${rooms.folder}/mirrored-${name}-start.png`);
-        await trial.example('apple');
-        await trial.judged();
-        const edges = await page.run(() => { const { geometry: at } = sheet; return [at.x(0), at.x(1), at.y(0), at.y(1)]; });
-        assert.ok(edges[0] < edges[1] && edges[2] < edges[3], `${name}: columns go from left to right`);
-        const [[x1], [x2]] = [await trial.cell(2, 2), await trial.cell(2, 3)];
-        assert.ok(x1 < x2);
-        const from = (await trial.picture())[1];
-        await page.run((letter) => useColour(letter), from[1] === '.' ? 'a' : '.');
-        const [x, y] = await trial.cell(2, 2);
-        if (size.touch) await page.touch([[x, y]]);
-        else await page.drag([[x, y]]);
-        await trial.settled();
-        assert.notEqual((await trial.picture())[1][1], from[1], `${name}: the pencil paints the cell that it is at`);
-        assert.equal((await trial.picture())[1].slice(2), from.slice(2));
-        await page.run(() => { cursor.row = 0; cursor.col = 0; document.querySelector('.cell').focus(); });
-        await page.press('ArrowRight');
-        assert.deepEqual(await page.run(() => [cursor.row, cursor.col]), [0, 1], `${name}: an arrow goes to the right`);
-        await page.run(() => { if (document.getElementById('verdict-open').checkVisibility()) document.getElementById('verdict-open').click(); runAction('fix'); });
-        assert.deepEqual(await page.run(MISLAID), [], `${name}, the bench`);
-        await page.shot(`${rooms.folder}/mirrored-${name}.png`);
-        assert.equal(await page.run(() => document.querySelectorAll('[data-action*="mirrored"]').length), 0, 'it is in no menu');
-        await overThePage(page, `mirrored, ${name}`);
-        assert.deepEqual(page.faults, []);
-        await page.close();
-    }
+/** What lays things out is mirrored; grids are read from the left. */
+export async function mirroredPoint(hands, { page, trial }) {
+    await chooseLanguage(trial, MIRRORED);
+    assert.equal(await page.run(() => document.documentElement.dir), 'rtl');
+    assert.deepEqual(await page.run(MISLAID), [], 'the start screen');
+    await trial.example('apple');
+    await trial.judged();
+    const edges = await page.run(() => { const { geometry: at } = sheet; return [at.x(0), at.x(1), at.y(0), at.y(1)]; });
+    assert.ok(edges[0] < edges[1] && edges[2] < edges[3], 'columns go from left to right');
+    const [[x1], [x2]] = [await trial.cell(2, 2), await trial.cell(2, 3)];
+    assert.ok(x1 < x2);
+    const [, from] = await trial.picture();
+    await hands.colour(from[1] === '.' ? 'a' : '.');
+    await hands.stroke([2, 2]);
+    const [, row] = await trial.picture();
+    assert.ok(row[0] === from[0] && row[1] !== from[1] && row.slice(2) === from.slice(2), 'the pencil paints the cell that it is at');
+    await page.run(() => { cursor.row = 0; cursor.col = 0; document.querySelector('.cell').focus(); });
+    await page.press('ArrowRight');
+    assert.deepEqual(await page.run(() => [cursor.row, cursor.col]), [0, 1], 'an arrow goes to the right');
+    if (await page.run(() => document.getElementById('verdict-open').checkVisibility())) await hands.press('#verdict-open');
+    await page.run(() => runAction('fix'));
+    assert.deepEqual(await page.run(MISLAID), [], 'the bench');
+    assert.equal(await page.run(() => document.querySelectorAll('[data-action*="mirrored"]').length), 0, 'it is in no menu');
+    await overThePage(page, 'mirrored');
 }

@@ -3,7 +3,7 @@ import assert from 'node:assert/strict';
 import { execFileSync } from 'node:child_process';
 import { readFileSync, writeFileSync } from 'node:fs';
 import { join } from 'node:path';
-import { act, clean, coloursAt, downloaded, drop, examples, fresh, isOpen, menu } from './page_hands.mjs';
+import { act, coloursAt, downloaded, drop, examples, fresh, isOpen, menu } from './page_hands.mjs';
 import { SLACK, ppmOf } from './page_trial.mjs';
 
 /** Ctrl+S downloads an XML text under the document's name that opens as it was, texts and names too; then nothing asks on leaving. */
@@ -227,23 +227,34 @@ export async function pdfOfSheets({ browser, url, folder }) {
     await page.close();
 }
 
-/** Pictures of the library are printed with the one at hand, several a sheet. */
-export async function printedTogether({ browser, url, folder }) {
-    const { page, trial, own } = await fresh(browser, url, folder, 'together');
-    await clean(page);
-    const doc = (name) => page.run((title) => openDoc({ rows: 2, columns: 3, maxval: 255, colours: [[255, 255, 255], [0, 0, 0]], picture: ['aa.', '.aa'], givens: new Set() }, { name: title }), name);
-    for (const name of ['first', 'second', 'third']) await doc(name);
+const BOOK = { first: ['aa.', '.aa'], second: ['a.b', 'bb.'], third: ['..a', 'a.a'] };
+
+/** Pictures of the library are printed with the one at hand, in the order of their names: two a sheet, with letters, solutions behind. The PDF is read back. */
+export async function printPoint(hands, { page, own }) {
+    for (const [name, picture] of Object.entries(BOOK)) {
+        await page.run((title, rows) => openDoc({ rows: 2, columns: 3, maxval: 255, colours: [[255, 255, 255], [0, 0, 0], [200, 40, 40]], picture: rows, givens: new Set() }, { name: title }), name, picture);
+        await page.until(() => keep.keeper.isDone, 5000 * SLACK);
+    }
     await isOpen(page);
-    await page.until(() => keep.keeper.isDone, 5000 * SLACK);
-    await page.run(() => { window.print = () => {}; });
-    await page.press('Control+p');
+    await page.run(() => { window.print = () => { window.isPrinted = true; }; });
+    if (hands.byKeys) await page.press('Control+p');
+    else await hands.menu('file', 'print');
     await page.until(() => document.querySelector('#print-others'), 3000 * SLACK);
-    await page.run(() => { document.querySelector('#print-others').open = true; for (const box of document.querySelectorAll('#print-others input')) box.checked = true; document.getElementById('print-count').value = '4'; document.getElementById('print-show').value = 'colours'; document.getElementById('print-paper').value = 'a4'; document.getElementById('print-wide').checked = false; });
-    await page.click('dialog button.main');
-    await page.until(() => document.querySelectorAll('.printed').length === 2, 5000 * SLACK);
-    const [puzzles, solutions] = await pdfOf(page, own, 'together.pdf');
-    const order = (text) => text.match(/first|second|third/g);
-    assert.deepEqual([order(puzzles.text).sort(), order(solutions.text).sort()], [['first', 'second', 'third'], ['first', 'second', 'third']]);
-    assert.equal(puzzles.words.filter(({ text }) => /^\d$/.test(text)).length, 3 * (2 + 3) + 3 * 2 + 2, 'of each two clues of rows, three of columns and its size, and the number of the sheet');
-    await page.close();
+    await hands.choose('#print-paper', 'a5');
+    await hands.fill('#print-margin', '10');
+    await hands.choose('#print-count', '2');
+    await hands.choose('#print-show', 'letters');
+    await hands.press('#print-others summary');
+    for (const at of [1, 2]) await hands.tick(`#print-others label:nth-of-type(${at}) input`);
+    await hands.press('dialog button.main');
+    await page.until(() => window.isPrinted, 5000 * SLACK);
+    const sheets = await pdfOf(page, own, 'book.pdf');
+    assert.deepEqual(sheets.map(({ size }) => size), Array(sheets.length).fill([148, 210]));
+    const titles = sheets.map(({ text }) => text.match(/(first|second|third)(: solution)?/g));
+    assert.deepEqual(titles.slice(0, 2), [['first', 'second'], ['third']]);
+    assert.deepEqual(titles.slice(2).flat(), ['first: solution', 'second: solution', 'third: solution']);
+    // By hand: those of rows, and then of columns.
+    const clues = sheets.slice(0, 2).map(({ words }) => words.map(({ text }) => text).filter((text) => /^\d+[ab]$/.test(text)).sort());
+    assert.deepEqual(clues, [['2a', '2a', '1a', '2a', '1a', '1a', '1b', '2b', '1a', '1b', '1b', '1b'].sort(), ['1a', '1a', '1a', '1a', '2a'].sort()]);
+    for (const [at, { text }] of sheets.entries()) assert.match(text, new RegExp(`${at + 1} ?/ ?${sheets.length}`));
 }

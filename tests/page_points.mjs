@@ -5,9 +5,14 @@ import { readFileSync } from 'node:fs';
 import { fileURLToPath } from 'node:url';
 import { clean, downloaded, examples, fresh, isKept, isOpen } from './page_hands.mjs';
 import { Hands } from './page_inputs.mjs';
+import { choosingPoint, palettesPoint, slidingPoint, visionPoint } from './page_coming.mjs';
+import { germanPoint, mirroredPoint } from './page_languages.mjs';
 import { hard } from './page_meaning.mjs';
 import { mendingPoint, walkingPoint } from './page_mending.mjs';
+import { printPoint } from './page_out.mjs';
+import { outlinePoint, pensPoint, tracingPoint, wandPoint } from './page_pens.mjs';
 import { limitsPoint } from './page_repairs.mjs';
+import { linkPoint, offlinePoint, playerPoint, severalPoint } from './page_sharing.mjs';
 import { SIZES, SLACK, noise, ppmOf } from './page_trial.mjs';
 import { pause } from './page_browser.mjs';
 
@@ -207,23 +212,8 @@ async function meaning(hands) {
     await trial.judged();
     await hands.press('#verdict-do [data-action="play"]');
     await page.until(() => document.querySelector('#play-room')?.open, 3000 * SLACK);
-    const cell = (row, col) => page.run((r, c) => {
-        const box = document.getElementById('play-field').getBoundingClientRect();
-        return [box.left + (c - 0.5) * play.side, box.top + (r - 0.5) * play.side];
-    }, row, col);
-    const mark = async (letter, cells) => {
-        if (hands.byKeys) await page.press(letter);
-        else await hands.press(`#play-palette [data-letter="${letter}"]`);
-        for (const [row, col] of cells) {
-            if (hands.input === 'mouse') await page.drag([await cell(row, col)]);
-            if (hands.input === 'touch') await page.touch([await cell(row, col)]);
-            if (!hands.byKeys) continue;
-            const [r, c] = await page.run(() => [play.at.row + 1, play.at.col + 1]);
-            await page.press(...Array(Math.abs(row - r)).fill(row > r ? 'ArrowDown' : 'ArrowUp'), ...Array(Math.abs(col - c)).fill(col > c ? 'ArrowRight' : 'ArrowLeft'), 'Enter');
-        }
-    };
-    await mark('b', [[2, 2], [2, 3]]);
-    await mark('a', [[1, 1], [1, 2], [3, 1], [3, 3]]);
+    await hands.mark('b', [[2, 2], [2, 3]]);
+    await hands.mark('a', [[1, 1], [1, 2], [3, 1], [3, 3]]);
     assert.match(await trial.text('#play-said'), /^Solved/);
     if (hands.byKeys) await page.press('Escape');
     else await hands.press('#play-close');
@@ -256,7 +246,13 @@ async function wayOut(hands, { own }) {
     assert.ok(await page.run(() => [...document.querySelectorAll('.printed text')].some((one) => /^\d+[a-o]$/.test(one.textContent))), 'letters for colours');
 }
 
-const POINTS = { 'a way in': wayIn, 'a picture into a puzzle': intoPuzzle, 'never lost': neverLost, 'searches that stop': stoppable, drawing, 'large pictures': large, meaning, mending: mendingPoint, 'what a repair may change': limitsPoint, 'the solving path': walkingPoint, 'out of the page': wayOut };
+const POINTS = {
+    'a way in': wayIn, 'a picture into a puzzle': intoPuzzle, 'palette while choosing': choosingPoint, 'verdict while sliding': slidingPoint, 'palette files': palettesPoint,
+    'never lost': neverLost, 'searches that stop': stoppable, drawing, 'symmetric pens': pensPoint, 'wand and recolour': wandPoint, 'outline, shadow, nudging': outlinePoint,
+    'tracing an image': tracingPoint, 'large pictures': large, meaning, 'colour-blind check': visionPoint, mending: mendingPoint, 'what a repair may change': limitsPoint,
+    'the solving path': walkingPoint, 'out of the page': wayOut, 'print for books': printPoint, links: linkPoint, 'the player': playerPoint, 'several files': severalPoint,
+    offline: offlinePoint, German: germanPoint, 'right to left': mirroredPoint,
+};
 const INPUTS = { small: ['mouse', 'keys', 'touch'], large: ['mouse', 'keys', 'touch'], phone: ['touch', 'keys', 'mouse'] };
 // A window that fingers use is one of a phone or tablet; a narrow one that a mouse uses is one of a desktop.
 const windowOf = (size, input) => ({ ...SIZES[size], touch: input === 'touch' || (input === 'keys' && SIZES[size].touch === true) });
@@ -268,7 +264,7 @@ export const tests = Object.fromEntries(Object.entries(POINTS).flatMap(([point, 
     try {
         await clean(page);
         await trial.load();
-        await act(new Hands(page, trial, input), { own });
+        await act(new Hands(page, trial, input), { page, trial, own, folder });
         assert.deepEqual(page.faults, []);
     } catch (fault) {
         await page.shot(`${folder}/failed-${point}-${size}-${input}.png`.replaceAll(' ', '-')).catch(() => {});

@@ -4,9 +4,8 @@ import assert from 'node:assert/strict';
 import { mkdirSync, readFileSync, writeFileSync } from 'node:fs';
 import { createServer } from 'node:http';
 import { extname, join } from 'node:path';
-import { fileURLToPath } from 'node:url';
-import { DUCK, clean, downloaded, examples, fresh, isOpen, menu, said } from './page_hands.mjs';
-import { SIZES, SLACK, Trial, ppmOf } from './page_trial.mjs';
+import { DUCK, clean, downloaded, examples, fresh, isKept, isOpen, menu, said } from './page_hands.mjs';
+import { SIZES, SLACK, Trial, noise, ppmOf } from './page_trial.mjs';
 
 const TWO_WAYS = ['.a', 'a.']; // its mirror has the same clues
 const ONE_WAY = ['a.', '.b', 'bb']; // column 2 has its bs in rows 2 and 3, for row 1 has none; then each row has one place left
@@ -34,51 +33,52 @@ const opened = async (page, url) => {
     await isOpen(page);
 };
 
-/** A link to edit opens the whole document, in each size of the window, and is kept from its first stroke on. */
-export async function linkToEdit({ browser, url, folder }) {
-    for (const [name, size] of Object.entries(SIZES)) {
-        const { page, trial } = await fresh(browser, url, folder, `link-${name}`, { size });
-        await trial.open(ppmOf(DUCK), 'duck');
-        await page.run(() => bench.become((doc) => ({ ...doc, about: { title: 'Ente & Möwe' }, givens: new Set([3]) })));
-        const link = await fragment(page, 'edit');
-        assert.match(link, /^file:.*#edit=[A-Za-z0-9_-]+$/);
-        await opened(page, link);
-        const { picture, givens } = await trial.state();
-        assert.deepEqual([picture, givens, await page.run(() => bench.state.about.title)], [DUCK, [3], 'Ente & Möwe']);
-        await clean(page);
-        if (size.touch) await page.touch([await trial.cell(1, 1)]);
-        else await trial.drag([[1, 1]]);
-        await page.until(async () => (await keep.keeper.cards()).length === 1, 5000 * SLACK).catch(async (fault) => { throw new Error(`${name}: ${fault.message} ${await said(page)}`); });
-        await page.close();
-    }
+// The link of a kind, as the dialog offers and copies it.
+async function linkOf(hands, kind) {
+    const { page } = hands;
+    await hands.menu('file', 'share');
+    await page.until(() => document.getElementById('share-link'), 3000 * SLACK);
+    await hands.choose('#share-kind', kind);
+    const text = await linkShown(page);
+    await hands.press('dialog button.main');
+    await page.until(() => !document.querySelector('dialog[open]'), 3000 * SLACK);
+    assert.match(await said(page), /copied/);
+    return text;
 }
 
-/** A link to play shows the player alone, by mouse, keys and fingers: there is no way to the editor, and Escape does not close it. */
-export async function linkToPlay({ browser, url, folder }) {
-    for (const [name, size] of Object.entries(SIZES)) {
-        const { page, trial } = await fresh(browser, url, folder, `play-${name}`, { size });
-        await trial.open(ppmOf(ONE_WAY), 'little');
-        const link = await fragment(page, 'play');
-        await opened(page, link);
-        await inPlay(page);
-        await page.press('Escape');
-        await page.press('Escape');
-        assert.ok(await page.run(() => document.getElementById('play-room')?.open));
-        assert.equal(await page.run(() => document.getElementById('play-close').checkVisibility()), false);
-        assert.equal(await page.run(() => document.getElementById('menus').checkVisibility({ visibilityProperty: true })), false);
-        const spot = (row, col) => page.run((r, c) => {
-            const box = document.getElementById('play-field').getBoundingClientRect();
-            return [box.left + (c + 0.5) * play.side, box.top + (r + 0.5) * play.side];
-        }, row, col);
-        const mark = async (row, col) => (size.touch ? page.touch([await spot(row, col)]) : page.drag([await spot(row, col)]));
-        await mark(0, 0);
-        await page.run(() => document.querySelector('#play-palette [data-letter="b"]').click());
-        for (const cell of [[1, 1], [2, 0], [2, 1]]) await mark(...cell);
-        assert.match(await trial.text('#play-said'), /^Solved/);
-        assert.deepEqual(await page.run(() => [bench.state.picture, bench.past.length]), [ONE_WAY, 0]);
-        await page.shot(join(folder, `player-${name}.png`));
-        await page.close();
-    }
+const EIGHT = Object.fromEntries([...'.abcdefg'].map((letter, at) => [letter, at ? `${30 * at} ${250 - 30 * at} ${(97 * at) % 256}` : '255 255 255']));
+
+/** A link to edit opens the whole document and is kept from its first stroke on; one of 30 by 30 in 8 colours is short. */
+export async function linkPoint(hands, { page, trial }) {
+    await trial.open(ppmOf(noise(30, 30, '.abcdefg'), EIGHT), 'eight');
+    const rows = await trial.picture();
+    await page.run(() => bench.become((doc) => ({ ...doc, about: { title: 'Ente & Möwe' }, givens: new Set([3]) })));
+    const link = await linkOf(hands, 'edit');
+    assert.match(link, /^file:.*#edit=[A-Za-z0-9_-]+$/);
+    assert.ok(link.length < 2000, `${link.length} characters`);
+    await opened(page, link);
+    const { picture, givens } = await trial.state();
+    assert.deepEqual([picture, givens, await page.run(() => bench.state.about.title)], [rows, [3], 'Ente & Möwe']);
+    await clean(page);
+    await hands.colour(rows[1][1] === 'a' ? 'b' : 'a');
+    await hands.stroke([2, 2]);
+    assert.notEqual((await trial.picture())[1][1], rows[1][1]);
+    await page.until(async () => (await keep.keeper.cards()).length === 1, 5000 * SLACK);
+}
+
+/** A link to play shows the player alone: there is no way to the editor, and Escape does not close it. */
+export async function playerPoint(hands, { page, trial }) {
+    await trial.open(ppmOf(ONE_WAY), 'little');
+    await opened(page, await linkOf(hands, 'play'));
+    await inPlay(page);
+    await page.press('Escape', 'Escape');
+    assert.ok(await page.run(() => document.getElementById('play-room')?.open));
+    assert.equal(await page.run(() => document.getElementById('play-close').checkVisibility()), false);
+    assert.equal(await page.run(() => document.getElementById('menus').checkVisibility({ visibilityProperty: true })), false);
+    await hands.mark('a', [[1, 1]]);
+    await hands.mark('b', [[2, 2], [3, 1], [3, 2]]);
+    assert.match(await trial.text('#play-said'), /^Solved/);
+    assert.deepEqual(await page.run(() => [bench.state.picture, bench.past.length]), [ONE_WAY, 0]);
 }
 
 /** Another fragment in the same tab opens its puzzle; a damaged one says so and loses nothing. */
@@ -116,51 +116,59 @@ export async function linkNotes({ browser, url, folder }) {
     await page.close();
 }
 
-/** Several files become a table with verdicts and grades; a row opens its picture, all go to the library, or out as one zip. */
-export async function severalFiles({ browser, url, folder }) {
-    const { page, trial, own } = await fresh(browser, url, folder, 'several');
-    const files = [['little.ppm', ppmOf(ONE_WAY)], ['two.ppm', ppmOf(TWO_WAYS)], ['heart.ppm', readFileSync(new URL('heart.ppm', examples))], ['notes.txt', 'nothing to read\n']];
+// Writes files to a folder; gives their paths.
+function filesIn(own, files) {
     mkdirSync(join(own, 'in'), { recursive: true });
-    const paths = files.map(([name, content]) => {
+    return files.map(([name, content]) => {
         writeFileSync(join(own, 'in', name), content);
         return join(own, 'in', name);
     });
-    const dropAll = async (some) => {
+}
+
+// Drops files by the mouse, or chooses them.
+async function takeAll(hands, paths) {
+    const { page } = hands;
+    if (hands.input === 'mouse') {
         const [x, y] = await page.run(() => [innerWidth / 2, innerHeight / 2]);
-        const data = { items: [], files: some, dragOperationsMask: 1 };
+        const data = { items: [], files: paths, dragOperationsMask: 1 };
         for (const type of ['dragEnter', 'dragOver', 'drop']) await page.send('Input.dispatchDragEvent', { type, x, y, data });
-        await page.until(() => document.querySelector('#several'), 5000 * SLACK);
-    };
-    const table = () => page.run(() => [...document.querySelectorAll('#several tbody tr')].map((row) => [...row.children].map((cell) => cell.textContent)));
-    const judged = () => page.until(() => /^3 pictures of 3/.test(document.getElementById('several-count').textContent), 20000 * SLACK);
-    await dropAll(paths);
-    await judged();
-    const rows = await table();
+    } else await hands.chooseFile(() => hands.menu('file', 'open'), ...paths);
+    await page.until(() => document.querySelector('#several'), 5000 * SLACK);
+}
+
+const closedDialog = (page) => page.until(() => !document.querySelector('dialog[open]'), 5000 * SLACK);
+
+/** Several files become a table with verdicts and grades; a row opens its picture, all go to the library, or out as one zip. */
+export async function severalPoint(hands, { page, trial, own }) {
+    const paths = filesIn(own, [['little.ppm', ppmOf(ONE_WAY)], ['two.ppm', ppmOf(TWO_WAYS)], ['heart.ppm', readFileSync(new URL('heart.ppm', examples))], ['notes.txt', 'nothing to read\n']]);
+    await takeAll(hands, paths);
+    await page.until(() => /^3 pictures of 3/.test(document.getElementById('several-count').textContent), 20000 * SLACK);
+    const rows = await page.run(() => [...document.querySelectorAll('#several tbody tr')].map((row) => [...row.children].map((cell) => cell.textContent)));
     assert.deepEqual(rows.map(([name, size, colours, verdict]) => [name, size, colours, verdict]).slice(0, 3), [['little', '2 by 3', '3', 'unique'], ['two', '2 by 2', '2', 'ambiguous'], ['heart', rows[2][1], rows[2][2], 'unique']]);
     assert.match(rows[0][4], /^(easy|medium|hard|very hard|expert)$/);
     assert.equal(rows[1][4], '–');
     assert.deepEqual([rows[3].length, rows[3][0]], [2, 'notes']);
-    await page.shot(join(folder, 'several.png'));
-    await page.run(() => [...document.querySelectorAll('dialog[open] button')].find((one) => one.textContent === 'Save all as a zip').click());
+    await hands.press('dialog[open] .buttons button:nth-of-type(2)'); // all as a zip
     const { content } = await downloaded(page, own, '.zip');
     const text = content.toString('latin1');
     for (const name of ['report.csv', 'little.xml', 'two.xml', 'heart.xml']) assert.ok(text.includes(name), name);
     assert.ok(text.includes('"two","2 by 2","2","ambiguous"'));
+    await closedDialog(page);
     await clean(page);
-    await dropAll(paths.slice(0, 2));
-    await page.run(() => [...document.querySelectorAll('dialog[open] button')].find((one) => one.textContent === 'Add to the library').click());
+    await takeAll(hands, paths.slice(0, 2));
+    await hands.press('dialog[open] button.main'); // to the library
     await page.until(async () => (await keep.keeper.cards()).length === 2, 5000 * SLACK);
-    await dropAll(paths.slice(0, 2));
-    await page.click('#several [data-name="two"]');
+    await closedDialog(page);
+    await takeAll(hands, paths.slice(0, 2));
+    await hands.press('#several [data-name="two"]');
     await isOpen(page);
     assert.deepEqual(await trial.picture(), TWO_WAYS);
-    await page.close();
 }
 
 const TYPES = { '.html': 'text/html', '.js': 'text/javascript', '.svg': 'image/svg+xml', '.webmanifest': 'application/manifest+json' };
 
-/** A served page opens without its server, once it was there; and a frame on a site tells that its puzzle is solved. */
-export async function servedPage({ browser, folder }) {
+/** Serves the site's folder, and a page with a frame: its address, what was asked for, and an end. */
+export async function serve(folder) {
     const site = join(folder, 'hooked', 'site');
     const asked = [];
     const answer = (request, response) => {
@@ -179,11 +187,22 @@ export async function servedPage({ browser, folder }) {
     };
     const server = createServer(answer);
     await new Promise((go) => server.listen(0, '127.0.0.1', go));
-    const url = `http://127.0.0.1:${server.address().port}/`;
+    const end = () => {
+        server.closeAllConnections();
+        return new Promise((go) => server.close(go));
+    };
+    return { url: `http://127.0.0.1:${server.address().port}/`, asked, end };
+}
+
+const isKeptOffline = (page) => page.until(() => navigator.serviceWorker.controller !== null, 8000 * SLACK);
+
+/** A served page asks for nothing but its own files, and a frame on a site tells that its puzzle is solved. */
+export async function servedPage({ browser, folder }) {
+    const { url, asked, end } = await serve(folder);
     const page = await browser.page(SIZES.small);
     const trial = new Trial(page, url, folder);
     await trial.load();
-    await page.until(() => navigator.serviceWorker.controller !== null, 8000 * SLACK);
+    await isKeptOffline(page);
     assert.deepEqual([...new Set(asked)].filter((path) => !['/', '/manifest.webmanifest', '/icon.svg', '/offline.js', '/favicon.ico'].includes(path)), []);
     await trial.open(ppmOf(['a.', '.a', 'aa']), 'little');
     const link = await fragment(page, 'play');
@@ -202,11 +221,25 @@ export async function servedPage({ browser, folder }) {
         }
     });
     await page.until(() => document.getElementById('told').textContent === '{"nonobench":"solved"}', 3000 * SLACK);
-    server.closeAllConnections();
-    await new Promise((go) => server.close(go));
-    await page.goto(url); // the server is gone
-    await page.until(() => document.querySelector('#new-go') !== null, 8000 * SLACK);
-    await page.click('#new-go');
-    await isOpen(page);
+    await end();
     await page.close();
+}
+
+/** Once it was visited, a served page opens without its server, with its library. */
+export async function offlinePoint(hands, { page, trial, folder }) {
+    const { url, end } = await serve(folder);
+    trial.url = url;
+    await trial.load();
+    await isKeptOffline(page);
+    await end();
+    await trial.load(); // the server is gone
+    await hands.press('#new-go');
+    await isOpen(page);
+    await hands.stroke([2, 2], [2, 5]);
+    assert.equal(await trial.judged(), 'unique');
+    await isKept(page);
+    await trial.load();
+    await hands.press('#kept .kept');
+    await isOpen(page);
+    assert.equal((await trial.picture())[1].slice(0, 6), '.aaaa.');
 }

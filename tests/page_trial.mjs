@@ -6,6 +6,7 @@ import { mkdirSync, readFileSync, writeFileSync } from 'node:fs';
 import { join } from 'node:path';
 import { fileURLToPath, pathToFileURL } from 'node:url';
 import { gunzipSync } from 'node:zlib';
+import { bytesOfSigns } from '../page/engine/signs.js';
 
 export const SLACK = Number(process.env.SLACK ?? 1);
 export const SIZES = { small: { width: 1280, height: 800 }, large: { width: 1920, height: 1080 }, phone: { width: 390, height: 844, touch: true } };
@@ -24,7 +25,8 @@ export function hookedPage(built, folder) {
     assert.ok(found, `${built} is not the built page`);
     const own = join(folder, 'hooked');
     mkdirSync(own, { recursive: true });
-    writeFileSync(join(own, 'nonobench.wasm'), gunzipSync(Buffer.from(JSON.parse(found[1]).module, 'base64')));
+    const { packed, size, worker } = JSON.parse(found[1]);
+    writeFileSync(join(own, 'nonobench.wasm'), gunzipSync(bytesOfSigns(packed, size)).subarray(worker));
     const done = spawnSync(process.execPath, [join(ROOT, 'web', 'join.mjs'), ROOT, own, join(ROOT, 'page', 'test', 'hooked.js')], { encoding: 'utf8' });
     assert.equal(done.status, 0, done.stdout + done.stderr);
     return pathToFileURL(join(own, 'nonobench.html')).href;

@@ -7,6 +7,7 @@ import { createHash } from 'node:crypto';
 import { existsSync, mkdirSync, readFileSync, writeFileSync, copyFileSync, rmSync } from 'node:fs';
 import { join } from 'node:path';
 import { gzipSync } from 'node:zlib';
+import { signsOf } from '../page/engine/signs.js';
 import { limitsOf } from './limits.mjs';
 
 const [root, folder, entry = join(root, 'page', 'main.js')] = process.argv.slice(2);
@@ -59,16 +60,17 @@ const script = (file) => bundled(file, '--format=iife', `--define:LIMITS=${JSON.
 const hashOf = (text) => `'sha256-${createHash('sha256').update(text).digest('base64')}'`;
 
 // What the page may do: it runs its own script and style alone, known by their hashes, and fetches nothing. A served page has its
-// manifest and the worker that keeps it for use without a network besides.
+// manifest with its icon, and the worker that keeps it for use without a network besides.
 const policyOf = (code, style, served) => [
   "default-src 'none'", `script-src ${hashOf(code)} 'wasm-unsafe-eval'`, `worker-src blob:${served ? " 'self'" : ''}`, ...(served ? ["manifest-src 'self'"] : []), `style-src ${hashOf(style)}`,
-  'img-src data: blob:', 'connect-src blob: data:', "base-uri 'none'", "form-action 'none'",
+  `img-src data: blob:${served ? " 'self'" : ''}`, 'connect-src blob: data:', "base-uri 'none'", "form-action 'none'",
 ].join('; ');
 
 function pageTexts(version) {
-  const packed = gzipSync(readFileSync(join(folder, 'nonobench.wasm')), { level: 9 });
+  const worker = Buffer.from(script(join(root, 'page', 'engine', 'worker.js')));
+  const packed = gzipSync(Buffer.concat([worker, readFileSync(join(folder, 'nonobench.wasm'))]), { level: 9 });
   packed[9] = 255; // the system that packed it
-  const built = { module: packed.toString('base64'), packed: 'gzip', worker: script(join(root, 'page', 'engine', 'worker.js')), version, commit: commitOf(), trees: treesOf() };
+  const built = { packed: signsOf(packed), size: packed.length, worker: worker.length, version, commit: commitOf(), trees: treesOf() };
   const icon = Buffer.from(read('page', 'icon.svg')).toString('base64');
   // What must not stand in a script within HTML; esbuild takes care of the end of the script.
   const code = `\n${withShortNames(script(entry)).replaceAll('<!--', '<\\!--')}\n`;

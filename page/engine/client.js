@@ -1,17 +1,21 @@
 // Engines in workers. What the build put into the page: the module, the worker's source, examples.
 
+import { bytesOfSigns } from './signs.js';
+
 let read = null;
 
-/** What the build put into the page: `module` (packed), `worker`, `version`, `commit`, `trees`. Empty where there is no page. */
+/**
+ * What the build put into the page: `packed`, the worker's source and the module after it, in so many bytes (`size`); `worker`, how many
+ * bytes that source has; `version`, `commit`, `trees`. Empty where there is no page.
+ */
 export const built = () => (read ??= JSON.parse(globalThis.document?.getElementById('built')?.textContent.trim() || '{}'));
-let moduleBytes = null; // a promise of the module's bytes
-let workerUrl = null;
+let parts = null; // a promise of the module's bytes, and of the address of the worker's source
 
-async function unpacked(base64, packed) {
-  const bytes = Uint8Array.from(atob(base64), (sign) => sign.charCodeAt(0));
-  if (packed !== 'gzip') return bytes;
-  const stream = new Blob([bytes]).stream().pipeThrough(new DecompressionStream('gzip'));
-  return new Uint8Array(await new Response(stream).arrayBuffer());
+async function unpacked({ packed, size, worker }) {
+  if (!packed) return {};
+  const stream = new Blob([bytesOfSigns(packed, size)]).stream().pipeThrough(new DecompressionStream('gzip'));
+  const all = new Uint8Array(await new Response(stream).arrayBuffer());
+  return { module: all.slice(worker), source: URL.createObjectURL(new Blob([all.slice(0, worker)], { type: 'text/javascript' })) };
 }
 
 /** A fault of an engine: kind 'open', 'memory', 'closed', or 'ended' where the worker is of no use any more. */
@@ -28,25 +32,30 @@ export class EngineFault extends Error {
  * the worker at once, and what waits is rejected as 'ended'. A worker that fails by itself is ended, too.
  */
 export class Client {
-  constructor(make = () => new Worker(workerUrl)) {
-    workerUrl ??= built().worker ? URL.createObjectURL(new Blob([built().worker], { type: 'text/javascript' })) : null;
+  constructor(worker = null) {
     this.waiting = new Map();
     this.last = 0;
     this.isEnded = false;
-    this.worker = make();
-    this.worker.onmessage = ({ data }) => this.hear(data);
-    this.worker.onerror = (event) => {
-      event.preventDefault?.();
-      this.end(event.message || 'the worker failed');
-    };
-    this.worker.onmessageerror = () => this.end('the worker failed');
+    this.worker = null;
+    if (worker) this.take(worker);
     this.ready = this.load();
     this.ready.catch(() => {});
   }
 
+  take(worker) {
+    this.worker = worker;
+    worker.onmessage = ({ data }) => this.hear(data);
+    worker.onerror = (event) => {
+      event.preventDefault?.();
+      this.end(event.message || 'the worker failed');
+    };
+    worker.onmessageerror = () => this.end('the worker failed');
+  }
+
   async load() {
-    moduleBytes ??= unpacked(built().module ?? '', built().packed);
-    return this.post('load', { module: await moduleBytes });
+    const { module, source } = await (parts ??= unpacked(built()));
+    if (!this.worker && !this.isEnded) this.take(new Worker(source));
+    return this.post('load', { module });
   }
 
   hear(data) {
@@ -83,7 +92,7 @@ export class Client {
     return this.call('say', { lines: Array.isArray(lines) ? lines.map((line) => `${line}\n`).join('') : lines });
   }
 
-  /** Checks a certificate of a P3 picture; `givens` are the cells that the puzzle gives, [row, column] from 1. */
+  /** Checks a certificate or a proof by lemmas of a P3 picture; `givens` are the cells that the puzzle gives, [row, column] from 1. */
   check(picture, certificate, { background, givens }) {
     return this.call('check', { picture, certificate, background, givens });
   }
@@ -91,7 +100,7 @@ export class Client {
   end(text = 'the worker was ended') {
     if (this.isEnded) return;
     this.isEnded = true;
-    this.worker.terminate();
+    this.worker?.terminate();
     for (const item of this.waiting.values()) item.reject(new EngineFault({ kind: 'ended', text }));
     this.waiting.clear();
   }

@@ -8,7 +8,7 @@ import { writeZip } from '../formats/zip.js';
 import { gradeName, verdictName } from '../grade/names.js';
 import { keep } from '../library/keep.js';
 import { SAVE_TYPES, download, exportAs } from '../library/saving.js';
-import { phrase } from '../texts/phrase.js';
+import { LANGUAGE, phrase } from '../texts/phrase.js';
 import { addAction } from '../view/actions.js';
 import { openDialog } from '../view/dialogs.js';
 import { gradeAtHand } from '../view/grading.js';
@@ -99,6 +99,10 @@ function readFields({ paper, wide, margin, perSheet, show, answers, grade }) {
   return { paper: paper.value in PAPERS ? paper.value : USUAL.paper, isWide: wide.checked, margin: clamp(Number.isFinite(side) ? side : USUAL.margin, ...MARGINS), perSheet: Number(perSheet.value), show: show.value, answers: answers.checked, hasGrade: grade.checked };
 }
 
+// Puzzles come in the order of their names, as they are called in the library: "2 cat" before "10 dog".
+const names = new Intl.Collator(LANGUAGE, { numeric: true });
+const byName = (one, other) => names.compare(one.name, other.name);
+
 // What is to be known before it is printed.
 function warningsOf(puzzle, near) {
   const parts = isLarge(puzzle) ? phrase('export.goesOverSheetsMap', { sheets: partsOf(puzzle.doc).length }) : '';
@@ -115,15 +119,15 @@ async function printPuzzle() {
   if (!way) return;
   Object.assign(chosen, readFields(fields));
   const title = fields.title.value.trim();
-  const first = { ...own, doc: { ...own.doc, about: { ...own.doc.about, title } } };
-  const more = [];
+  /** @type {any[]} */
+  const puzzles = [{ ...own, doc: { ...own.doc, about: { ...own.doc.about, title } } }];
   for (const id of others.ids()) {
     const [record, card] = [await keep.keeper.record(id), (await keep.keeper.cards()).find((one) => one.id === id)];
-    if (record) more.push({ doc: record.doc, name: record.name, grade: card?.grade ?? null });
+    if (record) puzzles.push({ doc: record.doc, name: record.name, grade: card?.grade ?? null });
   }
-  const alike = more.find(({ doc }) => chosen.show === 'colours' && nearText(doc));
+  const alike = puzzles.slice(1).find(({ doc }) => chosen.show === 'colours' && nearText(doc));
   if (alike) return say(phrase('export.printLettersSigns', { name: alike.name, near: nearText(alike.doc) }), 'alarm');
-  const sheets = sheetsFor([first, ...more], chosen);
+  const sheets = sheetsFor(puzzles.sort(byName), chosen);
   const least = Math.min(...sheets.map(({ cell }) => cell ?? Infinity));
   if (least < LEAST_CELL) say(phrase('export.smallestCellsMmWide', { value: Math.round(least * 10) / 10 }), 'alarm');
   if (way === 'svg') return saveSvg(sheets);

@@ -106,21 +106,25 @@ async function openNon(text, name, page, handle = null) {
   return openDoc(doc, { name, handle, form: 'non' });
 }
 
-/** Lets the user choose a file, with a handle to write it again where the browser gives one. */
+/** Lets the user choose files: one opens, with a handle to write it again where the browser gives one; several come as a table. */
 export async function chooseFile() {
   if (globalThis.showOpenFilePicker) {
     try {
-      const [handle] = await showOpenFilePicker();
-      return takeFile(await handle.getFile(), handle);
+      const handles = await showOpenFilePicker({ multiple: true });
+      const files = await Promise.all(handles.map((handle) => handle.getFile()));
+      return takeAll(files, handles[0]);
     } catch (fault) {
       if (fault.name === 'AbortError') return false;
     }
   }
-  const input = make('input', { type: 'file', accept: TAKEN_KINDS });
-  input.addEventListener('change', () => input.files[0] && takeFile(input.files[0]));
+  const input = make('input', { type: 'file', accept: TAKEN_KINDS, multiple: true });
+  input.addEventListener('change', () => takeAll([...input.files]));
   input.click();
   return true;
 }
+
+// One file is opened, several come as a table.
+const takeAll = (files, handle = null) => (files.length > 1 ? takeSeveral(files, imageDocs) : files.length === 1 && takeFile(files[0], handle));
 
 // A dialog that is open gives way to a file: it is left as by Cancel.
 async function closeDialogs() {
@@ -134,7 +138,7 @@ async function closeDialogs() {
 async function takeDropped(files, handle) {
   if (files.length === 1 && await takesPalette(files[0])) return true;
   await closeDialogs();
-  return files.length === 1 ? takeFile(files[0], handle) : takeSeveral(files, imageDocs);
+  return takeAll(files, handle);
 }
 
 // The document of an image file that is a pixel a cell; null for a file that is no image.

@@ -2,7 +2,7 @@
 // Each shelf has `get`, `put`, `putAll`, `drop` and `keys`, which answer promises; `lasts` tells whether a reload finds it again.
 
 const SHELF_NAME = 'nonobench';
-const SHELF_WAIT = 3000; // milliseconds for a database that does not open
+const SHELF_WAIT = 15000; // milliseconds for a database that does not open: on a busy machine the first opening takes seconds
 
 const settledRequest = (request) => new Promise((resolve, reject) => {
   request.onsuccess = () => resolve(request.result);

@@ -16,6 +16,7 @@ import { setDown } from '../view/select.js';
 import { searches } from '../view/verdict.js';
 
 const OPEN = 'nonobench-open'; // what is open again in this tab
+const FILE = 'file:'; // the file that it is saved to; only a database keeps the browser's handle of it
 const asksBefore = () => sheet.underlay || play.past.length;
 
 // Keeps what is open, also where nothing was painted yet; gives its id, or null where the browser does not keep it.
@@ -34,7 +35,10 @@ async function changeLanguage(language) {
   const id = bench.state ? await keptId() : null;
   keepLanguage(language);
   if (bench.state && !id) return void say(phrase('start.languageNotKept'), 'alarm');
-  if (id) sessionStorage.setItem(OPEN, id);
+  if (id) {
+    sessionStorage.setItem(OPEN, id);
+    await keep.keeper.shelf.put(FILE + id, { handle: saving.handle, form: saving.form }).catch(() => {});
+  }
   keep.end();
   saving.asks = false;
   if (location.hash) location.hash = ''; // what it held is open and may have been changed
@@ -46,13 +50,15 @@ export async function openAgain() {
   const id = sessionStorage.getItem(OPEN);
   if (!id) return;
   sessionStorage.removeItem(OPEN);
-  await keep.ready();
-  await openRecord(id);
+  const { shelf } = await keep.ready();
+  const { handle, form } = await shelf.get(FILE + id).catch(() => null) ?? {};
+  await shelf.drop(FILE + id);
+  if (await openRecord(id)) Object.assign(saving, { handle: handle?.createWritable ? handle : null, form: form ?? saving.form });
 }
 
 /** The languages in the menu View. */
 export function startLanguage() {
   for (const [language, name] of Object.entries(LANGUAGES)) {
-    addAction({ id: `language-${language}`, name: language === LANGUAGE ? `${name} ✓` : name, place: 'view', group: 'language', needs: false, run: () => changeLanguage(language) });
+    addAction({ id: `language-${language}`, name, place: 'view', group: 'language', needs: false, isOn: () => language === LANGUAGE, run: () => changeLanguage(language) });
   }
 }

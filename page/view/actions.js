@@ -10,10 +10,11 @@ const MENUS = { file: phrase('view.file'), edit: phrase('view.edit'), picture: p
 /**
  * Adds an action. `id` names it; `name` is what the user reads; `key` as in 'Ctrl+Z', 'n' or 'Shift+ArrowUp'; `place` is a
  * menu ('file', 'edit', 'picture', 'view', 'check', 'help'), the id of an element that takes a button, or null for a key
- * alone; `run(event)` does it; `can()` says whether it can be done now; `needs` is false where no picture must be open.
+ * alone; `run(event)` does it; `can()` says whether it can be done now; `needs` is false where no picture must be open; `isOn()` says
+ * whether it is ticked in a menu.
  */
-export function addAction({ id, name, key = null, place = null, run, can = () => true, needs = true, group = '' }) {
-  const action = { id: id ?? name, name, key, place, run, group, needs, can: () => (!needs || bench.state !== null) && can() };
+export function addAction({ id, name, key = null, place = null, run, can = () => true, needs = true, isOn = () => false, group = '' }) {
+  const action = { id: id ?? name, name, key, place, run, group, needs, isOn, can: () => (!needs || bench.state !== null) && can() };
   actions.set(action.id, action);
   if (place && !MENUS[place]) $(place)?.append(actionButton(action));
   return action;
@@ -100,6 +101,7 @@ function fillMenu(list, place, button) {
     if (group !== null && group !== action.group) items.push(make('hr', { role: 'separator' }));
     ({ group } = action);
     const item = actionButton(action, { role: 'menuitem', tabindex: '-1' });
+    if (action.isOn()) item.textContent += ' ✓';
     const free = isFree(action);
     if (!free) item.setAttribute('aria-disabled', 'true'); // it keeps the focus, and with it the keys of the menu
     item.append(make('kbd', {}, keyText((action.key ?? '').split(' ')[0])));

@@ -14,7 +14,7 @@ import { goToNext } from './minimap.js';
 import { LINE_TEXTS, showCell } from './panels.js';
 import { zoomBy } from './pointer.js';
 import { clearSelected, copyToClipboard, dropSelection, lift, moveFloat, pasteRows, selectPlaces, selectedPlaces, selection, setDown, showSelection, transform } from './select.js';
-import { dropDrag, forgetReason, heard, nextSymmetry, paintPlaces, sendStroke, tools, useColour, useTool } from './tools.js';
+import { dropDrag, forgetReason, heard, nextSymmetry, paintPlaces, sendStroke, tools, useAdding, useColour, useTool } from './tools.js';
 
 const FAR = 5; // cells that a selection is moved by with Shift
 
@@ -42,6 +42,7 @@ export function addEditActions() {
   edit({ id: 'paste', name: phrase('view.pasteText'), group: 'select', run: pasteByDialog });
   edit({ id: 'clear', name: phrase('view.clearSelection'), key: 'Delete Backspace', group: 'select', run: clearSelected, can: hasBox });
   edit({ id: 'select-colour', name: phrase('view.selectAllCellsColour'), key: 'Shift+A A', group: 'region', run: selectColour });
+  edit({ id: 'wand-adds', name: phrase('view.wandAdds'), group: 'region', run: () => useAdding(!tools.adds), isOn: () => tools.adds });
   edit({ id: 'fill-selection', name: phrase('view.fillSelection'), key: 'Shift+F F', group: 'region', run: () => onRegion((places) => places), can: hasBox });
   edit({ id: 'outline', name: phrase('view.outlineColour'), group: 'region', run: () => onObject(outlineOf) });
   edit({ id: 'shadow', name: phrase('view.shadowColour'), group: 'region', run: () => onObject(shadowOf) });

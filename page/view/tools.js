@@ -26,7 +26,7 @@ export const TOOLS = {
   why: { icon: 'M5.3 6a2.7 2.7 0 115.4 0c0 2.2-2.7 2.2-2.7 4.2M8 13.2v.3', name: phrase('view.why'), key: 'w', hint: phrase('view.pointCellSeeWhy') },
 };
 
-export const tools = { name: 'pencil', colour: 'a', drag: null, symmetry: 'none' };
+export const tools = { name: 'pencil', colour: 'a', drag: null, symmetry: 'none', adds: false }; // whether the wand adds to what is selected
 
 /** Has the pens draw symmetric. */
 export function useSymmetry(symmetry) {
@@ -37,6 +37,12 @@ export function useSymmetry(symmetry) {
 }
 
 export const nextSymmetry = () => useSymmetry(SYMMETRIES[(SYMMETRIES.indexOf(tools.symmetry) + 1) % SYMMETRIES.length]);
+
+/** Takes the wand, which adds to what is selected from now on, or no longer: for fingers, which have no Shift. */
+export function useAdding(adds) {
+  tools.adds = adds;
+  useTool('wand');
+}
 
 // Cells with those that a symmetric pen draws together with them.
 const withImages = (cells) => (tools.symmetry === 'none' ? cells : cells.flatMap((cell) => cellsWith(cell, sheet.doc, tools.symmetry)));
@@ -76,7 +82,7 @@ export function beginDrag(at, adds = false) {
   tell('begun', tools.name);
   if (tools.name === 'why') return tell('asked', { ...at, letter: tools.colour });
   if (tools.name === 'select') return beginSelect(at);
-  if (tools.name === 'wand') return wandAt(at, adds);
+  if (tools.name === 'wand') return wandAt(at, adds || tools.adds);
   if (tools.name === 'bucket') return paintCells(withImages([at]).flatMap((cell) => bucketCells(sheet.doc.picture, cell)));
   if (tools.name === 'recolour') return recolourAt(at);
   const marks = MARKS[tools.name];

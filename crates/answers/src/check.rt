@@ -7,7 +7,7 @@ ghost use Rattle.certificate.specs.Tree.{IsProof};
 ghost use Rattle.program_options.specs.declared.fault.ProgramFault.TheVariants.{Memory, Write as Unwritten};
 ghost use Rattle.answers.specs.Check.{Answers, IsCheckOf, IsOnlyPicture, IsProofOf, WritesBy, accepted_text, givens_text};
 
-use certificate::{Cert, CertFault, check_cert, read_cert};
+use certificate::{CellNumber, Cert, CertFault, check_cert, read_cert};
 use line_settle::MaskEngine;
 use picture::{MAX_SIDE, Picture, Rgb, send};
 use ppm_text::read_ppm;
@@ -73,16 +73,16 @@ fn accepted_text(alloc: Global, cert: &Cert) -> Result<Vec<u8>, AllocError>
 {
     let mut text = Vec::new(alloc);
     text.extend_from_slice(b"certificate accepted")?;
-    push_givens(&mut text, cert)?;
+    push_givens(&mut text, cert.givens())?;
     text.push(b'\n')?;
     Ok(text)
 }
 
 // How many cells are given, where there are some.
-fn push_givens(text: &mut Vec<u8>, cert: &Cert) -> Result<(), AllocError>
-    ensures { OnOk result (text.new.items ≡ text.old.items ++ givens_text cert.now.givens) }
+pub(crate) fn push_givens(text: &mut Vec<u8>, givens: &[CellNumber]) -> Result<(), AllocError>
+    ensures { OnOk result (text.new.items ≡ text.old.items ++ givens_text givens.now) }
 {
-    let count = cert.givens_len();
+    let count = givens.len();
     if count > 0 {
         text.extend_from_slice(b", givens ")?;
         push_number(text, count)?;

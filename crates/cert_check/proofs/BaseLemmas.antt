@@ -3,10 +3,10 @@ use Rattle.std.proofs.Common.{◌≡◌, ◌⊎◌, ℕ, ◌+◌, ◌-◌, ◌^�
 use Rattle.std.specs.Prelude.{IsBitSet}
 use Rattle.std.proofs.lemmas.Bool.{cases_eq, cases_lt}
 use Rattle.std.proofs.lemmas.List.{get_or_past}
-use Rattle.line_settle.specs.Masks.{Masks}
+use Rattle.line_facts.specs.Masks.{Masks}
 use Rattle.picture.specs.Rows.{row_at, cell_at, Rows}
-use Rattle.line_settle.specs.FactSets.{Leaves, SameShape, with_given}
-use Rattle.line_settle.proofs.GridLaws.{at_with_cell, off_with_cell, shape_with_cell}
+use Rattle.line_facts.specs.FactSets.{Leaves, SameShape, with_given}
+use Rattle.line_facts.proofs.GridLaws.{at_with_cell, off_with_cell, shape_with_cell}
 use Rattle.picture.proofs.BitLaws.{no_bit, power_has}
 use Rattle.cert_text.specs.declared.tree_line.CellNumber.{CellNumber}
 use Rattle.cert_check.specs.Puzzle.{HasCellNumbers, IsAmong, numbered, with_givens}

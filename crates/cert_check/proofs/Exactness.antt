@@ -2,13 +2,13 @@
 use Rattle.std.proofs.Common.{◌≡◌, ℕ, ◌+◌, ◌-◌, List, [], ◌∷◌, ◌++◌, Option, None, Some, Result, Ok, Err, append_assoc, refl, sym, ap, ◌∙◌, inl, inr}
 use Rattle.std.specs.Prelude.{IfErr, OnOk}
 use Rattle.std.proofs.lemmas.List.{append-nil}
-use Rattle.line_settle.specs.Masks.{Masks}
+use Rattle.line_facts.specs.Masks.{Masks}
 use Rattle.picture.specs.Rows.{Rows}
 use Rattle.picture.specs.declared.line_id.LineId.{LineId}
 use Rattle.picture.specs.Picture.{IsPicture}
-use Rattle.line_settle.specs.FactSets.{with_given}
-use Rattle.line_settle.proofs.ForceLaws.{gains_closes, gains_grows, gains_inside}
-use Rattle.line_settle.proofs.FitLaws.{within_both}
+use Rattle.line_facts.specs.FactSets.{with_given}
+use Rattle.line_facts.proofs.ForceLaws.{gains_closes, gains_grows, gains_inside}
+use Rattle.line_facts.proofs.FitLaws.{within_both}
 use Rattle.cert_text.specs.declared.fault.CertFault.{CertFault}
 use Rattle.cert_text.specs.declared.fault.CertFault.TheVariants.{Memory}
 use Rattle.cert_text.specs.declared.tree_line.LineNumber.{LineNumber}

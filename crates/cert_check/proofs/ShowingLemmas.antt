@@ -4,7 +4,7 @@ use Rattle.std.specs.Prelude.{IsBitSet}
 use Rattle.std.specs.Int.{bit_not, w16}
 use Rattle.std.proofs.lemmas.Bool.{cases_eq}
 use Rattle.picture.proofs.BitLaws.{no_bit, power_has, same_bits}
-use Rattle.line_settle.proofs.MaskLaws.{shifted, without_bit}
+use Rattle.line_facts.proofs.MaskLaws.{shifted, without_bit}
 
 -- no bit is left beside one exactly where every bit is that one
 pub only_bit : (left colour low : ℕ) → left < 2 ^ 16 → colour < 16 → low ≡ 1 * 2 ^ colour % 65536 → (bit_and left (bit_not w16 low) ≡ 0) ↔ ((k : ℕ) → IsBitSet left k → k ≡ colour)

@@ -3,7 +3,7 @@ use Rattle.std.proofs.Common.{◌≡◌, ℕ, ◌-◌, ◌^◌, ◌<◌, ◌⊎�
 use Rattle.std.specs.Prelude.{IsBitSet}
 use Rattle.std.proofs.lemmas.Bool.{cases_lt}
 use Rattle.std.proofs.lemmas.List.{ext_get_or, get_or_past, length-map}
-use Rattle.line_settle.specs.Masks.{Masks}
+use Rattle.line_facts.specs.Masks.{Masks}
 use Rattle.picture.specs.declared.line_id.Axis.{Axis}
 use Rattle.picture.specs.declared.line_id.Axis.TheVariants.{Across, Down}
 use Rattle.picture.specs.declared.line_id.LineId.{LineId}
@@ -12,12 +12,12 @@ use Rattle.picture.specs.Rows.{width_of, row_at, cell_at, line_along, line_of, l
 use Rattle.picture.proofs.BitLaws.{no_bit, power_has}
 use Rattle.clues.proofs.BookLaws.{clue_at-clues_of}
 use Rattle.clues.specs.ClueBook.{Clues, clue_at, clues_of}
-use Rattle.line_settle.specs.declared.line_engine.Outcome.{Outcome}
-use Rattle.line_settle.specs.FactSets.{Gains, IsOn, Leaves, SameShape, col_on, row_on}
-use Rattle.line_settle.specs.Fits.{CanHave, Fits}
-use Rattle.line_settle.proofs.ForceLaws.{on_or_not}
-use Rattle.line_settle.proofs.GridLaws.{all_left, cell_on, full_shape, same_has_line, same_line_length, shape_sym, shape_trans, shape_with_cell}
-use Rattle.line_settle.specs.Branches.{colours_of, held}
+use Rattle.line_facts.specs.declared.line_engine.Outcome.{Outcome}
+use Rattle.line_facts.specs.FactSets.{Gains, IsOn, Leaves, SameShape, col_on, row_on}
+use Rattle.line_facts.specs.Fits.{CanHave, Fits}
+use Rattle.line_facts.proofs.ForceLaws.{on_or_not}
+use Rattle.line_facts.proofs.GridLaws.{all_left, cell_on, full_shape, same_has_line, same_line_length, shape_sym, shape_trans, shape_with_cell}
+use Rattle.line_facts.specs.Branches.{colours_of, held}
 use Rattle.trail.proofs.ColourLemmas.{Among, among_left}
 use Rattle.trail.proofs.GridLemmas.{set_each}
 use Rattle.cert_text.specs.declared.tree_line.LineNumber.{LineNumber}

@@ -1,16 +1,16 @@
 -- The walk over the lines: what a call needs to know, and what is first from the beginning.
 use Rattle.std.proofs.Common.{◌≡◌, ℕ, ◌+◌, ◌-◌, ◌<◌, ◌↔◌, List, [], ◌∷◌, Bool, true, false, Option, None, Some, is_some, Ok, Err, IsTrue, length, get_or, drop, drop-cons, add-one, refl, sym, ap}
 use Rattle.std.proofs.Common.{subst, ◌∙◌, arith, inl, inr}
-use Rattle.line_settle.specs.Masks.{Masks}
+use Rattle.line_facts.specs.Masks.{Masks}
 use Rattle.picture.specs.declared.line_id.LineId.{LineId}
 use Rattle.picture.specs.Rows.{line_of, lines_along, HasLine, Rows}
 use Rattle.clues.specs.declared.block.Block.{Block}
 use Rattle.clues.proofs.BookLaws.{length_along-clues_of}
 use Rattle.clues.specs.ClueBook.{Clues, clue_at, clues_of, HasClue}
-use Rattle.line_settle.specs.declared.line_engine.Outcome.{Outcome}
-use Rattle.line_settle.specs.Fits.{CanFit}
-use Rattle.line_settle.specs.FactSets.{Gains, SameShape}
-use Rattle.line_settle.proofs.GridLaws.{shape_trans}
+use Rattle.line_facts.specs.declared.line_engine.Outcome.{Outcome}
+use Rattle.line_facts.specs.Fits.{CanFit}
+use Rattle.line_facts.specs.FactSets.{Gains, SameShape}
+use Rattle.line_facts.proofs.GridLaws.{shape_trans}
 use Rattle.cert_text.specs.declared.fault.CertFault.{CertFault}
 use Rattle.cert_text.specs.declared.fault.CertFault.TheVariants.{Trailing}
 use Rattle.trail.specs.declared.cell.Cell.{Cell}

@@ -1,8 +1,8 @@
 -- The first error of a certificate, line by line from the top.
 use Rattle.std.specs.Prelude.{◌≡◌, ◌⊎◌, ℕ, ◌+◌, ◌-◌, List, [], ◌∷◌, ◌++◌, Option, Some, None, Result, Ok, Err}
-use Rattle.line_settle.specs.Masks.{Masks}
+use Rattle.line_facts.specs.Masks.{Masks}
 use Rattle.picture.specs.Rows.{Rows}
-use Rattle.line_settle.specs.FactSets.{with_given}
+use Rattle.line_facts.specs.FactSets.{with_given}
 use Rattle.cert_text.specs.declared.fault.CertFault.{CertFault}
 use Rattle.cert_text.specs.declared.fault.CertFault.TheVariants.{Place, NotDead, NotDone, Ended, Trailing, Memory}
 use Rattle.cert_text.specs.declared.tree_line.CellNumber.{CellNumber}

@@ -1,14 +1,14 @@
 -- What a certificate speaks of: a picture, its clues, and facts on its cells.
 use Rattle.std.specs.Prelude.{◌≡◌, ◌⊎◌, ℕ, ◌+◌, ◌-◌, ◌<◌, ◌≤◌, List, [], ◌∷◌, length}
-use Rattle.line_settle.specs.Masks.{Masks}
+use Rattle.line_facts.specs.Masks.{Masks}
 use Rattle.picture.specs.declared.line_id.LineId.{LineId}
 use Rattle.picture.specs.Rows.{width_of, cell_at, line_of, lines_along, Rows}
 use Rattle.clues.specs.ClueBook.{clue_at, clues_of}
 use Rattle.clues.specs.Solution.{IsOnlySolution}
-use Rattle.line_settle.specs.declared.line_engine.Outcome.{Outcome}
-use Rattle.line_settle.specs.Fits.{CanFit}
-use Rattle.line_settle.specs.FactSets.{Gains, Leaves, nothing_excluded, with_given}
-use Rattle.line_settle.specs.Branches.{branches}
+use Rattle.line_facts.specs.declared.line_engine.Outcome.{Outcome}
+use Rattle.line_facts.specs.Fits.{CanFit}
+use Rattle.line_facts.specs.FactSets.{Gains, Leaves, nothing_excluded, with_given}
+use Rattle.line_facts.specs.Branches.{branches}
 use Rattle.cert_text.specs.declared.tree_line.CellNumber.{CellNumber}
 use Rattle.cert_text.specs.declared.tree_line.LineNumber.{LineNumber}
 

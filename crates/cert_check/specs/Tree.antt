@@ -1,6 +1,6 @@
 -- Trees of lines, and what it is that a tree proves.
 use Rattle.std.specs.Prelude.{◌≡◌, ℕ, List, [], ◌∷◌, ◌++◌}
-use Rattle.line_settle.specs.Masks.{Masks}
+use Rattle.line_facts.specs.Masks.{Masks}
 use Rattle.picture.specs.Rows.{Rows}
 use Rattle.cert_text.specs.declared.tree_line.LineNumber.{LineNumber}
 use Rattle.cert_text.specs.declared.tree_line.CellNumber.{CellNumber}

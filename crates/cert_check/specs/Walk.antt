@@ -1,11 +1,11 @@
 -- The walk over the lines of a certificate: the facts at hand, and those that wait after them.
 use Rattle.std.specs.Prelude.{◌≡◌, ◌⊎◌, ℕ, ◌+◌, ◌≤◌, List, [], ◌∷◌, ◌++◌, length, Bool, true, false, Option, Some}
 use Rattle.std.specs.Prelude.{Result, Ok, Err}
-use Rattle.line_settle.specs.Masks.{Masks}
+use Rattle.line_facts.specs.Masks.{Masks}
 use Rattle.picture.specs.Picture.{IsPicture}
 use Rattle.picture.specs.Rows.{width_of, Rows}
 use Rattle.clues.specs.ClueBook.{Clues, clues_of}
-use Rattle.line_settle.specs.FactSets.{SameShape}
+use Rattle.line_facts.specs.FactSets.{SameShape}
 use Rattle.cert_text.specs.declared.fault.CertFault.{CertFault}
 use Rattle.cert_text.specs.declared.fault.CertFault.TheVariants.{Memory}
 use Rattle.cert_text.specs.declared.tree_line.CellNumber.{CellNumber}

@@ -2,7 +2,7 @@
 
 ghost use Rattle.std.specs.Prelude.{◌≡◌, ℕ, ◌≤◌, ◌<◌, ◌+◌, ◌∷◌, ◌^◌, [], length, IfErr, OnOk, List, Option, Some};
 ghost use Rattle.picture.specs.Rows.{width_of};
-ghost use Rattle.line_settle.specs.FactSets.{SameShape};
+ghost use Rattle.line_facts.specs.FactSets.{SameShape};
 ghost use Rattle.cert_text.specs.declared.tree_line.CertLine.{CertLine};
 ghost use Rattle.cert_check.specs.FirstFault.{AnswersFirst, CertFirstFault, FirstFault, FirstFaultBehind};
 ghost use Rattle.cert_check.specs.Puzzle.{HasCellNumbers, IsUnique, with_givens};
@@ -13,7 +13,7 @@ use crate::places::cell_in;
 use crate::walk::{Claim, walk};
 use cert_text::{CellNumber, Cert, CertFault};
 use clues::ClueBook;
-use line_settle::{Facts, LineEngine};
+use line_facts::{Facts, LineEngine};
 use picture::Picture;
 use std::alloc::Global;
 

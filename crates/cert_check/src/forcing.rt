@@ -2,14 +2,14 @@
 
 ghost use Rattle.std.specs.Prelude.{◌≡◌, ◌<◌, ◌≤◌, ◌↔◌, length, slice_index, OnOk, IsTrue};
 ghost use Rattle.picture.specs.Rows.{HasLine, line_of, with_cell};
-ghost use Rattle.line_settle.specs.declared.line_engine.Outcome.{Outcome};
-ghost use Rattle.line_settle.specs.Counts.{counted};
-ghost use Rattle.line_settle.specs.FactSets.{Gains, HoldsLine, IsFacts, col_on, row_on};
-ghost use Rattle.line_settle.specs.Fits.{CanFit};
-ghost use Rattle.line_settle.specs.NarrowedLine.{Narrows};
+ghost use Rattle.line_facts.specs.declared.line_engine.Outcome.{Outcome};
+ghost use Rattle.line_facts.specs.Counts.{counted};
+ghost use Rattle.line_facts.specs.FactSets.{Gains, HoldsLine, IsFacts, col_on, row_on};
+ghost use Rattle.line_facts.specs.Fits.{CanFit};
+ghost use Rattle.line_facts.specs.NarrowedLine.{Narrows};
 
 use clues::Clue;
-use line_settle::{Facts, LineEngine, Outcome};
+use line_facts::{Facts, LineEngine, Outcome};
 use picture::{LineId, MAX_SIDE};
 use std::alloc::AllocError;
 use trail::{Cell, Trail};
@@ -53,7 +53,7 @@ pub fn is_dead<E: LineEngine>(engine: &mut E, facts: &Facts, clue: &Clue, line: 
     narrow_line(engine, facts, clue, line, &mut out[..cells]) == Outcome::Dead
 }
 
-#[tactic(auto, using(line_settle::proofs::AlongLaws::places))]
+#[tactic(auto, using(line_facts::proofs::AlongLaws::places))]
 // Gives the cells of a line of the facts at hand other colours.
 fn hold_line(trail: &mut Trail, line: LineId, masks: &[u16]) -> Result<(), AllocError>
     requires line { HasLine trail.old.at_hand line }

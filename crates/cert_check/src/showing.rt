@@ -2,10 +2,10 @@
 
 ghost use Rattle.std.specs.Prelude.{◌≡◌, ℕ, ◌<◌, ◌↔◌, length, IsBitSet, IsTrue};
 ghost use Rattle.picture.specs.Rows.{cell_at};
-ghost use Rattle.line_settle.specs.FactSets.{Leaves, SameShape};
+ghost use Rattle.line_facts.specs.FactSets.{Leaves, SameShape};
 ghost use Rattle.cert_check.specs.Puzzle.{ShowsOnly};
 
-use line_settle::Facts;
+use line_facts::Facts;
 use picture::Picture;
 
 #[tactic(auto, using(crate::proofs::ShowingLemmas::one_mask))]

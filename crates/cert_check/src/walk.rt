@@ -2,7 +2,7 @@
 
 ghost use Rattle.std.specs.Prelude.{◌≡◌, ℕ, ◌+◌, ◌<◌, ◌≤◌, ◌^◌, ◌∷◌, [], length, IfErr, IfOk, Option};
 ghost use Rattle.cert_check.specs.FirstFault.{AnswersFirst, FirstFault};
-ghost use Rattle.line_settle.specs.FactSets.{SameShape};
+ghost use Rattle.line_facts.specs.FactSets.{SameShape};
 ghost use Rattle.cert_check.specs.Walk.{CanCheck, Takes, waiting};
 
 use crate::forcing::{force, is_dead};
@@ -10,7 +10,7 @@ use crate::places::{cell_in, line_at};
 use crate::showing::shows_only;
 use cert_text::{CertFault, CertLine};
 use clues::ClueBook;
-use line_settle::{Facts, LineEngine};
+use line_facts::{Facts, LineEngine};
 use picture::Picture;
 use std::alloc::Global;
 use trail::Trail;

@@ -1,5 +1,5 @@
 -- The text that is written for a certificate is read as the same certificate.
-use Rattle.std.proofs.Common.{◌≡◌, ℕ, ◌+◌, ◌<◌, Bool, true, false, cond, not, eqb, List, [], ◌∷◌, ◌++◌, length, get_or, append_assoc, Option, None, Some, Result, Ok, Err, refl, sym, ap, ◌∙◌, subst}
+use Rattle.std.proofs.Common.{◌≡◌, ℕ, ◌+◌, ◌^◌, ◌<◌, Bool, true, false, cond, not, eqb, List, [], ◌∷◌, ◌++◌, length, get_or, append_assoc, Option, None, Some, Result, Ok, Err, refl, sym, ap, ◌∙◌, subst}
 use Rattle.std.proofs.Common.{arith, inl, inr, codes, decimal, nat_le, option_map}
 use Rattle.std.proofs.lemmas.Bool.{and_from, cases_lt, le-leb, ne_eqb}
 use Rattle.std.proofs.lemmas.Fmt.{decimal_digit, first_decimal, length-decimal-le}
@@ -25,10 +25,10 @@ use Rattle.cert_text.proofs.WordLemmas.{lines_more, lines_none}
 
 -- ---- numbers
 
-no_leading_zero : (n : ℕ) → IsShort n → has_leading_zero (decimal n) ≡ false
+pub no_leading_zero : (n : ℕ) → n < 2 ^ 64 → has_leading_zero (decimal n) ≡ false
 no_leading_zero n l = elim (cases_lt n 10) [
   | inl small ↦ ap has_leading_zero (decimal_digit n small)
-  | inr large ↦ by_first (decimal n) (first_decimal n (omega arith) (omega arith))
+  | inr large ↦ by_first (decimal n) (first_decimal n (omega arith) l)
 ]
   where
     by_first : (ds : List ℕ) → 48 < get_or ds 0 0 → has_leading_zero ds ≡ false
@@ -38,24 +38,27 @@ no_leading_zero n l = elim (cases_lt n 10) [
 
 number_again : (n : ℕ) → IsShort n → number_of (decimal n) ≡ Some n
 number_again n l =
-    ap (λ t. cond t None (short_number 3 (decimal n))) (no_leading_zero n l)
+    ap (λ t. cond t None (short_number 3 (decimal n))) (no_leading_zero n (omega arith))
     ∙ ap (λ t. cond t (number_spelled (decimal n)) None) (le-leb (length (decimal n)) 3 (length-decimal-le 3 n (omega arith) (omega arith) (omega arith)))
     ∙ number_spelled-decimal n (omega arith)
 
 -- ---- words
 
-record IsWord (bytes : List ℕ) : Type 0 where
-  no_space : lacks 32 bytes ≡ true
-  no_feed : lacks 10 bytes ≡ true
+pub record IsWord (bytes : List ℕ) : Type 0 where
+  pub no_space : lacks 32 bytes ≡ true
+  pub no_feed : lacks 10 bytes ≡ true
 
-number_is : (n : ℕ) → IsShort n → IsWord (decimal n)
-number_is n l = record { no_space = decimal_lacks 32 n (omega arith) (omega arith); no_feed = decimal_lacks 10 n (omega arith) (omega arith) }
+pub decimal_is : (n : ℕ) → n < 2 ^ 64 → IsWord (decimal n)
+decimal_is n l = record { no_space = decimal_lacks 32 n (omega arith) l; no_feed = decimal_lacks 10 n (omega arith) l }
 
-abbrev axis_word : Axis → List ℕ
+pub number_is : (n : ℕ) → IsShort n → IsWord (decimal n)
+number_is n l = decimal_is n (omega arith)
+
+abbrev pub axis_word : Axis → List ℕ
 axis_word Across = codes "r"
 axis_word Down = codes "c"
 
-axis_is : (axis : Axis) → IsWord (axis_word axis)
+pub axis_is : (axis : Axis) → IsWord (axis_word axis)
 axis_is Across = record { no_space = refl; no_feed = refl }
 axis_is Down = record { no_space = refl; no_feed = refl }
 
@@ -63,40 +66,43 @@ axis_text_is : (axis : Axis) → axis_text axis ≡ axis_word axis ++ 32 ∷ []
 axis_text_is Across = refl
 axis_text_is Down = refl
 
-axis_named : (axis : Axis) (n : ℕ) → IsShort n → line_named (axis_word axis) (decimal n) ≡ Some (line_number axis n)
+pub axis_named : (axis : Axis) (n : ℕ) → IsShort n → line_named (axis_word axis) (decimal n) ≡ Some (line_number axis n)
 axis_named Across n l = ap (line_with (Some Across)) (number_again n l)
 axis_named Down n l = ap (line_with (Some Down)) (number_again n l)
 
-cell_named_again : (row col : ℕ) → IsShort row → IsShort col → cell_named (decimal row) (decimal col) ≡ Some (cell_number row col)
+pub cell_named_again : (row col : ℕ) → IsShort row → IsShort col → cell_named (decimal row) (decimal col) ≡ Some (cell_number row col)
 cell_named_again row col l m = ap (λ (o : Option ℕ). cell_with o (number_of (decimal col))) (number_again row l) ∙ ap (cell_with (Some row)) (number_again col m)
 
 -- ---- lines
 
-lacks_append : (c : ℕ) (xs ys : List ℕ) → lacks c xs ≡ true → lacks c ys ≡ true → lacks c (xs ++ ys) ≡ true
+pub lacks_append : (c : ℕ) (xs ys : List ℕ) → lacks c xs ≡ true → lacks c ys ≡ true → lacks c (xs ++ ys) ≡ true
 lacks_append c xs ys h k = list_all-append (λ b. not (eqb b c)) xs ys ∙ and_from (lacks c xs) (lacks c ys) h k
 
-first_line_is : (xs ys : List ℕ) → lacks 10 xs ≡ true → lines_of (xs ++ 10 ∷ ys) ≡ xs ∷ lines_of ys
+pub first_line_is : (xs ys : List ℕ) → lacks 10 xs ≡ true → lines_of (xs ++ 10 ∷ ys) ≡ xs ∷ lines_of ys
 first_line_is xs ys h = lines_more (xs ++ 10 ∷ ys) xs ys (split_at 10 xs ys h)
 
 -- a line of three words, and its text with what follows
-abbrev spaced : List ℕ → List ℕ → List ℕ → List ℕ
+abbrev pub spaced : List ℕ → List ℕ → List ℕ → List ℕ
 spaced a b d = a ++ 32 ∷ (b ++ 32 ∷ d)
 
 parts : (a b d rest : List ℕ) → ((a ++ 32 ∷ []) ++ ((b ++ 32 ∷ []) ++ (d ++ 10 ∷ []))) ++ rest ≡ spaced a b d ++ 10 ∷ rest
 parts a b d rest = simp append_assoc
 
 module _ (a b d : List ℕ) (is_a : IsWord a) (is_b : IsWord b) (is_d : IsWord d) where
+  pub words_again : words_of (spaced a b d) ≡ a ∷ b ∷ d ∷ []
+  words_again =
+      split_at 32 a (b ++ 32 ∷ d) is_a.no_space
+      ∙ ap (λ (ws : List (List ℕ)). a ∷ ws) (split_at 32 b d is_b.no_space ∙ ap (λ (ws : List (List ℕ)). b ∷ ws) (one_piece 32 d is_d.no_space))
+
   spaced_words : three_of (words_of (spaced a b d)) ≡ Some (a, b, d)
-  spaced_words =
-      ap three_of (split_at 32 a (b ++ 32 ∷ d) is_a.no_space
-      ∙ ap (λ (ws : List (List ℕ)). a ∷ ws) (split_at 32 b d is_b.no_space ∙ ap (λ (ws : List (List ℕ)). b ∷ ws) (one_piece 32 d is_d.no_space)))
+  spaced_words = ap three_of words_again
 
   spaced_first : (rest : List ℕ) → lines_of (((a ++ 32 ∷ []) ++ ((b ++ 32 ∷ []) ++ (d ++ 10 ∷ []))) ++ rest) ≡ spaced a b d ∷ lines_of rest
   spaced_first rest =
       ap lines_of (parts a b d rest)
       ∙ first_line_is (spaced a b d) rest (lacks_append 10 a (32 ∷ (b ++ 32 ∷ d)) is_a.no_feed (lacks_append 10 b (32 ∷ d) is_b.no_feed is_d.no_feed))
 
-named_first : (word : List ℕ) (line : LineNumber) → IsWord word → IsShort line.number → (rest : List ℕ)
+pub named_first : (word : List ℕ) (line : LineNumber) → IsWord word → IsShort line.number → (rest : List ℕ)
     → lines_of (named_text (word ++ 32 ∷ []) line ++ rest) ≡ spaced word (axis_word line.axis) (decimal line.number) ∷ lines_of rest
 named_first word line is l rest =
     ap (λ (axis : List ℕ). lines_of (((word ++ 32 ∷ []) ++ (axis ++ number_text line.number 10)) ++ rest)) (axis_text_is line.axis)
@@ -161,31 +167,43 @@ given_again cell l m =
     is_word : IsWord (codes "given")
     is_word = record { no_space = refl; no_feed = refl }
 
--- no given stands first among lines below the givens
-none_given : (lines : List CertLine) (n least : ℕ) → AreWritable lines → given_lines n least (lines_of (lines_text lines)) ≡ Ok ([], lines_of (lines_text lines))
-unfolding given_lines
-none_given [] n least w = ap (given_lines n least) lines_none ∙ ap (λ (ls : List (List ℕ)). Ok ([], ls)) (sym lines_none)
-none_given (line ∷ lines) n least w =
-    let a = again line w.0 in
-    let first = a.first (lines_text lines) in
-    ap (given_lines n least) first
-    ∙ (ap (λ (o : Option CellNumber). take_given n least (text_of line ∷ lines_of (lines_text lines)) o (λ from. given_lines (n + 1) from (lines_of (lines_text lines)))) a.no_given
-    ∙ ap (λ (ls : List (List ℕ)). Ok ([], ls)) (sym first))
+-- no line that gives a cell stands first in a text
+pub record HasNoGiven (text : List ℕ) : Type 0 where
+  pub none : (n least : ℕ) → given_lines n least (lines_of text) ≡ Ok ([], lines_of text)
 
-givens_again : (givens : List CellNumber) (lines : List CertLine) (n least : ℕ) → AreOrdered least givens → AreWritable lines
-    → given_lines n least (lines_of (givens_text givens ++ lines_text lines)) ≡ Ok (givens, lines_of (lines_text lines))
+pub nothing_given : HasNoGiven []
 unfolding given_lines
-givens_again [] lines n least o w = none_given lines n least w
-givens_again (cell ∷ cells) lines n least o w =
-    let rest = lines_of (givens_text cells ++ lines_text lines) in
+nothing_given = record { none = λ n least. ap (given_lines n least) lines_none ∙ ap (λ (ls : List (List ℕ)). Ok ([], ls)) (sym lines_none) }
+
+pub other_line_first : (text line rest : List ℕ) → lines_of text ≡ line ∷ lines_of rest → given_line line ≡ None → HasNoGiven text
+unfolding given_lines
+other_line_first text line rest first other = record {
+  none = λ n least.
+      ap (given_lines n least) first
+      ∙ (ap (λ (o : Option CellNumber). take_given n least (line ∷ lines_of rest) o (λ from. given_lines (n + 1) from (lines_of rest))) other
+      ∙ ap (λ (ls : List (List ℕ)). Ok ([], ls)) (sym first));
+}
+
+none_given : (lines : List CertLine) → AreWritable lines → HasNoGiven (lines_text lines)
+none_given [] w = nothing_given
+none_given (line ∷ lines) w =
+    let a = again line w.0 in
+    other_line_first (lines_text (line ∷ lines)) (text_of line) (lines_text lines) (a.first (lines_text lines)) a.no_given
+
+pub givens_again : (givens : List CellNumber) (below : List ℕ) (n least : ℕ) → AreOrdered least givens → HasNoGiven below
+    → given_lines n least (lines_of (givens_text givens ++ below)) ≡ Ok (givens, lines_of below)
+unfolding given_lines
+givens_again [] below n least o w = w.none n least
+givens_again (cell ∷ cells) below n least o w =
+    let rest = lines_of (givens_text cells ++ below) in
     let text = spaced (codes "given") (decimal cell.row) (decimal cell.col) in
     let further = λ (from : ℕ). given_lines (n + 1) from rest in
     let passes : nat_le least (rank cell) ≡ true = le-leb least (rank cell) (let l = o.2 in omega arith) in
-    ap (given_lines n least) (ap lines_of (append_assoc (given_text cell) (givens_text cells) (lines_text lines)) ∙ spaced_first (codes "given") (decimal cell.row) (decimal cell.col)
-    (record { no_space = refl; no_feed = refl }) (number_is cell.row o.0) (number_is cell.col o.1) (givens_text cells ++ lines_text lines))
+    ap (given_lines n least) (ap lines_of (append_assoc (given_text cell) (givens_text cells) below) ∙ spaced_first (codes "given") (decimal cell.row) (decimal cell.col)
+    (record { no_space = refl; no_feed = refl }) (number_is cell.row o.0) (number_is cell.col o.1) (givens_text cells ++ below))
     ∙ (ap (λ (c : Option CellNumber). take_given n least (text ∷ rest) c further) (given_again cell o.0 o.1)
     ∙ (ap (λ (t : Bool). cond t (further (rank cell + 1) >>= λ read. Ok (with_given_before cell read)) (Err (BadLine n))) passes
-    ∙ ap (λ (r : Result (List CellNumber × List (List ℕ)) CertFault). r >>= λ read. Ok (with_given_before cell read)) (givens_again cells lines (n + 1) (rank cell + 1) o.3 w)))
+    ∙ ap (λ (r : Result (List CellNumber × List (List ℕ)) CertFault). r >>= λ read. Ok (with_given_before cell read)) (givens_again cells below (n + 1) (rank cell + 1) o.3 w)))
 
 -- ---- the whole text
 
@@ -198,7 +216,7 @@ first_again givens lines e w =
 second_again : (givens : List CellNumber) (lines : List CertLine) → AreOrdered 0 givens → AreWritable lines → IsReadAgain (certificate 2 givens lines)
 second_again givens lines o w =
     ap cert_of_lines (first_line_is (codes "nonocert 2") (givens_text givens ++ lines_text lines) refl)
-    ∙ (ap (λ (r : Result (List CellNumber × List (List ℕ)) CertFault). r >>= below_givens) (givens_again givens lines 2 0 o w)
+    ∙ (ap (λ (r : Result (List CellNumber × List (List ℕ)) CertFault). r >>= below_givens) (givens_again givens (lines_text lines) 2 0 o (none_given lines w))
     ∙ ap (λ (r : Result (List CertLine) CertFault). r >>= λ read. Ok (certificate 2 givens read)) (tree_again lines (2 + length givens) w))
 
 pub is_read_again : (cert : Certificate) → IsCert cert → IsReadAgain cert

@@ -2,8 +2,8 @@
 use Rattle.std.proofs.Common.{◌≡◌, ℕ, ◌<◌, List, [], length, replicate, get_or, ap, ◌∙◌, arith, inl, inr}
 use Rattle.std.proofs.lemmas.List.{get_or-replicate}
 use Rattle.picture.specs.Rows.{width_of, row_at, cell_at, Rows}
-use Rattle.line_settle.specs.FactSets.{Leaves}
-use Rattle.line_settle.proofs.GridLaws.{all_left, full_shape}
+use Rattle.line_facts.specs.FactSets.{Leaves}
+use Rattle.line_facts.proofs.GridLaws.{all_left, full_shape}
 use Rattle.picture.proofs.BitLaws.{bit_below}
 use Rattle.cert_check.specs.Puzzle.{blank_for}
 use Rattle.cert_check.proofs.BaseLemmas.{given_left, givens_shape, left_or_given, open_stays}

@@ -1,4 +1,3 @@
 pub mod BaseLemmas
 pub mod MadeLemmas
 pub mod MakeLemmas
-pub mod NumberLemmas

@@ -5,12 +5,11 @@ use Rattle.picture.specs.Document.{AreInside}
 use Rattle.picture.specs.Picture.{IsPicture}
 use Rattle.picture.specs.Rows.{width_of, cell_at, Rows}
 use Rattle.std.specs.Prelude.{IfSome}
-use Rattle.line_settle.specs.Masks.{Masks}
+use Rattle.line_facts.specs.Masks.{Masks}
 use Rattle.clues.specs.ClueBook.{Clues, clues_of}
 use Rattle.clues.specs.Solution.{IsOther}
-use Rattle.clues.proofs.SolutionLaws.{solves_fewer}
-use Rattle.line_settle.specs.FactSets.{Leaves, SameShape, nothing_excluded}
-use Rattle.line_settle.proofs.GridLaws.{full_shape, shape_sym, shape_trans}
+use Rattle.line_facts.specs.FactSets.{Leaves, SameShape, nothing_excluded}
+use Rattle.line_facts.proofs.GridLaws.{full_shape, shape_sym, shape_trans}
 use Rattle.cert_text.specs.declared.tree_line.CellNumber.{CellNumber}
 use Rattle.cert_text.specs.declared.tree_line.CertLine.{CertLine}
 use Rattle.second_search.specs.Laws.{SoundFacts}
@@ -18,8 +17,10 @@ use Rattle.second_search.specs.Other.{AreSound}
 use Rattle.second_search.specs.Parts.{IsScene}
 use Rattle.cert_text.specs.Cert.{Certificate, IsCert}
 use Rattle.cert_check.specs.FirstFault.{CertFirstFault}
-use Rattle.certificate.specs.MadeCert.{BasesAreOne, EachExcludes, HasNoFault, HasOther, IsMade, Makes, NamesGivens, WritesTree}
-use Rattle.cert_check.specs.Puzzle.{IsNamed, IsUnique, base_of, blank_for, with_givens}
+use Rattle.certificate.specs.MadeCert.{BasesAreOne, EachExcludes, HasNoFault, HasOther, IsMade, Makes, WritesTree}
+use Rattle.lemma_proof.specs.Naming.{NamesGivens}
+use Rattle.lemma_proof.proofs.MakingLemmas.{unique_has_no_other}
+use Rattle.cert_check.specs.Puzzle.{IsUnique, base_of, blank_for, with_givens}
 use Rattle.cert_check.specs.Walk.{GivesBase}
 use Rattle.cert_check.proofs.BaseLemmas.{given_left}
 use Rattle.cert_check.proofs.Exactness.{none_is_proof}
@@ -50,11 +51,6 @@ none_made picture start givens cells is inside names shape e w =
     )
 
 -- ---- no other picture
-
-unique_has_no_other : (picture : Rows) (givens : List ℕ) (cells : List CellNumber) → NamesGivens picture givens cells → IsUnique picture cells → (other : Rows)
-    → IsOther (clues_of picture) (HasCell givens) picture other → ⊥
-unique_has_no_other picture givens cells names unique other o =
-    o.differs (unique other (solves_fewer (clues_of picture) (HasCell givens) (IsNamed cells) picture other (λ row col named. (names.named row col).1 named) o.solves))
 
 pub some_made : (picture : Rows) (start : Masks) (givens : List ℕ) (cells : List CellNumber) (lines : List CertLine) (cert : Certificate) → IsPicture picture → NamesGivens picture givens cells
     → GivesBase picture (blank_for picture) cells (Ok tt) start → start ≡ with_givens picture cells (blank_for picture) → HasNoFault picture (start ∷ []) lines

@@ -3,7 +3,7 @@ use Rattle.std.proofs.Common.{◌≡◌, ℕ, suc, ◌+◌, ◌-◌, ◌<◌, �
 use Rattle.std.specs.Int.{bit_at}
 use Rattle.std.specs.List.{All, range_with_len}
 use Rattle.std.proofs.lemmas.List.Elements.{filter_passes}
-use Rattle.line_settle.specs.Masks.{Masks}
+use Rattle.line_facts.specs.Masks.{Masks}
 use Rattle.picture.specs.declared.line_id.Axis.{Axis}
 use Rattle.picture.specs.declared.line_id.Axis.TheVariants.{Across, Down}
 use Rattle.picture.proofs.BitLaws.{bit_is_set}
@@ -12,11 +12,11 @@ use Rattle.picture.specs.Rows.{width_of, cell_at, line_of, lines_along, Rows}
 use Rattle.clues.specs.declared.block.Block.{Block}
 use Rattle.clues.specs.ClueBook.{Clues, clue_at, clues_of}
 use Rattle.clues.specs.Laws.{CluesAreOfLines}
-use Rattle.line_settle.specs.declared.line_engine.Outcome.{Outcome}
-use Rattle.line_settle.specs.FactSets.{IsWithin, SameShape}
-use Rattle.line_settle.specs.Laws.{ForcingClosesALine, OneLineDecides}
-use Rattle.line_settle.proofs.GridLaws.{shape_refl, shape_trans}
-use Rattle.line_settle.specs.NarrowedLine.{Narrows}
+use Rattle.line_facts.specs.declared.line_engine.Outcome.{Outcome}
+use Rattle.line_facts.specs.FactSets.{IsWithin, SameShape}
+use Rattle.line_facts.specs.Laws.{ForcingClosesALine, OneLineDecides}
+use Rattle.line_facts.proofs.GridLaws.{shape_refl, shape_trans}
+use Rattle.line_facts.specs.NarrowedLine.{Narrows}
 use Rattle.fixpoint.specs.ClosedFacts.{AreClosable}
 use Rattle.fixpoint.proofs.ClosingLaws.{within_trans}
 use Rattle.cert_text.specs.declared.tree_line.CellNumber.{CellNumber}
@@ -25,7 +25,7 @@ use Rattle.cert_text.specs.declared.tree_line.CertLine.{CertLine}
 use Rattle.cert_text.specs.declared.tree_line.CertLine.TheVariants.{Line, Split, Dead, Done}
 use Rattle.second_search.specs.Trees.{IsOtherIn, Stands, Walks}
 use Rattle.second_search.proofs.FindLemmas.{held_within}
-use Rattle.line_settle.specs.Branches.{colours_of, held}
+use Rattle.line_facts.specs.Branches.{colours_of, held}
 use Rattle.cert_text.specs.Cert.{AreWritable, IsWritable}
 use Rattle.cert_check.specs.FirstFault.{FirstFault, Leads}
 use Rattle.certificate.specs.MadeCert.{EachExcludes, Excludes, WritesTree}

@@ -1,22 +1,23 @@
 -- Certificates that are made.
-use Rattle.std.specs.Prelude.{◌≡◌, ◌⊎◌, ℕ, ◌+◌, ◌*◌, ◌<◌, ◌↔◌, List, [], ◌∷◌, ◌++◌, Option, None, Some}
+use Rattle.std.specs.Prelude.{◌≡◌, ℕ, ◌↔◌, List, [], ◌∷◌, ◌++◌, Option, None, Some}
 use Rattle.std.proofs.Common.{Vec, Global}
-use Rattle.line_settle.specs.Masks.{Masks}
+use Rattle.line_facts.specs.Masks.{Masks}
 use Rattle.picture.specs.Rows.{Rows}
 use Rattle.picture.specs.CellSet.{HasCell}
 use Rattle.picture.specs.Picture.{IsPicture}
 use Rattle.clues.specs.ClueBook.{clues_of}
 use Rattle.clues.specs.Solution.{IsOther}
-use Rattle.line_settle.specs.FactSets.{IsBase}
+use Rattle.line_facts.specs.FactSets.{IsBase}
 use Rattle.fixpoint.specs.Fillings.{Fills}
 use Rattle.cert_text.specs.declared.tree_line.CellNumber.{CellNumber}
 use Rattle.cert_text.specs.declared.tree_line.CertLine.{CertLine}
 use Rattle.cert_text.specs.declared.tree_line.CertLine.TheVariants.{Line, Split, Dead, Done}
 use Rattle.second_search.specs.Trees.{IsUnsettledAt}
-use Rattle.cert_text.specs.Cert.{AreOrdered, AreWritable, Certificate, IsCert}
+use Rattle.cert_text.specs.Cert.{AreWritable, Certificate, IsCert}
 use Rattle.cert_check.specs.FirstFault.{CertFirstFault, FirstFault, Leads}
-use Rattle.cert_check.specs.Puzzle.{HasCellNumbers, IsAmong, IsForced, IsUnique, base_of, line_id, numbered}
+use Rattle.cert_check.specs.Puzzle.{IsForced, IsUnique, base_of, line_id}
 use Rattle.cert_check.specs.Tree.{IsProof}
+use Rattle.lemma_proof.specs.Naming.{NamesGivens}
 
 -- ---- the lines
 
@@ -54,22 +55,10 @@ WritesTree picture start (Some lines) =
 
 -- ---- the certificate
 
--- exactly the cells of a set, by their numbers, in the order of rows
-pub record NamesGivens (picture : Rows) (givens : List ℕ) (cells : List CellNumber) : Type 0 where
-  pub ordered : AreOrdered 0 cells
-  pub inside : HasCellNumbers picture cells
-  pub named : (row col : ℕ) → HasCell givens row col ↔ IsAmong (numbered row col) cells
-
 -- the facts at the root of a certificate with exactly the cells of a set are the base of that set
 abbrev pub BasesAreOne : Type 0
 BasesAreOne = (picture : Rows) (givens : List ℕ) (cells : List CellNumber) → IsPicture picture
     → NamesGivens picture givens cells → IsBase givens picture (base_of picture cells)
-
--- the givens of the rows before a row, and in it those before a column
-pub record NamesUpTo (givens : List ℕ) (row col : ℕ) (cells : List CellNumber) : Type 0 where
-  pub ordered : (more : List CellNumber) → AreOrdered ((row + 1) * 1000 + (col + 1)) more → AreOrdered 0 (cells ++ more)
-  pub named : (r c : ℕ) → IsAmong (numbered r c) cells ↔ (HasCell givens r c × ((r < row) ⊎ ((r ≡ row) × (c < col))))
-  pub real : (cell : CellNumber) → IsAmong cell cells → (r : ℕ) × ((c : ℕ) × (cell ≡ numbered r c))
 
 -- A certificate with exactly these givens that has no error: so it proves the picture, and there is no other with its
 -- givens or, which is the same, those of the set. It can be written and is read as itself. It has version 1 exactly

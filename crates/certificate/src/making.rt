@@ -1,24 +1,22 @@
 //! The maker of certificates.
 
-ghost use Rattle.std.specs.Prelude.{◌≡◌, ◌≤◌, ◌<◌, ◌↔◌, [], length, IfOk, IsTrue, OnOk};
+ghost use Rattle.std.specs.Prelude.{◌≡◌, ◌≤◌, ◌↔◌, [], length, IfOk, IsTrue};
 ghost use Rattle.picture.specs.Document.{AreInside};
 ghost use Rattle.picture.specs.Rows.{width_of};
 ghost use Rattle.cert_text.specs.Cert.{AreOrdered, AreWritable, IsCert};
-ghost use Rattle.certificate.specs.MadeCert.{HasOther, Makes, NamesGivens, NamesUpTo, WritesTree, lines_seen};
+ghost use Rattle.certificate.specs.MadeCert.{HasOther, Makes, WritesTree, lines_seen};
 ghost use Rattle.cert_check.specs.Walk.{CanCheck};
-ghost use Rattle.line_settle.specs.FactSets.{SameShape};
+ghost use Rattle.line_facts.specs.FactSets.{SameShape};
 ghost use Rattle.second_search.specs.Parts.{IsScene};
 
 use cert_check::set_givens;
 use cert_text::{CellNumber, Cert, CertLine};
 use clues::ClueBook;
-use line_settle::{Facts, LineEngine};
-use picture::{CellSet, MAX_SIDE, Picture};
-use second_search::{
-    BOUNDS, Bounds, Decided, Ladder, Lines, Scene, cell_number, climb, find_near_other,
-};
+use lemma_proof::given_cells;
+use line_facts::{Facts, LineEngine};
+use picture::{CellSet, Picture};
+use second_search::{BOUNDS, Bounds, Decided, Ladder, Lines, Scene, climb, find_near_other};
 use std::alloc::{AllocError, Global};
-use trail::Cell;
 
 #[tactic(auto, using(crate::proofs::MakeLemmas::writing_trees))]
 // The lines of a tree that proves the picture of a scene from its facts on. There is none exactly where another picture fills the
@@ -48,44 +46,6 @@ fn write_tree<E: LineEngine>(
         Decided::Tree(Lines::Dropped) => unreachable!(),
         Decided::OtherPicture(_) => Ok(None),
     }
-}
-
-#[tactic(auto, using(crate::proofs::NumberLemmas::naming))]
-// Puts the numbers of the given cells of a row after those of the rows before it.
-fn put_row(
-    cells: &mut Vec<CellNumber>,
-    givens: &CellSet,
-    row: u8,
-    width: u8,
-) -> Result<(), AllocError>
-    requires in_rows { row < MAX_SIDE }
-    requires in_columns { width ≤ MAX_SIDE }
-    requires named { NamesUpTo givens.now row 0 cells.old.items }
-    ensures named { OnOk result (NamesUpTo givens.now row width cells.new.items) }
-{
-    for col in 0..width {
-        if givens.has(row, col) {
-            cells.push(cell_number(Cell { row, col }))?;
-        }
-    }
-    Ok(())
-}
-
-#[tactic(auto, using(crate::proofs::NumberLemmas::naming))]
-/// The givens by their numbers, in the order of rows.
-pub(crate) fn given_cells(
-    alloc: Global,
-    picture: &Picture,
-    givens: &CellSet,
-) -> Result<Vec<CellNumber>, AllocError>
-    requires { AreInside givens.now picture.now }
-    ensures named { IfOk result (λ cells. NamesGivens picture.now givens.now cells.items) }
-{
-    let mut cells = Vec::new(alloc);
-    for row in 0..picture.height() {
-        put_row(&mut cells, givens, row, picture.width())?;
-    }
-    Ok(cells)
 }
 
 // The certificate of a tree with these givens.

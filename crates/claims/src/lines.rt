@@ -6,7 +6,7 @@ ghost use Rattle.command_text.specs.Lines.{lines_of};
 ghost use Rattle.live_audit.specs.Calls.{machine};
 
 use command_text::SessionFault;
-use line_settle::LineEngine;
+use line_facts::LineEngine;
 use live_audit::Bench;
 use propagate::Agenda;
 use session::run_session;

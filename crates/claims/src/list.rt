@@ -4,11 +4,11 @@ ghost use Rattle.std.specs.Prelude.{◌≡◌, OnOk};
 ghost use Rattle.clues.specs.ClueBook.{clues_of};
 ghost use Rattle.edits.specs.Edit.{edited};
 ghost use Rattle.kept_audit.specs.Audit.{AreGivens};
-ghost use Rattle.line_settle.specs.FactSets.{IsLeast};
+ghost use Rattle.line_facts.specs.FactSets.{IsLeast};
 
 use crate::stroke::{Step, step_or_keep};
 use edits::{Edit, EditFault};
-use line_settle::LineEngine;
+use line_facts::LineEngine;
 use live_audit::Bench;
 use propagate::Agenda;
 

@@ -5,7 +5,7 @@ ghost use Rattle.program_options.specs.declared.fault.ProgramFault.TheVariants.{
 ghost use Rattle.published.specs.Laws.{ArePublished, background_in};
 
 use answers::{ProgramFault, run_check};
-use line_settle::LineEngine;
+use line_facts::LineEngine;
 use live_audit::Bench;
 use picture::Rgb;
 use propagate::Agenda;

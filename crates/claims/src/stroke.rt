@@ -6,7 +6,7 @@ ghost use Rattle.edits.specs.History.{or_memory};
 ghost use Rattle.live_audit.specs.Stroke.{after_stroke, stroke_fault};
 
 use edits::{Edit, EditFault};
-use line_settle::LineEngine;
+use line_facts::LineEngine;
 use live_audit::Bench;
 use propagate::Agenda;
 

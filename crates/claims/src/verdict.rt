@@ -3,7 +3,7 @@
 ghost use Rattle.std.specs.Prelude.{◌≡◌, ℕ, List, true, false, Some, None, Ok, IfOk, IsSome, OnErr};
 ghost use Rattle.live_audit.specs.Verdict.{IsOtherFor};
 
-use line_settle::LineEngine;
+use line_facts::LineEngine;
 use live_audit::{Bench, Verdict};
 use propagate::Agenda;
 use std::alloc::AllocError;

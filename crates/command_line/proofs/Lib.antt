@@ -1,3 +1,4 @@
 pub mod CommandLemmas
+pub mod DefaultLemmas
 pub mod EnterLemmas
 pub mod WordLemmas

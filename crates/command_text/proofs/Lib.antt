@@ -1,4 +1,3 @@
-pub mod CommandLemmas
 pub mod CountLemmas
 pub mod LineLemmas
 pub mod WordLemmas

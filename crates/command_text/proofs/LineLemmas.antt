@@ -1,10 +1,10 @@
 -- The lines of bytes, cut piece by piece.
-use Rattle.std.proofs.Common.{◌≡◌, ℕ, zero, suc, ◌+◌, ◌-◌, ◌<◌, ◌≤◌, Bool, true, false, cond, not, ◌&&◌, List, [], ◌∷◌, ◌++◌, length, get_or, length-take-le, min, take, drop, slice_index, ◌==◌}
-use Rattle.std.proofs.Common.{nat_lt, Err, Option, Some, None, is_some, unwrap_or, refl, sym, ap, ◌∙◌, append_assoc, append-nil, arith}
+use Rattle.std.proofs.Common.{◌≡◌, ℕ, zero, suc, ◌+◌, ◌-◌, ◌<◌, ◌≤◌, Bool, true, false, cond, List, [], ◌∷◌, ◌++◌, length, get_or, length-take-le, min, take, drop, slice_index, ◌==◌, nat_lt, Option}
+use Rattle.std.proofs.Common.{Some, None, is_some, unwrap_or, refl, sym, ap, ◌∙◌, append_assoc, append-nil, arith}
 use Rattle.std.specs.Int.{from_bool}
 use Rattle.std.specs.List.{slice_split, position}
 use Rattle.std.specs.Str.Lines.{strip_carriage_return}
-use Rattle.std.proofs.lemmas.Bool.{eqb-true, false_from_ne_true, lt-leb, lt-ltb, ltb-true, ltb-false, true≢false}
+use Rattle.std.proofs.lemmas.Bool.{eqb-true, false_from_ne_true, lt-ltb, ltb-true, ltb-false, true≢false}
 use Rattle.std.proofs.lemmas.List.{drop_all, drop-take, length-append, length-take, take_all, take_min}
 use Rattle.std.proofs.lemmas.Slice.{take-put_mid}
 use borrow.Rule.Slice.PartMut.{put_mid}
@@ -16,11 +16,10 @@ use Rattle.picture.proofs.SplitLaws.{none_before, none_passes, whole_found}
 use Rattle.std.specs.Io.KnownBytes.{Keeps}
 use Rattle.std.proofs.KnownBytes.{Consumes-kept, Consumes-trans}
 use Rattle.command_text.specs.declared.lines.Lines.{Lines}
-use Rattle.command_text.specs.Lines.{BreaksOff, CutsOne, Drafts, NoFeed, TakesPiece, Waits, all_pieces, ended_lines_of, ended_pieces, has_word, is_feed, lines_of, nothing_has_no_lines, request_by}
-use Rattle.command_text.specs.Lines.{request_of, steps_left}
-use Rattle.command_text.specs.Parse.{command_of, command_of_words}
+use Rattle.command_text.specs.Lines.{BreaksOff, CutsOne, Drafts, NoFeed, TakesPiece, Waits, all_pieces, ended_lines_of, ended_pieces, is_feed, lines_of, nothing_has_no_lines, request_of}
+use Rattle.command_text.specs.Lines.{request_of_words, steps_left}
 use Rattle.command_text.specs.declared.fault.CommandFault.TheVariants.{LongLine}
-use Rattle.command_text.specs.declared.request.Request.TheVariants.{Nothing, Refused}
+use Rattle.command_text.specs.declared.request.Request.TheVariants.{Refused}
 use Rattle.command_text.specs.Words.{words_of}
 
 -- ---- the place of a line feed
@@ -76,10 +75,8 @@ take_front (suc n) (b ∷ front) piece = ap (λ (xs : List ℕ). b ∷ xs) (take
 
 -- a line of more than 200 bytes
 pub long_line : (line : List ℕ) → 200 < length line → request_of line ≡ Refused LongLine
-unfolding request_of command_of
-long_line line long =
-    ap (λ t. cond (t && not (has_word (words_of line))) Nothing (request_by (cond (nat_lt 200 (length line)) (Err LongLine) (command_of_words (words_of line))))) (lt-leb (length line) 200 long)
-    ∙ ap (λ t. request_by (cond t (Err LongLine) (command_of_words (words_of line)))) (lt-ltb 200 (length line) long)
+unfolding request_of
+long_line line long = ap (λ t. cond t (Refused LongLine) (request_of_words (words_of line))) (lt-ltb 200 (length line) long)
 
 stripped_by : (line : List ℕ) (t : Bool) → 201 < length line → 200 < length (cond t (take (length line - 1) line) line)
 stripped_by line true long = omega (arith, length-take-le (length line - 1) line (omega arith), long)

@@ -1,16 +1,17 @@
 -- The lines of a session's input, and what each asks for.
-use Rattle.std.specs.Prelude.{◌≡◌, ℕ, ◌+◌, ◌-◌, ◌*◌, ◌<◌, ◌≤◌, Bool, true, false, ◌&&◌, not, List, [], ◌∷◌, ◌++◌}
-use Rattle.std.specs.Prelude.{length, take, Option, None, Some, Result, Ok, Err, nat_le, ◌==◌, if◌then◌else◌}
+use Rattle.std.specs.Prelude.{◌≡◌, ℕ, ◌+◌, ◌-◌, ◌*◌, ◌<◌, ◌≤◌, Bool, true, false, List, [], ◌∷◌, ◌++◌, length, take}
+use Rattle.std.specs.Prelude.{Option, None, Some, Result, Ok, Err, nat_lt, ◌==◌, if◌then◌else◌}
 use Rattle.std.proofs.Common.{refl}
 use Rattle.std.specs.List.{All, slice_split}
 use Rattle.std.specs.Str.Lines.{strip_carriage_return}
 use Rattle.std.specs.Io.KnownBytes.{Consumes, IsAtEnd}
 use Rattle.command_text.specs.declared.command.Command.{Command}
 use Rattle.command_text.specs.declared.fault.CommandFault.{CommandFault}
+use Rattle.command_text.specs.declared.fault.CommandFault.TheVariants.{LongLine, UnknownWord}
 use Rattle.command_text.specs.declared.request.Request.{Request}
 use Rattle.command_text.specs.declared.request.Request.TheVariants as request
 use Rattle.command_text.specs.declared.lines.Lines.{Lines}
-use Rattle.command_text.specs.Parse.{IsBounded, command_of}
+use Rattle.command_text.specs.Parse.{IsBounded, command_at}
 use Rattle.command_text.specs.Words.{has_byte, words_of}
 
 -- ---- lines
@@ -48,14 +49,24 @@ abbrev pub request_by : Result Command CommandFault → Request
 request_by (Ok command) = request.Command command
 request_by (Err fault) = request.Refused fault
 
-abbrev pub has_word : List (List ℕ) → Bool
-has_word [] = false
-has_word (word ∷ words) = true
+-- no word asks for nothing, and a first word for the command that it begins
+abbrev pub request_of_words : List (List ℕ) → Request
+request_of_words [] = request.Nothing
+request_of_words (first ∷ words) = request_by (command_at first words)
 
--- a line of at most 200 bytes without a word asks for nothing
+-- a line has at most 200 bytes
 unfoldable pub request_of : List ℕ → Request
-request_of line =
-    if nat_le (length line) 200 && not (has_word (words_of line)) then request.Nothing else request_by (command_of line)
+request_of line = if nat_lt 200 (length line) then request.Refused LongLine else request_of_words (words_of line)
+
+abbrev pub command_in : Request → Result Command CommandFault
+command_in request.Nothing = Err UnknownWord
+command_in (request.Command c) = Ok c
+command_in (request.Refused fault) = Err fault
+
+-- The command of a line without its end, or the first error. A line without a word, which a session passes over, is
+-- UnknownWord.
+abbrev pub command_of : List ℕ → Result Command CommandFault
+command_of line = command_in (request_of line)
 
 -- the command that is asked for, if one is, has a colour and an allowance that are lawful
 abbrev pub AsksBounded : Request → Type 0

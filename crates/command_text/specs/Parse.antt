@@ -1,9 +1,9 @@
--- The command of a line, or the first error.
-use Rattle.std.specs.Prelude.{◌≡◌, ℕ, ◌<◌, IfSome, List, [], ◌∷◌, length, codes, Option, None, Some, Result, Ok, Err}
-use Rattle.std.specs.Prelude.{nat_lt, option_map, ◌==◌, if◌then◌else◌}
+-- The command of words, or the first error.
+use Rattle.std.specs.Prelude.{ℕ, ◌<◌, IfSome, List, [], ◌∷◌, length, codes, Option, None, Some, Result, Ok, Err}
+use Rattle.std.specs.Prelude.{option_map, ◌==◌, if◌then◌else◌}
 use Rattle.std.specs.Borrow.{Bor}
 use Rattle.std.specs.Option.{ok_or}
-use Rattle.picture.specs.Readers.{Reads, ◌>>=◌}
+use Rattle.picture.specs.Readers.{◌>>=◌}
 use Rattle.picture.specs.declared.line_id.Axis.{Axis}
 use Rattle.picture.specs.declared.line_id.Axis.TheVariants.{Across, Down}
 use Rattle.picture.specs.declared.line_id.LineId.{LineId}
@@ -13,8 +13,7 @@ use Rattle.edits.specs.declared.edit.Edit.TheVariants as edit
 use Rattle.command_text.specs.declared.command.Command.{Command}
 use Rattle.command_text.specs.declared.command.Command.TheVariants as command
 use Rattle.command_text.specs.declared.fault.CommandFault.{CommandFault}
-use Rattle.command_text.specs.declared.fault.CommandFault.TheVariants.{LongLine, UnknownWord, WordCount, BadNumber}
-use Rattle.command_text.specs.declared.fault.CommandFault.TheVariants.{BadColour}
+use Rattle.command_text.specs.declared.fault.CommandFault.TheVariants.{UnknownWord, WordCount, BadNumber, BadColour}
 use Rattle.command_text.specs.Numbers.{colour_of, number_of, place_of, sample_of}
 use Rattle.command_text.specs.Words.{is_word, words_of}
 
@@ -123,9 +122,7 @@ line_at words = do
 -- ---- the edits
 
 abbrev pub paint_at : List (List ℕ) → Result Edit CommandFault
-paint_at words = do
-  spot ← spot_at words
-  Ok (edit.Paint spot.0.0 spot.0.1 spot.1)
+paint_at words = spot_at words >>= λ spot. Ok (edit.Paint spot.0.0 spot.0.1 spot.1)
 
 unfoldable pub fill_at : List (List ℕ) → Result Edit CommandFault
 fill_at words = do
@@ -143,14 +140,10 @@ recolour_at words = do
   Ok (edit.Recolour source.0 target.0)
 
 abbrev pub insert_at : List (List ℕ) → Result Edit CommandFault
-insert_at words = do
-  line ← line_at words
-  Ok (edit.InsertLine line)
+insert_at words = line_at words >>= λ line. Ok (edit.InsertLine line)
 
 abbrev pub delete_at : List (List ℕ) → Result Edit CommandFault
-delete_at words = do
-  line ← line_at words
-  Ok (edit.DeleteLine line)
+delete_at words = line_at words >>= λ line. Ok (edit.DeleteLine line)
 
 unfoldable pub swap_at : List (List ℕ) → Result Edit CommandFault
 swap_at words = do
@@ -177,44 +170,19 @@ abbrev pub palette_at : List (List ℕ) → Result Edit CommandFault
 palette_at words = second_by ((codes "add", add_colour_at) ∷ (codes "set", set_colour_at) ∷ []) words
 
 abbrev pub pin_at : List (List ℕ) → Result Edit CommandFault
-pin_at words = do
-  cell ← cell_alone_at words
-  Ok (edit.Pin cell.0 cell.1)
+pin_at words = cell_alone_at words >>= λ cell. Ok (edit.Pin cell.0 cell.1)
 
 abbrev pub unpin_at : List (List ℕ) → Result Edit CommandFault
-unpin_at words = do
-  cell ← cell_alone_at words
-  Ok (edit.Unpin cell.0 cell.1)
-
--- the table of edits
-abbrev pub edit_words : List (List ℕ × (List (List ℕ) → Result Edit CommandFault))
-edit_words =
-    (codes "paint", paint_at)
-    ∷ (codes "fill", fill_at)
-    ∷ (codes "recolour", recolour_at)
-    ∷ (codes "insert", insert_at)
-    ∷ (codes "delete", delete_at)
-    ∷ (codes "swap", swap_at)
-    ∷ (codes "colour", palette_at)
-    ∷ (codes "pin", pin_at)
-    ∷ (codes "unpin", unpin_at)
-    ∷ []
-
-abbrev pub edit_at : List ℕ → List (List ℕ) → Result Edit CommandFault
-edit_at word words = read_by (named word edit_words) words
+unpin_at words = cell_alone_at words >>= λ cell. Ok (edit.Unpin cell.0 cell.1)
 
 -- ---- the other commands
 
 -- a command without a value
 abbrev pub bare_at : Command → List (List ℕ) → Result Command CommandFault
-bare_at c words = do
-  all ← counted 0 words
-  Ok c
+bare_at c words = counted 0 words >>= λ none. Ok c
 
 abbrev pub why_at : List (List ℕ) → Result Command CommandFault
-why_at words = do
-  spot ← spot_at words
-  Ok (command.Why spot.0.0 spot.0.1 spot.1)
+why_at words = spot_at words >>= λ spot. Ok (command.Why spot.0.0 spot.0.1 spot.1)
 
 unfoldable pub allow_at : List (List ℕ) → Result Command CommandFault
 allow_at words = do
@@ -227,20 +195,9 @@ abbrev pub write_at : List (List ℕ) → Result Command CommandFault
 write_at words =
     second_by ((codes "ppm", bare_at command.WritePpm) ∷ (codes "non", bare_at command.WriteNon) ∷ []) words
 
--- the table of what is shown, asked or taken back
-abbrev pub asking_words : List (List ℕ × (List (List ℕ) → Result Command CommandFault))
-asking_words =
-    (codes "undo", bare_at command.Undo)
-    ∷ (codes "redo", bare_at command.Redo)
-    ∷ (codes "clues", bare_at command.Clues)
-    ∷ (codes "map", bare_at command.Map)
-    ∷ (codes "verdict", bare_at command.Verdict)
-    ∷ (codes "why", why_at)
-    ∷ (codes "certify", bare_at command.Certify)
-    ∷ (codes "write", write_at)
-    ∷ (codes "report", bare_at command.Report)
-    ∷ (codes "allow", allow_at)
-    ∷ []
+-- an edit as a command
+abbrev pub as_edit : (List (List ℕ) → Result Edit CommandFault) → List (List ℕ) → Result Command CommandFault
+as_edit read words = read words >>= λ edit. Ok (command.Edit edit)
 
 -- ---- the command
 
@@ -259,36 +216,35 @@ IsBounded command.WriteNon = Unit {0}
 IsBounded command.Report = Unit {0}
 IsBounded (command.Allow allowance) = IfSome allowance (λ splits. splits < 100000)
 
-abbrev pub as_command : Result Edit CommandFault → Result Command CommandFault
-as_command (Ok edit) = Ok (command.Edit edit)
-as_command (Err fault) = Err fault
+-- the commands by their first words
+abbrev pub commands : List (List ℕ × (List (List ℕ) → Result Command CommandFault))
+commands =
+    (codes "paint", as_edit paint_at)
+    ∷ (codes "fill", as_edit fill_at)
+    ∷ (codes "recolour", as_edit recolour_at)
+    ∷ (codes "insert", as_edit insert_at)
+    ∷ (codes "delete", as_edit delete_at)
+    ∷ (codes "swap", as_edit swap_at)
+    ∷ (codes "colour", as_edit palette_at)
+    ∷ (codes "pin", as_edit pin_at)
+    ∷ (codes "unpin", as_edit unpin_at)
+    ∷ (codes "undo", bare_at command.Undo)
+    ∷ (codes "redo", bare_at command.Redo)
+    ∷ (codes "clues", bare_at command.Clues)
+    ∷ (codes "map", bare_at command.Map)
+    ∷ (codes "verdict", bare_at command.Verdict)
+    ∷ (codes "why", why_at)
+    ∷ (codes "certify", bare_at command.Certify)
+    ∷ (codes "write", write_at)
+    ∷ (codes "report", bare_at command.Report)
+    ∷ (codes "allow", allow_at)
+    ∷ []
 
--- a first word that is in neither table begins no command
-abbrev pub command_by : Option (List (List ℕ) → Result Command CommandFault) → List ℕ → List (List ℕ)
-    → Result Command CommandFault
-command_by None word words = as_command (edit_at word words)
-command_by (Some read) word words = read words
-
+-- the command that a first word begins, by the words after it
 abbrev pub command_at : List ℕ → List (List ℕ) → Result Command CommandFault
-command_at word words = command_by (named word asking_words) word words
-
-abbrev pub command_of_words : List (List ℕ) → Result Command CommandFault
-command_of_words [] = Err UnknownWord
-command_of_words (first ∷ words) = command_at first words
-
--- The command of a line without its end, or the first error. A line without a word, which a session passes over, is
--- UnknownWord.
-unfoldable pub command_of : List ℕ → Result Command CommandFault
-command_of line = if nat_lt 200 (length line) then Err LongLine else command_of_words (words_of line)
+command_at word words = read_by (named word commands) words
 
 -- ---- what functions that read words answer
-
--- what a word asks by the table, none where it is not there
-abbrev pub IsAsking : Option (List (List ℕ) → Result Command CommandFault) → List (List ℕ)
-    → Option (Result Command CommandFault) → Type 0
-IsAsking None words asked = asked ≡ None
-IsAsking (Some read) words None = ⊥
-IsAsking (Some read) words (Some asked) = Reads (λ c. c) asked (read words)
 
 -- a word, and the words that are left
 abbrev pub word_seen : Bor (List ℕ) × Bor (List ℕ) → List ℕ × List (List ℕ)

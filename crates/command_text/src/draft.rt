@@ -4,8 +4,7 @@ ghost use Rattle.std.specs.Prelude.{◌≡◌, ◌≤◌, ◌++◌, ◌==◌, []
 ghost use Rattle.std.specs.Str.Lines.{strip_carriage_return};
 ghost use Rattle.command_text.specs.Lines.{AsksBounded, request_of};
 
-use crate::parse::MOST_BYTES;
-use crate::request::{Request, request_of};
+use crate::request::{MOST_BYTES, Request, request_of};
 use std::marker::Model;
 
 // How many bytes of a line are kept: those that it may have, a carriage return, and one more that shows it to be too long.

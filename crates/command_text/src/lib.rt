@@ -16,6 +16,5 @@ pub use command::Command;
 pub use fault::CommandFault;
 pub use lines::{Lines, ReadFault};
 pub use numbers::sample_in;
-pub use parse::{MOST_BYTES, parse_command};
-pub use request::Request;
+pub use request::{MOST_BYTES, Request, parse_command};
 pub use session_fault::SessionFault;

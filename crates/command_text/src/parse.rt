@@ -1,8 +1,8 @@
-//! The command of a line.
+//! The command of words.
 
-ghost use Rattle.std.specs.Prelude.{◌≡◌, IfOk, IfSome};
+ghost use Rattle.std.specs.Prelude.{◌≡◌, IfOk};
 ghost use Rattle.picture.specs.Readers.{Reads};
-ghost use Rattle.command_text.specs.Parse.{IsAsking, IsBounded, allow_at, asking_words, bare_at, command_at, command_of, edit_at, fill_at, named, palette_at, recolour_at, swap_at, why_at, write_at};
+ghost use Rattle.command_text.specs.Parse.{IsBounded, allow_at, bare_at, command_at, fill_at, palette_at, recolour_at, swap_at, why_at, write_at};
 ghost use Rattle.command_text.specs.Words.{words_of};
 
 use crate::command::Command;
@@ -11,11 +11,7 @@ use crate::fields::{
     allowance_in, counted, read_axis, read_cell, read_cell_alone, read_colour, read_line,
     read_place, read_rgb, read_spot, read_word,
 };
-use crate::words::next_word;
 use edits::Edit;
-
-/// How many bytes a line has at the most, without its end.
-pub const MOST_BYTES: usize = 200;
 
 #[tactic(auto, unfolding(crate::specs::Parse::fill_at))]
 fn read_fill(rest: &[u8]) -> Result<Edit, CommandFault>
@@ -75,24 +71,6 @@ fn read_palette(rest: &[u8]) -> Result<Edit, CommandFault>
     }
 }
 
-// The edit that a word begins, by what follows it.
-fn read_edit(word: &[u8], rest: &[u8]) -> Result<Edit, CommandFault>
-    ensures { Reads (λ e. e) result (edit_at word.now (words_of rest.now)) }
-{
-    match word {
-        b"paint" => read_spot(rest).map(|((row, col), colour)| Edit::Paint { row, col, colour }),
-        b"fill" => read_fill(rest),
-        b"recolour" => read_recolour(rest),
-        b"insert" => read_line(rest).map(|line| Edit::InsertLine { line }),
-        b"delete" => read_line(rest).map(|line| Edit::DeleteLine { line }),
-        b"swap" => read_swap(rest),
-        b"colour" => read_palette(rest),
-        b"pin" => read_cell_alone(rest).map(|(row, col)| Edit::Pin { row, col }),
-        b"unpin" => read_cell_alone(rest).map(|(row, col)| Edit::Unpin { row, col }),
-        _ => Err(CommandFault::UnknownWord),
-    }
-}
-
 // A command with no word after it.
 fn bare(command: Command, rest: &[u8]) -> Result<Command, CommandFault>
     requires { IsBounded command }
@@ -134,52 +112,37 @@ fn read_why(rest: &[u8]) -> Result<Command, CommandFault>
     read_spot(rest).map(|((row, col), colour)| Command::Why { row, col, colour })
 }
 
-// What a word asks, shows or takes back, by what follows it. None for any other word.
-fn read_asking(word: &[u8], rest: &[u8]) -> Option<Result<Command, CommandFault>>
-    ensures value { IsAsking (named word.now asking_words) (words_of rest.now) result }
-    ensures bounded { IfSome result (λ asked. IfOk asked IsBounded) }
-{
-    match word {
-        b"undo" => Some(bare(Command::Undo, rest)),
-        b"redo" => Some(bare(Command::Redo, rest)),
-        b"clues" => Some(bare(Command::Clues, rest)),
-        b"map" => Some(bare(Command::Map, rest)),
-        b"verdict" => Some(bare(Command::Verdict, rest)),
-        b"why" => Some(read_why(rest)),
-        b"certify" => Some(bare(Command::Certify, rest)),
-        b"write" => Some(read_write(rest)),
-        b"report" => Some(bare(Command::Report, rest)),
-        b"allow" => Some(read_allow(rest)),
-        _ => None,
-    }
-}
-
-// The command that a word begins, by what follows it.
-fn read_command(word: &[u8], rest: &[u8]) -> Result<Command, CommandFault>
+/// The command that a first word begins, by what follows it.
+pub(crate) fn read_command(word: &[u8], rest: &[u8]) -> Result<Command, CommandFault>
     ensures value { Reads (λ c. c) result (command_at word.now (words_of rest.now)) }
     ensures bounded { IfOk result IsBounded }
 {
-    match read_asking(word, rest) {
-        Some(asked) => asked,
-        None => read_edit(word, rest).map(Command::Edit),
+    match word {
+        b"paint" => read_spot(rest).map(|((row, col), colour)| Command::Edit(Edit::Paint {
+            row,
+            col,
+            colour,
+        })),
+        b"fill" => read_fill(rest).map(Command::Edit),
+        b"recolour" => read_recolour(rest).map(Command::Edit),
+        b"insert" => read_line(rest).map(|line| Command::Edit(Edit::InsertLine { line })),
+        b"delete" => read_line(rest).map(|line| Command::Edit(Edit::DeleteLine { line })),
+        b"swap" => read_swap(rest).map(Command::Edit),
+        b"colour" => read_palette(rest).map(Command::Edit),
+        b"pin" => { read_cell_alone(rest).map(|(row, col)| Command::Edit(Edit::Pin { row, col })) }
+        b"unpin" => {
+            read_cell_alone(rest).map(|(row, col)| Command::Edit(Edit::Unpin { row, col }))
+        }
+        b"undo" => bare(Command::Undo, rest),
+        b"redo" => bare(Command::Redo, rest),
+        b"clues" => bare(Command::Clues, rest),
+        b"map" => bare(Command::Map, rest),
+        b"verdict" => bare(Command::Verdict, rest),
+        b"why" => read_why(rest),
+        b"certify" => bare(Command::Certify, rest),
+        b"write" => read_write(rest),
+        b"report" => bare(Command::Report, rest),
+        b"allow" => read_allow(rest),
+        _ => Err(CommandFault::UnknownWord),
     }
-}
-
-#[tactic(auto, unfolding(crate::specs::Parse::command_of))]
-/// Reads the command of a line without its end, or answers the first error.
-///
-/// Words stand between runs of spaces and TABs. A line of more than 200 bytes is `LongLine`; a first word with which no
-/// command begins is `UnknownWord`, and so is a second one that does not complete it; a missing second word and another
-/// number of words are `WordCount`; then the first word from the left that is no number of one to five digits in its range
-/// is `BadNumber`, or no colour's letter `BadColour`. Rows, columns and lines are numbered from 1 in the text and from 0
-/// in the command. A line of at most 200 bytes without a word, which a session passes over, is `UnknownWord`.
-pub fn parse_command(line: &[u8]) -> Result<Command, CommandFault>
-    ensures value { Reads (λ c. c) result (command_of line.now) }
-    ensures bounded { IfOk result IsBounded }
-{
-    if line.len() > MOST_BYTES {
-        return Err(CommandFault::LongLine);
-    }
-    let (first, rest) = next_word(line).ok_or(CommandFault::UnknownWord)?;
-    read_command(first, rest)
 }

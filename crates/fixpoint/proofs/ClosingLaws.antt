@@ -2,26 +2,26 @@
 use Rattle.std.proofs.Common.{◌≡◌, ◌≢◌, ℕ, ◌<◌, ◌≤◌, ◌↔◌, List, length, get_or, refl, sym, ap, subst, ◌∙◌, arith, ◌⊎◌, inl, inr}
 use Rattle.std.proofs.lemmas.Bool.{cases_eq, cases_lt}
 use Rattle.std.proofs.lemmas.List.{get_or_past, length-map}
-use Rattle.line_settle.specs.Masks.{Masks}
+use Rattle.line_facts.specs.Masks.{Masks}
 use Rattle.picture.specs.declared.line_id.Axis.{Axis}
 use Rattle.picture.specs.declared.line_id.Axis.TheVariants.{Across, Down}
 use Rattle.picture.specs.declared.line_id.LineId.{LineId}
 use Rattle.picture.specs.LineSet.{Lines, HasName, PutsNames, TakesOutName, no_names}
 use Rattle.picture.specs.Rows.{width_of, cell_at, line_along, line_of, lines_along, HasLine, Rows}
 use Rattle.clues.specs.ClueBook.{Clues, clue_at, clues_along}
-use Rattle.line_settle.specs.declared.line_engine.Outcome.{Outcome}
-use Rattle.line_settle.specs.declared.line_engine.Outcome.TheVariants.{Narrowed, Dead}
-use Rattle.line_settle.specs.Fits.{CanFit}
-use Rattle.line_settle.specs.FactSets.{IsFacts, IsClosed, IsWithin, SameShape, Gains, row_on, col_on}
-use Rattle.line_settle.specs.CrossedLines.{CrossesChange}
+use Rattle.line_facts.specs.declared.line_engine.Outcome.{Outcome}
+use Rattle.line_facts.specs.declared.line_engine.Outcome.TheVariants.{Narrowed, Dead}
+use Rattle.line_facts.specs.Fits.{CanFit}
+use Rattle.line_facts.specs.FactSets.{IsFacts, IsClosed, IsWithin, SameShape, Gains, row_on, col_on}
+use Rattle.line_facts.specs.CrossedLines.{CrossesChange}
 use Rattle.picture.specs.CrossingLines.{crossing, crossing_at}
 use Rattle.fixpoint.specs.ClosedFacts.{AreClosable, IsQuietLine, QuietOutside, Closes, KeepsOtherLines, PutsCrossing}
 use Rattle.fixpoint.specs.LineNames.{AreLinesOf}
 use Rattle.picture.proofs.LineSetLaws.{same_name, cases_name, members}
-use Rattle.line_settle.proofs.GridLaws.{cell_on, same_line_length, same_has_line, shape_refl, shape_trans, shape_sym, same_list}
-use Rattle.line_settle.proofs.AlongLaws.{place_on}
-use Rattle.line_settle.proofs.FitLaws.{tighter_fits, within_tighter, fits_narrowed}
-use Rattle.line_settle.proofs.ForceLaws.{on_or_not, gains_grows, gains_inside, gains_closes}
+use Rattle.line_facts.proofs.GridLaws.{cell_on, same_line_length, same_has_line, shape_refl, shape_trans, shape_sym, same_list}
+use Rattle.line_facts.proofs.AlongLaws.{place_on}
+use Rattle.line_facts.proofs.FitLaws.{tighter_fits, within_tighter, fits_narrowed}
+use Rattle.line_facts.proofs.ForceLaws.{on_or_not, gains_grows, gains_inside, gains_closes}
 
 -- ---- cells on a line
 

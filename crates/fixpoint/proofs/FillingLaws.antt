@@ -1,9 +1,9 @@
 -- Laws of the pictures that facts allow.
-use Rattle.line_settle.specs.Masks.{Masks}
+use Rattle.line_facts.specs.Masks.{Masks}
 use Rattle.picture.specs.Rows.{cell_at, Rows}
 use Rattle.clues.specs.ClueBook.{Clues}
-use Rattle.line_settle.specs.FactSets.{IsWithin}
-use Rattle.line_settle.proofs.GridLaws.{shape_sym, shape_trans}
+use Rattle.line_facts.specs.FactSets.{IsWithin}
+use Rattle.line_facts.proofs.GridLaws.{shape_sym, shape_trans}
 use Rattle.fixpoint.specs.Fillings.{Fills}
 
 -- what fills facts fills all that exclude less

@@ -3,21 +3,21 @@ use Rattle.std.proofs.Common.{◌≡◌, ℕ, ◌^◌, ◌<◌, ◌≤◌, List,
 use Rattle.std.specs.Prelude.{IsBitSet}
 use Rattle.std.proofs.lemmas.Bool.{cases_lt}
 use Rattle.std.proofs.lemmas.List.{get_or_past, length-map, get_or-map}
-use Rattle.line_settle.specs.Masks.{Masks}
+use Rattle.line_facts.specs.Masks.{Masks}
 use Rattle.picture.specs.declared.line_id.Axis.{Axis}
 use Rattle.picture.specs.declared.line_id.Axis.TheVariants.{Across, Down}
 use Rattle.picture.specs.Picture.{IsPicture}
 use Rattle.picture.specs.declared.line_id.LineId.{LineId}
 use Rattle.picture.specs.Rows.{row_at, cell_at, line_along, line_of, lines_along, HasLine, Rows}
 use Rattle.clues.specs.ClueBook.{Clues, clue_at, clues_of}
-use Rattle.line_settle.specs.FactSets.{IsClosed, IsWithin, SameShape, Leaves, row_on, col_on}
-use Rattle.line_settle.specs.Fits.{CanFit, Fits}
+use Rattle.line_facts.specs.FactSets.{IsClosed, IsWithin, SameShape, Leaves, row_on, col_on}
+use Rattle.line_facts.specs.Fits.{CanFit, Fits}
 use Rattle.fixpoint.specs.Fillings.{Fills, LeavesPicture, only}
 use Rattle.fixpoint.proofs.FillingLaws.{fills_fewer}
 use Rattle.fixpoint.specs.Laws.{ClosingKeepsFillings, OnlyIsClosed, PictureStays}
 use Rattle.clues.proofs.BookLaws.{clue_at-clues_of}
 use Rattle.picture.proofs.BitLaws.{no_bit, power_has}
-use Rattle.line_settle.proofs.GridLaws.{cell_on, same_line_length, same_has_line, shape_sym, shape_trans}
+use Rattle.line_facts.proofs.GridLaws.{cell_on, same_line_length, same_has_line, shape_sym, shape_trans}
 
 abbrev powers : List ℕ → List ℕ
 powers row = map (λ (colour : ℕ). 2 ^ colour) row

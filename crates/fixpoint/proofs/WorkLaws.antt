@@ -7,24 +7,24 @@ use Rattle.std.proofs.lemmas.Bool.{cases_eq}
 use Rattle.std.proofs.lemmas.List.{length-map}
 use Rattle.std.proofs.lemmas.Nat.{ones_le_self}
 use Rattle.std.proofs.lemmas.Nat.Bits.{bit_at-lt, bit_at-suc, bit_at-zero, bit_at_lowest, same_from_bits}
-use Rattle.line_settle.specs.Masks.{Masks}
+use Rattle.line_facts.specs.Masks.{Masks}
 use Rattle.picture.specs.declared.line_id.Axis.{Axis}
 use Rattle.picture.specs.declared.line_id.Axis.TheVariants.{Across, Down}
 use Rattle.picture.specs.declared.line_id.LineId.{LineId}
 use Rattle.picture.specs.LineSet.{Lines, HasName, PutsNames, TakesOutName, mask_along, name_count}
 use Rattle.picture.specs.Rows.{width_of, row_at, cell_at, line_along, line_of, lines_along, HasLine}
 use Rattle.clues.specs.ClueBook.{Clues, clue_at}
-use Rattle.line_settle.specs.declared.line_engine.Outcome.{Outcome}
-use Rattle.line_settle.specs.declared.line_engine.Outcome.TheVariants.{Narrowed, Dead}
-use Rattle.line_settle.specs.declared.meter.Meter.{Meter}
-use Rattle.line_settle.specs.Counts.{Counts, counted}
-use Rattle.line_settle.specs.FactSets.{IsFacts, IsWithin, Gains}
+use Rattle.line_facts.specs.declared.line_engine.Outcome.{Outcome}
+use Rattle.line_facts.specs.declared.line_engine.Outcome.TheVariants.{Narrowed, Dead}
+use Rattle.line_facts.specs.declared.meter.Meter.{Meter}
+use Rattle.line_facts.specs.Counts.{Counts, counted}
+use Rattle.line_facts.specs.FactSets.{IsFacts, IsWithin, Gains}
 use Rattle.fixpoint.specs.ClosedFacts.{change, changes, PutsCrossing, Evaluates, Draws, Works}
-use Rattle.line_settle.specs.CrossedLines.{CrossesChange}
+use Rattle.line_facts.specs.CrossedLines.{CrossesChange}
 use Rattle.picture.specs.CrossingLines.{crossing}
 use Rattle.picture.proofs.BitLaws.{fewer_le, bit_is_set, same_bits, no_bit}
-use Rattle.line_settle.proofs.GridLaws.{cell_along}
-use Rattle.line_settle.proofs.FitLaws.{counting_adds}
+use Rattle.line_facts.proofs.GridLaws.{cell_along}
+use Rattle.line_facts.proofs.FitLaws.{counting_adds}
 use Rattle.picture.proofs.LineSetLaws.{put_all_counts}
 use Rattle.worklist.proofs.NameLaws.{take_counts}
 

@@ -1,19 +1,19 @@
 -- Facts closed line by line.
 use Rattle.std.specs.Prelude.{◌≡◌, ℕ, zero, suc, ◌+◌, ◌<◌, ◌≤◌, ◌⊎◌, ◌↔◌, ◌==◌, cond, List, length, slice_index}
-use Rattle.line_settle.specs.Masks.{Masks}
+use Rattle.line_facts.specs.Masks.{Masks}
 use Rattle.picture.specs.declared.line_id.LineId.{LineId}
 use Rattle.picture.specs.LineSet.{Lines, HasName, name_count}
 use Rattle.picture.specs.Rows.{width_of, line_of, HasLine}
 use Rattle.clues.specs.declared.block.Block.{Block}
 use Rattle.clues.specs.ClueBook.{Clues, clue_at}
-use Rattle.line_settle.specs.declared.line_engine.Outcome.{Outcome}
-use Rattle.line_settle.specs.declared.line_engine.Outcome.TheVariants.{Narrowed, Dead}
-use Rattle.line_settle.specs.declared.meter.Meter.{Meter}
-use Rattle.line_settle.specs.Counts.{Counts}
-use Rattle.line_settle.specs.CrossedLines.{CrossesChange}
-use Rattle.line_settle.specs.Fits.{CanFit}
-pub use Rattle.line_settle.specs.Outside.{EachFits, EachOutside}
-use Rattle.line_settle.specs.FactSets.{IsClosedLine, IsClosed, IsLeast, IsWithin, Gains}
+use Rattle.line_facts.specs.declared.line_engine.Outcome.{Outcome}
+use Rattle.line_facts.specs.declared.line_engine.Outcome.TheVariants.{Narrowed, Dead}
+use Rattle.line_facts.specs.declared.meter.Meter.{Meter}
+use Rattle.line_facts.specs.Counts.{Counts}
+use Rattle.line_facts.specs.CrossedLines.{CrossesChange}
+use Rattle.line_facts.specs.Fits.{CanFit}
+pub use Rattle.line_facts.specs.Outside.{EachFits, EachOutside}
+use Rattle.line_facts.specs.FactSets.{IsClosedLine, IsClosed, IsLeast, IsWithin, Gains}
 
 -- the facts have the sizes of the clues, and no line of theirs is longer than an engine takes
 pub record AreClosable (clues : Clues) (longest : ℕ) (facts : Masks) : Type 0 where

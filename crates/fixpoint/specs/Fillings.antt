@@ -1,10 +1,10 @@
 -- Pictures that facts allow.
 use Rattle.std.specs.Prelude.{◌≡◌, ℕ, ◌^◌, ◌<◌, List, length, map}
-use Rattle.line_settle.specs.Masks.{Masks}
+use Rattle.line_facts.specs.Masks.{Masks}
 use Rattle.picture.specs.Picture.{IsPicture}
 use Rattle.picture.specs.Rows.{row_at, cell_at, Rows}
 use Rattle.clues.specs.ClueBook.{Clues, clues_of}
-use Rattle.line_settle.specs.FactSets.{Leaves, SameShape}
+use Rattle.line_facts.specs.FactSets.{Leaves, SameShape}
 
 -- in each cell of the picture its colour is left
 abbrev pub LeavesPicture : Rows → Masks → Type 0

@@ -1,12 +1,12 @@
 -- Laws of the least closed facts, and of pictures that facts allow.
 use Rattle.std.specs.Prelude.{◌≡◌, ℕ, ◌+◌, ◌<◌, ◌↔◌, length}
-use Rattle.line_settle.specs.Masks.{Masks}
+use Rattle.line_facts.specs.Masks.{Masks}
 use Rattle.picture.specs.Picture.{IsPicture}
 use Rattle.picture.specs.LineSet.{Lines, name_count}
 use Rattle.picture.specs.Rows.{row_at, cell_at, width_of, Rows}
 use Rattle.clues.specs.ClueBook.{Clues, clues_of}
-use Rattle.line_settle.specs.declared.line_engine.Outcome.{Outcome}
-use Rattle.line_settle.specs.FactSets.{IsClosed, IsLeast, IsWithin, Leaves, SameShape}
+use Rattle.line_facts.specs.declared.line_engine.Outcome.{Outcome}
+use Rattle.line_facts.specs.FactSets.{IsClosed, IsLeast, IsWithin, Leaves, SameShape}
 use Rattle.fixpoint.specs.ClosedFacts.{Closes, HasDeadLine}
 use Rattle.fixpoint.specs.Fillings.{Fills, LeavesPicture, only}
 use Rattle.fixpoint.specs.LineNames.{AllLines}

@@ -1,11 +1,11 @@
 -- The least closed facts, found afresh from a base.
 use Rattle.std.specs.Prelude.{◌≡◌, ℕ, List, Result, Ok, Err}
-use Rattle.line_settle.specs.Masks.{Masks}
+use Rattle.line_facts.specs.Masks.{Masks}
 use Rattle.picture.specs.LineSet.{Lines}
 use Rattle.clues.specs.ClueBook.{Clues}
-use Rattle.line_settle.specs.declared.line_engine.Outcome.TheVariants.{Narrowed, Dead}
-use Rattle.line_settle.specs.declared.meter.Meter.{Meter}
-use Rattle.line_settle.specs.FactSets.{IsLeast}
+use Rattle.line_facts.specs.declared.line_engine.Outcome.TheVariants.{Narrowed, Dead}
+use Rattle.line_facts.specs.declared.meter.Meter.{Meter}
+use Rattle.line_facts.specs.FactSets.{IsLeast}
 use Rattle.fixpoint.specs.declared.fault.CloseFault.{CloseFault}
 use Rattle.fixpoint.specs.declared.fault.CloseFault.TheVariants as fault
 use Rattle.fixpoint.specs.ClosedFacts.{EachFits, HasDeadLine, Works}

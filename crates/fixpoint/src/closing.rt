@@ -5,7 +5,7 @@ ghost use Rattle.fixpoint.specs.ClosedFacts.{AreClosable, Closes, KeepsOtherLine
 ghost use Rattle.fixpoint.specs.LineNames.{AreLinesOf};
 
 use clues::ClueBook;
-use line_settle::{Facts, LineEngine, Meter, Outcome, force_crossing};
+use line_facts::{Facts, LineEngine, Meter, Outcome, force_crossing};
 use picture::LineSet;
 use worklist::Agenda;
 

@@ -5,7 +5,7 @@ ghost use Rattle.picture.specs.LineSet.{HasName, name_count};
 ghost use Rattle.picture.specs.Rows.{width_of};
 ghost use Rattle.fixpoint.specs.LineNames.{AllLines, PutsFirst};
 
-use line_settle::Facts;
+use line_facts::Facts;
 use picture::{Axis, LineId, LineSet, MAX_SIDE};
 
 #[tactic(auto, using(crate::proofs::NameLemmas::all_names))]

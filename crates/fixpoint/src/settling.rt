@@ -1,8 +1,8 @@
 //! Settling clues from a base: the least closed facts.
 
 ghost use Rattle.std.specs.Prelude.{◌≡◌, ◌≤◌};
-ghost use Rattle.line_settle.specs.Counts.{Counts};
-ghost use Rattle.line_settle.specs.FactSets.{IsFacts};
+ghost use Rattle.line_facts.specs.Counts.{Counts};
+ghost use Rattle.line_facts.specs.FactSets.{IsFacts};
 ghost use Rattle.fixpoint.specs.ClosedFacts.{AreClosable};
 ghost use Rattle.fixpoint.specs.LeastFacts.{Settles, SettlingWorks};
 
@@ -10,7 +10,7 @@ use crate::closing::close_facts;
 use crate::fault::CloseFault;
 use crate::line_names::all_lines;
 use clues::ClueBook;
-use line_settle::{Facts, LineEngine, Meter, Outcome};
+use line_facts::{Facts, LineEngine, Meter, Outcome};
 use worklist::Agenda;
 
 /// The least closed facts that hold a base: what the lines exclude by their clues, whichever engine and agenda are

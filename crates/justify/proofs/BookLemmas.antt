@@ -4,13 +4,13 @@ use Rattle.std.proofs.Math.ListN.{get_or-append}
 use Rattle.std.proofs.Math.Seq.{get_or-append_seam}
 use Rattle.std.proofs.lemmas.Bool.{cases_eq}
 use Rattle.std.proofs.lemmas.List.{get_or_read}
-use Rattle.line_settle.specs.Masks.{Masks}
+use Rattle.line_facts.specs.Masks.{Masks}
 use Rattle.justify.specs.declared.step.Step.{Step}
 use Rattle.picture.specs.Rows.{line_of}
 use Rattle.justify.specs.Premises.{Mentions}
 use Rattle.justify.specs.Steps.{step_at, Draws}
 use Rattle.justify.specs.Book.{Account, account, IsAccount, AreFactsBehind, CanFollow, CanAdd, GainDrawn, IsDrawnBefore}
-use Rattle.line_settle.proofs.GridLaws.{same_line_length, shape_trans}
+use Rattle.line_facts.proofs.GridLaws.{same_line_length, shape_trans}
 
 pub step_before : (steps : List Step) (step : Step) (j : ℕ) → j < length steps → step_at (steps ++ step ∷ []) j ≡ step_at steps j
 step_before steps step j l = get_or-append steps (step ∷ []) _ j l

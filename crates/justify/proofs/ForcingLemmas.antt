@@ -3,7 +3,7 @@ use Rattle.std.proofs.Common.{◌≡◌, ℕ, ◌<◌, List, length, sym, ◌∙
 use Rattle.std.specs.Prelude.{IsBitSet}
 use Rattle.std.proofs.lemmas.List.{get_or_past}
 use Rattle.clues.specs.declared.block.Block.{Block}
-use Rattle.line_settle.specs.Fits.{Fits, CanHave}
+use Rattle.line_facts.specs.Fits.{Fits, CanHave}
 use Rattle.justify.specs.Exclusions.{FitsWithout, CanHaveWithout}
 
 module _ (clue : List Block) (left : List ℕ) (cells : ℕ) (said : ℕ → ℕ → Type 0) (len : length left ≡ cells) where

@@ -2,13 +2,13 @@
 use Rattle.std.proofs.Common.{◌≡◌, ℕ, ◌+◌, ◌<◌, ◌↔◌, List, sym, ap, ◌∙◌, subst, arith, inl, inr}
 use Rattle.std.specs.Prelude.{IsBitSet}
 use Rattle.std.proofs.lemmas.Bool.{cases_eq}
-use Rattle.line_settle.specs.Masks.{Masks}
+use Rattle.line_facts.specs.Masks.{Masks}
 use Rattle.picture.specs.declared.line_id.LineId.{LineId}
 use Rattle.picture.specs.Rows.{cell_at}
-use Rattle.line_settle.specs.FactSets.{Leaves, SameShape, ExcludesAt, row_on, col_on}
+use Rattle.line_facts.specs.FactSets.{Leaves, SameShape, ExcludesAt, row_on, col_on}
 use Rattle.justify.specs.declared.premise.Premise.{Premise}
 use Rattle.justify.specs.Premises.{premise_at}
-use Rattle.line_settle.proofs.GridLaws.{shape_trans}
+use Rattle.line_facts.proofs.GridLaws.{shape_trans}
 
 -- one of the first n premises says that colour k is not in a cell
 pub record DrawnSoFar (line : LineId) (premises : List Premise) (n row col k : ℕ) : Type 0 where

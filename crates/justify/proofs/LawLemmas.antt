@@ -2,23 +2,23 @@
 use Rattle.std.proofs.Common.{◌≡◌, ℕ, zero, suc, ◌<◌, ◌≤◌, List, [], ◌∷◌, ◌++◌, length, refl, sym, ap, ◌∙◌, subst, arith, inl, inr, get_or}
 use Rattle.std.specs.Prelude.{IsBitSet}
 use Rattle.std.proofs.lemmas.Bool.{cases_eq}
-use Rattle.line_settle.specs.Masks.{Masks}
+use Rattle.line_facts.specs.Masks.{Masks}
 use Rattle.picture.specs.declared.line_id.LineId.{LineId}
 use Rattle.picture.specs.Rows.{cell_at, line_of, width_of, HasLine}
 use Rattle.clues.specs.declared.block.Block.{Block}
 use Rattle.clues.specs.ClueBook.{Clues, clue_at}
-use Rattle.line_settle.specs.declared.line_engine.Outcome.TheVariants.{Narrowed, Dead}
-use Rattle.line_settle.specs.Fits.{CanHave}
-use Rattle.line_settle.specs.NarrowedLine.{Narrows}
-use Rattle.line_settle.specs.FactSets.{Leaves, IsWithin, IsClosed, IsClosedLine, Gains, row_on, col_on}
+use Rattle.line_facts.specs.declared.line_engine.Outcome.TheVariants.{Narrowed, Dead}
+use Rattle.line_facts.specs.Fits.{CanHave}
+use Rattle.line_facts.specs.NarrowedLine.{Narrows}
+use Rattle.line_facts.specs.FactSets.{Leaves, IsWithin, IsClosed, IsClosedLine, Gains, row_on, col_on}
 use Rattle.justify.specs.declared.step.Step.{Step}
 use Rattle.justify.specs.Premises.{Says}
 use Rattle.justify.specs.Steps.{step_at, Draws, IsForced, IsTrimmed}
 use Rattle.justify.specs.Book.{Account, IsAccount, IsDrawnBefore, CanAdd, GainDrawn, Adds, IsDerivation, AreTrimmed}
 use Rattle.justify.specs.NewSteps.{IsNewStep}
 use Rattle.justify.specs.Laws.{FactsAreWhatIsKnown, NewStepsFollow, NewStepsDerive, DerivationsGrow, DerivationsStayInside}
-use Rattle.line_settle.proofs.GridLaws.{same_line_length, same_has_line, shape_sym, shape_trans, cell_on}
-use Rattle.line_settle.proofs.FitLaws.{have_left, have_narrowed}
+use Rattle.line_facts.proofs.GridLaws.{same_line_length, same_has_line, shape_sym, shape_trans, cell_on}
+use Rattle.line_facts.proofs.FitLaws.{have_left, have_narrowed}
 use Rattle.picture.proofs.BitLaws.{same_bits, bit_below}
 use Rattle.justify.proofs.SaidLemmas.{bit_or_not}
 use Rattle.justify.proofs.PlaceLemmas.{one_along, drawn_or_not}

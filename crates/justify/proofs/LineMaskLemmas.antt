@@ -13,7 +13,7 @@ use Rattle.std.proofs.lemmas.Nat.Bits.{bit_at_and, bit_at-lt, bit_at_not, bit_at
 use Rattle.justify.specs.declared.premise.Premise.{Premise}
 use Rattle.justify.specs.Premises.{premise_at, ArePremises, IsComplement, KeepsLost, LeavesRest, HasSaid}
 use Rattle.picture.proofs.BitLaws.{bit_is_set, set_bit, no_bit, bit_below}
-use Rattle.line_settle.proofs.MaskLaws.{full_has, without_bit}
+use Rattle.line_facts.proofs.MaskLaws.{full_has, without_bit}
 use Rattle.justify.proofs.SaidLemmas.{mentions_or_not}
 
 -- ---- bits

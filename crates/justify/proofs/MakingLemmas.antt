@@ -7,9 +7,9 @@ use Rattle.std.proofs.lemmas.Bool.{cases_eq, cases_lt}
 use Rattle.std.proofs.lemmas.List.{get_or_past, length-set}
 use Rattle.picture.specs.declared.line_id.LineId.{LineId}
 use Rattle.clues.specs.declared.block.Block.{Block}
-use Rattle.line_settle.specs.declared.line_engine.Outcome.TheVariants.{Narrowed}
-use Rattle.line_settle.specs.Fits.{CanHave}
-use Rattle.line_settle.specs.NarrowedLine.{Narrows}
+use Rattle.line_facts.specs.declared.line_engine.Outcome.TheVariants.{Narrowed}
+use Rattle.line_facts.specs.Fits.{CanHave}
+use Rattle.line_facts.specs.NarrowedLine.{Narrows}
 use Rattle.line_settle.specs.LeftOut.{ForcesAll, LeavesOut}
 use Rattle.justify.specs.declared.premise.Premise.{Premise}
 use Rattle.justify.specs.Premises.{premise_at, Gathers, IsComplement, KeepsLost, Mentions, Says, SaysBut}
@@ -17,7 +17,7 @@ use Rattle.justify.specs.Exclusions.{CanHaveWithout}
 use Rattle.justify.specs.Needs.{AreNeeded, DrawsLess}
 use Rattle.justify.specs.NewSteps.{DrawsNothing, IsNewStep}
 use Rattle.picture.proofs.BitLaws.{no_bit, bit_below, same_bits}
-use Rattle.line_settle.proofs.MaskLaws.{full_has}
+use Rattle.line_facts.proofs.MaskLaws.{full_has}
 use Rattle.justify.proofs.SaidLemmas.{bit_or_not}
 use Rattle.justify.proofs.LineMaskLemmas.{some_bit}
 use Rattle.justify.proofs.ForcingLemmas.{have_without, without_have}

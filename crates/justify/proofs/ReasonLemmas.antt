@@ -6,7 +6,7 @@ use Rattle.std.proofs.lemmas.List.{get_or_past, get_or-replicate, length-replica
 use Rattle.picture.specs.Rows.{line_of}
 use Rattle.clues.specs.declared.block.Block.{Block}
 use Rattle.clues.specs.ClueBook.{Clues, clue_at}
-use Rattle.line_settle.specs.FactSets.{Leaves, row_on, col_on}
+use Rattle.line_facts.specs.FactSets.{Leaves, row_on, col_on}
 use Rattle.line_settle.specs.LeftOut.{ForcesAll}
 use Rattle.justify.specs.declared.premise.Premise.{Premise}
 use Rattle.justify.specs.declared.step.Step.{Step}
@@ -17,7 +17,7 @@ use Rattle.justify.specs.Book.{Account, CanFollow, IsAccount, IsDerivation}
 use Rattle.justify.specs.Needs.{AreNeeded}
 use Rattle.justify.specs.Reasons.{Argues, Supports}
 use Rattle.picture.proofs.BitLaws.{no_bit, power_has}
-use Rattle.line_settle.proofs.MaskLaws.{shifted}
+use Rattle.line_facts.proofs.MaskLaws.{shifted}
 use Rattle.justify.proofs.SaidLemmas.{says_or_not}
 use Rattle.justify.proofs.ForcingLemmas.{have_without}
 

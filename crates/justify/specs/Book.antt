@@ -1,9 +1,9 @@
 -- A book of steps over a base: a reason for each exclusion.
 use Rattle.std.specs.Prelude.{◌≡◌, ℕ, ◌<◌, ◌⊎◌, ◌↔◌, List, [], ◌∷◌, ◌++◌, length}
-use Rattle.line_settle.specs.Masks.{Masks}
+use Rattle.line_facts.specs.Masks.{Masks}
 use Rattle.picture.specs.Rows.{line_of, width_of, HasLine}
 use Rattle.clues.specs.ClueBook.{Clues, clue_at}
-use Rattle.line_settle.specs.FactSets.{IsFacts, Leaves, Excludes, SameShape, row_on, col_on}
+use Rattle.line_facts.specs.FactSets.{IsFacts, Leaves, Excludes, SameShape, row_on, col_on}
 use Rattle.justify.specs.declared.step.Step.{Step}
 use Rattle.justify.specs.Premises.{Mentions, Says}
 use Rattle.justify.specs.Steps.{step_at, Draws, IsForced, IsTrimmed}

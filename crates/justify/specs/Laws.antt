@@ -1,12 +1,12 @@
 -- Laws of books.
 use Rattle.std.specs.Prelude.{ℕ, ◌↔◌, List, length}
-use Rattle.line_settle.specs.Masks.{Masks}
+use Rattle.line_facts.specs.Masks.{Masks}
 use Rattle.picture.specs.declared.line_id.LineId.{LineId}
 use Rattle.picture.specs.Rows.{line_of, HasLine}
 use Rattle.clues.specs.declared.block.Block.{Block}
 use Rattle.clues.specs.ClueBook.{Clues, clue_at}
-use Rattle.line_settle.specs.declared.line_engine.Outcome.TheVariants.{Narrowed}
-use Rattle.line_settle.specs.FactSets.{Excludes, Gains, IsClosed, IsClosedLine, IsWithin}
+use Rattle.line_facts.specs.declared.line_engine.Outcome.TheVariants.{Narrowed}
+use Rattle.line_facts.specs.FactSets.{Excludes, Gains, IsClosed, IsClosedLine, IsWithin}
 use Rattle.justify.specs.declared.step.Step.{Step}
 use Rattle.justify.specs.Steps.{IsForced, IsTrimmed}
 use Rattle.justify.specs.Book.{Account, IsAccount, IsKnownBefore, AreFactsBehind, CanAdd, Adds, IsDerivation}

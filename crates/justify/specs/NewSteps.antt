@@ -3,8 +3,8 @@ use Rattle.std.specs.Prelude.{◌≡◌, ℕ, ◌<◌, ◌↔◌, List, length, 
 use Rattle.std.specs.Prelude.{Err}
 use Rattle.picture.specs.declared.line_id.LineId.{LineId}
 use Rattle.clues.specs.declared.block.Block.{Block}
-use Rattle.line_settle.specs.Fits.{CanFit, CanHave, Forces}
-use Rattle.line_settle.specs.FactSets.{IsClosedLine}
+use Rattle.line_facts.specs.Fits.{CanFit, CanHave, Forces}
+use Rattle.line_facts.specs.FactSets.{IsClosedLine}
 use Rattle.justify.specs.declared.fault.StepFault.{StepFault}
 use Rattle.justify.specs.declared.fault.StepFault.TheVariants as fault
 use Rattle.justify.specs.declared.step.Step.{Step}

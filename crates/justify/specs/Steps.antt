@@ -2,7 +2,7 @@
 use Rattle.std.specs.Prelude.{◌≡◌, ℕ, List, [], slice_index_or}
 use Rattle.picture.specs.declared.line_id.Axis.TheVariants.{Across}
 use Rattle.clues.specs.declared.block.Block.{Block}
-use Rattle.line_settle.specs.FactSets.{row_on, col_on}
+use Rattle.line_facts.specs.FactSets.{row_on, col_on}
 use Rattle.justify.specs.declared.premise.Premise.{Premise}
 use Rattle.justify.specs.declared.step.Step.{Step}
 use Rattle.justify.specs.Premises.{Mentions, Says, SaysBut}

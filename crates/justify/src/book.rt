@@ -2,13 +2,13 @@
 
 ghost use Rattle.std.specs.Prelude.{◌≡◌, ℕ, ◌<◌, [], length, IfOk, OnOk, OnErr};
 ghost use Rattle.picture.specs.Rows.{line_of, HasLine};
-ghost use Rattle.line_settle.specs.FactSets.{ExcludesAt, row_on, col_on};
+ghost use Rattle.line_facts.specs.FactSets.{ExcludesAt, row_on, col_on};
 ghost use Rattle.justify.specs.Premises.{Mentions};
 ghost use Rattle.justify.specs.Book.{account, Adds, CanAdd, GainDrawn, IsAccount};
 ghost use Rattle.justify.specs.Reasons.{Finds};
 
 use crate::step::Step;
-use line_settle::Facts;
+use line_facts::Facts;
 use picture::{Axis, LineId};
 use std::alloc::{AllocError, Global};
 use std::marker::Model;

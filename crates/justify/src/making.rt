@@ -2,7 +2,7 @@
 
 ghost use Rattle.std.specs.Prelude.{◌≡◌, ◌≤◌, length};
 ghost use Rattle.picture.specs.Rows.{line_of, HasLine};
-ghost use Rattle.line_settle.specs.Counts.{Counts};
+ghost use Rattle.line_facts.specs.Counts.{Counts};
 ghost use Rattle.justify.specs.NewSteps.{Makes};
 
 use crate::book::Book;
@@ -12,7 +12,7 @@ use crate::needs::needed_for;
 use crate::premise::Premises;
 use crate::step::Step;
 use clues::Clue;
-use line_settle::{LineEngine, Meter, Outcome};
+use line_facts::{LineEngine, Meter, Outcome};
 use picture::LineId;
 
 impl Book {

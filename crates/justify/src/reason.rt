@@ -2,7 +2,7 @@
 
 ghost use Rattle.std.specs.Prelude.{◌≡◌, ℕ, ◌<◌, ◌≤◌, length, IfOk};
 ghost use Rattle.picture.specs.Rows.{width_of};
-ghost use Rattle.line_settle.specs.FactSets.{Leaves};
+ghost use Rattle.line_facts.specs.FactSets.{Leaves};
 ghost use Rattle.justify.specs.Book.{IsDerivation};
 ghost use Rattle.justify.specs.Exclusions.{ForcesFrom};
 ghost use Rattle.justify.specs.Premises.{Mentions, Says};

@@ -10,7 +10,7 @@ use crate::book::Book;
 use crate::masks::{MOST_CELLS, has_none, leave_rest};
 use crate::step::Step;
 use clues::{Clue, ClueBook};
-use line_settle::LineEngine;
+use line_facts::LineEngine;
 
 impl Book {
     /// Whether the book is a derivation from these clues, which may be of another size: whether each step's line forces by

@@ -1,7 +1,7 @@
 //! A derivation step: a line, its premises, and what it excludes.
 
 ghost use Rattle.std.specs.Prelude.{◌≡◌, ◌<◌, ◌↔◌, ℕ, IfOk, IsTrue};
-ghost use Rattle.line_settle.specs.FactSets.{IsOn, row_on, col_on};
+ghost use Rattle.line_facts.specs.FactSets.{IsOn, row_on, col_on};
 ghost use Rattle.justify.specs.Steps.{Draws};
 
 use crate::masks::says;

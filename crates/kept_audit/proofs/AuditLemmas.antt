@@ -2,7 +2,7 @@
 use Rattle.std.proofs.Common.{◌≡◌, ℕ, ◌<◌, ◌≤◌, List, [], length, inl, inr, Ok, Err, refl, sym, ap, subst, ◌∙◌, arith}
 use Rattle.std.proofs.lemmas.Bool.{cases_lt}
 use Rattle.std.proofs.lemmas.List.{get_or_past}
-use Rattle.line_settle.specs.Masks.{Masks}
+use Rattle.line_facts.specs.Masks.{Masks}
 use Rattle.picture.specs.declared.line_id.Axis.{Axis}
 use Rattle.picture.specs.declared.line_id.Axis.TheVariants.{Across, Down}
 use Rattle.picture.specs.declared.document.Document.{Document}
@@ -13,11 +13,11 @@ use Rattle.picture.specs.Rows.{cell_at, lines_along, row_at, width_of, Rows}
 use Rattle.clues.specs.Change.{Changes, Moves, IsChangeOf, CanRefresh, lines_after}
 use Rattle.clues.specs.ClueBook.{Clues, clues_along, clues_of}
 use Rattle.clues.proofs.LawLemmas.{of_lines, standing as untouched_stand}
-use Rattle.line_settle.specs.declared.meter.Meter.{Meter}
-use Rattle.line_settle.specs.FactSets.{IsBase, IsClosedLine, IsLeast, SameShape}
-use Rattle.line_settle.specs.Fits.{CanFit}
-use Rattle.line_settle.proofs.LawLemmas.{one_least}
-use Rattle.line_settle.specs.Outside.{EachOutside}
+use Rattle.line_facts.specs.declared.meter.Meter.{Meter}
+use Rattle.line_facts.specs.FactSets.{IsBase, IsClosedLine, IsLeast, SameShape}
+use Rattle.line_facts.specs.Fits.{CanFit}
+use Rattle.line_facts.proofs.LawLemmas.{one_least}
+use Rattle.line_facts.specs.Outside.{EachOutside}
 use Rattle.justify.specs.Book.{Account, account, AreTrimmed, IsAccount, IsDerivation}
 use Rattle.retract.specs.Dirty.{AreDirty}
 use Rattle.retract.specs.StandingSteps.{AreStanding, HaveBooks}

@@ -1,13 +1,13 @@
 -- A document audited by line logic.
 use Rattle.std.specs.Prelude.{◌≡◌, ℕ, ◌<◌, ◌↔◌, List, ◌++◌, length}
-use Rattle.line_settle.specs.Masks.{Masks}
+use Rattle.line_facts.specs.Masks.{Masks}
 use Rattle.picture.specs.LineSet.{Lines}
 use Rattle.picture.specs.Rows.{cell_at, width_of}
 use Rattle.clues.specs.Change.{Moves}
 use Rattle.clues.specs.ClueBook.{Clues, clues_of}
-use Rattle.line_settle.specs.declared.meter.Meter.{Meter}
-use Rattle.line_settle.specs.Counts.{Counts}
-use Rattle.line_settle.specs.FactSets.{IsLeast, Leaves, SameShape}
+use Rattle.line_facts.specs.declared.meter.Meter.{Meter}
+use Rattle.line_facts.specs.Counts.{Counts}
+use Rattle.line_facts.specs.FactSets.{IsLeast, Leaves, SameShape}
 use Rattle.edits.specs.Design.{Design}
 use Rattle.justify.specs.declared.step.Step.{Step}
 use Rattle.justify.specs.Book.{Account, AreTrimmed, IsAccount, IsDerivation}

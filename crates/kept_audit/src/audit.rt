@@ -4,14 +4,14 @@ ghost use Rattle.std.specs.Prelude.{◌≡◌, ◌≤◌, ℕ, List, length, IfO
 ghost use Rattle.picture.specs.Rows.{width_of};
 ghost use Rattle.clues.specs.Change.{IsChangeOf};
 ghost use Rattle.clues.specs.ClueBook.{clues_of};
-ghost use Rattle.line_settle.specs.FactSets.{IsLeast};
+ghost use Rattle.line_facts.specs.FactSets.{IsLeast};
 ghost use Rattle.edits.specs.Design.{design_of};
 ghost use Rattle.fixpoint.specs.declared.fault.CloseFault.TheVariants as fault;
 ghost use Rattle.kept_audit.specs.Audit.{GoesOn, IsAnew, IsAuditOf, IsBaseFor, nothing_done};
 
 use clues::{Change, ClueBook};
 use justify::Book;
-use line_settle::{Facts, LineEngine, Meter, NOTHING_DONE};
+use line_facts::{Facts, LineEngine, Meter, NOTHING_DONE};
 use picture::Document;
 use propagate::{Agenda, CloseFault, all_lines, close};
 use retract::{Kept, keep};

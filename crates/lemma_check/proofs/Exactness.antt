@@ -1,10 +1,10 @@
 -- The first error is one: where there is none, there is no other; and what follows for a proof.
 use Rattle.std.proofs.Common.{◌≡◌, ℕ, ◌+◌, ◌-◌, ◌<◌, ◌≤◌, true, false, List, [], ◌∷◌, length, Option, None, Some, Result, Ok, Err, refl, sym, ap, subst, ◌∙◌, arith, inl, inr}
 use Rattle.std.specs.Prelude.{IfErr, OnOk}
-use Rattle.line_settle.specs.Masks.{Masks}
+use Rattle.line_facts.specs.Masks.{Masks}
 use Rattle.picture.specs.Rows.{Rows}
 use Rattle.picture.specs.Picture.{IsPicture}
-use Rattle.line_settle.specs.FactSets.{with_given}
+use Rattle.line_facts.specs.FactSets.{with_given}
 use Rattle.cert_text.specs.declared.fault.CertFault.{CertFault}
 use Rattle.cert_text.specs.declared.fault.CertFault.TheVariants.{Place, Memory}
 use Rattle.cert_text.specs.declared.tree_line.CellNumber.{CellNumber}

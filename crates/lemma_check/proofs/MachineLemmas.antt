@@ -4,8 +4,8 @@ use Rattle.picture.specs.Rows.{Rows}
 use Rattle.clues.specs.declared.block.Block.{Block}
 use Rattle.clues.specs.ClueBook.{Clues, clue_at}
 use Rattle.picture.specs.declared.line_id.LineId.{LineId}
-use Rattle.line_settle.specs.declared.line_engine.Outcome.{Outcome}
-use Rattle.line_settle.specs.FactSets.{Gains}
+use Rattle.line_facts.specs.declared.line_engine.Outcome.{Outcome}
+use Rattle.line_facts.specs.FactSets.{Gains}
 use Rattle.cert_text.specs.declared.tree_line.LineNumber.{LineNumber}
 use Rattle.cert_check.specs.Puzzle.{IsForced, line_id}
 use Rattle.cert_check.specs.Walk.{CanCheck}

@@ -6,11 +6,11 @@ use Rattle.std.specs.Int.{bit_not, w16}
 use Rattle.std.proofs.lemmas.Bool.{cases_eq, cases_lt}
 use Rattle.std.proofs.lemmas.List.{get_or_past, length-set}
 use Rattle.std.proofs.lemmas.Nat.Bits.{bit_at-lt, bit_at_and, bit_at_not}
-use Rattle.line_settle.specs.Masks.{Masks}
+use Rattle.line_facts.specs.Masks.{Masks}
 use Rattle.picture.proofs.BitLaws.{bit_is_set, bit_or_not, no_bit, set_bit, unset}
 use Rattle.picture.specs.Rows.{cell_at, row_at, with_cell, Rows}
-use Rattle.line_settle.specs.FactSets.{IsWithin, Leaves}
-use Rattle.line_settle.proofs.GridLaws.{at_with_cell, off_with_cell, shape_trans, shape_with_cell}
+use Rattle.line_facts.specs.FactSets.{IsWithin, Leaves}
+use Rattle.line_facts.proofs.GridLaws.{at_with_cell, off_with_cell, shape_trans, shape_with_cell}
 use Rattle.trail.proofs.GridLemmas.{row_there, set_each}
 use Rattle.cert_check.specs.Puzzle.{HasCellNumber}
 use Rattle.cert_check.proofs.BaseLemmas.{at_or_off, left_inside}

@@ -1,11 +1,11 @@
 -- What a proof by lemmas proves is true: no other picture keeps to the facts at its root.
 use Rattle.std.proofs.Common.{◌≡◌, ◌⊎◌, ℕ, zero, suc, ◌+◌, ◌<◌, true, false, List, [], ◌∷◌, ◌++◌, length, Option, Some, None, refl, sym, ap, subst, ◌∙◌, arith, inl, inr}
 use Rattle.std.proofs.lemmas.List.{length-append, length-set}
-use Rattle.line_settle.specs.Masks.{Masks}
+use Rattle.line_facts.specs.Masks.{Masks}
 use Rattle.picture.specs.Picture.{IsPicture}
 use Rattle.picture.specs.Rows.{line_of, Rows}
-use Rattle.line_settle.specs.FactSets.{IsWithin, Leaves, SameShape}
-use Rattle.line_settle.proofs.GridLaws.{shape_refl, shape_sym, shape_trans}
+use Rattle.line_facts.specs.FactSets.{IsWithin, Leaves, SameShape}
+use Rattle.line_facts.proofs.GridLaws.{shape_refl, shape_sym, shape_trans}
 use Rattle.cert_text.specs.declared.fault.CertFault.{CertFault}
 use Rattle.cert_text.specs.declared.tree_line.CellNumber.{CellNumber}
 use Rattle.cert_text.specs.declared.tree_line.LineNumber.{LineNumber}

@@ -1,6 +1,6 @@
 -- What is known of the literals that are open.
 use Rattle.std.specs.Prelude.{◌<◌}
-use Rattle.line_settle.specs.Masks.{Masks}
+use Rattle.line_facts.specs.Masks.{Masks}
 use Rattle.lemma_check.specs.declared.opening.Open.{Open}
 use Rattle.lemma_check.specs.declared.opening.Open.TheVariants.{Nothing, One, More}
 use Rattle.lemma_check.specs.Walk.{left_of}

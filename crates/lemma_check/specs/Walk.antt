@@ -2,7 +2,7 @@
 use Rattle.std.specs.Prelude.{◌≡◌, ℕ, ◌+◌, ◌-◌, ◌<◌, ◌^◌, Bool, true, false, List, [], ◌∷◌, ◌++◌, length, filter}
 use Rattle.std.specs.Prelude.{nat_lt, bit_and, get_or, set, Option, Some, None}
 use Rattle.std.specs.Int.{bit_not, w16}
-use Rattle.line_settle.specs.Masks.{Masks}
+use Rattle.line_facts.specs.Masks.{Masks}
 use Rattle.picture.specs.Rows.{cell_at, with_cell, Rows}
 use Rattle.cert_check.specs.Puzzle.{HasCellNumber}
 use Rattle.lemma_text.specs.declared.lemma_line.Literal.{Literal}

@@ -2,7 +2,7 @@
 
 ghost use Rattle.std.specs.Prelude.{◌≡◌, ◌+◌, ◌≤◌, ◌<◌, ◌^◌, length, IfErr, OnOk, Some};
 ghost use Rattle.picture.specs.Rows.{width_of};
-ghost use Rattle.line_settle.specs.FactSets.{SameShape};
+ghost use Rattle.line_facts.specs.FactSets.{SameShape};
 ghost use Rattle.cert_check.specs.FirstFault.{AnswersFirst};
 ghost use Rattle.cert_check.specs.Puzzle.{HasCellNumbers, IsUnique};
 ghost use Rattle.cert_check.specs.Walk.{CanCheck};
@@ -14,7 +14,7 @@ use cert_check::{Claim, set_givens};
 use cert_text::CertFault;
 use clues::ClueBook;
 use lemma_text::{LemmaLine, LemmaProof};
-use line_settle::{Facts, LineEngine};
+use line_facts::{Facts, LineEngine};
 use picture::Picture;
 use std::alloc::Global;
 
@@ -36,6 +36,7 @@ fn walk<E: LineEngine>(
     ensures first { AnswersFirst
         (FirstFault claim.now.picture.now (Some (root facts)) first lines.now) result }
     ensures work { E.calls engine.new ≤ E.calls engine.old + length lines.now }
+    ensures calls { E.calls engine.old ≤ E.calls engine.new }
     ensures same_longest { E.longest engine.new ≡ E.longest engine.old }
 {
     let mut machine = Machine::start(alloc, facts)?;
@@ -74,6 +75,7 @@ pub fn check_proof<E: LineEngine>(
     ensures work { E.calls engine.new ≤ E.calls engine.old + length proof.now.lines }
     ensures idle { (HasCellNumbers picture.now proof.now.givens → ⊥)
         → E.calls engine.new ≡ E.calls engine.old }
+    ensures calls { E.calls engine.old ≤ E.calls engine.new }
     ensures same_longest { E.longest engine.new ≡ E.longest engine.old }
 {
     let clues = ClueBook::of(alloc, picture)?;

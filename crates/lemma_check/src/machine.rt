@@ -1,7 +1,7 @@
 //! The walk over a proof by lemmas: what each line does to the facts at hand, to those that wait, and to the lemmas.
 
 ghost use Rattle.std.specs.Prelude.{◌≡◌, ◌+◌, ◌<◌, ◌≤◌, [], true, IfErr, IfOk, OnOk};
-ghost use Rattle.line_settle.specs.FactSets.{SameShape};
+ghost use Rattle.line_facts.specs.FactSets.{SameShape};
 ghost use Rattle.cert_check.specs.Walk.{CanCheck};
 ghost use Rattle.lemma_check.specs.FirstFault.{Takes, found_by, reached};
 ghost use Rattle.lemma_check.specs.Walk.{IsCounted, at_facts, ended, held_to, last_at, left_of, machined, root, settled};
@@ -11,7 +11,7 @@ use crate::store::{Lemma, MAX_LITERALS, kept_lemma};
 use cert_check::{Claim, cell_in, force, is_dead, line_at, shows_only};
 use cert_text::{CertFault, LineNumber};
 use lemma_text::{LemmaLine, Literal};
-use line_settle::{Facts, LineEngine};
+use line_facts::{Facts, LineEngine};
 use std::alloc::{AllocError, Global};
 use std::marker::Model;
 use trail::Trail;
@@ -72,6 +72,7 @@ impl Machine {
         requires same_shape { SameShape claim.now.picture.now self.old.walk.at_hand }
         ensures takes { Takes claim.now.picture.now (found_by self.old.walk line) self.new line number
             result }
+        ensures calls { E.calls engine.old ≤ E.calls engine.new }
         ensures same_longest { E.longest engine.new ≡ E.longest engine.old }
         ensures work { E.calls engine.new ≤ E.calls engine.old + 1 }
     {
@@ -105,6 +106,7 @@ impl Machine {
         requires counted { IsCounted self.old }
         requires same_shape { SameShape claim.now.picture.now self.old.walk.at_hand }
         ensures takes { Takes claim.now.picture.now self.old.walk self.new line number result }
+        ensures calls { E.calls engine.old ≤ E.calls engine.new }
         ensures same_longest { E.longest engine.new ≡ E.longest engine.old }
         ensures work { E.calls engine.new ≤ E.calls engine.old + 1 }
     {
@@ -133,9 +135,11 @@ impl Machine {
         requires counted { IsCounted self.old }
         requires same_shape { SameShape claim.now.picture.now self.old.walk.at_hand }
         ensures takes { Takes claim.now.picture.now self.old.walk self.new (LemmaLine.Line at) number result }
+        ensures calls { E.calls engine.old ≤ E.calls engine.new }
         ensures same_longest { E.longest engine.new ≡ E.longest engine.old }
         ensures work { E.calls engine.new ≤ E.calls engine.old + 1 }
     {
+        let _ = engine.calls();
         let Some(line) = line_at(claim.picture, at) else {
             return Err(CertFault::Place(number));
         };
@@ -170,9 +174,11 @@ impl Machine {
         requires counted { IsCounted self.old }
         requires same_shape { SameShape claim.now.picture.now self.old.walk.at_hand }
         ensures takes { Takes claim.now.picture.now self.old.walk self.new (LemmaLine.Dead at) number result }
+        ensures calls { E.calls engine.old ≤ E.calls engine.new }
         ensures same_longest { E.longest engine.new ≡ E.longest engine.old }
         ensures work { E.calls engine.new ≤ E.calls engine.old + 1 }
     {
+        let _ = engine.calls();
         let Some(line) = line_at(claim.picture, at) else {
             return Err(CertFault::Place(number));
         };

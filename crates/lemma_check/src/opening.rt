@@ -6,7 +6,7 @@ ghost use Rattle.lemma_check.specs.Walk.{cell_left, left_of, still_open, told_op
 ghost use Rattle.lemma_check.specs.Opening.{HasLeft};
 
 use lemma_text::Literal;
-use line_settle::Facts;
+use line_facts::Facts;
 use trail::Cell;
 
 // How many of some literals have a colour left: none, one, or more.

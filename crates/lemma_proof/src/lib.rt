@@ -2,5 +2,8 @@
 #![tactic(auto)]
 
 mod making;
+mod naming;
 
-pub use making::{Made, make_proof};
+pub use lemma_search::Effort;
+pub use making::{Made, make_proof, make_proof_within};
+pub use naming::given_cells;

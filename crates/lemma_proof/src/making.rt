@@ -1,16 +1,21 @@
-//! A proof that a picture is the only one with its clues, or another picture with them.
+//! A proof that a picture is the only one with its clues and givens, or another picture with them.
 
-ghost use Rattle.std.specs.Prelude.{◌≡◌, ◌≤◌, length, IfOk};
-ghost use Rattle.picture.specs.Rows.{width_of};
+ghost use Rattle.std.specs.Prelude.{◌≡◌, ◌≤◌, ◌<◌, ℕ, length, IfOk, IsTrue};
+ghost use Rattle.picture.specs.CellSet.{HasCell};
+ghost use Rattle.picture.specs.Document.{AreInside};
+ghost use Rattle.picture.specs.Rows.{cell_at, width_of};
 ghost use Rattle.clues.specs.ClueBook.{clues_of};
-ghost use Rattle.lemma_proof.specs.Making.{Makes};
+ghost use Rattle.clues.specs.Solution.{IsOther};
+ghost use Rattle.lemma_proof.specs.Making.{AgreesIn, Makes};
+ghost use Rattle.lemma_proof.specs.Naming.{NamesGivens};
 
+use crate::naming::given_cells;
 use cert_text::CertFault;
 use clues::ClueBook;
 use lemma_check::check_proof;
 use lemma_search::{Effort, Found, learn};
-use lemma_text::{LemmaLine, LemmaProof};
-use line_settle::LineEngine;
+use lemma_text::LemmaProof;
+use line_facts::LineEngine;
 use picture::{CellSet, Picture};
 use std::alloc::{AllocError, Global};
 
@@ -28,40 +33,73 @@ const EFFORT: Effort = Effort {
     literals: 10_000_000,
 };
 
-/// Makes a proof by lemmas that no other picture has a picture's clues: `check_proof` accepts it. Or finds another one. Neither may come
-/// within the bounds of the search, of which nothing is promised. No line of the picture may be longer than the engine takes.
+/// Makes a proof by lemmas with exactly these givens: `check_proof` accepts it, so no other picture has the clues and, in the givens,
+/// the colours. Or finds another one. Neither may come within the bounds of the search, of which nothing is promised. No line of the
+/// picture may be longer than the engine takes. The engine's calls do not fall.
 pub fn make_proof<E: LineEngine>(
     alloc: Global,
     engine: &mut E,
     picture: &Picture,
+    givens: &CellSet,
 ) -> Result<Made, AllocError>
+    requires inside { AreInside givens.now picture.now }
     requires wide { width_of picture.now ≤ E.longest engine.old }
     requires tall { length picture.now ≤ E.longest engine.old }
-    ensures makes { IfOk result (Makes picture.now) }
+    ensures makes { IfOk result (Makes picture.now givens.now) }
+    ensures calls { E.calls engine.old ≤ E.calls engine.new }
+    ensures same_longest { E.longest engine.new ≡ E.longest engine.old }
+{
+    make_proof_within(alloc, engine, picture, givens, EFFORT)
+}
+
+/// Makes a proof as `make_proof` does, within other bounds. What is promised is the same whatever these are.
+pub fn make_proof_within<E: LineEngine>(
+    alloc: Global,
+    engine: &mut E,
+    picture: &Picture,
+    givens: &CellSet,
+    effort: Effort,
+) -> Result<Made, AllocError>
+    requires inside { AreInside givens.now picture.now }
+    requires wide { width_of picture.now ≤ E.longest engine.old }
+    requires tall { length picture.now ≤ E.longest engine.old }
+    ensures makes { IfOk result (Makes picture.now givens.now) }
+    ensures calls { E.calls engine.old ≤ E.calls engine.new }
     ensures same_longest { E.longest engine.new ≡ E.longest engine.old }
 {
     let clues = ClueBook::of(alloc, picture)?;
-    let givens = CellSet::empty();
-    match learn(alloc, engine, &clues, &givens, picture, EFFORT)? {
-        Found::Proof(lines) => checked(alloc, engine, picture, lines),
-        Found::Other(other) => Ok(compared(&clues, picture, other)),
+    match learn(alloc, engine, &clues, givens, picture, effort)? {
+        Found::Proof(lines) => {
+            let cells = given_cells(alloc, picture, givens)?;
+            checked(
+                alloc,
+                engine,
+                picture,
+                givens,
+                LemmaProof::new(cells, lines),
+            )
+        }
+        Found::Other(other) => Ok(compared(&clues, givens, picture, other)),
         Found::Nothing => Ok(Made::Undecided),
     }
 }
 
-// The proof of these lines, where the checker accepts it.
+// A proof, where the checker accepts it.
 fn checked<E: LineEngine>(
     alloc: Global,
     engine: &mut E,
     picture: &Picture,
-    lines: Vec<LemmaLine>,
+    givens: &CellSet,
+    proof: LemmaProof,
 ) -> Result<Made, AllocError>
+    requires names { NamesGivens picture.now givens.now proof.givens }
     requires wide { width_of picture.now ≤ E.longest engine.old }
     requires tall { length picture.now ≤ E.longest engine.old }
-    ensures makes { IfOk result (Makes picture.now) }
+    ensures makes { IfOk result (Makes picture.now givens.now) }
+    ensures calls { E.calls engine.old ≤ E.calls engine.new }
     ensures same_longest { E.longest engine.new ≡ E.longest engine.old }
 {
-    let proof = LemmaProof::new(Vec::new(alloc), lines);
+    let _ = givens.len();
     match check_proof(alloc, engine, picture, &proof) {
         Ok(()) => Ok(Made::Proof(proof)),
         Err(CertFault::Memory) => Err(AllocError),
@@ -69,14 +107,60 @@ fn checked<E: LineEngine>(
     }
 }
 
-// A picture that was found, where it has the clues and is another one.
-fn compared(clues: &ClueBook, picture: &Picture, other: Picture) -> Made
-    requires { clues.now ≡ clues_of picture.now }
-    ensures { Makes picture.now result }
+// A picture that was found, where it is another one.
+fn compared(clues: &ClueBook, givens: &CellSet, picture: &Picture, other: Picture) -> Made
+    requires inside { AreInside givens.now picture.now }
+    requires clues { clues.now ≡ clues_of picture.now }
+    ensures { Makes picture.now givens.now result }
 {
-    if clues.has_clues(&other) && !other.same(picture) {
+    if is_other(clues, givens, picture, &other) {
         Made::Other(other)
     } else {
         Made::Undecided
     }
+}
+
+// Whether a picture has the clues and the picture's colours in the givens, and is another one.
+fn is_other(clues: &ClueBook, givens: &CellSet, picture: &Picture, other: &Picture) -> bool
+    requires inside { AreInside givens.now picture.now }
+    requires clues { clues.now ≡ clues_of picture.now }
+    ensures { IsTrue result → IsOther (clues_of picture.now) (HasCell givens.now) picture.now other.now }
+{
+    if !clues.has_clues(other) || other.same(picture) {
+        return false;
+    }
+    agrees_in(givens, picture, other)
+}
+
+// Whether a picture has a picture's size, and its colours in some cells.
+fn agrees_in(cells: &CellSet, picture: &Picture, other: &Picture) -> bool
+    requires { AreInside cells.now picture.now }
+    ensures { IsTrue result → AgreesIn cells.now picture.now other.now (length picture.now) }
+{
+    if other.height() != picture.height() || other.width() != picture.width() {
+        return false;
+    }
+    for row in 0..picture.height() {
+        if !agrees_in_row(cells, picture, other, row) {
+            return false;
+        }
+    }
+    true
+}
+
+// Whether two pictures of one size have the same colours in some cells of a row.
+fn agrees_in_row(cells: &CellSet, picture: &Picture, other: &Picture, row: u8) -> bool
+    requires inside { AreInside cells.now picture.now }
+    requires in_rows { row < length picture.now }
+    requires height { length other.now ≡ length picture.now }
+    requires width { width_of other.now ≡ width_of picture.now }
+    ensures { IsTrue result → (col : ℕ) → HasCell cells.now row col
+        → cell_at other.now row col ≡ cell_at picture.now row col }
+{
+    for col in 0..picture.width() {
+        if cells.has(row, col) && other.cell(row, col) != picture.cell(row, col) {
+            return false;
+        }
+    }
+    true
 }

@@ -6,7 +6,7 @@ ghost use Rattle.clues.specs.ClueBook.{HasClue};
 use crate::atom::bit;
 use crate::automaton::Automaton;
 use clues::ClueBook;
-use line_settle::{LineEngine, Outcome};
+use line_facts::{LineEngine, Outcome};
 use picture::{Axis, CellSet, LineId, MAX_SIDE, Picture};
 use std::alloc::{AllocError, Global};
 use trail::Cell;
@@ -81,8 +81,10 @@ impl<'a> Board<'a> {
         line: LineId,
         masks: &mut Masks,
     ) -> Outcome
+        ensures calls { E.calls engine.old ≤ E.calls engine.new }
         ensures same_longest { E.longest engine.new ≡ E.longest engine.old }
     {
+        let _ = engine.calls();
         let cells = self.cells(line.axis);
         if cells > engine.longest() || !self.has_clue(line) {
             return Outcome::Narrowed;

@@ -1,6 +1,6 @@
 //! Another picture, or the lines of a proof that there is none.
 
-ghost use Rattle.std.specs.Prelude.{◌≡◌};
+ghost use Rattle.std.specs.Prelude.{◌≡◌, ◌≤◌};
 
 use crate::board::Board;
 use crate::plan::Plan;
@@ -11,7 +11,7 @@ use crate::telling::Teller;
 use crate::writing::write_lines;
 use clues::ClueBook;
 use lemma_text::LemmaLine;
-use line_settle::LineEngine;
+use line_facts::LineEngine;
 use picture::{CellSet, Picture};
 use std::alloc::{AllocError, Global};
 
@@ -36,6 +36,7 @@ pub fn learn<E: LineEngine>(
     picture: &Picture,
     effort: Effort,
 ) -> Result<Found, AllocError>
+    ensures calls { E.calls engine.old ≤ E.calls engine.new }
     ensures same_longest { E.longest engine.new ≡ E.longest engine.old }
 {
     let board = Board::new(alloc, clues, givens, picture)?;
@@ -49,6 +50,7 @@ pub fn learn<E: LineEngine>(
 
 // Tells the proof of a search that left nothing.
 fn tell<E: LineEngine>(alloc: Global, engine: &mut E, search: &Search) -> Result<Found, AllocError>
+    ensures calls { E.calls engine.old ≤ E.calls engine.new }
     ensures same_longest { E.longest engine.new ≡ E.longest engine.old }
 {
     let mut plan = Plan::new(alloc, &search.log, &search.store)?;

@@ -1,13 +1,13 @@
 //! Which lemmas a proof needs, how often, and how each is told.
 
-ghost use Rattle.std.specs.Prelude.{◌≡◌};
+ghost use Rattle.std.specs.Prelude.{◌≡◌, ◌≤◌};
 
 use crate::atom::{Literal, small};
 use crate::log::{Log, Step};
 use crate::marks::Reason;
 use crate::rehearsal::{Gained, Rehearsal, Said};
 use crate::store::{Span, Store};
-use line_settle::LineEngine;
+use line_facts::LineEngine;
 use std::alloc::{AllocError, Global};
 
 /// How a lemma is told: not at all; once, and kept; or each time inside the branch that uses it.
@@ -128,6 +128,7 @@ impl<'a> Plan<'a> {
         engine: &mut E,
         facts: &mut Rehearsal,
     ) -> Result<bool, AllocError>
+        ensures calls { E.calls engine.old ≤ E.calls engine.new }
         ensures same_longest { E.longest engine.new ≡ E.longest engine.old }
     {
         self.count_uses();
@@ -156,6 +157,7 @@ impl<'a> Plan<'a> {
         facts: &mut Rehearsal,
         reason: Reason,
     ) -> Result<Gained, AllocError>
+        ensures calls { E.calls engine.old ≤ E.calls engine.new }
         ensures same_longest { E.longest engine.new ≡ E.longest engine.old }
     {
         match reason {
@@ -180,6 +182,7 @@ impl<'a> Plan<'a> {
         facts: &mut Rehearsal,
         number: u32,
     ) -> Result<bool, AllocError>
+        ensures calls { E.calls engine.old ≤ E.calls engine.new }
         ensures same_longest { E.longest engine.new ≡ E.longest engine.old }
     {
         let old = self.lemma(number).hints;

@@ -1,6 +1,6 @@
 //! What lines and lemmas exclude, until none excludes more.
 
-ghost use Rattle.std.specs.Prelude.{◌≡◌};
+ghost use Rattle.std.specs.Prelude.{◌≡◌, ◌≤◌};
 
 use crate::atom::{Atom, Literal, has};
 use crate::board::Masks;
@@ -8,7 +8,7 @@ use crate::log::Step;
 use crate::marks::Reason;
 use crate::search::Search;
 use crate::store::Watched;
-use line_settle::{LineEngine, Outcome};
+use line_facts::{LineEngine, Outcome};
 use picture::{Axis, LineId, MAX_COLOURS};
 use std::alloc::AllocError;
 use trail::Cell;
@@ -19,6 +19,7 @@ impl<'a> Search<'a> {
         &mut self,
         engine: &mut E,
     ) -> Result<Option<Reason>, AllocError>
+        ensures calls { E.calls engine.old ≤ E.calls engine.new }
         ensures same_longest { E.longest engine.new ≡ E.longest engine.old }
     {
         for _ in 0..u64::MAX {
@@ -118,6 +119,7 @@ impl<'a> Search<'a> {
         engine: &mut E,
         line: LineId,
     ) -> Result<Outcome, AllocError>
+        ensures calls { E.calls engine.old ≤ E.calls engine.new }
         ensures same_longest { E.longest engine.new ≡ E.longest engine.old }
     {
         let mut masks = [0; 128];

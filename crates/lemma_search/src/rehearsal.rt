@@ -1,10 +1,10 @@
 //! Facts as a checker of the proof has them, to see what each step gives there.
 
-ghost use Rattle.std.specs.Prelude.{◌≡◌};
+ghost use Rattle.std.specs.Prelude.{◌≡◌, ◌≤◌};
 
 use crate::atom::{Literal, STRIDE, spot};
 use crate::board::{Board, Masks};
-use line_settle::{LineEngine, Outcome};
+use line_facts::{LineEngine, Outcome};
 use picture::LineId;
 use std::alloc::{AllocError, Global};
 use trail::Cell;
@@ -92,6 +92,7 @@ impl<'a> Rehearsal<'a> {
         engine: &mut E,
         line: LineId,
     ) -> Result<Gained, AllocError>
+        ensures calls { E.calls engine.old ≤ E.calls engine.new }
         ensures same_longest { E.longest engine.new ≡ E.longest engine.old }
     {
         let mut masks = [0; 128];

@@ -1,11 +1,11 @@
 //! The search itself: propagate, learn from each conflict, decide.
 
-ghost use Rattle.std.specs.Prelude.{◌≡◌};
+ghost use Rattle.std.specs.Prelude.{◌≡◌, ◌≤◌};
 
 use crate::log::Step;
 use crate::restarts::Restarts;
 use crate::search::Search;
-use line_settle::LineEngine;
+use line_facts::LineEngine;
 use picture::{Axis, LineId, LineSet, MAX_SIDE, Picture};
 use std::alloc::{AllocError, Global};
 
@@ -48,6 +48,7 @@ impl<'a> Search<'a> {
         engine: &mut E,
         effort: Effort,
     ) -> Result<Ended, AllocError>
+        ensures calls { E.calls engine.old ≤ E.calls engine.new }
         ensures same_longest { E.longest engine.new ≡ E.longest engine.old }
     {
         self.make_all_due();

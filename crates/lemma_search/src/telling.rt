@@ -1,6 +1,6 @@
 //! The proof told: each step that gives something, and a lemma inside the branch that uses it, where that is its way.
 
-ghost use Rattle.std.specs.Prelude.{◌≡◌};
+ghost use Rattle.std.specs.Prelude.{◌≡◌, ◌≤◌};
 
 use crate::atom::Literal;
 use crate::log::Step;
@@ -8,7 +8,7 @@ use crate::marks::Reason;
 use crate::plan::{Plan, Way};
 use crate::rehearsal::{Gained, Rehearsal, Said};
 use crate::store::Span;
-use line_settle::LineEngine;
+use line_facts::LineEngine;
 use picture::{Axis, LineId};
 use std::alloc::{AllocError, Global};
 
@@ -56,6 +56,7 @@ impl<'a> Teller<'a> {
 
     /// Tells all steps. False where one does not give what it did in the search.
     pub(crate) fn tell<E: LineEngine>(&mut self, engine: &mut E) -> Result<bool, AllocError>
+        ensures calls { E.calls engine.old ≤ E.calls engine.new }
         ensures same_longest { E.longest engine.new ≡ E.longest engine.old }
     {
         let steps = self.plan.steps;
@@ -72,6 +73,7 @@ impl<'a> Teller<'a> {
     }
 
     fn tell_step<E: LineEngine>(&mut self, engine: &mut E, step: Step) -> Result<bool, AllocError>
+        ensures calls { E.calls engine.old ≤ E.calls engine.new }
         ensures same_longest { E.longest engine.new ≡ E.longest engine.old }
     {
         match step {
@@ -95,6 +97,7 @@ impl<'a> Teller<'a> {
         engine: &mut E,
         reason: Reason,
     ) -> Result<Gained, AllocError>
+        ensures calls { E.calls engine.old ≤ E.calls engine.new }
         ensures same_longest { E.longest engine.new ≡ E.longest engine.old }
     {
         let start = self.plan.hints.len();
@@ -105,6 +108,7 @@ impl<'a> Teller<'a> {
 
     // Tells a lemma that is kept.
     fn tell_lemma<E: LineEngine>(&mut self, engine: &mut E, number: u32) -> Result<bool, AllocError>
+        ensures calls { E.calls engine.old ≤ E.calls engine.new }
         ensures same_longest { E.longest engine.new ≡ E.longest engine.old }
     {
         let known = self.plan.lemma(number);
@@ -140,6 +144,7 @@ impl<'a> Teller<'a> {
         engine: &mut E,
         hints: Span,
     ) -> Result<Gained, AllocError>
+        ensures calls { E.calls engine.old ≤ E.calls engine.new }
         ensures same_longest { E.longest engine.new ≡ E.longest engine.old }
     {
         let mut branches = vec![in self.alloc;
@@ -186,6 +191,7 @@ impl<'a> Teller<'a> {
         branches: &mut Vec<Branch>,
         reason: Reason,
     ) -> Result<Gained, AllocError>
+        ensures calls { E.calls engine.old ≤ E.calls engine.new }
         ensures same_longest { E.longest engine.new ≡ E.longest engine.old }
     {
         match reason {
@@ -203,6 +209,7 @@ impl<'a> Teller<'a> {
         engine: &mut E,
         line: LineId,
     ) -> Result<Gained, AllocError>
+        ensures calls { E.calls engine.old ≤ E.calls engine.new }
         ensures same_longest { E.longest engine.new ≡ E.longest engine.old }
     {
         let gained = self.facts.force(engine, line)?;

@@ -61,7 +61,7 @@ fn prove(rt: &(impl AllocGlobal + Print + Files), file: &str) -> Result<()> {
     };
     let _ = document.picture.height();
     let mut engine = MaskEngine::make(rt.alloc(), MAX_SIDE)?;
-    match make_proof(rt.alloc(), &mut engine, &document.picture)? {
+    match make_proof(rt.alloc(), &mut engine, &document.picture, &document.givens)? {
         Made::Proof(proof) => print_proof(rt, &proof),
         Made::Other(_) => Ok(println!(rt; "ambiguous")?),
         Made::Undecided => Ok(println!(rt; "undecided")?),

@@ -1,2 +1,4 @@
 pub mod LetterLemmas
+pub mod OrderLemmas
 pub mod ReadLemmas
+pub mod RoundTrip

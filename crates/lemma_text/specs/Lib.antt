@@ -1,4 +1,5 @@
 pub mod Letters
 pub mod Proof
 pub mod Text
+pub mod Writable
 pub mod Writing

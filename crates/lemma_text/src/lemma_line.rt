@@ -1,5 +1,8 @@
 //! The lines of a proof by lemmas, and the literals in them, as its text writes them.
 
+ghost use Rattle.std.specs.Prelude.{◌↔◌, IsTrue};
+ghost use Rattle.lemma_text.specs.Writable.{IsWritable, IsWritableLiteral};
+
 use cert_text::{CellNumber, LineNumber};
 
 /// A cell and some of its colours. What it says of a picture: the cell has one of these colours.
@@ -9,6 +12,15 @@ pub struct Literal {
     pub cell: CellNumber,
     /// Bit k stands for colour k.
     pub colours: u16,
+}
+
+impl Literal {
+    // Whether it can be written: its numbers have at most three digits, and it names a colour.
+    fn is_writable(self) -> bool
+        ensures { IsTrue result ↔ IsWritableLiteral self }
+    {
+        self.cell.row < 1000 && self.cell.col < 1000 && self.colours > 0
+    }
 }
 
 /// A line of a proof by lemmas, below its givens. A lemma is a list of literals, of which each other picture meets one.
@@ -35,4 +47,19 @@ pub enum LemmaLine {
     Deny(Literal),
     /// The lemma is kept no longer, where nothing waits.
     Forget(u16),
+}
+
+impl LemmaLine {
+    // Whether the line can be written.
+    pub(crate) fn is_writable(self) -> bool
+        ensures { IsTrue result ↔ IsWritable self }
+    {
+        match self {
+            LemmaLine::Line(line) => line.number < 1000,
+            LemmaLine::Dead(line) => line.number < 1000,
+            LemmaLine::Part(literal) => literal.is_writable(),
+            LemmaLine::Deny(literal) => literal.is_writable(),
+            _ => true,
+        }
+    }
 }

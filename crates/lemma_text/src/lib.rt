@@ -1,6 +1,7 @@
 //! A proof by lemmas as a value, and its text: reading and writing.
 #![tactic(auto)]
 
+pub mod laws;
 mod lemma_line;
 mod letters;
 mod proof;

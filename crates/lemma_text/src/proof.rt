@@ -1,7 +1,10 @@
 //! A proof by lemmas as a value: its givens and its lines.
 
-ghost use Rattle.std.specs.Prelude.{◌≡◌, length};
+ghost use Rattle.std.specs.Prelude.{◌≡◌, ◌↔◌, length, IsTrue};
+ghost use Rattle.std.specs.List.{All};
+ghost use Rattle.cert_text.specs.Cert.{AreOrdered};
 ghost use Rattle.lemma_text.specs.Proof.{proof_lines};
+ghost use Rattle.lemma_text.specs.Writable.{CanBeWritten, IsWritable};
 
 use crate::lemma_line::LemmaLine;
 use cert_text::CellNumber;
@@ -43,4 +46,36 @@ impl LemmaProof {
     {
         &self.lines
     }
+    /// Whether the text that is written for the proof is read as the same proof: the givens are in the order of rows, none
+    /// twice, numbers have at most three digits, and each literal names a colour.
+    pub fn is_writable(&self) -> bool
+        ensures { IsTrue result ↔ CanBeWritten self.now }
+    {
+        are_ordered(&self.givens) && are_writable(&self.lines)
+    }
+}
+
+// Whether cells are in the order of rows, none twice, by numbers of at most three digits.
+fn are_ordered(cells: &[CellNumber]) -> bool
+    ensures { IsTrue result ↔ AreOrdered 0 cells.now }
+{
+    let mut least = 0;
+    for cell in cells {
+        if cell.row >= 1000 || cell.col >= 1000 {
+            return false;
+        }
+        let rank = u32::from(cell.row) * 1000 + u32::from(cell.col);
+        if rank < least {
+            return false;
+        }
+        least = rank + 1;
+    }
+    true
+}
+
+// Whether each line can be written.
+fn are_writable(lines: &[LemmaLine]) -> bool
+    ensures { IsTrue result ↔ All IsWritable lines.now }
+{
+    lines.iter().all(|line| line.is_writable())
 }

@@ -1,6 +1,5 @@
 -- The colours of a mask, as its bits are tested.
-use Rattle.std.proofs.Common.{◌≡◌, ℕ, suc, ◌-◌, ◌*◌, ◌%◌, ◌^◌, ◌<◌, true, false, ◌==◌, ◌||◌, bit_or, refl, sym, ap, ◌∙◌, arith, inl, inr, eq-eqb, ne_eqb, eqb-true, max}
-use Rattle.std.proofs.lemmas.Bool.Decides.{nat_tests}
+use Rattle.std.proofs.Common.{◌≡◌, ℕ, suc, ◌-◌, ◌*◌, ◌%◌, ◌^◌, ◌<◌, true, false, ◌==◌, ◌||◌, bit_or, refl, sym, ap, ◌∙◌, arith, inl, inr, eq-eqb, ne_eqb, eqb-true}
 use Rattle.std.specs.Int.{bit_at}
 use Rattle.std.specs.Int.Count.{count_leading_zeros}
 use Rattle.std.proofs.lemmas.Bool.{cases_eq, cases_lt}
@@ -8,13 +7,10 @@ use Rattle.std.proofs.lemmas.Nat.{leading_top}
 use Rattle.std.proofs.lemmas.Nat.Bits.{shr_and_one, bit_at_or, bit_at-lt, bit_at-zero, bit_at_above, bit_at-pow_same, bit_at-pow_other}
 use Rattle.std.proofs.lemmas.Grind.{one_shifted}
 use Rattle.line_settle.specs.Patterns.{allows}
+use Rattle.line_facts.proofs.BitSetLaws.{max_is_one}
 
 pub allows_is : (mask k : ℕ) → allows mask k ≡ (bit_at mask k == 1)
 allows_is mask k = ap (λ b. b == 1) (shr_and_one mask k)
-
--- a number below 2 as a test
-pub max_is_one : (a b : ℕ) → a < 2 → b < 2 → (max a b == 1) ≡ ((a == 1) || (b == 1))
-max_is_one a b h i = grind (arith, nat_tests)
 
 pub allows_or : (a b k : ℕ) → allows (bit_or a b) k ≡ (allows a k || allows b k)
 allows_or a b k =

@@ -5,7 +5,7 @@ use Rattle.std.proofs.lemmas.Bool.{eqb-true}
 use Rattle.std.proofs.lemmas.Nat.{bit_set_by_shift}
 use Rattle.clues.specs.declared.block.Block.{Block}
 use Rattle.clues.specs.Clue.{IsClue}
-use Rattle.line_settle.specs.Fits.{Fits, CanFit, CanHave}
+use Rattle.line_facts.specs.Fits.{Fits, CanFit, CanHave}
 use Rattle.line_settle.specs.Patterns.{pattern_of, allows, finishes, reaches}
 use Rattle.line_settle.proofs.PatternLemmas.{clue_is_spelled, spells_clue, spells_length}
 use Rattle.line_settle.proofs.StateLemmas.{SpellsAt}

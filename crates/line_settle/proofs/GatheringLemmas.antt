@@ -7,39 +7,18 @@ use Rattle.std.proofs.Math.Bool.{or-false, or_self}
 use Rattle.std.proofs.lemmas.Bool.{cases_lt}
 use Rattle.std.proofs.lemmas.List.{get_or_past, get_or-map, get_or-take, length-map, length-replicate, length-take, take_all}
 use Rattle.std.proofs.lemmas.Nat.{pow_pos}
-use Rattle.std.proofs.lemmas.Nat.Bits.{bit_at_cat_low, bit_at_cat_high, bit_at-lt, and_pow}
-use Rattle.std.proofs.lemmas.Simd.{length-chunk, get_or-chunk, length-zip2, zip2_splat, map-map, bitmask_splat, bit_mask_l, mask_l-lt}
+use Rattle.std.proofs.lemmas.Nat.Bits.{bit_at-lt, and_pow}
+use Rattle.std.proofs.lemmas.Simd.{length-chunk, get_or-chunk, length-zip2, zip2_splat, map-map, bitmask_splat, mask_l-lt}
 use Rattle.std.proofs.lemmas.Grind.{one_shifted}
 use mir.Val.{bool_byte}
 use Rattle.line_settle.specs.Patterns.{allows}
-use Rattle.line_settle.specs.Positions.{has}
+use Rattle.line_facts.specs.BitSets.{has}
 use Rattle.line_settle.proofs.BitLemmas.{allows_is, allows_none}
-use Rattle.line_settle.proofs.PositionLemmas.{bit_low, has_above, has_or, has_none, has_one, has_bit}
+use Rattle.line_facts.proofs.BitSetLaws.{has_above, has_or, has_none}
+use Rattle.line_settle.proofs.PositionLemmas.{has_one}
+use Rattle.line_facts.proofs.BitSetLaws.{below_shifted, shifted, gathered_more, has_mask}
 
--- ---- a shift by s places to higher positions, in w bits
-
-nothing_added : (n : ℕ) → n ≡ n + 0
-nothing_added n = omega arith
-
-below_shifted : (w s a i : ℕ) → i < s → i < w → has (a * 2 ^ s % 2 ^ w) i ≡ false
-below_shifted w s a i h l =
-    has_bit (a * 2 ^ s % 2 ^ w) 0 i i (bit_low w (a * 2 ^ s) i l ∙ (ap (λ y. bit_at y i) (nothing_added (a * 2 ^ s)) ∙ bit_at_cat_low a s 0 i h))
-    ∙ has_none i
-
-shifted : (w s a i : ℕ) → 0 < 2 ^ s → s ≤ i → i < w → has (a * 2 ^ s % 2 ^ w) i ≡ has a (i - s)
-shifted w s a i p h l =
-    has_bit (a * 2 ^ s % 2 ^ w) a i (i - s) (bit_low w (a * 2 ^ s) i l ∙ (ap (λ y. bit_at y i) (nothing_added (a * 2 ^ s)) ∙ bit_at_cat_high a s 0 i p h))
-
--- ---- s cells more in front of those that are gathered already, where a test says of which cells a set has the positions
-
-pub gathered_more : (w s : ℕ) (test : ℕ → Bool) (cells low here next : ℕ) → next ≡ here + s → low < 2 ^ s → ((j : ℕ) → j < s → has low j ≡ test (here + j))
-    → ((j : ℕ) → j < w → has cells j ≡ test (next + j)) → (j : ℕ) → j < w → has (bit_or (cells * 2 ^ s % 2 ^ w) low) j ≡ test (here + j)
-gathered_more w s test cells low here next e small new before j h = has_or (cells * 2 ^ s % 2 ^ w) low j ∙ elim (cases_lt j s) [
-  | inl l ↦ rw (below_shifted w s cells j l h) (new j l)
-  | inr m ↦
-      let q : next + (j - s) ≡ here + j = omega arith in
-      rw (has_above s low j small m, or-false, shifted w s cells j (omega arith) m h, before (j - s) (omega arith), q) refl
-]
+-- ---- s cells more in front of those that are gathered already
 
 -- one cell more
 pub gathered_one : (w : ℕ) (left : List ℕ) (cells low colour here next : ℕ) (b : Bool) → next ≡ here + 1 → low ≡ bool_byte b → b ≡ allows (get_or left here 0) colour
@@ -170,14 +149,6 @@ compared-lt s bit cells few h =
     let P : ℕ → Type 0 = λ n. n < 2 ^ s in
     let Q : ℕ → Type 0 = λ n. mask_l (map (covers bit) cells) < 2 ^ n in
     subst P (sym (compared_is s bit cells few h)) (subst Q (length-map cells (covers bit) ∙ h) (mask_l-lt (map (covers bit) cells)))
-
-pub has_mask : (ms : List Bool) (i : ℕ) → has (mask_l ms) i ≡ get_or ms i false
-unfolding has
-has_mask ms i = ap (λ n. n == 1) (bit_mask_l ms i) ∙ told (get_or ms i false)
-  where
-    told : (b : Bool) → (cond b 1 0 == 1) ≡ b
-    told true = refl
-    told false = refl
 
 pub compared_each : (s : ℕ) (left : List ℕ) (first colour i : ℕ) → s ≤ 64 → colour < 16 → first + s ≤ length left → i < s
     → has (compared s (1 * 2 ^ colour % 65536) (chunk first s left)) i ≡ allows (get_or left (first + i) 0) colour

@@ -1,9 +1,10 @@
 -- Sets of positions moved over the cells of a block and over the gap before it.
 use Rattle.std.proofs.Common.{◌≡◌, ℕ, zero, suc, ◌+◌, ◌*◌, ◌/◌, ◌%◌, ◌^◌, ◌<◌, ◌&&◌, ◌||◌, bit_and, bit_or, ap, ◌∙◌, arith}
 use Rattle.std.proofs.Math.Bool.{and_comm}
-use Rattle.line_settle.specs.Positions.{has}
+use Rattle.line_facts.specs.BitSets.{has}
 use Rattle.line_settle.specs.LaidBlocks.{lays, moved, covers}
-use Rattle.line_settle.proofs.PositionLemmas.{has_and, has_or, has_none, has_down, none_moved_up, moved_up, up_next}
+use Rattle.line_settle.proofs.PositionLemmas.{has_and, has_down, none_moved_up, moved_up, up_next}
+use Rattle.line_facts.proofs.BitSetLaws.{has_or, has_none}
 
 -- ---- before the cells of a block
 

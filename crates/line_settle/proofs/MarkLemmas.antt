@@ -10,7 +10,8 @@ use Rattle.std.proofs.lemmas.List.{get_or_past, get_or-set_same, get_or-set_othe
 use Rattle.clues.specs.declared.block.Block.{Block}
 use Rattle.clues.specs.Clue.{block, IsClue}
 use Rattle.line_settle.specs.Patterns.{pattern_of, allows, waits, advances, finish_step, finishes}
-use Rattle.line_settle.specs.Positions.{has, IsCellsWith}
+use Rattle.line_facts.specs.BitSets.{has}
+use Rattle.line_settle.specs.Positions.{IsCellsWith}
 use Rattle.line_settle.specs.LaidBlocks.{lays, meets, gap_before, state_behind, state_before, IsAllowed, IsBack, IsStart}
 use Rattle.line_settle.proofs.BitLemmas.{allows_none}
 use Rattle.line_settle.proofs.BlockLemmas.{BlockAt, GapAt, PieceAt, block_at, piece_of, state_next, state_at_end, gap_waits_not, inside_waits_not, waits_for_block}

@@ -9,17 +9,18 @@ use Rattle.std.proofs.lemmas.List.Elements.{All-append, All-cons, All-nil, All-r
 use Rattle.std.proofs.lemmas.Bool.{or_cases, or_left, or_right, cases_lt, cases_Bool, false≢true}
 use Rattle.clues.specs.declared.block.Block.{Block}
 use Rattle.clues.specs.Clue.{block, IsBlock, IsClue}
-use Rattle.line_settle.specs.declared.line_engine.Outcome.TheVariants.{Narrowed, Dead}
-use Rattle.line_settle.specs.Fits.{CanFit, CanHave}
-use Rattle.line_settle.specs.NarrowedLine.{Narrows}
+use Rattle.line_facts.specs.declared.line_engine.Outcome.TheVariants.{Narrowed, Dead}
+use Rattle.line_facts.specs.Fits.{CanFit, CanHave}
+use Rattle.line_facts.specs.NarrowedLine.{Narrows}
 use Rattle.line_settle.specs.Patterns.{gap, spelled_after, pattern_of, allows, finishes, reaches, advances, rests, passes, passes_below}
-use Rattle.line_settle.specs.Positions.{has}
+use Rattle.line_facts.specs.BitSets.{has}
 use Rattle.line_settle.specs.LaidBlocks.{AreSeen}
 use Rattle.line_settle.proofs.PatternLemmas.{first_is, rest_are}
 use Rattle.line_settle.proofs.BitLemmas.{allows_none}
-use Rattle.line_settle.proofs.PositionLemmas.{has_none}
+use Rattle.line_facts.proofs.BitSetLaws.{has_none}
 use Rattle.line_settle.proofs.TableLemmas.{Passing}
 use Rattle.line_settle.proofs.FittingLemmas.{allows_bit, bit_allows, fit_finishes, finishes_fit, have_shown, shown_have, have_fits, too_long}
+use Rattle.line_settle.specs.ClosedLines.{ClosedLinesHoldWhatTheyForce}
 
 -- a pattern has no colours but its blocks' and the background
 gap_below : (n : ℕ) → 0 < n → (is_gap : Bool) → All (λ c. c < n) (gap is_gap)
@@ -175,3 +176,10 @@ have_or_not clue left i k b =
             false≢true (sym n ∙ passing_below pattern (get_or left i 0) f g (length pattern) p.state k p.within p.passes_there))
       ]
     ]
+
+-- a line is closed exactly where each exclusion that it forces is there
+pub closed_lines : ClosedLinesHoldWhatTheyForce
+closed_lines clue left b = (
+  (λ closed i k f s. f (closed i k s)),
+  (λ holds i k s. elim (have_or_not clue left i k b) [ inl h ↦ h | inr n ↦ absurd (holds i k n s) ]),
+)

@@ -7,9 +7,11 @@ use Rattle.std.proofs.lemmas.Bool.{cases_lt, lt-ltb, le-ltb}
 use Rattle.clues.specs.declared.block.Block.{Block}
 use Rattle.clues.specs.Clue.{IsClue}
 use Rattle.line_settle.specs.Patterns.{pattern_of, allows, waits, advances, rests, finishes, reaches, passes, passes_below}
-use Rattle.line_settle.specs.Positions.{has, IsCellsWith}
+use Rattle.line_facts.specs.BitSets.{has}
+use Rattle.line_settle.specs.Positions.{IsCellsWith}
 use Rattle.line_settle.specs.LaidBlocks.{moved, covers, meets, gap_before, state_behind, IsAllowed, IsBack, IsStart, AreMarked, AreSeen}
-use Rattle.line_settle.proofs.PositionLemmas.{has_and, has_or, has_down, has_none, has_one}
+use Rattle.line_settle.proofs.PositionLemmas.{has_and, has_down, has_one}
+use Rattle.line_facts.proofs.BitSetLaws.{has_or, has_none}
 use Rattle.line_settle.proofs.StateLemmas.{waits_at_end}
 use Rattle.line_settle.proofs.NarrowLemmas.{zeros}
 use Rattle.line_settle.proofs.BlockLemmas.{BlockAt, GapAt, PieceAt, block_at, piece_of, state_next, state_at_end, gap_waits_not, inside_waits_not, waits_for_block}

@@ -5,12 +5,13 @@ use Rattle.std.proofs.lemmas.Bool.Decides.{nat_tests}
 use Rattle.std.specs.Int.{bit_at}
 use Rattle.std.proofs.Math.Bool.{and-false, and-true, and_assoc, and_comm, or-false}
 use Rattle.std.proofs.lemmas.Bool.{cases_eq}
-use Rattle.std.proofs.Math.Nat.{pow-succ', div-div-eq-div-mul, div-add-mod, mul_comm}
-use Rattle.std.proofs.lemmas.Nat.Bits.{shr_and_one, bit_at_lowest, bit_at-suc, bit_at_and, bit_at_or, bit_at_xor, bit_at-lt, bit_at-zero, bit_at_above, bit_at-pow_same, bit_at-pow_other}
-use Rattle.std.proofs.lemmas.Nat.Bits.{bit_at_cat_low}
+use Rattle.std.proofs.Math.Nat.{pow-succ', div-div-eq-div-mul}
+use Rattle.std.proofs.lemmas.Nat.Bits.{shr_and_one, bit_at_lowest, bit_at-suc, bit_at_and, bit_at_or, bit_at_xor, bit_at-lt, bit_at-pow_same, bit_at-pow_other}
 use Rattle.std.proofs.lemmas.Grind.{one_shifted}
-use Rattle.line_settle.specs.Positions.{has, spans}
-use Rattle.line_settle.proofs.BitLemmas.{max_is_one}
+use Rattle.line_facts.specs.BitSets.{has}
+use Rattle.line_settle.specs.Positions.{spans}
+use Rattle.line_facts.proofs.BitSetLaws.{max_is_one}
+use Rattle.line_facts.proofs.BitSetLaws.{has_bit, has_or, has_none, has_above, bit_low}
 
 -- ---- numbers below 2 as tests
 
@@ -19,21 +20,9 @@ min_is_one a b h i = grind (arith, nat_tests)
 
 -- ---- sets
 
-pub has_bit : (a b i j : ℕ) → bit_at a i ≡ bit_at b j → has a i ≡ has b j
-unfolding has
-has_bit a b i j e = ap (λ x. x == 1) e
-
 pub has_and : (a b i : ℕ) → has (bit_and a b) i ≡ (has a i && has b i)
 unfolding has
 has_and a b i = ap (λ x. x == 1) (bit_at_and a b i) ∙ min_is_one (bit_at a i) (bit_at b i) (bit_at-lt a i) (bit_at-lt b i)
-
-pub has_or : (a b i : ℕ) → has (bit_or a b) i ≡ (has a i || has b i)
-unfolding has
-has_or a b i = ap (λ x. x == 1) (bit_at_or a b i) ∙ max_is_one (bit_at a i) (bit_at b i) (bit_at-lt a i) (bit_at-lt b i)
-
-pub has_none : (i : ℕ) → has 0 i ≡ false
-unfolding has
-has_none i = ap (λ x. x == 1) (bit_at-zero i)
 
 pub has_power : (k i : ℕ) → has (2 ^ k) i ≡ (i == k)
 unfolding has
@@ -51,10 +40,6 @@ has_place k i h = ap (λ m. has m i) (one_shifted k 3402823669209384634633746074
 pub has_place_near : (k i : ℕ) → k < 64 → has (1 * 2 ^ k % 18446744073709551616) i ≡ (i == k)
 has_place_near k i h = ap (λ m. has m i) (one_shifted k 18446744073709551615 refl h).0 ∙ has_power k i
 
-pub has_above : (w a i : ℕ) → a < 2 ^ w → w ≤ i → has a i ≡ false
-unfolding has
-has_above w a i h l = ap (λ x. x == 1) (bit_at_above a w i h l)
-
 -- a shift to lower positions
 bit_shifted : (s a i : ℕ) → bit_at (a / 2 ^ s) i ≡ bit_at a (i + s)
 bit_shifted zero a i =
@@ -68,12 +53,6 @@ bit_shifted (suc s) a i =
 
 pub has_down : (s a i : ℕ) → has (a / 2 ^ s) i ≡ has a (i + s)
 has_down s a i = has_bit (a / 2 ^ s) a i (i + s) (bit_shifted s a i)
-
--- the low w bits
-pub bit_low : (w x i : ℕ) → i < w → bit_at (x % 2 ^ w) i ≡ bit_at x i
-bit_low w x i h =
-    let e : (x / 2 ^ w) * 2 ^ w + x % 2 ^ w ≡ x = ap (λ n. n + x % 2 ^ w) (mul_comm (x / 2 ^ w) (2 ^ w)) ∙ div-add-mod x (2 ^ w) in
-    sym (bit_at_cat_low (x / 2 ^ w) w (x % 2 ^ w) i h) ∙ ap (λ y. bit_at y i) e
 
 -- a shift to the next position
 bit_doubled_first : (a : ℕ) → bit_at (a * 2) 0 ≡ 0

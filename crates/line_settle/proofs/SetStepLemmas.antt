@@ -7,9 +7,10 @@ use Rattle.std.proofs.Math.ListN.{set}
 use Rattle.std.proofs.lemmas.Bool.{cases_eq, cases_lt, le-ltb, or_cases, or_left, or_right, false≢true}
 use Rattle.std.proofs.lemmas.List.{get_or_past, get_or-set_same, get_or-set_other}
 use Rattle.line_settle.specs.Patterns.{allows}
-use Rattle.line_settle.specs.Positions.{has, IsCellsWith, HasMade}
+use Rattle.line_facts.specs.BitSets.{has}
+use Rattle.line_settle.specs.Positions.{IsCellsWith, HasMade}
 use Rattle.line_settle.proofs.BitLemmas.{allows_none, allows_or, allows_shifted}
-use Rattle.line_settle.proofs.PositionLemmas.{has_or, has_none}
+use Rattle.line_facts.proofs.BitSetLaws.{has_or, has_none}
 
 -- ---- the sets of cells by colour
 

@@ -11,15 +11,15 @@ use Rattle.std.proofs.lemmas.List.Elements.{All-get_or, All-from_get_or}
 use Rattle.std.proofs.lemmas.Grind.{same_number_lists}
 use Rattle.clues.specs.declared.block.Block.{Block}
 use Rattle.clues.specs.Clue.{clue_of, blocks_of}
-use Rattle.line_settle.specs.declared.line_engine.Outcome.TheVariants.{Narrowed, Dead}
-use Rattle.line_settle.specs.Fits.{Fits, CanHave}
-use Rattle.line_settle.specs.NarrowedLine.{Narrows}
+use Rattle.line_facts.specs.declared.line_engine.Outcome.TheVariants.{Narrowed, Dead}
+use Rattle.line_facts.specs.Fits.{Fits, CanHave}
+use Rattle.line_facts.specs.NarrowedLine.{Narrows}
 use Rattle.line_settle.specs.Patterns.{allows}
-use Rattle.line_settle.specs.Masks.{IsOnly}
+use Rattle.line_facts.specs.Masks.{IsOnly}
 use Rattle.line_settle.specs.Shown.{lowest_colour, IsShown, AreShown, lowest_colours}
 use Rattle.clues.proofs.RunLaws.{clue_of-run, clue_of-last_run, replicate-more}
 use Rattle.picture.proofs.BitLaws.{no_bit, power_has, bit_below}
-use Rattle.line_settle.proofs.MaskLaws.{only_is_power, lowest_of_power}
+use Rattle.line_facts.proofs.MaskLaws.{only_is_power, lowest_of_power}
 use Rattle.line_settle.proofs.FittingLemmas.{allows_bit, bit_allows}
 use Rattle.line_settle.proofs.NarrowLemmas.{zeros, narrows_dead}
 use Rattle.line_settle.proofs.ClueLemmas.{no_block}

@@ -5,7 +5,8 @@ use Rattle.std.proofs.lemmas.List.{get_or-set_same, get_or-set_other}
 use Rattle.std.proofs.lemmas.Nat.{pow_below}
 use Rattle.std.proofs.Math.Pow.{pow_mono}
 use Rattle.std.proofs.Math.Nat.{pow-succ'}
-use Rattle.line_settle.specs.Positions.{has, spans, AreSpans}
+use Rattle.line_facts.specs.BitSets.{has}
+use Rattle.line_settle.specs.Positions.{spans, AreSpans}
 
 -- ---- the steps
 

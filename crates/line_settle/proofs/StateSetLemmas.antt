@@ -10,12 +10,13 @@ use Rattle.std.proofs.lemmas.Nat.Bits.{bit_at_lowest, bit_at-trailing_zeros, bit
 use Rattle.clues.specs.declared.block.Block.{Block}
 use Rattle.clues.specs.Clue.{IsClue}
 use Rattle.line_settle.specs.Patterns.{pattern_of, allows, waits, finish_step, reach_step}
-use Rattle.line_settle.specs.Positions.{has}
+use Rattle.line_facts.specs.BitSets.{has}
 use Rattle.line_settle.specs.LaidBlocks.{meets, gap_before, state_behind}
 use Rattle.line_settle.specs.StateSets.{AreStates, MoveSets, MovesBy, AreNext, AreWaiting, HasColours, StateSets, ArePatternSets}
 use Rattle.line_settle.proofs.BitLemmas.{allows_is, allows_or, allows_none, allows_shifted}
 use Rattle.line_settle.proofs.NarrowLemmas.{zeros}
-use Rattle.line_settle.proofs.PositionLemmas.{has_and, has_or, has_none, has_above, has_down, none_moved_up, moved_up}
+use Rattle.line_settle.proofs.PositionLemmas.{has_and, has_down, none_moved_up, moved_up}
+use Rattle.line_facts.proofs.BitSetLaws.{has_or, has_none, has_above}
 use Rattle.line_settle.proofs.StateLemmas.{Step, waits_at_end}
 use Rattle.line_settle.proofs.StepLemmas.{crosses_finish, finish_crosses, step_reaches, reached_by_step}
 use Rattle.line_settle.proofs.BlockLemmas.{PieceAt, block_at, piece_of, state_next, state_at_end, waits_for_block, gap_waits_not, inside_waits_not}

@@ -11,14 +11,14 @@ use Rattle.std.proofs.lemmas.List.Elements.{All-get_or}
 use Rattle.clues.specs.declared.block.Block.{Block}
 use Rattle.clues.specs.Clue.{IsClue}
 use Rattle.line_settle.specs.LeftOut.{ForcesAll, LeavesOut}
-use Rattle.line_settle.specs.Masks.{all_sixteen}
+use Rattle.line_facts.specs.Masks.{all_sixteen}
 use Rattle.line_settle.specs.MarkedLists.{finish_marked, finishes_marked, reach_marked, reaches_marked, AreReached, AreBehind, ReachedSets, SweepsOut, unmarked}
 use Rattle.line_settle.specs.Sweeps.{IsUndrawn, SweptTo, SweptMarked}
-use Rattle.line_settle.specs.Positions.{has}
+use Rattle.line_facts.specs.BitSets.{has}
 use Rattle.line_settle.specs.Patterns.{pattern_of, allows, finish_step, finishes, reach_step, reaches}
 use Rattle.line_settle.specs.StateSets.{AreStates, IsForeign, Shares, StateSets, ArePatternSets}
 use Rattle.picture.proofs.BitLaws.{bit_below}
-use Rattle.line_settle.proofs.MaskLaws.{full_has}
+use Rattle.line_facts.proofs.MaskLaws.{full_has}
 use Rattle.line_settle.proofs.BitLemmas.{allows_none}
 use Rattle.line_settle.proofs.FillLemmas.{reach_step_agree}
 use Rattle.line_settle.proofs.FittingLemmas.{allows_bit, bit_allows, too_long, have_fits}

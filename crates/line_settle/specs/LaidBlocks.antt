@@ -4,7 +4,8 @@ use Rattle.std.specs.Prelude.{length, slice_index, drop}
 use Rattle.std.specs.List.{All}
 use Rattle.clues.specs.declared.block.Block.{Block}
 use Rattle.line_settle.specs.Patterns.{pattern_of, finishes, advances, reaches, passes_below}
-use Rattle.line_settle.specs.Positions.{has, IsCellsWith}
+use Rattle.line_facts.specs.BitSets.{has}
+use Rattle.line_settle.specs.Positions.{IsCellsWith}
 
 -- from position i on, n cells of a set lead to a position of another set
 abbrev pub lays : ℕ → ℕ → ℕ → ℕ → Bool

@@ -1,8 +1,8 @@
 -- Leaving out the exclusions that a line does not need to force some others.
 use Rattle.std.specs.Prelude.{◌≡◌, ℕ, ◌<◌, ◌⊎◌, List, length, slice_index, slice_set, IsBitSet}
 use Rattle.clues.specs.declared.block.Block.{Block}
-use Rattle.line_settle.specs.Fits.{CanHave, Forces}
-use Rattle.line_settle.specs.Masks.{all_sixteen}
+use Rattle.line_facts.specs.Fits.{CanHave, Forces}
+use Rattle.line_facts.specs.Masks.{all_sixteen}
 
 -- the line forces each exclusion that is drawn: of a drawn colour in its cell
 abbrev pub ForcesAll : List Block → List ℕ → List ℕ → Type 0

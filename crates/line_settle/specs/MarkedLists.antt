@@ -3,7 +3,7 @@ use Rattle.std.specs.Prelude.{◌≡◌, ℕ, zero, suc, ◌<◌, ◌⊎◌, Lis
 use Rattle.std.specs.Prelude.{slice_set, drop, bit_and}
 use Rattle.line_settle.specs.Patterns.{finish_step, finishes, reach_step, reaches}
 use Rattle.line_settle.specs.StateSets.{AreStates}
-use Rattle.line_settle.specs.Masks.{all_sixteen}
+use Rattle.line_facts.specs.Masks.{all_sixteen}
 use Rattle.line_settle.specs.declared.sweep.Reached.{Reached}
 
 -- A line can go on from state q by a cell with one of the mask's colours, and has a drawn colour after it, or one of

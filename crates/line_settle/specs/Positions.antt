@@ -1,12 +1,8 @@
 -- Sets of positions of a line, counted before and after each cell: position i is bit i of a number.
 use Rattle.std.specs.Prelude.{◌≡◌, ℕ, zero, suc, ◌+◌, ◌^◌, ◌<◌, ◌≤◌, List, Bool, true, ◌==◌, ◌&&◌, ◌||◌, length}
 use Rattle.std.specs.Prelude.{slice_index}
-use Rattle.std.specs.Int.{bit_at}
 use Rattle.line_settle.specs.Patterns.{allows}
-
--- a set has position i
-unfoldable pub has : ℕ → ℕ → Bool
-has set i = bit_at set i == 1
+use Rattle.line_facts.specs.BitSets.{has}
 
 -- a set has the positions before the cells in which colour k is left, and not the one after them
 abbrev pub IsCellsWith : List ℕ → ℕ → ℕ → Type 0

@@ -2,7 +2,7 @@
 use Rattle.std.specs.Prelude.{ℕ, List, map}
 use Rattle.std.specs.List.{All}
 use Rattle.std.specs.Int.{trailing_zeros, w16}
-use Rattle.line_settle.specs.Masks.{IsOnly}
+use Rattle.line_facts.specs.Masks.{IsOnly}
 
 -- the lowest colour left in a cell
 abbrev pub lowest_colour : ℕ → ℕ

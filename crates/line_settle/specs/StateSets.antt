@@ -3,7 +3,7 @@ use Rattle.std.specs.Prelude.{◌≡◌, ℕ, ◌+◌, ◌^◌, ◌<◌, ◌≤�
 use Rattle.line_settle.specs.declared.state_sets.Moves.{Moves}
 use Rattle.line_settle.specs.declared.state_sets.PatternSets.{PatternSets}
 use Rattle.line_settle.specs.Patterns.{allows, waits}
-use Rattle.line_settle.specs.Positions.{has}
+use Rattle.line_facts.specs.BitSets.{has}
 
 -- a set has the states of a pattern for which a test holds
 pub record AreStates (pattern : List ℕ) (test : ℕ → Bool) (set : ℕ) : Type 0 where

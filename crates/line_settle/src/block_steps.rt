@@ -2,7 +2,7 @@
 
 ghost use Rattle.std.specs.Prelude.{◌≡◌, ℕ, ◌+◌, ◌<◌, ◌&&◌, true, false, length};
 ghost use Rattle.clues.specs.Clue.{IsClue};
-ghost use Rattle.line_settle.specs.Positions.{has};
+ghost use Rattle.line_facts.specs.BitSets.{has};
 ghost use Rattle.line_settle.specs.LaidBlocks.{lays, moved, covers, meets};
 
 use crate::word::Word;

@@ -1,17 +1,11 @@
 //! One line compared with its clue: which colours each of its cells can still have.
 #![tactic(auto)]
 
-mod along;
-mod base;
 mod block_steps;
-mod facts;
-mod forcing;
 pub mod laws;
 mod line;
-mod line_engine;
 mod mask_engine;
 mod mask_line;
-mod meter;
 mod pattern;
 mod plain_engine;
 mod position_tables;
@@ -22,10 +16,9 @@ mod sweep;
 mod tables;
 mod word;
 
-pub use facts::Facts;
-pub use forcing::{Forced, force, force_crossing};
-pub use line_engine::{LineEngine, Outcome};
+pub use line_facts::{
+    Facts, Forced, LineEngine, Meter, NOTHING_DONE, Outcome, force, force_crossing,
+};
 pub use mask_engine::MaskEngine;
-pub use meter::{Meter, NOTHING_DONE};
 pub use plain_engine::PlainEngine;
 pub use sweep::leave_out;

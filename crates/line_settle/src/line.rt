@@ -2,12 +2,12 @@
 
 ghost use Rattle.std.specs.Prelude.{◌≡◌, ◌+◌, ◌*◌, ◌<◌, ◌≤◌, length};
 ghost use Rattle.clues.specs.Clue.{IsClue};
-ghost use Rattle.line_settle.specs.NarrowedLine.{Narrows};
+ghost use Rattle.line_facts.specs.NarrowedLine.{Narrows};
 
-use crate::line_engine::Outcome;
 use crate::pattern::spell;
 use crate::tables::{collect, mark_finishing};
 use clues::Block;
+use line_facts::Outcome;
 
 /// Compares a line with its clue by tables over the clue's pattern, in the buffers that are lent.
 pub fn narrow_line(

@@ -3,9 +3,9 @@
 ghost use Rattle.std.specs.Prelude.{◌≡◌, ◌+◌, ◌≤◌, IfOk, vec_len};
 ghost use Rattle.line_settle.specs.Engine.{Engine, MaskRoom, engine};
 
-use crate::line_engine::{LineEngine, Outcome};
 use crate::mask_line::narrow_by_sets;
 use clues::Clue;
+use line_facts::{LineEngine, Outcome};
 use picture::MAX_SIDE;
 use std::alloc::{AllocError, Global};
 use std::marker::Model;

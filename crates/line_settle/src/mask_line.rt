@@ -3,14 +3,14 @@
 ghost use Rattle.std.specs.Prelude.{◌≡◌, ◌+◌, ◌<◌, ◌≤◌, ◌↔◌, IsTrue, length};
 ghost use Rattle.std.specs.Mem.{type_size};
 ghost use Rattle.clues.specs.Clue.{IsClue};
-ghost use Rattle.line_settle.specs.NarrowedLine.{Narrows};
+ghost use Rattle.line_facts.specs.NarrowedLine.{Narrows};
 ghost use Rattle.line_settle.specs.Patterns.{pattern_of};
 
-use crate::line_engine::Outcome;
 use crate::position_tables::{colours_of, mark_allowed, mark_back, see_blocks, write_colours};
 use crate::shown_line::{are_shown, narrow_shown, narrow_without_blocks};
 use crate::word::Word;
 use clues::Block;
+use line_facts::Outcome;
 use picture::MAX_SIDE;
 
 /// Whether a line of so many cells has room for a clue's blocks and for background between blocks of one colour.

@@ -4,8 +4,8 @@ ghost use Rattle.std.specs.Prelude.{◌≡◌, ◌+◌, ◌*◌, IfOk, vec_len};
 ghost use Rattle.line_settle.specs.Engine.{Engine, EngineRoom, engine};
 
 use crate::line::narrow_line;
-use crate::line_engine::{LineEngine, Outcome};
 use clues::Clue;
+use line_facts::{LineEngine, Outcome};
 use std::alloc::{AllocError, Global};
 use std::marker::Model;
 

@@ -5,7 +5,8 @@ ghost use Rattle.std.specs.List.{All};
 ghost use Rattle.std.specs.Mem.{type_size};
 ghost use Rattle.clues.specs.Clue.{IsClue};
 ghost use Rattle.line_settle.specs.Patterns.{allows, pattern_of, finishes};
-ghost use Rattle.line_settle.specs.Positions.{has, HasMade};
+ghost use Rattle.line_facts.specs.BitSets.{has};
+ghost use Rattle.line_settle.specs.Positions.{HasMade};
 ghost use Rattle.line_settle.specs.LaidBlocks.{AreMarked, AreSeen, IsAllowed};
 
 use crate::block_steps::{before_gap, behind_gap, lay, meets, starts_before};

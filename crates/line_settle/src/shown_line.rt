@@ -4,14 +4,13 @@
 ghost use Rattle.std.specs.Prelude.{◌≡◌, ◌↔◌, ◌≤◌, length, [], IsTrue};
 ghost use Rattle.std.specs.List.{All};
 ghost use Rattle.clues.specs.Clue.{clue_of};
-ghost use Rattle.line_settle.specs.NarrowedLine.{Narrows};
+ghost use Rattle.line_facts.specs.NarrowedLine.{Narrows};
 ghost use Rattle.line_settle.specs.Patterns.{allows};
 ghost use Rattle.line_settle.specs.Shown.{AreShown, IsShown, lowest_colours};
 
-use crate::facts::only_colour;
-use crate::line_engine::Outcome;
 use crate::pattern::allows;
 use clues::{Block, without_run};
+use line_facts::{Outcome, only_colour};
 use picture::MAX_SIDE;
 
 /// Narrows a line whose clue is empty: it can only be background.

@@ -4,7 +4,7 @@ ghost use Rattle.std.specs.Prelude.{◌≡◌, ℕ, ◌+◌, ◌<◌, ◌≤◌,
 ghost use Rattle.clues.specs.Clue.{IsClue};
 ghost use Rattle.line_settle.specs.Patterns.{allows, pattern_of, finish_step, reach_step};
 ghost use Rattle.line_settle.specs.LaidBlocks.{gap_before};
-ghost use Rattle.line_settle.specs.Positions.{has};
+ghost use Rattle.line_facts.specs.BitSets.{has};
 ghost use Rattle.line_settle.specs.StateSets.{AreStates, MovesBy, AreMovesOf, AreNext, ArePatternSets, moves_of, sets_of};
 
 use crate::block_steps::meets;

@@ -9,8 +9,8 @@ ghost use Rattle.line_settle.specs.Patterns.{pattern_of, finishes, finish_step, 
 ghost use Rattle.line_settle.specs.StateSets.{AreStates, MovesBy, ArePatternSets, Shares, moves_of, sets_of};
 ghost use Rattle.line_settle.specs.MarkedLists.{finish_marked, finishes_marked, reach_marked, AreReached, AreBehind, SweepsOut, reached_of, unmarked};
 ghost use Rattle.line_settle.specs.Sweeps.{IsUndrawn, SweptTo, SweptMarked, SweptAll};
-ghost use Rattle.line_settle.specs.Masks.{all_sixteen};
-ghost use Rattle.line_settle.specs.Positions.{has};
+ghost use Rattle.line_facts.specs.Masks.{all_sixteen};
+ghost use Rattle.line_facts.specs.BitSets.{has};
 
 use crate::mask_line::has_room;
 use crate::state_sets::{Moves, PatternSets};

@@ -2,7 +2,7 @@
 
 ghost use Rattle.std.specs.Prelude.{◌≡◌, ℕ, ◌+◌, ◌-◌, ◌*◌, ◌/◌, ◌%◌, ◌^◌, ◌<◌, ◌≤◌, ◌==◌, ◌&&◌, ◌||◌, bit_and, bit_or, bit_xor};
 ghost use Rattle.std.proofs.Common.{lit≤};
-ghost use Rattle.line_settle.specs.Positions.{has};
+ghost use Rattle.line_facts.specs.BitSets.{has};
 
 /// A set of positions, of which position i is bit i of a number. A line of fewer cells than the width fits in it, with
 /// the position after its last cell.

@@ -1,12 +1,12 @@
 -- What is carried of the parts from one document to the next.
 use Rattle.std.proofs.Common.{◌≡◌, ℕ, List, Option, refl, sym, ap, subst, ◌∙◌}
-use Rattle.line_settle.specs.Masks.{Masks}
+use Rattle.line_facts.specs.Masks.{Masks}
 use Rattle.picture.specs.Rows.{Rows}
 use Rattle.picture.specs.declared.document.Document.{Document}
 use Rattle.picture.specs.Laws.{SameCellsAreEqual}
 use Rattle.clues.specs.Change.{Moves}
 use Rattle.clues.specs.ClueBook.{Clues}
-use Rattle.line_settle.specs.declared.meter.Meter.{Meter}
+use Rattle.line_facts.specs.declared.meter.Meter.{Meter}
 use Rattle.justify.specs.Book.{Account}
 use Rattle.kept_audit.specs.Audit.{GoesOn}
 use Rattle.second_search.specs.declared.keeper.KeptPart.{KeptPart}

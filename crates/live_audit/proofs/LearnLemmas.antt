@@ -1,7 +1,7 @@
 -- A certificate's call: what is found beside the bench, and what is kept of it then.
 use Rattle.std.proofs.Common.{◌≡◌, ℕ, List, length, Option, Some, None, MatchOption, Result, Ok, Err, OnOk, refl, sym, ap, subst, ◌∙◌, inl}
 use Rattle.std.specs.Borrow.{Bor}
-use Rattle.line_settle.specs.Masks.{Masks}
+use Rattle.line_facts.specs.Masks.{Masks}
 use Rattle.picture.specs.Rows.{Rows}
 use Rattle.clues.specs.ClueBook.{Clues, clues_of}
 use Rattle.second_search.specs.declared.keeper.KeptPart.{KeptPart}

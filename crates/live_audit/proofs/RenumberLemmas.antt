@@ -11,8 +11,8 @@ use Rattle.picture.specs.Rows.{HasLine, cell_at, line_along, line_of, lines_alon
 use Rattle.clues.specs.Clue.{clue_of}
 use Rattle.clues.specs.ClueBook.{clue_at, clues_along, clues_of}
 use Rattle.clues.specs.Laws.{BooksAreTheirClues, CluesAreOfLines}
-use Rattle.line_settle.specs.FactSets.{SameShape}
-use Rattle.line_settle.proofs.SolutionLaws.{solved_shape}
+use Rattle.line_facts.specs.FactSets.{SameShape}
+use Rattle.line_facts.proofs.SolutionLaws.{solved_shape}
 use Rattle.edits.specs.Design.{Design}
 use Rattle.live_audit.specs.Laws.{OthersAreColoured}
 use Rattle.live_audit.specs.Verdict.{IsOtherFor}

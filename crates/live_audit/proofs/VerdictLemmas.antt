@@ -1,7 +1,7 @@
 -- What a judgement by parts comes to for a document.
 use Rattle.std.proofs.Common.{◌≡◌, ℕ, ◌<◌, ◌≤◌, Bool, List, [], length, Option, Some, None, unwrap_or, Result, Ok, MatchResult, refl, sym, ap, subst, ◌∙◌, true≢false, inl, inr, arith}
 use Rattle.std.proofs.lemmas.Bool.{cases_lt}
-use Rattle.line_settle.specs.Masks.{Masks}
+use Rattle.line_facts.specs.Masks.{Masks}
 use Rattle.picture.specs.Rows.{Rows}
 use Rattle.picture.specs.declared.document.Document.{Document}
 use Rattle.picture.specs.CellSet.{HasCell}
@@ -11,9 +11,9 @@ use Rattle.picture.specs.Picture.{IsPicture}
 use Rattle.clues.specs.ClueBook.{Clues, clues_of}
 use Rattle.clues.specs.Solution.{IsOther}
 use Rattle.clues.proofs.SolutionLaws.{other_fewer}
-use Rattle.line_settle.specs.declared.meter.Meter.{Meter}
-use Rattle.line_settle.specs.Counts.{Counts, counted}
-use Rattle.line_settle.specs.FactSets.{IsBase}
+use Rattle.line_facts.specs.declared.meter.Meter.{Meter}
+use Rattle.line_facts.specs.Counts.{Counts, counted}
+use Rattle.line_facts.specs.FactSets.{IsBase}
 use Rattle.justify.specs.Book.{Account}
 use Rattle.second_search.specs.declared.keeper.Answer.TheVariants.{Filling}
 use Rattle.second_search.specs.declared.keeper.Judged.{Judged}

@@ -1,6 +1,6 @@
 -- What a caller sees of a bench, and what holds of it after every call.
 use Rattle.std.specs.Prelude.{◌≡◌, ℕ, ◌+◌, ◌<◌, ◌≤◌, ◌↔◌, List, [], length, Option, None}
-use Rattle.line_settle.specs.Masks.{Masks}
+use Rattle.line_facts.specs.Masks.{Masks}
 use Rattle.picture.specs.declared.picture.TheConstants.{MAX_SIDE}
 use Rattle.picture.specs.CellSet.{HasCell, IsCellSet}
 use Rattle.picture.specs.Rows.{cell_at}

@@ -1,6 +1,6 @@
 -- Why a colour is not in a cell.
 use Rattle.std.specs.Prelude.{ℕ}
-use Rattle.line_settle.specs.FactSets.{Excludes, Leaves}
+use Rattle.line_facts.specs.FactSets.{Excludes, Leaves}
 use Rattle.justify.specs.Reasons.{Argues}
 use Rattle.live_audit.specs.Bench.{Seen}
 use Rattle.live_audit.specs.declared.why.Why.{Why}

@@ -24,7 +24,7 @@ use clues::ClueBook;
 use edits::{Edit, EditFault, MAX_DEPTH, Prepared, Studio};
 use justify::Book;
 use kept_audit::{Audit, Revision, audit_again, audit_anew};
-use line_settle::{Facts, LineEngine};
+use line_facts::{Facts, LineEngine};
 use picture::{Document, MAX_SIDE};
 use propagate::Agenda;
 use second_search::Keeper;

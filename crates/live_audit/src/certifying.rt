@@ -5,7 +5,7 @@ ghost use Rattle.edits.specs.Design.{design_of};
 ghost use Rattle.live_audit.specs.Certify.{Certifies};
 
 use certificate::{Cert, make_cert_within};
-use line_settle::LineEngine;
+use line_facts::LineEngine;
 use picture::{Document, MAX_SIDE};
 use second_search::{BOUNDS, Keeper};
 use std::alloc::{AllocError, Global};

@@ -13,7 +13,7 @@ ghost use Rattle.live_audit.specs.Verdict.{IsOtherFor, IsToldBy, ShowsOthers, Wa
 
 use crate::work::{NO_WORK, Work};
 use kept_audit::Audit;
-use line_settle::LineEngine;
+use line_facts::LineEngine;
 use picture::{Document, MAX_SIDE, Picture};
 use second_search::{Judged, Keeper, Scene};
 use std::alloc::AllocError;

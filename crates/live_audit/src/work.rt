@@ -1,6 +1,6 @@
 //! The work of a bench.
 
-use line_settle::{Meter, NOTHING_DONE};
+use line_facts::{Meter, NOTHING_DONE};
 
 /// How much work was done: by the last edit, undo, redo or start that was accepted; and by the last verdict, with the number of
 /// parts that it searched and of splits. Of each part the splits of its first search are counted, in the fixed order up to the

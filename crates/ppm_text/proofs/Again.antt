@@ -17,9 +17,9 @@ use Rattle.ppm_text.specs.declared.fault.PpmFault.{PpmFault}
 use Rattle.ppm_text.specs.declared.fault.PpmFault.TheVariants.{NotP3}
 use Rattle.ppm_text.specs.Tokens.{Token, Unread, magic_of}
 use Rattle.ppm_text.specs.Samples.{side_at}
-use Rattle.ppm_text.specs.Ppm.{Header, header_of, palette_at, cells_at, at_the_end, ppm_of}
+use Rattle.ppm_text.specs.Ppm.{Header, header_of, palette_at, numbers_at, at_the_end, ppm_of}
 use Rattle.picture.specs.Writers.{number_text}
-use Rattle.ppm_text.specs.Text.{triple_text, cell_text, row_text, rows_text, ppm_text}
+use Rattle.ppm_text.specs.Text.{triple_text, cell_triple, row_text, rows_text, ppm_text}
 use Rattle.ppm_text.specs.RoundTrip.{IsUngiven, IsReadAgain}
 use Rattle.ppm_text.proofs.Binds.{bind_is}
 use Rattle.ppm_text.proofs.Spelled.{text_tokens, behind, space_closes, line_end_closes, side_again, palette_again}
@@ -31,7 +31,7 @@ use Rattle.picture.proofs.ColourLaws.{few_seen, fits_there}
 
 row_is_triples : (triples : List Rgb) (row : List ℕ) → row_text triples row ≡ flat_map triple_text (triples_of triples row)
 row_is_triples triples [] = refl
-row_is_triples triples (k ∷ row) = ap (λ (x : List ℕ). cell_text triples k ++ x) (row_is_triples triples row)
+row_is_triples triples (k ∷ row) = ap (λ (x : List ℕ). cell_triple triples k ++ x) (row_is_triples triples row)
 
 rows_are_triples : (triples : List Rgb) (rows : Rows) → rows_text triples rows ≡ flat_map triple_text (flat_map (triples_of triples) rows)
 rows_are_triples triples [] = refl
@@ -84,7 +84,7 @@ abbrev with_cells : Header → List ℕ × Colours × List Token → Result Cont
 with_cells header cells = at_the_end (record { colours = cells.1; rows = rows_of header.height header.width cells.0; givens = no_cells }) cells.2
 
 abbrev with_header : Header → Result Content PpmFault
-with_header header = cells_at header.rest.end (header.height * header.width) header.colours header.rest.tokens >>= with_cells header
+with_header header = numbers_at header.rest.end (header.height * header.width) header.colours header.rest.tokens >>= with_cells header
 
 abbrev with_palette : ℕ → ℕ → ℕ → Colours × List Token → Result Header PpmFault
 with_palette end height width palette = Ok (record { width = width; height = height; colours = palette.0; rest = record { end = end; tokens = palette.1 } })
@@ -123,8 +123,8 @@ read_steps width height maxval background ts final some_width most_width some_he
     let start : Unread = record { end = end; tokens = text_tokens 3 body } in
     let palette : Colours = only_background maxval background in
     let cells = cells_again end maxval ts at3 (background ∷ []) final [] most_maxval all_lawful seen room in
-    let read : cells_at end (height * width) palette (text_tokens at3 (flat_map triple_text ts ++ [])) ≡ Ok (map (number_among final) ts, record { maxval = maxval; triples = final }, []) =
-    ap (λ (n : ℕ). cells_at end n palette (text_tokens at3 (flat_map triple_text ts ++ []))) count ∙ cells.1 in
+    let read : numbers_at end (height * width) palette (text_tokens at3 (flat_map triple_text ts ++ [])) ≡ Ok (map (number_among final) ts, record { maxval = maxval; triples = final }, []) =
+    ap (λ (n : ℕ). numbers_at end n palette (text_tokens at3 (flat_map triple_text ts ++ []))) count ∙ cells.1 in
     let header : Header = record { width = width; height = height; colours = palette; rest = record { end = end; tokens = text_tokens at3 (flat_map triple_text ts ++ []) } } in
     let header_again : header_of (codes "P3\n" ++ body) (Some background) ≡ Ok header =
     header_steps (codes "P3\n" ++ body) (Some background)
@@ -136,7 +136,7 @@ read_steps width height maxval background ts final some_width most_width some_he
     (palette_again background end at2 maxval (flat_map triple_text ts ++ []) some_maxval most_maxval lawful) in
     steps (codes "P3\n" ++ body) (Some background)
     ∙ bind_is (header_of (codes "P3\n" ++ body) (Some background)) header with_header header_again
-    ∙ bind_is (cells_at end (height * width) palette (text_tokens at3 (flat_map triple_text ts ++ []))) (map (number_among final) ts, record { maxval = maxval; triples = final }, [])
+    ∙ bind_is (numbers_at end (height * width) palette (text_tokens at3 (flat_map triple_text ts ++ []))) (map (number_among final) ts, record { maxval = maxval; triples = final }, [])
     (with_cells header) read
 
 written_so : (d : Content) → ppm_text d ≡ codes "P3\n"

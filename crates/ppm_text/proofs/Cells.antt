@@ -12,8 +12,8 @@ use Rattle.ppm_text.specs.declared.fault.PpmFault.{PpmFault}
 use Rattle.ppm_text.specs.declared.fault.PpmFault.TheVariants.{Memory, TooManyColours}
 use Rattle.ppm_text.specs.declared.fields.Triple.{Triple}
 use Rattle.ppm_text.specs.Tokens.{Token}
-use Rattle.ppm_text.specs.Samples.{triple_at}
-use Rattle.ppm_text.specs.Ppm.{numbered, numbered_by, cell_at, cells_at}
+use Rattle.ppm_text.specs.Samples.{samples_at}
+use Rattle.ppm_text.specs.Ppm.{number_with, numbered_by, number_at, numbers_at}
 use Rattle.ppm_text.proofs.Binds.{bind_ok, test_ok, ok_is}
 
 abbrev Cells : Type 0
@@ -29,34 +29,34 @@ regroup front cell (Err e) = refl
 
 pub cells_go_on :
     (front : List ℕ) (end count i : ℕ) (colours : Colours) (tokens : List Token) (cell : ℕ) (after : Colours) (rest : List Token) (total : Result (List ℕ × Colours × List Token) PpmFault)
-    → i < count → cell_at end colours tokens ≡ Ok (cell, after, rest)
-    → with_front front (cells_at end (count - i) colours tokens) ≡ total → with_front (front ++ cell ∷ []) (cells_at end (count - (i + 1)) after rest) ≡ total
-unfolding cells_at
+    → i < count → number_at end colours tokens ≡ Ok (cell, after, rest)
+    → with_front front (numbers_at end (count - i) colours tokens) ≡ total → with_front (front ++ cell ∷ []) (numbers_at end (count - (i + 1)) after rest) ≡ total
+unfolding numbers_at
 cells_go_on front end count i colours tokens cell after rest total lt h so_far =
     let k : count - i ≡ suc (count - (i + 1)) = omega arith in
-    let one : with_front front (cells_at end (count - i) colours tokens) ≡ with_front (front ++ cell ∷ []) (cells_at end (count - (i + 1)) after rest) =
-    rw (k, h) (regroup front cell (cells_at end (count - (i + 1)) after rest)) in
+    let one : with_front front (numbers_at end (count - i) colours tokens) ≡ with_front (front ++ cell ∷ []) (numbers_at end (count - (i + 1)) after rest) =
+    rw (k, h) (regroup front cell (numbers_at end (count - (i + 1)) after rest)) in
     sym one ∙ so_far
 
 pub cells_stop : (e : PpmFault) (front : List ℕ) (end count i : ℕ) (colours : Colours) (tokens : List Token) (total : Result (List ℕ × Colours × List Token) PpmFault)
-    → i < count → (e ≡ Memory) ⊎ (cell_at end colours tokens ≡ Err e)
-    → with_front front (cells_at end (count - i) colours tokens) ≡ total → (e ≡ Memory) ⊎ (total ≡ Err e)
-unfolding cells_at
+    → i < count → (e ≡ Memory) ⊎ (number_at end colours tokens ≡ Err e)
+    → with_front front (numbers_at end (count - i) colours tokens) ≡ total → (e ≡ Memory) ⊎ (total ≡ Err e)
+unfolding numbers_at
 cells_stop e front end count i colours tokens total lt h so_far =
     elim h [
       | inl none ↦ inl none
       | inr fault ↦
           let k : count - i ≡ suc (count - (i + 1)) = omega arith in
-          let one : with_front front (cells_at end (count - i) colours tokens) ≡ Err e = rw (k, fault) refl in
+          let one : with_front front (numbers_at end (count - i) colours tokens) ≡ Err e = rw (k, fault) refl in
           inr (sym so_far ∙ one)
     ]
 
 pub cells_end : (front : List ℕ) (end count i : ℕ) (colours : Colours) (tokens : List Token) (total : Result (List ℕ × Colours × List Token) PpmFault)
-    → count ≤ i → with_front front (cells_at end (count - i) colours tokens) ≡ total → total ≡ Ok (front, colours, tokens)
-unfolding cells_at
+    → count ≤ i → with_front front (numbers_at end (count - i) colours tokens) ≡ total → total ≡ Ok (front, colours, tokens)
+unfolding numbers_at
 cells_end front end count i colours tokens total le so_far =
     let k : count - i ≡ 0 = omega arith in
-    let one : with_front front (cells_at end (count - i) colours tokens) ≡ Ok (front, colours, tokens) = rw k (ap (λ (cells : List ℕ). Ok (cells, colours, tokens)) (append-nil front)) in
+    let one : with_front front (numbers_at end (count - i) colours tokens) ≡ Ok (front, colours, tokens) = rw k (ap (λ (cells : List ℕ). Ok (cells, colours, tokens)) (append-nil front)) in
     sym so_far ∙ one
 
 pub ruleset cell_loop = (cells_go_on, cells_stop, cells_end)
@@ -89,11 +89,11 @@ numbered_is colours triple None cell below e =
 abbrev IsReadCell : Colours → ℕ × Colours × List Token → Type 0
 IsReadCell colours cell = Grows colours cell.1 × (cell.0 < length cell.1.triples)
 
-cell_is : (end : ℕ) (colours : Colours) (tokens : List Token) (cell : ℕ × Colours × List Token) → cell_at end colours tokens ≡ Ok cell → IsReadCell colours cell
-unfolding cell_at
+cell_is : (end : ℕ) (colours : Colours) (tokens : List Token) (cell : ℕ × Colours × List Token) → number_at end colours tokens ≡ Ok cell → IsReadCell colours cell
+unfolding number_at
 cell_is end colours tokens cell e =
-    let a = bind_ok (triple_at end colours.maxval tokens) (λ triple. numbered colours triple.0 >>= λ c. Ok (c.0, c.1, triple.1)) cell e in
-    let b = bind_ok (numbered colours a.0.0) (λ c. Ok (c.0, c.1, a.0.1)) cell a.2 in
+    let a = bind_ok (samples_at end colours.maxval tokens) (λ triple. number_with colours triple.0 >>= λ c. Ok (c.0, c.1, triple.1)) cell e in
+    let b = bind_ok (number_with colours a.0.0) (λ c. Ok (c.0, c.1, a.0.1)) cell a.2 in
     let one = numbered_is colours a.0.0 (place_of a.0.0.colour colours.triples) b.0 (λ k h. place_below a.0.0.colour colours.triples k h) b.1 in
     subst (IsReadCell colours) (ok_is Memory (b.0.0, b.0.1, a.0.1) cell b.2) one
 
@@ -107,14 +107,15 @@ with_first : (first : ℕ) (rest : List ℕ) (n : ℕ) → first < n → ((k : �
 with_first first rest n h others zero lt = h
 with_first first rest n h others (suc k) lt = others k (omega arith)
 
-pub cells_are : (end count : ℕ) (colours : Colours) (tokens : List Token) (cells : List ℕ × Colours × List Token) → cells_at end count colours tokens ≡ Ok cells → AreRead count colours cells.0 cells.1
-unfolding cells_at
+pub cells_are : (end count : ℕ) (colours : Colours) (tokens : List Token) (cells : List ℕ × Colours × List Token)
+    → numbers_at end count colours tokens ≡ Ok cells → AreRead count colours cells.0 cells.1
+unfolding numbers_at
 cells_are end zero colours tokens cells e =
     subst (λ (c : Cells). AreRead zero colours c.0 c.1) (ok_is Memory ([], colours, tokens) cells e)
     (record { all = refl; grows = record { maxval = refl; longer = omega arith }; coloured = λ k lt. absurd (omega arith) })
 cells_are end (suc count) colours tokens cells e =
-    let a = bind_ok (cell_at end colours tokens) (λ first. cells_at end count first.1 first.2 >>= λ others. Ok (first.0 ∷ others.0, others.1, others.2)) cells e in
-    let b = bind_ok (cells_at end count a.0.1 a.0.2) (λ others. Ok (a.0.0 ∷ others.0, others.1, others.2)) cells a.2 in
+    let a = bind_ok (number_at end colours tokens) (λ first. numbers_at end count first.1 first.2 >>= λ others. Ok (first.0 ∷ others.0, others.1, others.2)) cells e in
+    let b = bind_ok (numbers_at end count a.0.1 a.0.2) (λ others. Ok (a.0.0 ∷ others.0, others.1, others.2)) cells a.2 in
     let first = cell_is end colours tokens a.0 a.1 in
     let others = cells_are end count a.0.1 a.0.2 b.0 b.1 in
     let made : Cells = (a.0.0 ∷ b.0.0, b.0.1, b.0.2) in
@@ -124,11 +125,11 @@ cells_are end (suc count) colours tokens cells e =
       coloured = with_first a.0.0 b.0.0 (length b.0.1.triples) (omega (arith, first.1, others.grows.longer)) others.coloured;
     })
 
-pub all_read : (end count : ℕ) (colours : Colours) (tokens : List Token) (cells : List ℕ) (after : Colours) (rest : List Token) → cells_at end count colours tokens ≡ Ok (cells, after, rest)
+pub all_read : (end count : ℕ) (colours : Colours) (tokens : List Token) (cells : List ℕ) (after : Colours) (rest : List Token) → numbers_at end count colours tokens ≡ Ok (cells, after, rest)
     → length cells ≡ count
 all_read end count colours tokens cells after rest e = (cells_are end count colours tokens (cells, after, rest) e).all
 
-pub coloured_read : (end count : ℕ) (colours : Colours) (tokens : List Token) (cells : List ℕ) (after : Colours) (rest : List Token) → cells_at end count colours tokens ≡ Ok (cells, after, rest)
+pub coloured_read : (end count : ℕ) (colours : Colours) (tokens : List Token) (cells : List ℕ) (after : Colours) (rest : List Token) → numbers_at end count colours tokens ≡ Ok (cells, after, rest)
     → 0 < length colours.triples
     → (k : ℕ) → get_or cells k 0 < length after.triples
 coloured_read end count colours tokens cells after rest e some k =

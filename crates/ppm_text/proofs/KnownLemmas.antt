@@ -8,7 +8,7 @@ use Rattle.ppm_text.specs.declared.fault.PpmFault.TheVariants.{Memory, TooManyCo
 use Rattle.ppm_text.specs.declared.fields.Triple.{Triple}
 use Rattle.ppm_text.specs.declared.known.Known.{Known}
 use Rattle.ppm_text.specs.Known.{AreKnown}
-use Rattle.ppm_text.specs.Ppm.{numbered, numbered_by}
+use Rattle.ppm_text.specs.Ppm.{number_with, numbered_by}
 use Rattle.ppm_text.proofs.Binds.{test_ok, ok_is}
 use Rattle.ppm_text.proofs.Numbering.{place_stays, place_new}
 use Rattle.picture.proofs.ColourLaws.{same}
@@ -19,7 +19,7 @@ IsKnown triples k = place_of k.colour triples ≡ Some k.number
 -- a known colour has its number
 pub known_number : (colours : Colours) (triple : Triple) (known : List Known) (slot : ℕ) (d : Known) → slot < length known → AreKnown colours.triples known
     → (get_or known slot d).colour ≡ triple.colour
-    → numbered colours triple ≡ Ok ((get_or known slot d).number, colours)
+    → number_with colours triple ≡ Ok ((get_or known slot d).number, colours)
 known_number colours triple known slot d lt all same =
     let one : place_of (get_or known slot d).colour colours.triples ≡ Some (get_or known slot d).number = All-get_or (IsKnown colours.triples) known slot d lt all.each in
     ap (λ (o : Option ℕ). numbered_by o colours triple) (ap (λ (rgb : Rgb). place_of rgb colours.triples) (sym same) ∙ one)
@@ -45,7 +45,7 @@ all_kept : (old new : List Rgb) → ((rgb : Rgb) (k : ℕ) → place_of rgb old 
 all_kept old new kept known all = record { each = All-weaker (IsKnown old) (IsKnown new) (λ k h. kept k.colour k.number h) known all.each }
 
 -- a colour that was numbered may stand among the known ones
-pub known_after : (colours : Colours) (triple : Triple) (known : List Known) (slot n : ℕ) (after : Colours) → numbered colours triple ≡ Ok (n, after) → AreKnown colours.triples known
+pub known_after : (colours : Colours) (triple : Triple) (known : List Known) (slot n : ℕ) (after : Colours) → number_with colours triple ≡ Ok (n, after) → AreKnown colours.triples known
     → AreKnown after.triples (set known slot (record { colour = triple.colour; number = n }))
 known_after colours triple known slot n after e all =
     let grown = grown_by colours triple (place_of triple.colour colours.triples) n after refl e in

@@ -11,8 +11,8 @@ use Rattle.picture.specs.Palette.{Colours, fits, place_of}
 use Rattle.picture.specs.Document.{seen_after, number_among}
 use Rattle.ppm_text.specs.declared.fault.PpmFault.TheVariants.{TooManyColours}
 use Rattle.ppm_text.specs.declared.fields.Triple.{Triple}
-use Rattle.ppm_text.specs.Samples.{triple_at}
-use Rattle.ppm_text.specs.Ppm.{numbered, numbered_by, cell_at, cells_at}
+use Rattle.ppm_text.specs.Samples.{samples_at}
+use Rattle.ppm_text.specs.Ppm.{number_with, numbered_by, number_at, numbers_at}
 use Rattle.ppm_text.specs.Text.{triple_text}
 use Rattle.ppm_text.proofs.Binds.{bind_is}
 use Rattle.ppm_text.proofs.Spelled.{text_tokens, behind_triple, triple_again}
@@ -34,7 +34,7 @@ palette_of maxval known = record { maxval = maxval; triples = known }
 -- the next triple has its number among all the colours, and the others go on from a palette
 abbrev IsNumbered : ℕ → ℕ → List Rgb → Rgb → List Rgb → List Rgb → Type 0
 IsNumbered maxval place known t ts final =
-    (now : List Rgb) × (numbered (palette_of maxval known) (record { place = place; colour = t }) ≡ Ok (number_among final t, palette_of maxval now)) × (seen_after now ts ≡ final)
+    (now : List Rgb) × (number_with (palette_of maxval known) (record { place = place; colour = t }) ≡ Ok (number_among final t, palette_of maxval now)) × (seen_after now ts ≡ final)
 
 by_place : (maxval place : ℕ) (known : List Rgb) (t : Rgb) (ts final : List Rgb) (o : Option ℕ) → place_of t known ≡ o → seen_after known (t ∷ ts) ≡ final → length final ≤ MAX_COLOURS
     → IsNumbered maxval place known t ts final
@@ -66,12 +66,12 @@ AreLawful maxval ts = AllByRecursion (λ t. fits maxval t ≡ true) ts
 abbrev ReadsCells : ℕ → ℕ → ℕ → List Rgb → List Rgb → List Rgb → List ℕ → Type 0
 ReadsCells end place maxval known ts final rest =
     (next : ℕ)
-    × (cells_at end (length ts) (palette_of maxval known) (text_tokens place (flat_map triple_text ts ++ rest)) ≡ Ok (map (number_among final) ts, palette_of maxval final, text_tokens next rest))
+    × (numbers_at end (length ts) (palette_of maxval known) (text_tokens place (flat_map triple_text ts ++ rest)) ≡ Ok (map (number_among final) ts, palette_of maxval final, text_tokens next rest))
 
 pub cells_again : (end maxval : ℕ) (ts : List Rgb) (place : ℕ) (known final : List Rgb) (rest : List ℕ) → maxval ≤ 65535 → AreLawful maxval ts → seen_after known ts ≡ final
     → length final ≤ MAX_COLOURS
     → ReadsCells end place maxval known ts final rest
-unfolding cells_at cell_at
+unfolding numbers_at number_at
 cells_again end maxval [] place known final rest most lawful seen room =
     (place, ap (λ (xs : List Rgb). Ok ([], palette_of maxval xs, text_tokens place rest)) seen)
 cells_again end maxval (t ∷ ts) place known final rest most lawful seen room =
@@ -84,14 +84,14 @@ cells_again end maxval (t ∷ ts) place known final rest most lawful seen room =
     let colours = palette_of maxval known in
     let now = palette_of maxval one.0 in
     let number = number_among final t in
-    let first : cell_at end colours (text_tokens place (triple_text t ++ tail)) ≡ Ok (number, now, after) =
-    bind_is (triple_at end maxval (text_tokens place (triple_text t ++ tail))) (triple, after) (λ read. numbered colours read.0 >>= λ cell. Ok (cell.0, cell.1, read.1))
+    let first : number_at end colours (text_tokens place (triple_text t ++ tail)) ≡ Ok (number, now, after) =
+    bind_is (samples_at end maxval (text_tokens place (triple_text t ++ tail))) (triple, after) (λ read. number_with colours read.0 >>= λ cell. Ok (cell.0, cell.1, read.1))
     (triple_again end maxval place t tail lawful.0 most)
-    ∙ bind_is (numbered colours triple) (number, now) (λ cell. Ok (cell.0, cell.1, after)) one.1 in (
+    ∙ bind_is (number_with colours triple) (number, now) (λ cell. Ok (cell.0, cell.1, after)) one.1 in (
       others.0,
-      ap (λ (text : List ℕ). cells_at end (suc (length ts)) colours (text_tokens place text)) regrouped
-          ∙ bind_is (cell_at end colours (text_tokens place (triple_text t ++ tail))) (number, now, after)
-          (λ f. cells_at end (length ts) f.1 f.2 >>= λ o. Ok (f.0 ∷ o.0, o.1, o.2)) first
-          ∙ bind_is (cells_at end (length ts) now after) (map (number_among final) ts, palette_of maxval final, text_tokens others.0 rest)
+      ap (λ (text : List ℕ). numbers_at end (suc (length ts)) colours (text_tokens place text)) regrouped
+          ∙ bind_is (number_at end colours (text_tokens place (triple_text t ++ tail))) (number, now, after)
+          (λ f. numbers_at end (length ts) f.1 f.2 >>= λ o. Ok (f.0 ∷ o.0, o.1, o.2)) first
+          ∙ bind_is (numbers_at end (length ts) now after) (map (number_among final) ts, palette_of maxval final, text_tokens others.0 rest)
           (λ o. Ok (number ∷ o.0, o.1, o.2)) others.1,
     )

@@ -19,7 +19,7 @@ use Rattle.ppm_text.specs.declared.fault.PpmFault.TheVariants.{BadNumber}
 use Rattle.ppm_text.specs.declared.scanner.Numeral.{Numeral}
 use Rattle.ppm_text.specs.Tokens.{Token, tokens_from, without_comments, is_space, in_comment}
 use Rattle.ppm_text.specs.Numerals.{numeral_at}
-use Rattle.ppm_text.specs.Samples.{side_at, sample_at, triple_at}
+use Rattle.ppm_text.specs.Samples.{side_at, sample_at, samples_at}
 use Rattle.ppm_text.specs.Ppm.{palette_at}
 use Rattle.picture.specs.Writers.{number_text}
 use Rattle.ppm_text.specs.Text.{triple_text}
@@ -133,15 +133,15 @@ abbrev pub behind_triple : ℕ → Rgb → ℕ
 behind_triple place rgb = behind (behind (behind place rgb.r) rgb.g) rgb.b
 
 pub triple_again : (end maxval place : ℕ) (rgb : Rgb) (rest : List ℕ) → fits maxval rgb ≡ true → maxval ≤ 65535
-    → triple_at end maxval (text_tokens place (triple_text rgb ++ rest)) ≡ Ok (record { place = place; colour = rgb }, text_tokens (behind_triple place rgb) rest)
-unfolding triple_at
+    → samples_at end maxval (text_tokens place (triple_text rgb ++ rest)) ≡ Ok (record { place = place; colour = rgb }, text_tokens (behind_triple place rgb) rest)
+unfolding samples_at
 triple_again end maxval place rgb rest lawful most =
     let below = fits_parts maxval rgb lawful in
     let third : List ℕ = number_text rgb.b 10 ++ rest in
     let second : List ℕ = number_text rgb.g 32 ++ third in
     let regrouped : triple_text rgb ++ rest ≡ number_text rgb.r 32 ++ second = append_assoc (number_text rgb.r 32) (number_text rgb.g 32 ++ number_text rgb.b 10) rest
     ∙ ap (λ (x : List ℕ). number_text rgb.r 32 ++ x) (append_assoc (number_text rgb.g 32) (number_text rgb.b 10) rest) in
-    ap (λ (text : List ℕ). triple_at end maxval (text_tokens place text)) regrouped
+    ap (λ (text : List ℕ). samples_at end maxval (text_tokens place text)) regrouped
     ∙ bind_is (sample_at end maxval (text_tokens place (number_text rgb.r 32 ++ second))) (record { place = place; value = rgb.r }, text_tokens (behind place rgb.r) second)
     (λ r. sample_at end maxval r.1 >>= λ g. sample_at end maxval g.1 >>= λ b. Ok (record { place = r.0.place; colour = record { r = r.0.value; g = g.0.value; b = b.0.value } }, b.1))
     (sample_again end maxval place rgb.r 32 second below.0 most space_closes)

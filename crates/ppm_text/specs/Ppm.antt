@@ -13,7 +13,7 @@ use Rattle.ppm_text.specs.declared.fault.PpmFault.TheVariants.{BadMaxval, Sample
 use Rattle.ppm_text.specs.declared.fields.Triple.{Triple}
 use Rattle.ppm_text.specs.Tokens.{Token, Unread, magic_of}
 use Rattle.ppm_text.specs.Numerals.{numeral_at}
-use Rattle.ppm_text.specs.Samples.{side_at, triple_at}
+use Rattle.ppm_text.specs.Samples.{side_at, samples_at}
 
 -- the background that was passed, or else white
 abbrev pub background_of : Option Rgb → ℕ → Rgb
@@ -41,22 +41,22 @@ numbered_by None colours triple =
     else Err (TooManyColours triple.place)
 
 -- the number of a triple, and the palette with it
-abbrev pub numbered : Colours → Triple → Result (ℕ × Colours) PpmFault
-numbered colours triple = numbered_by (place_of triple.colour colours.triples) colours triple
+abbrev pub number_with : Colours → Triple → Result (ℕ × Colours) PpmFault
+number_with colours triple = numbered_by (place_of triple.colour colours.triples) colours triple
 
 -- one cell: its number, the palette after it and the tokens after it
-unfoldable pub cell_at : ℕ → Colours → List Token → Result (ℕ × Colours × List Token) PpmFault
-cell_at end colours tokens = do
-  triple ← triple_at end colours.maxval tokens
-  cell ← numbered colours triple.0
+unfoldable pub number_at : ℕ → Colours → List Token → Result (ℕ × Colours × List Token) PpmFault
+number_at end colours tokens = do
+  triple ← samples_at end colours.maxval tokens
+  cell ← number_with colours triple.0
   Ok (cell.0, cell.1, triple.1)
 
 -- so many cells
-unfoldable pub cells_at : ℕ → ℕ → Colours → List Token → Result (List ℕ × Colours × List Token) PpmFault
-cells_at end zero colours tokens = Ok ([], colours, tokens)
-cells_at end (suc count) colours tokens = do
-  first ← cell_at end colours tokens
-  others ← cells_at end count first.1 first.2
+unfoldable pub numbers_at : ℕ → ℕ → Colours → List Token → Result (List ℕ × Colours × List Token) PpmFault
+numbers_at end zero colours tokens = Ok ([], colours, tokens)
+numbers_at end (suc count) colours tokens = do
+  first ← number_at end colours tokens
+  others ← numbers_at end count first.1 first.2
   Ok (first.0 ∷ others.0, others.1, others.2)
 
 -- x, where no token is left
@@ -89,6 +89,6 @@ header_of text background = do
 unfoldable pub ppm_of : List ℕ → Option Rgb → Result Content PpmFault
 ppm_of text background = do
   header ← header_of text background
-  cells ← cells_at header.rest.end (header.height * header.width) header.colours header.rest.tokens
+  cells ← numbers_at header.rest.end (header.height * header.width) header.colours header.rest.tokens
   at_the_end
       (record { colours = cells.1; rows = rows_of header.height header.width cells.0; givens = no_cells }) cells.2

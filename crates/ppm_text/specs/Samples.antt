@@ -23,8 +23,8 @@ sample_at end maxval tokens = do
   if nat_lt maxval sample.0.value then Err (SampleOver sample.0.place) else Ok sample
 
 -- a colour, and where its first sample stands
-unfoldable pub triple_at : ℕ → ℕ → List Token → Result (Triple × List Token) PpmFault
-triple_at end maxval tokens = do
+unfoldable pub samples_at : ℕ → ℕ → List Token → Result (Triple × List Token) PpmFault
+samples_at end maxval tokens = do
   r ← sample_at end maxval tokens
   g ← sample_at end maxval r.1
   b ← sample_at end maxval g.1

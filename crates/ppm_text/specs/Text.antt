@@ -12,12 +12,12 @@ abbrev pub triple_text : Rgb → List ℕ
 triple_text rgb = number_text rgb.r 32 ++ (number_text rgb.g 32 ++ number_text rgb.b 10)
 
 -- a cell, by the colours of the palette
-abbrev pub cell_text : List Rgb → ℕ → List ℕ
-cell_text triples number = triple_text (triple_at triples number)
+abbrev pub cell_triple : List Rgb → ℕ → List ℕ
+cell_triple triples number = triple_text (triple_at triples number)
 
 -- the cells of a row from the left
 abbrev pub row_text : List Rgb → List ℕ → List ℕ
-row_text triples row = flat_map (cell_text triples) row
+row_text triples row = flat_map (cell_triple triples) row
 
 -- the rows from the top
 abbrev pub rows_text : List Rgb → Rows → List ℕ

@@ -3,7 +3,7 @@
 ghost use Rattle.std.specs.Prelude.{◌≡◌, ◌<◌, ◌≤◌, IfOk, IsTrue};
 ghost use Rattle.picture.specs.Palette.{fits};
 ghost use Rattle.picture.specs.Readers.{Reads};
-ghost use Rattle.ppm_text.specs.Samples.{side_at, sample_at, triple_at};
+ghost use Rattle.ppm_text.specs.Samples.{side_at, sample_at, samples_at};
 
 use crate::fault::{PpmFault, Read};
 use crate::scanner::{Numeral, Scanner};
@@ -50,11 +50,11 @@ fn read_sample(scanner: &mut Scanner, maxval: u16) -> Read<(usize, u16)>
     Ok((sample.place, sample.value as u16))
 }
 
-#[tactic(auto, unfolding(crate::specs::Samples::triple_at))]
+#[tactic(auto, unfolding(crate::specs::Samples::samples_at))]
 /// Reads three samples. After an error the scanner's place is unspecified.
 pub fn read_triple(scanner: &mut Scanner, maxval: u16) -> Read<Triple>
     ensures read { Reads (λ t. (t, scanner.new.tokens)) result
-        (triple_at scanner.old.end maxval scanner.old.tokens) }
+        (samples_at scanner.old.end maxval scanner.old.tokens) }
     ensures within { IfOk result (λ t. IsTrue (fits maxval t.colour)) }
     ensures end { scanner.new.end ≡ scanner.old.end }
 {

@@ -6,7 +6,7 @@ ghost use Rattle.picture.specs.Readers.{Gives};
 ghost use Rattle.ppm_text.specs.declared.fault.PpmFault.TheVariants.{Memory};
 ghost use Rattle.ppm_text.specs.NewTriples.{adding_fault};
 ghost use Rattle.ppm_text.specs.Known.{AreKnown};
-ghost use Rattle.ppm_text.specs.Ppm.{numbered};
+ghost use Rattle.ppm_text.specs.Ppm.{number_with};
 
 use crate::fault::{PpmFault, Read};
 use crate::fields::Triple;
@@ -39,7 +39,7 @@ pub fn number_of(palette: &mut Palette, known: &mut [Known; SLOTS], triple: Trip
     requires fits { IsTrue (fits palette.old.maxval triple.colour) }
     requires known { AreKnown palette.old.triples known.old }
     ensures read { Gives Memory (λ number. (number, palette.new)) result
-        (numbered palette.old triple) }
+        (number_with palette.old triple) }
     ensures known { OnOk result (AreKnown palette.new.triples known.new) }
 {
     let colour = triple.colour;
@@ -65,7 +65,8 @@ fn slot_of(colour: Rgb) -> usize
 // The number of a triple in the palette, which is added where it is new.
 fn find_or_add(palette: &mut Palette, triple: Triple) -> Read<u8>
     requires { IsTrue (fits palette.old.maxval triple.colour) }
-    ensures { Gives Memory (λ number. (number, palette.new)) result (numbered palette.old triple) }
+    ensures { Gives Memory (λ number. (number, palette.new)) result
+        (number_with palette.old triple) }
 {
     if let Some(number) = palette.number_of(triple.colour) {
         return Ok(number);

@@ -8,7 +8,7 @@ ghost use Rattle.picture.specs.Content.{content_of};
 ghost use Rattle.picture.specs.Readers.{Gives, Refuses};
 ghost use Rattle.ppm_text.specs.declared.fault.PpmFault.TheVariants.{Memory};
 ghost use Rattle.ppm_text.specs.Known.{AreKnown};
-ghost use Rattle.ppm_text.specs.Ppm.{palette_at, cell_at, cells_at, header_of, ppm_of};
+ghost use Rattle.ppm_text.specs.Ppm.{palette_at, number_at, numbers_at, header_of, ppm_of};
 
 use crate::fault::{PpmFault, Read};
 use crate::fields::{read_side, read_triple};
@@ -43,12 +43,12 @@ fn read_palette(alloc: Global, scanner: &mut Scanner, background: Option<Rgb>) -
     }
 }
 
-#[tactic(auto, unfolding(crate::specs::Ppm::cell_at))]
+#[tactic(auto, unfolding(crate::specs::Ppm::number_at))]
 // Reads a cell's triple, and gives its number.
 fn read_cell(scanner: &mut Scanner, palette: &mut Palette, known: &mut [Known; SLOTS]) -> Read<u8>
     requires { AreKnown palette.old.triples known.old }
     ensures read { Gives Memory (λ number. (number, palette.new, scanner.new.tokens)) result
-        (cell_at scanner.old.end palette.old scanner.old.tokens) }
+        (number_at scanner.old.end palette.old scanner.old.tokens) }
     ensures known { OnOk result (AreKnown palette.new.triples known.new) }
     ensures end { scanner.new.end ≡ scanner.old.end }
 {
@@ -66,7 +66,7 @@ fn read_cells(
     count: usize,
 ) -> Read<Vec<u8>>
     ensures read { Gives Memory (λ cells. (cells.items, palette.new, scanner.new.tokens)) result
-        (cells_at scanner.old.end count palette.old scanner.old.tokens) }
+        (numbers_at scanner.old.end count palette.old scanner.old.tokens) }
     ensures end { scanner.new.end ≡ scanner.old.end }
 {
     let mut cells = Vec::with_capacity(alloc, count)?;

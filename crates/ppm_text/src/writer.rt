@@ -5,7 +5,7 @@ ghost use Rattle.std.specs.Io.KnownBytes.{Appends};
 ghost use Rattle.picture.specs.Content.{content_of};
 ghost use Rattle.picture.specs.Rows.{cell_at, row_at, width_of};
 ghost use Rattle.picture.specs.Writers.{AppendsFront};
-ghost use Rattle.ppm_text.specs.Text.{triple_text, cell_text, row_text, rows_text};
+ghost use Rattle.ppm_text.specs.Text.{triple_text, cell_triple, row_text, rows_text};
 ghost use Rattle.ppm_text.specs.Text.{sizes_text, ppm_text};
 
 use picture::{Document, Rgb, WriteFault, send, send_number};

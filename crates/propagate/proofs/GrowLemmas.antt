@@ -9,11 +9,11 @@ use Rattle.picture.specs.declared.line_id.LineId.{LineId}
 use Rattle.picture.specs.LineSet.{Lines, HasName, PutsNames, TakesOutName, name_count, no_names}
 use Rattle.picture.specs.Rows.{line_of}
 use Rattle.clues.specs.ClueBook.{Clues, clue_at}
-use Rattle.line_settle.specs.declared.line_engine.Outcome.TheVariants.{Narrowed}
-use Rattle.line_settle.specs.declared.meter.Meter.{Meter}
-use Rattle.line_settle.specs.Counts.{Counts}
-use Rattle.line_settle.specs.FactSets.{IsFacts, IsWithin}
-use Rattle.line_settle.specs.Fits.{CanFit}
+use Rattle.line_facts.specs.declared.line_engine.Outcome.TheVariants.{Narrowed}
+use Rattle.line_facts.specs.declared.meter.Meter.{Meter}
+use Rattle.line_facts.specs.Counts.{Counts}
+use Rattle.line_facts.specs.FactSets.{IsFacts, IsWithin}
+use Rattle.line_facts.specs.Fits.{CanFit}
 use Rattle.justify.specs.declared.step.Step.{Step}
 use Rattle.justify.specs.Steps.{step_at, IsTrimmed}
 use Rattle.justify.specs.Book.{Account, AreTrimmed, IsAccount, IsDerivation}
@@ -24,8 +24,8 @@ use Rattle.fixpoint.specs.declared.fault.CloseFault.TheVariants.{Dead, Memory}
 use Rattle.propagate.specs.ClosingBooks.{ClosesBook, IsClosedBook}
 use Rattle.propagate.specs.Turns.{cells_drawn, steps_added, Grows, Turn}
 use Rattle.picture.proofs.LineSetLaws.{put_all_counts}
-use Rattle.line_settle.proofs.GridLaws.{same_has_line, shape_sym, shape_trans}
-use Rattle.line_settle.proofs.FitLaws.{counting_adds, tighter_fits, within_tighter}
+use Rattle.line_facts.proofs.GridLaws.{same_has_line, shape_sym, shape_trans}
+use Rattle.line_facts.proofs.FitLaws.{counting_adds, tighter_fits, within_tighter}
 use Rattle.fixpoint.proofs.ClosingLaws.{Closing, closing_ends, closing_goes_on, within_trans}
 use Rattle.worklist.proofs.NameLaws.{take_counts}
 use Rattle.fixpoint.proofs.WorkLaws.{crossing_put, left_to_do, less_to_do, nothing_counted}

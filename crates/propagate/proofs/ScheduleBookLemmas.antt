@@ -1,14 +1,14 @@
 -- Books whose lines take their turns as a schedule names them.
 use Rattle.std.proofs.Common.{◌≡◌, ℕ, ◌+◌, ◌<◌, List, [], ◌∷◌, ◌++◌, length, drop, get_or, refl, sym, subst, inl, inr, Err, drop-cons, add-one}
 use Rattle.std.specs.List.{All}
-use Rattle.line_settle.specs.Masks.{Masks}
+use Rattle.line_facts.specs.Masks.{Masks}
 use Rattle.picture.specs.declared.line_id.LineId.{LineId}
 use Rattle.picture.specs.LineSet.{Lines}
 use Rattle.picture.specs.Rows.{line_of, HasLine}
 use Rattle.clues.specs.ClueBook.{Clues, clue_at}
-use Rattle.line_settle.specs.Fits.{CanFit}
-use Rattle.line_settle.specs.FactSets.{IsClosed, IsLeast, IsWithin, SameShape}
-use Rattle.line_settle.proofs.LawLemmas.{one_least}
+use Rattle.line_facts.specs.Fits.{CanFit}
+use Rattle.line_facts.specs.FactSets.{IsClosed, IsLeast, IsWithin, SameShape}
+use Rattle.line_facts.proofs.LawLemmas.{one_least}
 use Rattle.justify.specs.declared.step.Step.{Step}
 use Rattle.justify.specs.Book.{Account, IsAccount, IsDerivation}
 use Rattle.justify.proofs.LawLemmas.{stay_inside}
@@ -18,7 +18,7 @@ use Rattle.fixpoint.specs.ClosedFacts.{AreClosable}
 use Rattle.propagate.specs.Schedule.{AreAfter, IsDeadInTurn, RunsSchedule}
 use Rattle.propagate.specs.Turns.{Grows, TakesTurn, TakeTurns, Turn}
 use Rattle.propagate.specs.Laws.{SchedulesFillBooks}
-use Rattle.line_settle.proofs.GridLaws.{same_has_line, shape_refl, shape_trans}
+use Rattle.line_facts.proofs.GridLaws.{same_has_line, shape_refl, shape_trans}
 use Rattle.fixpoint.proofs.ClosingLaws.{same_sizes, within_trans}
 use Rattle.propagate.proofs.ScheduleLemmas.{schedules_lead_inside}
 use Rattle.propagate.proofs.GrowLemmas.{grows_none, grows_on}

@@ -2,19 +2,19 @@
 use Rattle.std.proofs.Common.{◌≡◌, ℕ, List, [], ◌∷◌, refl, sym, subst, ◌∙◌, inl, inr}
 use Rattle.std.specs.List.{All}
 use Rattle.std.proofs.lemmas.List.Elements.{All-head, All-tail}
-use Rattle.line_settle.specs.Masks.{Masks}
+use Rattle.line_facts.specs.Masks.{Masks}
 use Rattle.picture.specs.declared.line_id.LineId.{LineId}
 use Rattle.picture.specs.Rows.{line_of, HasLine}
 use Rattle.clues.specs.ClueBook.{Clues, clue_at}
-use Rattle.line_settle.specs.declared.line_engine.Outcome.TheVariants.{Narrowed}
-use Rattle.line_settle.specs.Fits.{CanFit}
-use Rattle.line_settle.specs.FactSets.{Gains, IsClosed, IsLeast, IsWithin, SameShape}
+use Rattle.line_facts.specs.declared.line_engine.Outcome.TheVariants.{Narrowed}
+use Rattle.line_facts.specs.Fits.{CanFit}
+use Rattle.line_facts.specs.FactSets.{Gains, IsClosed, IsLeast, IsWithin, SameShape}
 use Rattle.fixpoint.specs.ClosedFacts.{HasDeadLine}
 use Rattle.propagate.specs.Laws.{SchedulesLeadInside}
 use Rattle.propagate.specs.Schedule.{AreAfter, IsDeadInTurn}
-use Rattle.line_settle.proofs.GridLaws.{same_has_line, shape_sym}
-use Rattle.line_settle.proofs.ForceLaws.{gains_grows, gains_inside, gains_closes}
-use Rattle.line_settle.proofs.FitLaws.{tighter_fits, within_both, within_tighter}
+use Rattle.line_facts.proofs.GridLaws.{same_has_line, shape_sym}
+use Rattle.line_facts.proofs.ForceLaws.{gains_grows, gains_inside, gains_closes}
+use Rattle.line_facts.proofs.FitLaws.{tighter_fits, within_both, within_tighter}
 use Rattle.fixpoint.proofs.ClosingLaws.{within_refl, within_trans}
 
 -- what a line forces is one

@@ -3,17 +3,17 @@ use Rattle.std.proofs.Common.{Err, Option, Result, ◌≡◌, ◌≢◌, ℕ, ze
 use Rattle.std.specs.Prelude.{IsBitSet}
 use Rattle.std.proofs.lemmas.Bool.{cases_eq}
 use Rattle.std.proofs.lemmas.List.{append-nil}
-use Rattle.line_settle.specs.Masks.{Masks}
+use Rattle.line_facts.specs.Masks.{Masks}
 use Rattle.picture.specs.declared.line_id.LineId.{LineId}
 use Rattle.picture.specs.LineSet.{Lines, HasName, PutsName, name_count}
 use Rattle.picture.specs.Rows.{line_of, HasLine}
 use Rattle.clues.specs.declared.block.Block.{Block}
 use Rattle.clues.specs.ClueBook.{Clues, clue_at}
-use Rattle.line_settle.specs.declared.line_engine.Outcome.TheVariants.{Narrowed, Dead}
-use Rattle.line_settle.specs.CrossedLines.{CrossesChange}
-use Rattle.line_settle.specs.Fits.{CanFit}
+use Rattle.line_facts.specs.declared.line_engine.Outcome.TheVariants.{Narrowed, Dead}
+use Rattle.line_facts.specs.CrossedLines.{CrossesChange}
+use Rattle.line_facts.specs.Fits.{CanFit}
 use Rattle.picture.specs.CrossingLines.{crossing_at}
-use Rattle.line_settle.specs.FactSets.{Gains, Leaves, row_on, col_on}
+use Rattle.line_facts.specs.FactSets.{Gains, Leaves, row_on, col_on}
 use Rattle.justify.specs.declared.fault.StepFault.{StepFault}
 use Rattle.justify.specs.declared.fault.StepFault.TheVariants as step_fault
 use Rattle.justify.specs.declared.premise.Premise.{Premise}
@@ -23,8 +23,8 @@ use Rattle.justify.specs.Steps.{step_at, IsTrimmed}
 use Rattle.justify.specs.Book.{Account, Adds, GainDrawn, IsAccount, IsDerivation}
 use Rattle.justify.specs.NewSteps.{DrawsNothing, IsNewStep, Makes}
 use Rattle.propagate.specs.Turns.{CrossesDrawn, GivesNext, Turn}
-use Rattle.line_settle.proofs.GridLaws.{shape_refl, cell_on}
-use Rattle.line_settle.proofs.FitLaws.{have_left}
+use Rattle.line_facts.proofs.GridLaws.{shape_refl, cell_on}
+use Rattle.line_facts.proofs.FitLaws.{have_left}
 use Rattle.picture.proofs.BitLaws.{same_bits}
 use Rattle.justify.proofs.LawLemmas.{derivations_grow, new_derive, new_follow}
 use Rattle.justify.proofs.LineMaskLemmas.{some_bit}

@@ -2,9 +2,9 @@
 use Rattle.std.specs.Prelude.{ℕ, ◌+◌, ◌≤◌, List, length, Result, Ok, Err}
 use Rattle.picture.specs.LineSet.{Lines, name_count}
 use Rattle.clues.specs.ClueBook.{Clues}
-use Rattle.line_settle.specs.declared.meter.Meter.{Meter}
-use Rattle.line_settle.specs.Counts.{Counts}
-use Rattle.line_settle.specs.FactSets.{IsLeast}
+use Rattle.line_facts.specs.declared.meter.Meter.{Meter}
+use Rattle.line_facts.specs.Counts.{Counts}
+use Rattle.line_facts.specs.FactSets.{IsLeast}
 use Rattle.justify.specs.declared.step.Step.{Step}
 use Rattle.justify.specs.Book.{Account}
 use Rattle.fixpoint.specs.declared.fault.CloseFault.{CloseFault}

@@ -1,11 +1,11 @@
 -- Laws of schedules, and of books that schedules fill.
 use Rattle.std.specs.Prelude.{◌≡◌, List}
 use Rattle.std.specs.List.{All}
-use Rattle.line_settle.specs.Masks.{Masks}
+use Rattle.line_facts.specs.Masks.{Masks}
 use Rattle.picture.specs.declared.line_id.LineId.{LineId}
 use Rattle.picture.specs.Rows.{HasLine}
 use Rattle.clues.specs.ClueBook.{Clues}
-use Rattle.line_settle.specs.FactSets.{IsClosed, IsLeast, IsWithin}
+use Rattle.line_facts.specs.FactSets.{IsClosed, IsLeast, IsWithin}
 use Rattle.justify.specs.Book.{Account, IsAccount, IsDerivation}
 use Rattle.fixpoint.specs.ClosedFacts.{HasDeadLine}
 use Rattle.propagate.specs.Schedule.{AreAfter, IsDeadInTurn}

@@ -4,10 +4,10 @@ use Rattle.picture.specs.declared.line_id.LineId.{LineId}
 use Rattle.picture.specs.LineSet.{Lines, HasName, name_count}
 use Rattle.picture.specs.Rows.{line_of}
 use Rattle.clues.specs.ClueBook.{Clues, clue_at}
-use Rattle.line_settle.specs.declared.line_engine.Outcome.TheVariants.{Narrowed}
-use Rattle.line_settle.specs.CrossedLines.{CrossesChange}
+use Rattle.line_facts.specs.declared.line_engine.Outcome.TheVariants.{Narrowed}
+use Rattle.line_facts.specs.CrossedLines.{CrossesChange}
 use Rattle.picture.specs.CrossingLines.{crossing_at}
-use Rattle.line_settle.specs.FactSets.{Gains}
+use Rattle.line_facts.specs.FactSets.{Gains}
 use Rattle.justify.specs.declared.fault.StepFault.{StepFault}
 use Rattle.justify.specs.declared.step.Step.{Step}
 use Rattle.justify.specs.Premises.{Mentions}

@@ -10,7 +10,7 @@ use crate::turn::take_turn;
 use clues::ClueBook;
 use fixpoint::CloseFault;
 use justify::Book;
-use line_settle::{LineEngine, Meter};
+use line_facts::{LineEngine, Meter};
 use picture::LineSet;
 use worklist::Agenda;
 

@@ -11,7 +11,7 @@ use crate::turn::take_turn;
 use clues::ClueBook;
 use fixpoint::CloseFault;
 use justify::Book;
-use line_settle::{LineEngine, Meter};
+use line_facts::{LineEngine, Meter};
 use picture::LineId;
 
 /// Evaluates the lines of a schedule in turn, each as often as it is named, and appends to the book's steps one for

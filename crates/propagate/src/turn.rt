@@ -5,7 +5,7 @@ ghost use Rattle.picture.specs.LineSet.{HasName, name_count};
 ghost use Rattle.picture.specs.Rows.{line_of, HasLine};
 ghost use Rattle.clues.specs.declared.block.Block.{Block};
 ghost use Rattle.clues.specs.ClueBook.{Clues};
-ghost use Rattle.line_settle.specs.FactSets.{IsFacts};
+ghost use Rattle.line_facts.specs.FactSets.{IsFacts};
 ghost use Rattle.justify.specs.declared.fault.StepFault.TheVariants as step;
 ghost use Rattle.justify.specs.Book.{IsAccount};
 ghost use Rattle.justify.specs.NewSteps.{Makes};

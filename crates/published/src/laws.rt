@@ -5,7 +5,7 @@ ghost use Rattle.published.specs.Printed.{OneFileIsOneDocument, PrintedAreAccept
 ghost use Rattle.published.specs.Solution.{PlainLinesAreOneSolution, PublishedAreSolved};
 
 use certificate::laws::round_trip as certificates_are_read;
-use line_settle::LineEngine;
+use line_facts::LineEngine;
 use live_audit::Bench;
 use ppm_text::round_trip as pictures_are_read;
 use propagate::Agenda;

@@ -9,7 +9,7 @@ use Rattle.picture.specs.declared.rgb.Rgb.{Rgb}
 use Rattle.picture.specs.Palette.{triple_at}
 use Rattle.picture.specs.Rows.{cell_at, width_of}
 use Rattle.edits.specs.Design.{Design, grid, mark_at, marks_of}
-use Rattle.report_text.specs.Report.{colour_line, colour_lines, given_line, givens_in, row_givens}
+use Rattle.report_text.specs.Report.{colour_line, colour_lines, shown_given, givens_in, row_givens}
 use Rattle.report_text.proofs.ShownLemmas.{next_range}
 
 flat_more : (f : ℕ → List ℕ) (k : ℕ) → flat_map f (range_with_len 0 (k + 1)) ≡ flat_map f (range_with_len 0 k) ++ f k
@@ -35,13 +35,13 @@ pub row_none : (d : Design) (i : ℕ) → row_givens d i 0 ≡ []
 unfolding row_givens
 row_none d i = refl
 
-pub row_more : (d : Design) (i j : ℕ) → (cell_at d.marks i j == 1) ≡ true → row_givens d i (j + 1) ≡ row_givens d i j ++ given_line i j
+pub row_more : (d : Design) (i j : ℕ) → (cell_at d.marks i j == 1) ≡ true → row_givens d i (j + 1) ≡ row_givens d i j ++ shown_given i j
 unfolding row_givens
-row_more d i j is = flat_more (λ n. cond (cell_at d.marks i n == 1) (given_line i n) []) j ∙ ap (λ t. row_givens d i j ++ cond t (given_line i j) []) is
+row_more d i j is = flat_more (λ n. cond (cell_at d.marks i n == 1) (shown_given i n) []) j ∙ ap (λ t. row_givens d i j ++ cond t (shown_given i j) []) is
 
 pub row_same : (d : Design) (i j : ℕ) → (cell_at d.marks i j == 1) ≡ false → row_givens d i (j + 1) ≡ row_givens d i j
 unfolding row_givens
-row_same d i j is = flat_more (λ n. cond (cell_at d.marks i n == 1) (given_line i n) []) j ∙ ap (λ t. row_givens d i j ++ cond t (given_line i j) []) is ∙ append-nil (row_givens d i j)
+row_same d i j is = flat_more (λ n. cond (cell_at d.marks i n == 1) (shown_given i n) []) j ∙ ap (λ t. row_givens d i j ++ cond t (shown_given i j) []) is ∙ append-nil (row_givens d i j)
 
 -- ---- marks
 

@@ -16,18 +16,18 @@ abbrev pub behind : Block → List ℕ
 behind b = 32 ∷ block_text b
 
 -- the blocks with a space between each two, or `0` where there is none
-abbrev pub clue_text : List Block → List ℕ
-clue_text [] = codes "0"
-clue_text (b ∷ blocks) = join_with_byte 32 (map block_text (b ∷ blocks))
+abbrev pub blocks_text : List Block → List ℕ
+blocks_text [] = codes "0"
+blocks_text (b ∷ blocks) = join_with_byte 32 (map block_text (b ∷ blocks))
 
 -- a letter for the axis, the line's number from 1, and its clue
-abbrev pub line_text : ℕ → ℕ → List Block → List ℕ
-line_text letter number clue = letter ∷ 32 ∷ (decimal number ++ (codes ": " ++ (clue_text clue ++ 10 ∷ [])))
+abbrev pub numbered_clue : ℕ → ℕ → List Block → List ℕ
+numbered_clue letter number clue = letter ∷ 32 ∷ (decimal number ++ (codes ": " ++ (blocks_text clue ++ 10 ∷ [])))
 
 -- a line for each clue, with numbers from a first one on
-unfoldable pub lines_text : ℕ → ℕ → List (List Block) → List ℕ
-lines_text letter number [] = []
-lines_text letter number (clue ∷ clues) = line_text letter number clue ++ lines_text letter (number + 1) clues
+unfoldable pub numbered_clues : ℕ → ℕ → List (List Block) → List ℕ
+numbered_clues letter n [] = []
+numbered_clues letter n (clue ∷ clues) = numbered_clue letter n clue ++ numbered_clues letter (n + 1) clues
 
 -- `r` for a row and `c` for a column
 abbrev pub letter_of : Axis → ℕ
@@ -40,4 +40,4 @@ name_text line = letter_of line.axis ∷ 32 ∷ decimal (line.at + 1)
 
 -- the clues of the rows and then of the columns
 abbrev pub clues_text : Clues → List ℕ
-clues_text clues = lines_text (letter_of Across) 1 clues.rows ++ lines_text (letter_of Down) 1 clues.columns
+clues_text clues = numbered_clues (letter_of Across) 1 clues.rows ++ numbered_clues (letter_of Down) 1 clues.columns

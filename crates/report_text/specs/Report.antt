@@ -2,7 +2,7 @@
 use Rattle.std.specs.Prelude.{ℕ, ◌+◌, Bool, List, [], ◌∷◌, ◌++◌, length, codes, count_ones, count_by, decimal, nat_lt}
 use Rattle.std.specs.Prelude.{◌==◌, if◌then◌else◌}
 use Rattle.std.specs.List.{flat_map, range_with_len, sum_by}
-use Rattle.line_settle.specs.Masks.{Masks}
+use Rattle.line_facts.specs.Masks.{Masks}
 use Rattle.picture.specs.declared.rgb.Rgb.{Rgb}
 use Rattle.picture.specs.Palette.{Colours, triple_at}
 use Rattle.picture.specs.Rows.{cell_at, width_of, Rows}
@@ -39,11 +39,11 @@ colours_text c = codes "colours " ++ (first_number (length c.triples)
     ++ (codes "maxval " ++ (last_number c.maxval ++ colour_lines c.triples (length c.triples))))
 
 -- a line for a given, by its row and its column from 1
-abbrev pub given_line : ℕ → ℕ → List ℕ
-given_line i j = codes "given " ++ (first_number (i + 1) ++ last_number (j + 1))
+abbrev pub shown_given : ℕ → ℕ → List ℕ
+shown_given i j = codes "given " ++ (first_number (i + 1) ++ last_number (j + 1))
 
 abbrev pub mark_line : ℕ → ℕ → ℕ → List ℕ
-mark_line mark i j = if mark == 1 then given_line i j else []
+mark_line mark i j = if mark == 1 then shown_given i j else []
 
 -- the givens among the first n cells of a row, and in the first n rows
 unfoldable pub row_givens : Design → ℕ → ℕ → List ℕ
@@ -52,8 +52,8 @@ row_givens d i n = flat_map (λ j. mark_line (cell_at d.marks i j) i j) (range_w
 unfoldable pub givens_in : Design → ℕ → List ℕ
 givens_in d n = flat_map (λ i. row_givens d i (width_of d.rows)) (range_with_len 0 n)
 
-abbrev pub givens_text : Design → List ℕ
-givens_text d = givens_in d (length d.rows)
+abbrev pub shown_givens : Design → List ℕ
+shown_givens d = givens_in d (length d.rows)
 
 -- more than one colour is left
 abbrev pub is_open : ℕ → Bool
@@ -69,7 +69,7 @@ open_cells rows = sum_by open_in_row rows
 -- the document: its size, its colours, its picture and its givens
 abbrev pub document_text : Design → List ℕ
 document_text d =
-    size_text d.rows ++ (colours_text d.colours ++ (codes "picture\n" ++ (picture_text d.rows ++ givens_text d)))
+    size_text d.rows ++ (colours_text d.colours ++ (codes "picture\n" ++ (picture_text d.rows ++ shown_givens d)))
 
 -- what follows from it: the clues, the map, and how many cells are open
 abbrev pub audit_text : Clues → Masks → List ℕ

@@ -10,12 +10,12 @@ abbrev pub letter : ℕ → ℕ
 letter k = if k == 0 then 46 else 96 + k
 
 -- a row of cells, each by what is shown of it
-abbrev pub row_text : (ℕ → ℕ) → List ℕ → List ℕ
-row_text shown row = map shown row ++ 10 ∷ []
+abbrev pub shown_row : (ℕ → ℕ) → List ℕ → List ℕ
+shown_row shown row = map shown row ++ 10 ∷ []
 
 -- the rows of a picture
 abbrev pub picture_text : Rows → List ℕ
-picture_text rows = flat_map (row_text letter) rows
+picture_text rows = flat_map (shown_row letter) rows
 
 -- the letter of the colour that a mask leaves alone, or `?`
 abbrev pub mask_letter : ℕ → ℕ
@@ -23,7 +23,7 @@ mask_letter mask = if count_ones mask == 1 then letter (trailing_zeros w16 mask)
 
 -- the rows of a map
 abbrev pub map_text : List (List ℕ) → List ℕ
-map_text masks = flat_map (row_text mask_letter) masks
+map_text masks = flat_map (shown_row mask_letter) masks
 
 -- ---- worked cells
 

@@ -5,7 +5,7 @@ ghost use Rattle.std.specs.List.{flat_map};
 ghost use Rattle.clues.specs.Clue.{IsBlock, IsClue};
 ghost use Rattle.clues.specs.ClueBook.{clues_along};
 ghost use Rattle.report_text.specs.Room.{TakesRoom};
-ghost use Rattle.report_text.specs.ClueText.{behind, block_text, clue_text, letter_of, line_text, lines_text, clues_text, name_text};
+ghost use Rattle.report_text.specs.ClueText.{behind, block_text, blocks_text, letter_of, numbered_clue, numbered_clues, clues_text, name_text};
 
 use clues::{Block, ClueBook};
 use itoa::Buffer;
@@ -32,7 +32,7 @@ pub(crate) fn push_clues(text: &mut Vec<u8>, book: &ClueBook) -> Result<(), Allo
 // A line for each row, or for each column.
 fn push_lines(text: &mut Vec<u8>, book: &ClueBook, axis: Axis) -> Result<(), AllocError>
     ensures { OnOk result (text.new.items
-        ≡ text.old.items ++ lines_text (letter_of axis) 1 (clues_along axis book.now)) }
+        ≡ text.old.items ++ numbered_clues (letter_of axis) 1 (clues_along axis book.now)) }
 {
     for at in 0..book.line_count(axis) {
         let line = LineId { axis, at };
@@ -65,7 +65,7 @@ fn letter_of(axis: Axis) -> u8
 fn push_line(text: &mut Vec<u8>, line: LineId, blocks: &[Block]) -> Result<(), AllocError>
     requires { IsClue blocks.now }
     ensures { OnOk result (text.new.items
-        ≡ text.old.items ++ line_text (letter_of line.axis) (line.at + 1) blocks.now) }
+        ≡ text.old.items ++ numbered_clue (letter_of line.axis) (line.at + 1) blocks.now) }
 {
     push_name(text, line)?;
     text.extend_from_slice(b": ")?;
@@ -76,7 +76,7 @@ fn push_line(text: &mut Vec<u8>, line: LineId, blocks: &[Block]) -> Result<(), A
 // The blocks of a clue with spaces between them, or `0`.
 fn push_clue(text: &mut Vec<u8>, blocks: &[Block]) -> Result<(), AllocError>
     requires { IsClue blocks.now }
-    ensures { OnOk result (text.new.items ≡ text.old.items ++ clue_text blocks.now) }
+    ensures { OnOk result (text.new.items ≡ text.old.items ++ blocks_text blocks.now) }
 {
     match blocks {
         [] => text.push(b'0')?,

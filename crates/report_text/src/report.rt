@@ -4,12 +4,12 @@ ghost use Rattle.std.specs.Prelude.{◌≡◌, ◌<◌, ◌≤◌, ◌+◌, ◌+
 ghost use Rattle.picture.specs.Rows.{cell_at, row_at, width_of};
 ghost use Rattle.edits.specs.Design.{design_of};
 ghost use Rattle.report_text.specs.Room.{TakesRoom};
-ghost use Rattle.report_text.specs.Report.{audit_text, colour_line, colour_lines, colours_text, document_text, ending_text, given_line, front_text, givens_text, number_before, open_cells, open_in_row, row_givens, size_text};
+ghost use Rattle.report_text.specs.Report.{audit_text, colour_line, colour_lines, colours_text, document_text, ending_text, shown_given, front_text, shown_givens, number_before, open_cells, open_in_row, row_givens, size_text};
 
 use crate::clue_text::{push_clues, push_number};
 use crate::shown::{letter_of, push_map, push_picture};
 use clues::ClueBook;
-use line_settle::Facts;
+use line_facts::Facts;
 use picture::{Document, Palette, Picture, Rgb};
 use std::alloc::AllocError;
 
@@ -102,7 +102,7 @@ fn push_colour(text: &mut Vec<u8>, number: u8, rgb: Rgb) -> Result<(), AllocErro
 // A line for each given, in row order.
 fn push_givens(text: &mut Vec<u8>, document: &Document) -> Result<(), AllocError>
     ensures { OnOk result (text.new.items
-        ≡ text.old.items ++ givens_text (design_of document.now)) }
+        ≡ text.old.items ++ shown_givens (design_of document.now)) }
 {
     for row in 0..document.picture.height() {
         push_row_givens(text, document, row)?;
@@ -137,7 +137,7 @@ fn is_given(document: &Document, row: u8, col: u8) -> bool
 #[tactic(auto, using(std::proofs::lemmas::List::append_assoc))]
 // A given's row and column, from 1.
 fn push_given(text: &mut Vec<u8>, row: u8, col: u8) -> Result<(), AllocError>
-    ensures { OnOk result (text.new.items ≡ text.old.items ++ given_line row col) }
+    ensures { OnOk result (text.new.items ≡ text.old.items ++ shown_given row col) }
 {
     text.extend_from_slice(b"given ")?;
     push_before(text, usize::from(row) + 1, b' ')?;

@@ -5,9 +5,9 @@ ghost use Rattle.std.specs.Int.{bit_at};
 ghost use Rattle.std.specs.List.{flat_map};
 ghost use Rattle.picture.specs.Rows.{row_at, width_of};
 ghost use Rattle.report_text.specs.Room.{TakesRoom, picture_room};
-ghost use Rattle.report_text.specs.Shown.{letter, map_text, mask_letter, picture_text, row_text};
+ghost use Rattle.report_text.specs.Shown.{letter, map_text, mask_letter, picture_text, shown_row};
 
-use line_settle::Facts;
+use line_facts::Facts;
 use picture::{MAX_SIDE, Picture};
 use std::alloc::AllocError;
 
@@ -55,7 +55,7 @@ pub fn push_picture(text: &mut Vec<u8>, picture: &Picture) -> Result<(), AllocEr
 fn push_row(text: &mut Vec<u8>, picture: &Picture, row: u8) -> Result<(), AllocError>
     requires { row < length picture.now }
     ensures items { OnOk result
-        (text.new.items ≡ text.old.items ++ row_text letter (row_at picture.now row)) }
+        (text.new.items ≡ text.old.items ++ shown_row letter (row_at picture.now row)) }
     ensures room { TakesRoom text.old text.new (width_of picture.now + 1) result }
 {
     for col in 0..picture.width() {
@@ -79,7 +79,7 @@ pub fn push_map(text: &mut Vec<u8>, facts: &Facts) -> Result<(), AllocError>
 fn push_masks(text: &mut Vec<u8>, facts: &Facts, row: u8) -> Result<(), AllocError>
     requires { row < length facts.now }
     ensures { OnOk result (text.new.items
-        ≡ text.old.items ++ row_text mask_letter (row_at facts.now row)) }
+        ≡ text.old.items ++ shown_row mask_letter (row_at facts.now row)) }
 {
     let mut letters = [0; MAX_SIDE as usize];
     let cells = facts.width();

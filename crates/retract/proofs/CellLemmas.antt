@@ -6,7 +6,7 @@ use Rattle.picture.specs.declared.line_id.LineId.{LineId}
 use Rattle.picture.proofs.LineSetLaws.{same_name}
 use Rattle.clues.specs.Change.{Moves, Stays, image_of, line_at}
 use Rattle.clues.proofs.LawLemmas.{images}
-use Rattle.line_settle.specs.FactSets.{row_on, col_on}
+use Rattle.line_facts.specs.FactSets.{row_on, col_on}
 use Rattle.justify.specs.declared.premise.Premise.{Premise}
 use Rattle.justify.specs.declared.step.Step.{Step}
 use Rattle.justify.specs.Premises.{Mentions, Says}

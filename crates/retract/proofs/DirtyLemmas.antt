@@ -9,9 +9,9 @@ use Rattle.picture.specs.Rows.{line_of, HasLine}
 use Rattle.clues.specs.Change.{Moves}
 use Rattle.clues.specs.ClueBook.{Clues, clue_at}
 use Rattle.clues.specs.declared.block.Block.{Block}
-use Rattle.line_settle.specs.Fits.{CanFit}
-use Rattle.line_settle.specs.FactSets.{IsClosed, IsClosedLine}
-use Rattle.line_settle.specs.Outside.{EachFits, EachOutside}
+use Rattle.line_facts.specs.Fits.{CanFit}
+use Rattle.line_facts.specs.FactSets.{IsClosed, IsClosedLine}
+use Rattle.line_facts.specs.Outside.{EachFits, EachOutside}
 use Rattle.retract.specs.Dirty.{AreDirty, IsClean, IsDecided}
 
 is_clean : (moves : Moves) (old new : Clues) (before after : List (List ℕ)) (dirty : Lines) (line : LineId) → IsDecided moves old new before after dirty line → (HasName dirty line → ⊥)

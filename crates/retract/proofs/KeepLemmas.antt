@@ -3,7 +3,7 @@ use Rattle.std.proofs.Common.{◌≡◌, ℕ, ◌+◌, ◌<◌, inl, inr, Some, 
 use Rattle.std.proofs.lemmas.Bool.{cases_lt}
 use Rattle.std.proofs.lemmas.List.{get_or_default, get_or_push, length-map}
 use Rattle.std.proofs.Math.ListN.{get_or-append}
-use Rattle.line_settle.specs.Masks.{Masks}
+use Rattle.line_facts.specs.Masks.{Masks}
 use Rattle.picture.specs.declared.line_id.Axis.{Axis}
 use Rattle.picture.specs.declared.line_id.Axis.TheVariants.{Across, Down}
 use Rattle.picture.specs.declared.line_id.LineId.{LineId}
@@ -12,7 +12,7 @@ use Rattle.clues.specs.Change.{AreMoves, Moves, image_of, lines_after, lines_bef
 use Rattle.picture.specs.CrossingLines.{crossing}
 use Rattle.clues.specs.ClueBook.{Clues, clue_at}
 use Rattle.clues.proofs.LawLemmas.{images}
-use Rattle.line_settle.specs.FactSets.{IsFacts, row_on, col_on}
+use Rattle.line_facts.specs.FactSets.{IsFacts, row_on, col_on}
 use Rattle.justify.specs.declared.step.Step.{Step}
 use Rattle.justify.specs.Premises.{Mentions, Says}
 use Rattle.justify.specs.Steps.{IsForced, IsTrimmed, step_at}

@@ -2,11 +2,11 @@
 use Rattle.std.proofs.Common.{◌≡◌, ℕ, ◌^◌, ◌<◌, length, get_or, bit_and, subst, ◌∙◌, arith, inl, inr, ◌↔◌, IsBitSet}
 use Rattle.std.proofs.lemmas.Bool.{cases_eq}
 use Rattle.std.proofs.lemmas.Nat.{and_le_r}
-use Rattle.line_settle.specs.Masks.{Masks}
+use Rattle.line_facts.specs.Masks.{Masks}
 use Rattle.picture.specs.declared.line_id.LineId.{LineId}
 use Rattle.picture.proofs.BitLaws.{no_bit}
 use Rattle.picture.specs.Rows.{line_of}
-use Rattle.line_settle.proofs.GridLaws.{cell_on}
+use Rattle.line_facts.proofs.GridLaws.{cell_on}
 use Rattle.justify.proofs.LineMaskLemmas.{both_bits, some_bit}
 use Rattle.retract.specs.StandingSteps.{ExcludesAll}
 

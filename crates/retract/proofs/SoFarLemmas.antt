@@ -2,14 +2,14 @@
 use Rattle.std.proofs.Common.{◌≡◌, ℕ, suc, ◌+◌, ◌<◌, ◌≤◌, List, [], ◌∷◌, length, drop, refl, sym, ap, subst, ◌∙◌, arith, ◌↔◌}
 use Rattle.std.proofs.lemmas.List.{drop_all}
 use Rattle.std.proofs.Math.Seq.{drop-cons}
-use Rattle.line_settle.specs.Masks.{Masks}
+use Rattle.line_facts.specs.Masks.{Masks}
 use Rattle.picture.specs.declared.line_id.Axis.{Axis}
 use Rattle.picture.specs.declared.line_id.Axis.TheVariants.{Across, Down}
 use Rattle.picture.specs.declared.line_id.LineId.{LineId}
 use Rattle.picture.specs.Rows.{lines_along}
 use Rattle.clues.specs.Change.{AreMoves, Moves, lines_after}
 use Rattle.clues.specs.ClueBook.{Clues}
-use Rattle.line_settle.specs.FactSets.{Excludes, IsFacts}
+use Rattle.line_facts.specs.FactSets.{Excludes, IsFacts}
 use Rattle.justify.specs.declared.step.Step.{Step}
 use Rattle.justify.specs.Steps.{step_at}
 use Rattle.justify.specs.Book.{Account, Adds, AreTrimmed, CanAdd, IsAccount, IsDerivation, IsKnownBefore, account}

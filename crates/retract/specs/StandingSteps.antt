@@ -1,13 +1,13 @@
 -- The steps of a book that stand after a change.
 use Rattle.std.specs.Prelude.{◌≡◌, ℕ, ◌<◌, ◌⊎◌, ◌↔◌, List, [], ◌∷◌, ◌++◌, length, Some, IsBitSet}
-use Rattle.line_settle.specs.Masks.{Masks}
+use Rattle.line_facts.specs.Masks.{Masks}
 use Rattle.picture.specs.declared.line_id.Axis.{Axis}
 use Rattle.picture.specs.declared.line_id.LineId.{LineId}
 use Rattle.clues.specs.Change.{Moves, Stays, image_of, lines_after, lines_before}
 use Rattle.picture.specs.CrossingLines.{crossing}
 use Rattle.picture.specs.LineSet.{Lines, HasName}
 use Rattle.clues.specs.ClueBook.{Clues, clue_at, clues_along}
-use Rattle.line_settle.specs.FactSets.{Excludes, row_on, col_on}
+use Rattle.line_facts.specs.FactSets.{Excludes, row_on, col_on}
 use Rattle.justify.specs.declared.premise.Premise.{Premise}
 use Rattle.justify.specs.declared.step.Step.{Step}
 use Rattle.justify.specs.Premises.{Mentions, Says}

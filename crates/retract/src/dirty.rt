@@ -11,7 +11,7 @@ ghost use Rattle.retract.specs.Dirty.{AreDirty, AreDirtyAlong, HaveFacts, IsClea
 
 use crate::sizes::is_in_place;
 use clues::{Change, ClueBook};
-use line_settle::Facts;
+use line_facts::Facts;
 use picture::{Axis, LineId, LineSet};
 
 // The clues of the old picture and of the new one, the change between them, the names of the old lines that keep their clues,

@@ -6,14 +6,14 @@ ghost use Rattle.picture.specs.declared.line_id.LineId.{LineId};
 ghost use Rattle.picture.specs.Rows.{line_of, lines_along, HasLine};
 ghost use Rattle.clues.specs.Change.{AreMoves, lines_after, lines_before};
 ghost use Rattle.picture.specs.CrossingLines.{crossing};
-ghost use Rattle.line_settle.specs.FactSets.{Excludes};
+ghost use Rattle.line_facts.specs.FactSets.{Excludes};
 ghost use Rattle.justify.specs.Premises.{Mentions};
 ghost use Rattle.retract.specs.StandingSteps.{AreKnown, ExcludesAll, HaveBooks, HaveSameClues, Stands, StayInPlace};
 
 use crate::sizes::keeps_length;
 use clues::{Change, ClueBook};
 use justify::{Premise, Step};
-use line_settle::Facts;
+use line_facts::Facts;
 use picture::{Axis, LineId, LineSet};
 
 // The line of the new picture on which a step stands, if it does. `known` is what the new base excludes and the steps kept so

@@ -6,7 +6,7 @@ ghost use Rattle.second_search.specs.Parts.{IsScene};
 use crate::search::{Said, Tally};
 use anyhow::{Result, bail, ensure};
 use certificate::{make_cert_within, write_cert};
-use line_settle::LineEngine;
+use line_facts::LineEngine;
 use picture::Document;
 use second_search::{Bounds, Ending, Parts, Scene, decide_within};
 use std::alloc::Global;

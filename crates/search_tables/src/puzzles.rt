@@ -5,7 +5,7 @@
 
 use anyhow::{Result, ensure};
 use clues::{Clue, ClueBook};
-use line_settle::Facts;
+use line_facts::Facts;
 use std::alloc::Global;
 use table_words::{clue_in, document_in};
 

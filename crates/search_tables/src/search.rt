@@ -2,14 +2,14 @@
 
 ghost use Rattle.std.specs.Prelude.{◌≡◌, ◌≤◌, IfOk, OnOk};
 ghost use Rattle.clues.specs.ClueBook.{clues_of};
-ghost use Rattle.line_settle.specs.FactSets.{IsBase, IsLeast};
+ghost use Rattle.line_facts.specs.FactSets.{IsBase, IsLeast};
 ghost use Rattle.second_search.specs.JudgedParts.{AreTrue, parts_of};
 ghost use Rattle.second_search.specs.Parts.{AreParts, IsScene};
 
 use anyhow::{Result, ensure};
 use clues::ClueBook;
 use fixpoint::settle_afresh;
-use line_settle::{Facts, LineEngine, NOTHING_DONE};
+use line_facts::{Facts, LineEngine, NOTHING_DONE};
 use picture::{Document, Picture};
 use second_search::{Judged, Keeper, Scene, laws};
 use std::alloc::Global;

@@ -11,11 +11,11 @@ use Rattle.picture.specs.Picture.{IsPicture}
 use Rattle.picture.specs.Rows.{width_of, row_at, cell_at, HasLine, Rows}
 use Rattle.clues.specs.ClueBook.{Clues, clues_of}
 use Rattle.clues.specs.Laws.{CluesAreOfLines}
-use Rattle.line_settle.specs.Masks.{IsOnly, Masks}
-use Rattle.line_settle.specs.FactSets.{IsFacts, SameShape}
-use Rattle.line_settle.proofs.GridLaws.{same_has_line, shape_refl, shape_sym, shape_trans}
+use Rattle.line_facts.specs.Masks.{IsOnly, Masks}
+use Rattle.line_facts.specs.FactSets.{IsFacts, SameShape}
+use Rattle.line_facts.proofs.GridLaws.{same_has_line, shape_refl, shape_sym, shape_trans}
 use Rattle.picture.proofs.BitLaws.{power_has, bit_or_not}
-use Rattle.line_settle.proofs.MaskLaws.{only_is_power}
+use Rattle.line_facts.proofs.MaskLaws.{only_is_power}
 use Rattle.fixpoint.specs.ClosedFacts.{AreClosable}
 use Rattle.fixpoint.specs.Fillings.{only}
 use Rattle.fixpoint.specs.Laws.{OnlyIsClosed}

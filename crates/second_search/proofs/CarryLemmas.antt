@@ -3,7 +3,7 @@ use Rattle.std.proofs.Common.{◌≡◌, ℕ, ◌+◌, ◌<◌, ◌≤◌, List,
 use Rattle.std.specs.Prelude.{slice_index}
 use Rattle.std.proofs.lemmas.List.{length-map, length_push}
 use Rattle.std.proofs.lemmas.Bool.{cases_lt}
-use Rattle.line_settle.specs.Masks.{Masks}
+use Rattle.line_facts.specs.Masks.{Masks}
 use Rattle.picture.specs.declared.line_id.Axis.{Axis}
 use Rattle.picture.specs.declared.line_id.Axis.TheVariants.{Across, Down}
 use Rattle.picture.specs.declared.line_id.LineId.{LineId}
@@ -14,7 +14,7 @@ use Rattle.picture.specs.LineSet.{Lines}
 use Rattle.picture.specs.Picture.{IsPicture}
 use Rattle.picture.specs.Rows.{width_of, row_at, cell_at, line_along, line_of, lines_along, HasLine, Rows}
 use Rattle.clues.specs.ClueBook.{Clues}
-use Rattle.line_settle.specs.FactSets.{IsFacts, col_on, row_on}
+use Rattle.line_facts.specs.FactSets.{IsFacts, col_on, row_on}
 use Rattle.second_search.specs.declared.keeper.Answer.{Answer}
 use Rattle.second_search.specs.declared.keeper.Answer.TheVariants.{Filling, Nothing, Unknown}
 use Rattle.second_search.specs.declared.keeper.KeptPart.{KeptPart}
@@ -29,7 +29,7 @@ use Rattle.second_search.proofs.PartLemmas.{open_in_picture, part_open}
 use Rattle.second_search.proofs.PickLemmas.{off_part, on_part, outside_is_0, shape_of_picked}
 use Rattle.second_search.proofs.VerdictLemmas.{each_is_part, each_more, part_of_kept, same_parts}
 use Rattle.trail.proofs.GridLemmas.{same_grid, row_there}
-use Rattle.line_settle.proofs.GridLaws.{shape_sym, shape_trans}
+use Rattle.line_facts.proofs.GridLaws.{shape_sym, shape_trans}
 use Rattle.picture.proofs.BitLaws.{bit_or_not}
 
 -- ---- colours put on some cells

@@ -7,9 +7,9 @@ use Rattle.std.proofs.lemmas.Bool.{cases_eq, cases_lt}
 use Rattle.std.proofs.lemmas.List.{get_or_past}
 use Rattle.std.proofs.lemmas.Nat.{and_le_l}
 use Rattle.std.proofs.lemmas.Nat.Bits.{bit_at-zero, bit_at-trailing_zeros, bit_at_clear_same, bit_at_clear_other}
-use Rattle.line_settle.specs.Masks.{Masks}
+use Rattle.line_facts.specs.Masks.{Masks}
 use Rattle.picture.specs.Rows.{width_of, row_at, cell_at}
-use Rattle.line_settle.specs.FactSets.{IsFacts}
+use Rattle.line_facts.specs.FactSets.{IsFacts}
 use Rattle.second_search.specs.Parts.{HasTwoColours, IsChained, IsOpenCell, ShareLine, begins, goes_on}
 use Rattle.picture.proofs.BitLaws.{bit_below, bit_is_set, no_bit, set_bit}
 

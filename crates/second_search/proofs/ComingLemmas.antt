@@ -1,16 +1,16 @@
 -- What facts come to is one, and from it what a search does next.
 use Rattle.std.proofs.Common.{◌≡◌, ℕ, suc, ◌⊎◌, Option, None, Some, List, [], ◌∷◌, ◌++◌, refl, sym, ap, subst, ◌∙◌, arith, inl, inr}
 use Rattle.std.proofs.lemmas.Bool.{cases_lt}
-use Rattle.line_settle.specs.Masks.{Masks}
+use Rattle.line_facts.specs.Masks.{Masks}
 use Rattle.picture.specs.LineSet.{Lines}
 use Rattle.picture.specs.Rows.{width_of, cell_at, Rows}
 use Rattle.clues.specs.ClueBook.{Clues}
-use Rattle.line_settle.specs.Laws.{LeastIsUnique}
-use Rattle.line_settle.specs.FactSets.{IsFacts}
-use Rattle.line_settle.proofs.GridLaws.{same_has_line, shape_sym, shape_trans}
-use Rattle.line_settle.specs.declared.line_engine.Outcome.{Outcome}
-use Rattle.line_settle.specs.declared.line_engine.Outcome.TheVariants.{Narrowed}
-use Rattle.line_settle.specs.Branches.{branches}
+use Rattle.line_facts.specs.Laws.{LeastIsUnique}
+use Rattle.line_facts.specs.FactSets.{IsFacts}
+use Rattle.line_facts.proofs.GridLaws.{same_has_line, shape_sym, shape_trans}
+use Rattle.line_facts.specs.declared.line_engine.Outcome.{Outcome}
+use Rattle.line_facts.specs.declared.line_engine.Outcome.TheVariants.{Narrowed}
+use Rattle.line_facts.specs.Branches.{branches}
 use Rattle.fixpoint.specs.ClosedFacts.{Closes, HasDeadLine, KeepsOtherLines}
 use Rattle.trail.specs.declared.cell.Cell.{Cell}
 use Rattle.second_search.specs.declared.coming.Coming.{Coming}

@@ -10,10 +10,10 @@ use Rattle.std.proofs.Math.Pow.{pow_pos, pow_mono}
 use Rattle.picture.specs.Rows.{width_of, row_at, cell_at, Rows}
 use Rattle.picture.proofs.BitLaws.{bit_below, bit_is_set, fewer_le, power_has, bit_or_not}
 use Rattle.clues.specs.ClueBook.{Clues}
-use Rattle.line_settle.specs.Branches.{branches, colours_of, held}
-use Rattle.line_settle.specs.FactSets.{IsFacts, SameShape}
-use Rattle.line_settle.proofs.MaskLaws.{lowest_of_power, only_is_power}
-use Rattle.line_settle.specs.Masks.{IsOnly, Masks}
+use Rattle.line_facts.specs.Branches.{branches, colours_of, held}
+use Rattle.line_facts.specs.FactSets.{IsFacts, SameShape}
+use Rattle.line_facts.proofs.MaskLaws.{lowest_of_power, only_is_power}
+use Rattle.line_facts.specs.Masks.{IsOnly, Masks}
 use Rattle.trail.specs.declared.cell.Cell.{Cell}
 use Rattle.second_search.specs.declared.coming.Coming.{Coming}
 use Rattle.second_search.specs.declared.coming.Coming.TheVariants.{Dies, Ends, Splits}
@@ -25,7 +25,7 @@ use Rattle.second_search.proofs.PickLemmas.{find_below, first_below, outside_is_
 use Rattle.second_search.proofs.TreeLemmas.{ended_lighter, split_lighter, within_lighter}
 use Rattle.second_search.proofs.WeightLemmas.{load}
 use Rattle.picture.specs.Picture.{IsPicture}
-use Rattle.line_settle.proofs.GridLaws.{shape_sym, shape_trans}
+use Rattle.line_facts.proofs.GridLaws.{shape_sym, shape_trans}
 use Rattle.fixpoint.specs.Fillings.{only}
 use Rattle.fixpoint.specs.Laws.{OnlyIsClosed}
 use Rattle.second_search.specs.declared.counting.Ending.TheVariants as ending

@@ -1,9 +1,9 @@
 -- A search that counts its splits: what waits ends as the first facts do, but for the splits made so far.
 use Rattle.std.proofs.Common.{◌≡◌, ℕ, suc, ◌+◌, ◌<◌, ◌⊎◌, Option, None, Some, List, [], ◌∷◌, ◌++◌, refl, sym, ap, subst, ◌∙◌, arith, inl, inr}
-use Rattle.line_settle.specs.Masks.{Masks}
+use Rattle.line_facts.specs.Masks.{Masks}
 use Rattle.picture.specs.Rows.{cell_at, Rows}
 use Rattle.clues.specs.ClueBook.{Clues}
-use Rattle.line_settle.specs.Laws.{LeastIsUnique}
+use Rattle.line_facts.specs.Laws.{LeastIsUnique}
 use Rattle.trail.specs.declared.cell.Cell.{Cell}
 use Rattle.second_search.specs.declared.coming.Coming.{Coming}
 use Rattle.second_search.specs.declared.coming.Coming.TheVariants.{Dies, Ends, Splits}
@@ -20,7 +20,7 @@ use Rattle.second_search.proofs.ComingLemmas.{leads}
 use Rattle.second_search.proofs.LookLemmas.{others_same}
 use Rattle.second_search.proofs.TreeLemmas.{ended_lighter, split_lighter, within_lighter}
 use Rattle.second_search.proofs.WeightLemmas.{load}
-use Rattle.line_settle.specs.Branches.{branches}
+use Rattle.line_facts.specs.Branches.{branches}
 
 -- the search of what waits ends as that of the first facts, with n splits less
 pub record Going (clues : Clues) (known : Rows) (first : Masks) (waiting : List Masks) (n : ℕ) : Type 0 where

@@ -9,24 +9,24 @@ use Rattle.std.proofs.lemmas.List.{length-map}
 use Rattle.std.proofs.lemmas.Nat.{ones-le, ones_le_self}
 use Rattle.std.proofs.lemmas.Nat.Bits.{bit_at-lt, bit_at-suc, bit_at_lowest}
 use Rattle.std.proofs.Math.Nat.{mul_assoc, mul_comm, mul-le-mul_right, pow-suc}
-use Rattle.line_settle.specs.Masks.{Masks}
+use Rattle.line_facts.specs.Masks.{Masks}
 use Rattle.picture.proofs.BitLaws.{bit_is_set, bit_or_not, unset, fewer_le, fewer_ones_of, no_bit, same_bits, set_bit}
 use Rattle.picture.specs.declared.line_id.Axis.TheVariants.{Across, Down}
 use Rattle.picture.specs.declared.line_id.LineId.{LineId}
 use Rattle.picture.specs.LineSet.{Lines, name_count}
 use Rattle.picture.specs.Rows.{width_of, row_at, cell_at, with_cell, line_of, HasLine, Rows}
 use Rattle.clues.specs.ClueBook.{Clues}
-use Rattle.line_settle.specs.declared.line_engine.Outcome.{Outcome}
-use Rattle.line_settle.specs.declared.meter.Meter.{Meter}
-use Rattle.line_settle.specs.FactSets.{IsFacts, IsWithin, Leaves, SameShape, row_on, col_on}
-use Rattle.line_settle.proofs.AlongLaws.{place_on, written_apart}
-use Rattle.line_settle.proofs.ForceLaws.{gains_grows}
-use Rattle.line_settle.proofs.GridLaws.{cell_on, same_has_line, same_line_length, shape_sym, shape_trans, shape_with_cell}
+use Rattle.line_facts.specs.declared.line_engine.Outcome.{Outcome}
+use Rattle.line_facts.specs.declared.meter.Meter.{Meter}
+use Rattle.line_facts.specs.FactSets.{IsFacts, IsWithin, Leaves, SameShape, row_on, col_on}
+use Rattle.line_facts.proofs.AlongLaws.{place_on, written_apart}
+use Rattle.line_facts.proofs.ForceLaws.{gains_grows}
+use Rattle.line_facts.proofs.GridLaws.{cell_on, same_has_line, same_line_length, shape_sym, shape_trans, shape_with_cell}
 use Rattle.fixpoint.specs.ClosedFacts.{Draws, Works, change, changes}
 use Rattle.fixpoint.proofs.ClosingLaws.{within_refl, within_trans}
 use Rattle.fixpoint.specs.LineNames.{AreLinesOf}
 use Rattle.trail.proofs.GridLemmas.{set_each}
-use Rattle.line_settle.specs.Branches.{branches, colours_of}
+use Rattle.line_facts.specs.Branches.{branches, colours_of}
 use Rattle.trail.specs.Trail.{Trailed}
 use Rattle.second_search.specs.declared.counting.Budget.{Budget}
 use Rattle.second_search.specs.SearchSteps.{IsOneLess, Steps}

@@ -1,7 +1,7 @@
 -- What a counted search finds is another picture that fills what waits, and where it finds none there is none.
 use Rattle.std.proofs.Common.{◌≡◌, ℕ, ◌<◌, ◌↔◌, ◌^◌, Option, None, Some, List, [], ◌∷◌, ◌++◌, length, get_or, sym, ap, subst, ◌∙◌, arith, inl, inr}
 use Rattle.std.specs.Prelude.{IsBitSet}
-use Rattle.line_settle.specs.Masks.{Masks}
+use Rattle.line_facts.specs.Masks.{Masks}
 use Rattle.picture.specs.declared.line_id.Axis.{Axis}
 use Rattle.picture.specs.declared.line_id.Axis.TheVariants.{Across, Down}
 use Rattle.picture.specs.declared.line_id.LineId.{LineId}
@@ -10,10 +10,10 @@ use Rattle.picture.specs.Rows.{width_of, cell_at, line_of, lines_along, HasLine,
 use Rattle.clues.specs.Clue.{clue_of}
 use Rattle.clues.specs.ClueBook.{Clues, clues_along, clues_of}
 use Rattle.clues.specs.Laws.{BooksAreTheirClues, CluesAreOfLines}
-use Rattle.line_settle.specs.FactSets.{IsFacts, SameShape, col_on, row_on}
-use Rattle.line_settle.proofs.AlongLaws.{place_on}
-use Rattle.line_settle.proofs.GridLaws.{cell_on, same_has_line, same_line_length, same_list, shape_sym, shape_trans, shape_with_cell}
-use Rattle.line_settle.specs.Branches.{branches, colours_of, held}
+use Rattle.line_facts.specs.FactSets.{IsFacts, SameShape, col_on, row_on}
+use Rattle.line_facts.proofs.AlongLaws.{place_on}
+use Rattle.line_facts.proofs.GridLaws.{cell_on, same_has_line, same_line_length, same_list, shape_sym, shape_trans, shape_with_cell}
+use Rattle.line_facts.specs.Branches.{branches, colours_of, held}
 use Rattle.fixpoint.specs.ClosedFacts.{EachFits}
 use Rattle.fixpoint.specs.Fillings.{Fills, only}
 use Rattle.fixpoint.specs.Laws.{ClosingKeepsFillings, OnlyIsClosed}

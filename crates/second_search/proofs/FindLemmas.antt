@@ -6,25 +6,25 @@ use Rattle.std.specs.List.{filter, range_with_len}
 use Rattle.std.specs.Int.{bit_at}
 use Rattle.std.proofs.lemmas.Bool.{cases_lt}
 use Rattle.std.proofs.lemmas.List.{get_or_past, get_or-replicate, length-replicate}
-use Rattle.line_settle.specs.Masks.{Masks}
+use Rattle.line_facts.specs.Masks.{Masks}
 use Rattle.picture.specs.declared.line_id.Axis.{Axis}
 use Rattle.picture.specs.declared.line_id.Axis.TheVariants.{Across, Down}
 use Rattle.picture.specs.CellSet.{HasCell, PutsCell}
 use Rattle.picture.specs.Picture.{IsPicture}
 use Rattle.picture.specs.Rows.{width_of, row_at, cell_at, lines_along, with_cell, Rows}
 use Rattle.clues.specs.ClueBook.{Clues, clues_along, clues_of}
-use Rattle.line_settle.specs.FactSets.{IsFacts, IsWithin, Leaves, SameShape, IsBase, IsLeast, nothing_excluded, with_given}
+use Rattle.line_facts.specs.FactSets.{IsFacts, IsWithin, Leaves, SameShape, IsBase, IsLeast, nothing_excluded, with_given}
 use Rattle.fixpoint.specs.ClosedFacts.{AreClosable}
 use Rattle.fixpoint.proofs.FillingLaws.{fills_fewer}
 use Rattle.fixpoint.specs.Fillings.{Fills}
 use Rattle.second_search.specs.SettledFacts.{FillsSome}
 use Rattle.second_search.specs.SettledFacts.{FindsFilling}
 use Rattle.second_search.specs.Other.{AreSound, FindsFirst, FindsOther, HasClues}
-use Rattle.line_settle.proofs.GridLaws.{shape_refl, shape_sym, shape_trans, shape_with_cell, full_shape, all_left}
+use Rattle.line_facts.proofs.GridLaws.{shape_refl, shape_sym, shape_trans, shape_with_cell, full_shape, all_left}
 use Rattle.picture.proofs.BitLaws.{bit_is_set, power_has, no_bit}
 use Rattle.clues.specs.Solution.{Solves}
-use Rattle.line_settle.proofs.SolutionLaws.{solved_shape}
-use Rattle.line_settle.specs.Branches.{branches, colours_of, held}
+use Rattle.line_facts.proofs.SolutionLaws.{solved_shape}
+use Rattle.line_facts.specs.Branches.{branches, colours_of, held}
 use Rattle.trail.proofs.ColourLemmas.{Among, among_colours}
 use Rattle.trail.proofs.GridLemmas.{set_each, row_there}
 use Rattle.fixpoint.specs.Laws.{ClosingKeepsFillings}

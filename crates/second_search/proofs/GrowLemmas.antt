@@ -2,7 +2,7 @@
 use Rattle.std.proofs.Common.{◌≡◌, ℕ, ◌+◌, ◌<◌, ◌⊎◌, ◌↔◌, List, length, get_or, refl, sym, ap, subst, ◌∙◌, arith, inl, inr}
 use Rattle.std.proofs.lemmas.Bool.{cases_eq}
 use Rattle.std.proofs.lemmas.List.{length-map}
-use Rattle.line_settle.specs.Masks.{Masks}
+use Rattle.line_facts.specs.Masks.{Masks}
 use Rattle.picture.specs.declared.line_id.Axis.{Axis}
 use Rattle.picture.specs.declared.line_id.Axis.TheVariants.{Across, Down}
 use Rattle.picture.specs.declared.line_id.LineId.{LineId}
@@ -10,7 +10,7 @@ use Rattle.picture.specs.CellSet.{HasCell}
 use Rattle.picture.specs.LineSet.{HasName, Lines}
 use Rattle.picture.specs.Rows.{width_of, lines_along, line_along, line_of, HasLine}
 use Rattle.clues.specs.Laws.{IsOnLine, IsAtPlace}
-use Rattle.line_settle.specs.FactSets.{IsFacts, col_on, row_on}
+use Rattle.line_facts.specs.FactSets.{IsFacts, col_on, row_on}
 use Rattle.fixpoint.specs.LineNames.{AllLines}
 use Rattle.second_search.specs.declared.parts.growth.Growth.{Growth}
 use Rattle.second_search.specs.GrownParts.{HasOpenCellsOf, IsGrown, Leaves, TakesIn}

@@ -13,12 +13,12 @@ use Rattle.picture.specs.Picture.{IsPicture}
 use Rattle.picture.specs.Rows.{width_of, row_at, cell_at, line_along, line_of, lines_along, HasLine, with_cell, Rows}
 use Rattle.clues.specs.Laws.{CluesAreOfLines}
 use Rattle.clues.specs.ClueBook.{Clues, clue_at, clues_along, clues_of}
-use Rattle.line_settle.specs.Masks.{IsOnly, Masks}
-use Rattle.line_settle.specs.FactSets.{IsClosed, IsFacts, SameShape, col_on, row_on}
-use Rattle.line_settle.specs.Fits.{Fits}
-use Rattle.line_settle.proofs.GridLaws.{same_has_line, same_line_length, same_list, shape_refl, shape_sym, shape_trans, cell_on, off_with_cell, shape_with_cell}
+use Rattle.line_facts.specs.Masks.{IsOnly, Masks}
+use Rattle.line_facts.specs.FactSets.{IsClosed, IsFacts, SameShape, col_on, row_on}
+use Rattle.line_facts.specs.Fits.{Fits}
+use Rattle.line_facts.proofs.GridLaws.{same_has_line, same_line_length, same_list, shape_refl, shape_sym, shape_trans, cell_on, off_with_cell, shape_with_cell}
 use Rattle.picture.proofs.BitLaws.{no_bit}
-use Rattle.line_settle.specs.Branches.{colours_of, held}
+use Rattle.line_facts.specs.Branches.{colours_of, held}
 use Rattle.fixpoint.specs.ClosedFacts.{AreClosable, EachFits, IsQuietLine, QuietOutside}
 use Rattle.fixpoint.specs.LineNames.{AreLinesOf}
 use Rattle.trail.specs.declared.cell.Cell.{Cell}

@@ -1,8 +1,8 @@
 -- The laws that answers cite, of the crates below and of this one.
 pub use Rattle.picture.proofs.CellSetLaws.{members as cells_are_members, same_cells as same_cells_are_equal}
 pub use Rattle.clues.proofs.LawLemmas.{of_lines as clues_are_of_lines, same_books as books_are_their_clues}
-pub use Rattle.line_settle.proofs.FitLaws.{one_line as one_line_decides}
-pub use Rattle.line_settle.proofs.LawLemmas.{closes_a_line as forcing_closes_a_line, one_least as least_is_unique}
+pub use Rattle.line_facts.proofs.FitLaws.{one_line as one_line_decides}
+pub use Rattle.line_facts.proofs.LawLemmas.{closes_a_line as forcing_closes_a_line, one_least as least_is_unique}
 pub use Rattle.fixpoint.proofs.PictureLemmas.{closing_keeps_fillings, only_is_closed}
 use Rattle.second_search.specs.Laws.{AllowancesBreakOff, FillingsAreOfFacts, FillingsStay, PartsDecide, SoundFacts}
 use Rattle.second_search.specs.FixedOrder.{CostsAreUnique}

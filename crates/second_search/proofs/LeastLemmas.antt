@@ -5,7 +5,7 @@ use Rattle.std.specs.Int.{bit_not, w16}
 use Rattle.std.proofs.lemmas.Bool.{cases_eq, cases_lt}
 use Rattle.std.proofs.lemmas.List.{get_or_past}
 use Rattle.std.proofs.Math.Pow.{pow_mono}
-use Rattle.line_settle.specs.Masks.{Masks}
+use Rattle.line_facts.specs.Masks.{Masks}
 use Rattle.picture.specs.declared.line_id.Axis.{Axis}
 use Rattle.picture.specs.declared.line_id.Axis.TheVariants.{Across, Down}
 use Rattle.picture.specs.declared.line_id.LineId.{LineId}
@@ -13,11 +13,11 @@ use Rattle.picture.specs.Rows.{width_of, row_at, cell_at, with_cell, line_of, li
 use Rattle.picture.proofs.BitLaws.{bit_below, bit_or_not, fewer_le, no_bit, power_has}
 use Rattle.clues.specs.declared.block.Block.{Block}
 use Rattle.clues.specs.ClueBook.{Clues, clue_at}
-use Rattle.line_settle.specs.Fits.{CanFit, Forces, CanHave}
-use Rattle.line_settle.specs.FactSets.{IsClosed, IsClosedLine, IsFacts, IsLeast, IsWithin, Leaves, SameShape, col_on, row_on}
-use Rattle.line_settle.proofs.FitLaws.{tighter_can_fit, tighter_have, within_tighter}
-use Rattle.line_settle.proofs.GridLaws.{cell_on, same_has_line, shape_sym, shape_trans, shape_with_cell}
-use Rattle.line_settle.proofs.MaskLaws.{without_bit}
+use Rattle.line_facts.specs.Fits.{CanFit, Forces, CanHave}
+use Rattle.line_facts.specs.FactSets.{IsClosed, IsClosedLine, IsFacts, IsLeast, IsWithin, Leaves, SameShape, col_on, row_on}
+use Rattle.line_facts.proofs.FitLaws.{tighter_can_fit, tighter_have, within_tighter}
+use Rattle.line_facts.proofs.GridLaws.{cell_on, same_has_line, shape_sym, shape_trans, shape_with_cell}
+use Rattle.line_facts.proofs.MaskLaws.{without_bit}
 use Rattle.fixpoint.specs.ClosedFacts.{EachFits, HasDeadLine}
 use Rattle.fixpoint.proofs.ClosingLaws.{within_refl, within_trans}
 use Rattle.trail.proofs.GridLemmas.{both_or_not, set_each}
@@ -25,7 +25,7 @@ use Rattle.second_search.proofs.GrowLemmas.{line_named}
 use Rattle.second_search.proofs.PickLemmas.{find_below, same_list, Below, OrNot, some_below}
 use Rattle.second_search.proofs.WeightLemmas.{weight, weight_with_cell}
 use Rattle.clues.specs.Clue.{block, clue_of}
-use Rattle.line_settle.proofs.AlongLaws.{place_on}
+use Rattle.line_facts.proofs.AlongLaws.{place_on}
 
 -- ---- equal or not
 

@@ -6,17 +6,17 @@ use Rattle.std.proofs.lemmas.List.{get_or_past}
 use Rattle.picture.specs.LineSet.{Lines}
 use Rattle.picture.specs.Rows.{width_of, row_at, cell_at, with_cell, Rows}
 use Rattle.clues.specs.ClueBook.{Clues, clues_of}
-use Rattle.line_settle.specs.Masks.{IsOnly, Masks}
-use Rattle.line_settle.specs.FactSets.{IsFacts, IsWithin, SameShape}
-use Rattle.line_settle.specs.declared.line_engine.Outcome.{Outcome}
-use Rattle.line_settle.specs.declared.line_engine.Outcome.TheVariants.{Narrowed}
+use Rattle.line_facts.specs.Masks.{IsOnly, Masks}
+use Rattle.line_facts.specs.FactSets.{IsFacts, IsWithin, SameShape}
+use Rattle.line_facts.specs.declared.line_engine.Outcome.{Outcome}
+use Rattle.line_facts.specs.declared.line_engine.Outcome.TheVariants.{Narrowed}
 use Rattle.fixpoint.specs.ClosedFacts.{Closes, EachFits, KeepsOtherLines}
 use Rattle.fixpoint.specs.Fillings.{Fills, only}
 use Rattle.fixpoint.specs.Laws.{OnlyIsClosed}
 use Rattle.trail.specs.Trail.{AreOthersSame}
 use Rattle.second_search.specs.SettledFacts.{AreRowsSettled, ShowOthers, Shows}
 use Rattle.second_search.specs.Through.{across}
-use Rattle.line_settle.proofs.GridLaws.{shape_sym, shape_trans, at_with_cell, off_with_cell, shape_with_cell}
+use Rattle.line_facts.proofs.GridLaws.{shape_sym, shape_trans, at_with_cell, off_with_cell, shape_with_cell}
 use Rattle.picture.proofs.BitLaws.{bit_below, no_bit}
 use Rattle.trail.proofs.GridLemmas.{same_inside, row_there}
 

@@ -14,9 +14,9 @@ use Rattle.clues.specs.Clue.{clue_of}
 use Rattle.clues.specs.ClueBook.{Clues}
 use Rattle.clues.specs.Laws.{BooksAreTheirClues, CluesAreOfLines, IsOnLine}
 use Rattle.clues.specs.Solution.{IsOther, Solves}
-use Rattle.line_settle.specs.FactSets.{SameShape}
-use Rattle.line_settle.specs.Masks.{IsOnly, Masks}
-use Rattle.line_settle.proofs.SolutionLaws.{solved_shape}
+use Rattle.line_facts.specs.FactSets.{SameShape}
+use Rattle.line_facts.specs.Masks.{IsOnly, Masks}
+use Rattle.line_facts.proofs.SolutionLaws.{solved_shape}
 use Rattle.fixpoint.specs.Fillings.{Fills, only}
 use Rattle.fixpoint.specs.Laws.{OnlyIsClosed}
 use Rattle.second_search.specs.Laws.{FillingsAreOfFacts, PartsAreApart, PartsDecide}
@@ -24,7 +24,7 @@ use Rattle.second_search.specs.Parts.{AreParts, GoesThrough, IsBefore, IsOpenCel
 use Rattle.second_search.proofs.ChainLemmas.{chain_back, chain_end, chain_on, none_has_two}
 use Rattle.second_search.proofs.GrowLemmas.{on_one_line}
 use Rattle.second_search.proofs.PickLemmas.{clue_known, differing_cell, find_below, off_part, on_cells, outside_is_0, rect_like, same_along, same_clues, same_count, shape_of_picked}
-use Rattle.line_settle.proofs.GridLaws.{shape_sym, shape_trans, same_line_length}
+use Rattle.line_facts.proofs.GridLaws.{shape_sym, shape_trans, same_line_length}
 use Rattle.picture.proofs.BitLaws.{bit_or_not}
 use Rattle.trail.proofs.GridLemmas.{row_there}
 

@@ -13,7 +13,7 @@ use Rattle.picture.specs.Rows.{width_of, row_at, cell_at, lines_along, line_alon
 use Rattle.clues.specs.Clue.{clue_of}
 use Rattle.clues.specs.ClueBook.{Clues, clue_at, clues_of}
 use Rattle.clues.specs.Laws.{BooksAreTheirClues, CluesAreOfLines, IsAtPlace}
-use Rattle.line_settle.specs.FactSets.{SameShape}
+use Rattle.line_facts.specs.FactSets.{SameShape}
 use Rattle.second_search.specs.Parts.{picked, picked_cell, picked_row}
 use Rattle.trail.proofs.GridLemmas.{same_grid, row_there}
 

@@ -3,9 +3,9 @@ use Rattle.std.proofs.Common.{◌≡◌, ℕ, ◌+◌, ◌<◌, ◌≤◌, ◌�
 use Rattle.std.proofs.lemmas.Bool.{cases_eq, cases_lt}
 use Rattle.std.proofs.lemmas.List.{get_or_append_left, length-append, ext_get_or}
 use Rattle.std.proofs.Math.Seq.{get_or-append_seam}
-use Rattle.line_settle.specs.Masks.{Masks}
+use Rattle.line_facts.specs.Masks.{Masks}
 use Rattle.picture.specs.CellSet.{IsCellSet, HasCell}
-use Rattle.line_settle.specs.FactSets.{IsFacts}
+use Rattle.line_facts.specs.FactSets.{IsFacts}
 use Rattle.second_search.specs.GrownParts.{ArePartsAbove, HasNoOpenCell, HoldsCell, IsFirstOpen}
 use Rattle.second_search.specs.Parts.{AreParts, IsBefore, IsChained, IsOpenCell, IsPart, IsPartFrom, begins, part_at}
 use Rattle.second_search.proofs.ChainLemmas.{chain_back, chain_end, chain_in_row, chain_on, open_inside}

@@ -1,7 +1,7 @@
 -- A part whose lines are the same in two scenes.
 use Rattle.std.proofs.Common.{◌≡◌, ℕ, ◌<◌, List, length, refl, sym, ap, subst, ◌∙◌, arith, inl, inr}
 use Rattle.std.specs.Prelude.{slice_index}
-use Rattle.line_settle.specs.Masks.{Masks}
+use Rattle.line_facts.specs.Masks.{Masks}
 use Rattle.picture.specs.declared.line_id.LineId.{LineId}
 use Rattle.picture.specs.CellSet.{HasCell}
 use Rattle.picture.specs.Laws.{CellsAreMembers}
@@ -9,14 +9,14 @@ use Rattle.picture.specs.Rows.{width_of, cell_at, line_of, HasLine, Rows}
 use Rattle.clues.specs.Clue.{clue_of}
 use Rattle.clues.specs.ClueBook.{Clues}
 use Rattle.clues.specs.Laws.{BooksAreTheirClues, CluesAreOfLines, IsOnLine}
-use Rattle.line_settle.proofs.SolutionLaws.{solved_shape}
+use Rattle.line_facts.proofs.SolutionLaws.{solved_shape}
 use Rattle.second_search.specs.Laws.{FillingsStay}
 use Rattle.second_search.specs.Parts.{GoesThrough, HasTwoColours, IsChained, IsOpenCell, IsOtherFilling, IsPart, IsScene, KeepsLines, ShareLine, begins, goes_on, picked}
 use Rattle.second_search.proofs.PartLemmas.{part_open, picked_picture, through_or_not}
 use Rattle.second_search.proofs.PickLemmas.{cells_along, clue_known, off_part, on_part, same_along, same_clues, same_count, shape_of_picked}
 use Rattle.trail.proofs.GridLemmas.{same_grid}
 use Rattle.picture.proofs.BitLaws.{bit_or_not}
-use Rattle.line_settle.proofs.GridLaws.{same_line_length}
+use Rattle.line_facts.proofs.GridLaws.{same_line_length}
 use Rattle.trail.specs.Through.{across, down}
 
 in_row : (cells : List ℕ) (row col : ℕ) → HasCell cells row col → GoesThrough (across row) cells

@@ -16,15 +16,15 @@ use Rattle.picture.specs.Rows.{width_of, row_at, cell_at, line_of, lines_along, 
 use Rattle.clues.specs.declared.block.Block.{Block}
 use Rattle.clues.specs.ClueBook.{Clues, clue_at, clues_of}
 use Rattle.clues.specs.Laws.{BooksAreTheirClues, CluesAreOfLines}
-use Rattle.line_settle.specs.declared.line_engine.Outcome.{Outcome}
-use Rattle.line_settle.specs.declared.line_engine.Outcome.TheVariants.{Narrowed, Dead as NoneFits}
-use Rattle.line_settle.specs.CrossedLines.{CrossesChange}
-use Rattle.line_settle.specs.Fits.{CanFit}
-use Rattle.line_settle.specs.Masks.{IsOnly, Masks}
-use Rattle.line_settle.specs.FactSets.{Gains, IsClosedLine, IsFacts, IsWithin, Leaves, SameShape, row_on}
-use Rattle.line_settle.proofs.FitLaws.{tighter_can_fit, within_tighter}
-use Rattle.line_settle.proofs.ForceLaws.{gains_grows, gains_inside, on_or_not}
-use Rattle.line_settle.proofs.GridLaws.{cell_on, same_has_line, shape_refl, shape_sym, shape_trans, shape_with_cell}
+use Rattle.line_facts.specs.declared.line_engine.Outcome.{Outcome}
+use Rattle.line_facts.specs.declared.line_engine.Outcome.TheVariants.{Narrowed, Dead as NoneFits}
+use Rattle.line_facts.specs.CrossedLines.{CrossesChange}
+use Rattle.line_facts.specs.Fits.{CanFit}
+use Rattle.line_facts.specs.Masks.{IsOnly, Masks}
+use Rattle.line_facts.specs.FactSets.{Gains, IsClosedLine, IsFacts, IsWithin, Leaves, SameShape, row_on}
+use Rattle.line_facts.proofs.FitLaws.{tighter_can_fit, within_tighter}
+use Rattle.line_facts.proofs.ForceLaws.{gains_grows, gains_inside, on_or_not}
+use Rattle.line_facts.proofs.GridLaws.{cell_on, same_has_line, shape_refl, shape_sym, shape_trans, shape_with_cell}
 use Rattle.fixpoint.specs.ClosedFacts.{AreClosable, EachFits}
 use Rattle.fixpoint.specs.Fillings.{Fills, only}
 use Rattle.fixpoint.proofs.FillingLaws.{fills_fewer}
@@ -43,7 +43,7 @@ use Rattle.second_search.specs.declared.tree_step.TreeStep.TheVariants.{Ends, Sp
 use Rattle.second_search.specs.declared.ladder.Decided.TheVariants.{Tree}
 use Rattle.second_search.specs.SettledFacts.{FillsSome}
 use Rattle.trail.specs.Trail.{Trailed, places, trail_of}
-use Rattle.line_settle.specs.Branches.{branches, colours_of, held}
+use Rattle.line_facts.specs.Branches.{branches, colours_of, held}
 use Rattle.second_search.specs.SettledFacts.{FindsFilling, Shows}
 use Rattle.cert_check.specs.Puzzle.{HasCellNumber, HasLineNumber, ShowsOnly, line_id, split_at}
 use Rattle.second_search.specs.Trees.{Adds, Advances, AreNone, AreTree, Continues, Decides, EachFitsAlong, ForcesMore, IsComparedTo, IsDeadLine, IsOtherIn, IsUnsettledAt, Says, Settles, Stands, Turns}

@@ -2,7 +2,7 @@
 use Rattle.std.proofs.Common.{◌≡◌, ℕ, zero, suc, ◌+◌, ◌-◌, ◌<◌, ◌≤◌, max, Bool, Option, List, [], ◌∷◌, ◌++◌, length, refl, sym, ap, subst, ◌∙◌, arith, inl, inr, ◌^◌, None, Some, get_or}
 use Rattle.std.proofs.lemmas.Bool.{cases_lt}
 use Rattle.std.proofs.lemmas.List.{get_or_append_left, get_or_past, get_or_push, length-map, length_push, get_or_default}
-use Rattle.line_settle.specs.Masks.{Masks}
+use Rattle.line_facts.specs.Masks.{Masks}
 use Rattle.picture.specs.Rows.{Rows}
 use Rattle.clues.specs.ClueBook.{Clues}
 use Rattle.second_search.specs.declared.keeper.Answer.{Answer}
@@ -15,8 +15,8 @@ use Rattle.second_search.specs.Parts.{AreParts, IsPart, part_at}
 use Rattle.second_search.specs.JudgedParts.{Changes, FirstFilling, HasFilling, HasNoFilling, IsFilling, IsPlace, IsToldBy, IsTrueOf, Judges, Notes, Starts, StartsWith, Stops, answer_at, cells_at}
 use Rattle.second_search.specs.JudgedParts.{kept_at, parts_of, AddsUp, Done, DoneBy, EndsBy, EndsPart, Passes, StopsAt}
 use Rattle.second_search.proofs.LookLemmas.{below_next}
-use Rattle.line_settle.specs.declared.meter.Meter.{Meter}
-use Rattle.line_settle.specs.Counts.{Counts, counted}
+use Rattle.line_facts.specs.declared.meter.Meter.{Meter}
+use Rattle.line_facts.specs.Counts.{Counts, counted}
 use Rattle.second_search.specs.declared.keeper.Spent.{Spent}
 use Rattle.second_search.specs.FixedOrder.{EndsWithin, IsCalled, alone, raised}
 use Rattle.second_search.specs.Laws.{AllowancesBreakOff}

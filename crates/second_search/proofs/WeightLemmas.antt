@@ -11,11 +11,11 @@ use Rattle.std.proofs.lemmas.List.Sums.{count_by-le-length, length-filter}
 use Rattle.std.proofs.Math.Nat.{mul-le-mul_right}
 use Rattle.std.proofs.Math.Pow.{pow_mono, pow_pos}
 use Rattle.picture.specs.Rows.{row_at, cell_at, with_cell}
-use Rattle.line_settle.specs.Masks.{IsOnly, Masks}
-use Rattle.line_settle.specs.FactSets.{IsWithin}
+use Rattle.line_facts.specs.Masks.{IsOnly, Masks}
+use Rattle.line_facts.specs.FactSets.{IsWithin}
 pub use Rattle.second_search.specs.Weights.{load, loads, row_weight, total, weight}
 use Rattle.picture.proofs.BitLaws.{fewer_le, bit_is_set, power_has}
-use Rattle.line_settle.specs.Branches.{branches, colours_of, held}
+use Rattle.line_facts.specs.Branches.{branches, colours_of, held}
 
 total_append : {X : Type 0} (f : X → ℕ) (xs ys : List X) → total f (xs ++ ys) ≡ total f xs + total f ys
 total_append f [] ys = omega arith

@@ -19,10 +19,10 @@ use Rattle.second_search.specs.declared.near.Window.{Window}
 use Rattle.second_search.specs.Near.{IsWindow, OpensIn}
 use Rattle.second_search.specs.Through.{PutsBoth, across, down}
 use Rattle.second_search.proofs.AloneLemmas.{lines_more}
-use Rattle.line_settle.specs.FactSets.{IsLeast, Leaves}
+use Rattle.line_facts.specs.FactSets.{IsLeast, Leaves}
 use Rattle.fixpoint.specs.ClosedFacts.{EachFits}
-use Rattle.line_settle.specs.Masks.{IsOnly, Masks}
-use Rattle.line_settle.proofs.GridLaws.{shape_sym, shape_trans}
+use Rattle.line_facts.specs.Masks.{IsOnly, Masks}
+use Rattle.line_facts.proofs.GridLaws.{shape_sym, shape_trans}
 use Rattle.fixpoint.specs.Fillings.{Fills, only}
 use Rattle.second_search.proofs.LookLemmas.{only_there}
 use Rattle.second_search.proofs.PartLemmas.{solves_itself}

@@ -1,10 +1,10 @@
 -- The laws of costs: each part has one, and a picture is left
 -- undecided exactly where a part costs more than is allowed.
 use Rattle.std.specs.Prelude.{◌≡◌, ℕ, ◌+◌, ◌<◌, ◌↔◌, List, Some, length}
-use Rattle.line_settle.specs.Masks.{Masks}
+use Rattle.line_facts.specs.Masks.{Masks}
 use Rattle.picture.specs.Rows.{Rows}
 use Rattle.clues.specs.ClueBook.{Clues}
-use Rattle.line_settle.specs.FactSets.{IsFacts}
+use Rattle.line_facts.specs.FactSets.{IsFacts}
 use Rattle.second_search.specs.declared.counting.Ending.TheVariants as ending
 use Rattle.second_search.specs.declared.keeper.Answer.TheVariants.{Unknown}
 use Rattle.second_search.specs.declared.keeper.KeptPart.{KeptPart}

@@ -1,6 +1,6 @@
 -- How many lines a judgement evaluates at most under an allowance.
 use Rattle.std.specs.Prelude.{◌≡◌, ℕ, ◌+◌, ◌*◌, ◌≤◌, Option, None, Some, [], ◌∷◌, length, refl}
-use Rattle.line_settle.specs.Masks.{Masks}
+use Rattle.line_facts.specs.Masks.{Masks}
 use Rattle.picture.specs.Rows.{width_of}
 
 -- Facts are closed by one evaluation for each line at most, and one more for each colour that a cell can lose.

@@ -6,10 +6,10 @@ use Rattle.picture.specs.CellSet.{HasCell}
 use Rattle.picture.specs.LineSet.{Lines, HasName}
 use Rattle.picture.specs.Rows.{row_at, cell_at, Rows}
 use Rattle.clues.specs.ClueBook.{Clues}
-use Rattle.line_settle.specs.Counts.{counted}
-use Rattle.line_settle.specs.Masks.{IsOnly, Masks}
-use Rattle.line_settle.specs.FactSets.{IsFacts, IsLeast, SameShape}
-use Rattle.line_settle.specs.Branches.{branches}
+use Rattle.line_facts.specs.Counts.{counted}
+use Rattle.line_facts.specs.Masks.{IsOnly, Masks}
+use Rattle.line_facts.specs.FactSets.{IsFacts, IsLeast, SameShape}
+use Rattle.line_facts.specs.Branches.{branches}
 use Rattle.fixpoint.specs.ClosedFacts.{EachFits, HasDeadLine, KeepsOtherLines}
 use Rattle.fixpoint.specs.Fillings.{only}
 use Rattle.trail.specs.declared.cell.Cell.{Cell}

@@ -7,8 +7,8 @@ use Rattle.picture.specs.Rows.{width_of, cell_at, Rows}
 use Rattle.clues.specs.ClueBook.{Clues}
 use Rattle.clues.specs.Laws.{IsOnLine}
 use Rattle.clues.specs.Solution.{IsOther}
-use Rattle.line_settle.specs.FactSets.{IsBase, IsLeast, SameShape, nothing_excluded, with_given}
-use Rattle.line_settle.specs.Masks.{IsOnly, Masks}
+use Rattle.line_facts.specs.FactSets.{IsBase, IsLeast, SameShape, nothing_excluded, with_given}
+use Rattle.line_facts.specs.Masks.{IsOnly, Masks}
 use Rattle.fixpoint.specs.Fillings.{Fills, only}
 use Rattle.second_search.specs.declared.counting.Ending.{Ending}
 use Rattle.second_search.specs.declared.counting.Ending.TheVariants.{BrokenOff, Found, Nothing}

@@ -1,9 +1,9 @@
 -- Windows, in which alone another picture is looked for at first.
 use Rattle.std.specs.Prelude.{◌≡◌, ◌⊎◌, List, ℕ}
-use Rattle.line_settle.specs.Masks.{Masks}
+use Rattle.line_facts.specs.Masks.{Masks}
 use Rattle.picture.specs.CellSet.{HasCell}
 use Rattle.picture.specs.Rows.{cell_at}
-use Rattle.line_settle.specs.FactSets.{SameShape}
+use Rattle.line_facts.specs.FactSets.{SameShape}
 use Rattle.fixpoint.specs.LineNames.{AreLinesOf}
 use Rattle.second_search.specs.declared.near.Window.{Window}
 use Rattle.second_search.specs.CarriedParts.{LieInside}

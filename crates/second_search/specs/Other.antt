@@ -1,12 +1,12 @@
 -- What the finders answer: another picture, or a first one, or that there is none.
 use Rattle.std.specs.Prelude.{◌≡◌, ℕ, List, Option, None, Some}
-use Rattle.line_settle.specs.Masks.{Masks}
+use Rattle.line_facts.specs.Masks.{Masks}
 use Rattle.picture.specs.CellSet.{HasCell}
 use Rattle.picture.specs.Picture.{IsPicture}
 use Rattle.picture.specs.Rows.{cell_at, Rows}
 use Rattle.clues.specs.ClueBook.{Clues, clues_of}
 use Rattle.clues.specs.Solution.{IsOther, Solves}
-use Rattle.line_settle.specs.FactSets.{Leaves, SameShape}
+use Rattle.line_facts.specs.FactSets.{Leaves, SameShape}
 use Rattle.fixpoint.specs.Fillings.{LeavesPicture}
 
 -- Facts that a search for another picture may start from: in a given they leave no colour but the picture's, and they

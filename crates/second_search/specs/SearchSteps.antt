@@ -1,10 +1,10 @@
 -- One look at the facts at hand, in a search that counts its splits.
 use Rattle.std.specs.Prelude.{◌≡◌, ℕ, suc, ◌⊎◌, Option, None, Some, ◌++◌}
-use Rattle.line_settle.specs.Masks.{Masks}
+use Rattle.line_facts.specs.Masks.{Masks}
 use Rattle.picture.specs.Rows.{cell_at, Rows}
 use Rattle.clues.specs.ClueBook.{Clues}
 use Rattle.trail.specs.declared.cell.Cell.{Cell}
-use Rattle.line_settle.specs.Branches.{branches}
+use Rattle.line_facts.specs.Branches.{branches}
 use Rattle.second_search.specs.declared.coming.Coming.TheVariants.{Dies, Ends, Splits}
 use Rattle.second_search.specs.declared.counting.Budget.{Budget}
 use Rattle.second_search.specs.declared.counting.Ending.{Ending}

@@ -4,8 +4,8 @@ use Rattle.picture.specs.LineSet.{Lines, HasName}
 use Rattle.picture.specs.Picture.{IsPicture}
 use Rattle.picture.specs.Rows.{width_of, cell_at, Rows}
 use Rattle.clues.specs.ClueBook.{Clues}
-use Rattle.line_settle.specs.Masks.{IsOnly, Masks}
-use Rattle.line_settle.specs.FactSets.{SameShape}
+use Rattle.line_facts.specs.Masks.{IsOnly, Masks}
+use Rattle.line_facts.specs.FactSets.{SameShape}
 use Rattle.fixpoint.specs.Fillings.{Fills}
 use Rattle.trail.specs.declared.cell.Cell.{Cell}
 use Rattle.split_choice.specs.Choices.{IsUnsettled}

@@ -1,11 +1,11 @@
 -- The lines through some cells, and facts with a picture's colours alone left outside of them.
 use Rattle.std.specs.Prelude.{◌≡◌, ℕ, ◌^◌, ◌<◌, ◌⊎◌, ◌↔◌, List}
-use Rattle.line_settle.specs.Masks.{Masks}
+use Rattle.line_facts.specs.Masks.{Masks}
 use Rattle.picture.specs.declared.line_id.LineId.{LineId}
 use Rattle.picture.specs.CellSet.{HasCell}
 use Rattle.picture.specs.LineSet.{Lines, HasName}
 use Rattle.picture.specs.Rows.{width_of, cell_at, Rows}
-use Rattle.line_settle.specs.FactSets.{SameShape}
+use Rattle.line_facts.specs.FactSets.{SameShape}
 pub use Rattle.trail.specs.Through.{across, down}
 
 -- the two lines through a cell are named

@@ -4,11 +4,11 @@ use Rattle.picture.specs.declared.line_id.Axis.{Axis}
 use Rattle.picture.specs.declared.line_id.LineId.{LineId}
 use Rattle.picture.specs.Rows.{cell_at, line_of, lines_along, HasLine, Rows}
 use Rattle.clues.specs.ClueBook.{Clues, clue_at}
-use Rattle.line_settle.specs.declared.line_engine.Outcome.{Outcome}
-use Rattle.line_settle.specs.declared.line_engine.Outcome.TheVariants.{Narrowed, Dead as NoneFits}
-use Rattle.line_settle.specs.Fits.{CanFit}
-use Rattle.line_settle.specs.Masks.{IsOnly, Masks}
-use Rattle.line_settle.specs.FactSets.{Gains, IsWithin}
+use Rattle.line_facts.specs.declared.line_engine.Outcome.{Outcome}
+use Rattle.line_facts.specs.declared.line_engine.Outcome.TheVariants.{Narrowed, Dead as NoneFits}
+use Rattle.line_facts.specs.Fits.{CanFit}
+use Rattle.line_facts.specs.Masks.{IsOnly, Masks}
+use Rattle.line_facts.specs.FactSets.{Gains, IsWithin}
 use Rattle.fixpoint.specs.Fillings.{Fills}
 use Rattle.split_choice.specs.Choices.{IsUnsettled}
 use Rattle.cert_text.specs.declared.tree_line.CellNumber.{CellNumber}

@@ -1,6 +1,6 @@
 -- What facts weigh: the sum of their masks. A search ends since what waits weighs less with each step.
 use Rattle.std.specs.Prelude.{ℕ, ◌+◌, ◌*◌, ◌^◌, List, [], ◌∷◌}
-use Rattle.line_settle.specs.Masks.{Masks}
+use Rattle.line_facts.specs.Masks.{Masks}
 
 -- the sum over a list
 abbrev pub total : {X : Type 0} → (X → ℕ) → List X → ℕ

@@ -9,7 +9,7 @@ ghost use Rattle.second_search.specs.Scene.{IsWhole};
 
 use crate::keeper::Answer;
 use crate::scene::Scene;
-use line_settle::Facts;
+use line_facts::Facts;
 use picture::{Axis, CellSet, LineId, LineSet, LineView, Picture};
 use std::alloc::AllocError;
 use trail::Cell;

@@ -2,7 +2,7 @@
 
 ghost use Rattle.std.specs.Prelude.{◌≡◌, ◌+◌, ◌<◌, ◌≤◌, IfOk, OnOk};
 ghost use Rattle.picture.specs.LineSet.{name_count};
-ghost use Rattle.line_settle.specs.FactSets.{IsFacts, SameShape};
+ghost use Rattle.line_facts.specs.FactSets.{IsFacts, SameShape};
 ghost use Rattle.fixpoint.specs.ClosedFacts.{AreClosable, EachFits, QuietOutside};
 ghost use Rattle.fixpoint.specs.LineNames.{AreLinesOf};
 ghost use Rattle.second_search.specs.SettledFacts.{AreRowsSettled, ShowOthers, Shows};
@@ -12,7 +12,7 @@ ghost use Rattle.second_search.specs.Evaluations.{most_to_close};
 use crate::looking::{first_unsettled, shown_on};
 use clues::ClueBook;
 use fixpoint::close_naming;
-use line_settle::{Facts, LineEngine, Outcome};
+use line_facts::{Facts, LineEngine, Outcome};
 use picture::{LineSet, Picture};
 use std::alloc::AllocError;
 use trail::Cell;

@@ -4,7 +4,7 @@ ghost use Rattle.std.specs.Prelude.{◌≡◌, ◌+◌, ◌-◌, ◌<◌, ◌≤
 ghost use Rattle.picture.specs.LineSet.{name_count};
 ghost use Rattle.fixpoint.specs.ClosedFacts.{AreClosable, QuietOutside};
 ghost use Rattle.fixpoint.specs.LineNames.{AreLinesOf};
-ghost use Rattle.line_settle.specs.FactSets.{SameShape};
+ghost use Rattle.line_facts.specs.FactSets.{SameShape};
 ghost use Rattle.second_search.specs.SettledFacts.{AreRowsSettled, ShowOthers};
 ghost use Rattle.second_search.specs.FixedOrder.{EndsAs, IsCalled, raised};
 ghost use Rattle.second_search.specs.SearchSteps.{Compares, Spends, Steps};
@@ -12,7 +12,7 @@ ghost use Rattle.second_search.specs.Evaluations.{AreFew, most_to_close};
 
 use crate::coming::{Coming, Due, come_to};
 use clues::ClueBook;
-use line_settle::{Facts, LineEngine};
+use line_facts::{Facts, LineEngine};
 use picture::{LineSet, Picture};
 use std::alloc::{AllocError, Global};
 use trail::Trail;

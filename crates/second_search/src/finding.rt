@@ -2,7 +2,7 @@
 
 ghost use Rattle.std.specs.Prelude.{◌≡◌, ◌≤◌, ℕ, List, length, IfOk};
 ghost use Rattle.clues.specs.ClueBook.{clues_of};
-ghost use Rattle.line_settle.specs.FactSets.{SameShape};
+ghost use Rattle.line_facts.specs.FactSets.{SameShape};
 ghost use Rattle.fixpoint.specs.ClosedFacts.{AreClosable};
 ghost use Rattle.second_search.specs.Other.{AreSound, FindsFirst, FindsOther};
 ghost use Rattle.second_search.specs.SettledFacts.{FindsFilling};
@@ -12,7 +12,7 @@ use crate::ladder::{Decided, Ladder, climb};
 use crate::near::find_near_other;
 use crate::scene::Scene;
 use clues::ClueBook;
-use line_settle::{Facts, LineEngine};
+use line_facts::{Facts, LineEngine};
 use picture::{CellSet, Picture};
 use std::alloc::{AllocError, Global};
 

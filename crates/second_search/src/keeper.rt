@@ -2,7 +2,7 @@
 
 ghost use Rattle.std.specs.Prelude.{◌≡◌, ◌-◌, ◌<◌, ◌≤◌, ◌↔◌, ℕ, length, IfOk, IsTrue, OnErr, MatchOption};
 ghost use Rattle.picture.specs.CellSet.{HasCell};
-ghost use Rattle.line_settle.specs.Counts.{Counts};
+ghost use Rattle.line_facts.specs.Counts.{Counts};
 ghost use Rattle.second_search.specs.Parts.{AreParts, IsPart, IsScene};
 ghost use Rattle.second_search.specs.Answer.{IsAnswer};
 ghost use Rattle.second_search.specs.CarriedParts.{AreSameLines, Carries, IsCarried, KnowsNothing};
@@ -36,7 +36,7 @@ use crate::counting::{Ending, Searched};
 use crate::part_decision::decide_part;
 use crate::parts::Parts;
 use crate::scene::Scene;
-use line_settle::{Facts, LineEngine, Meter};
+use line_facts::{Facts, LineEngine, Meter};
 use picture::{CellSet, LineSet, MAX_SIDE, Picture};
 use std::alloc::{AllocError, Global};
 use std::marker::Model;

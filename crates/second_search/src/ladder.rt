@@ -9,7 +9,7 @@ use crate::scene::Scene;
 use crate::tree::write_tree;
 use crate::tree_lines::Lines;
 use crate::tree_step::Way;
-use line_settle::LineEngine;
+use line_facts::LineEngine;
 use picture::Picture;
 use split_choice::Choice;
 use std::alloc::{AllocError, Global};

@@ -3,13 +3,13 @@
 ghost use Rattle.std.specs.Prelude.{◌≡◌, ℕ, ◌<◌, List, length, IfOk, MatchOption};
 ghost use Rattle.picture.specs.LineSet.{HasName};
 ghost use Rattle.picture.specs.Rows.{width_of, cell_at};
-ghost use Rattle.line_settle.specs.Masks.{IsOnly};
-ghost use Rattle.line_settle.specs.FactSets.{SameShape};
+ghost use Rattle.line_facts.specs.Masks.{IsOnly};
+ghost use Rattle.line_facts.specs.FactSets.{SameShape};
 ghost use Rattle.second_search.specs.Through.{across};
 ghost use Rattle.second_search.specs.SettledFacts.{AreOthersSettled, AreRowsSettled, AreSettled, IsFirstUnsettled, ShowOthers, Shows, ShowsRow};
 
 use fixpoint::all_lines;
-use line_settle::Facts;
+use line_facts::Facts;
 use picture::{LineSet, Picture};
 use std::alloc::{AllocError, Global};
 use trail::{Cell, has_row};

@@ -2,7 +2,7 @@
 
 ghost use Rattle.std.specs.Prelude.{◌≡◌, ◌<◌, ◌≤◌, length, IfOk, IfSome};
 ghost use Rattle.picture.specs.CellSet.{HasCell};
-ghost use Rattle.line_settle.specs.FactSets.{SameShape};
+ghost use Rattle.line_facts.specs.FactSets.{SameShape};
 ghost use Rattle.clues.specs.Solution.{IsOther};
 ghost use Rattle.fixpoint.specs.Fillings.{only};
 ghost use Rattle.second_search.specs.Near.{IsWindow, OpensIn};
@@ -14,7 +14,7 @@ use crate::part_search::{facts_on, lines_through, put_both};
 use crate::parts::Parts;
 use crate::scene::Scene;
 use fixpoint::{CloseFault, settle_afresh};
-use line_settle::{Facts, LineEngine, NOTHING_DONE};
+use line_facts::{Facts, LineEngine, NOTHING_DONE};
 use picture::{Axis, CellSet, LineId, LineSet, MAX_SIDE, Picture};
 use std::alloc::{AllocError, Global};
 use worklist::InOrder;

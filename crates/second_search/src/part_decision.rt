@@ -13,7 +13,7 @@ use crate::finding::find_filling;
 use crate::near::{SIZES, SMALL, find_near};
 use crate::part_search::{facts_on, search_part};
 use crate::scene::Scene;
-use line_settle::LineEngine;
+use line_facts::LineEngine;
 use picture::CellSet;
 use std::alloc::{AllocError, Global};
 

@@ -2,7 +2,7 @@
 
 ghost use Rattle.std.specs.Prelude.{◌≡◌, ◌-◌, ◌<◌, ◌≤◌, ℕ, length, IfOk, OnOk};
 ghost use Rattle.picture.specs.Rows.{width_of};
-ghost use Rattle.line_settle.specs.FactSets.{SameShape};
+ghost use Rattle.line_facts.specs.FactSets.{SameShape};
 ghost use Rattle.fixpoint.specs.LineNames.{AreLinesOf};
 ghost use Rattle.second_search.specs.Parts.{IsPart};
 ghost use Rattle.second_search.specs.FixedOrder.{EndsAs, IsCalled, KeepsOutside, alone, raised};
@@ -12,7 +12,7 @@ ghost use Rattle.second_search.specs.Evaluations.{AreFew};
 
 use crate::counting::{Searched, Start, search_counted};
 use crate::scene::Scene;
-use line_settle::{Facts, LineEngine};
+use line_facts::{Facts, LineEngine};
 use picture::{Axis, CellSet, LineId, LineSet, MAX_SIDE, Picture};
 use std::alloc::{AllocError, Global};
 

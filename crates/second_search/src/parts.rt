@@ -5,7 +5,7 @@ ghost use Rattle.picture.specs.Rows.{width_of};
 ghost use Rattle.second_search.specs.GrownParts.{ArePartsAbove, HoldsCell, IsFirstOpen};
 ghost use Rattle.second_search.specs.Parts.{AreParts, part_at};
 
-use line_settle::Facts;
+use line_facts::Facts;
 use picture::{CellSet, MAX_SIDE};
 use std::alloc::{AllocError, Global};
 use std::marker::Model;

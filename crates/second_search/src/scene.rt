@@ -1,7 +1,7 @@
 //! What a search for another picture is given: clues, givens, facts, and the picture itself.
 
 use clues::ClueBook;
-use line_settle::Facts;
+use line_facts::Facts;
 use picture::{CellSet, Picture};
 
 /// What another picture is looked for in: a picture with its clues and its givens, and facts that a search may start from. All

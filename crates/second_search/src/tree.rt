@@ -12,7 +12,7 @@ use crate::tree_lines::{Lines, cell_number};
 use crate::tree_step::{TreeStep, Way, next_step};
 use cert_text::CertLine;
 use fixpoint::all_lines;
-use line_settle::{LineEngine, Outcome};
+use line_facts::{LineEngine, Outcome};
 use picture::{LineSet, Picture};
 use std::alloc::{AllocError, Global};
 use trail::Trail;

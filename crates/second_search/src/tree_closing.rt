@@ -3,14 +3,14 @@
 ghost use Rattle.std.specs.Prelude.{◌≡◌, ◌≤◌, length, IfOk, IsTrue};
 ghost use Rattle.picture.specs.Rows.{line_of, HasLine};
 ghost use Rattle.clues.specs.ClueBook.{HasClue};
-ghost use Rattle.line_settle.specs.FactSets.{IsFacts};
+ghost use Rattle.line_facts.specs.FactSets.{IsFacts};
 ghost use Rattle.fixpoint.specs.ClosedFacts.{AreClosable};
 ghost use Rattle.second_search.specs.Trees.{Settles};
 
 use crate::tree_lines::{Lines, line_number};
 use cert_text::CertLine;
 use clues::ClueBook;
-use line_settle::{Facts, Forced, LineEngine, Outcome, force_crossing};
+use line_facts::{Facts, Forced, LineEngine, Outcome, force_crossing};
 use picture::{LineId, LineSet};
 use std::alloc::AllocError;
 use worklist::{Agenda, InOrder};
@@ -52,7 +52,7 @@ pub(crate) fn close_written<E: LineEngine>(
     Ok(Outcome::Narrowed)
 }
 
-#[tactic(auto, using(crate::proofs::TreeLemmas::taking, line_settle::proofs::LawLemmas::closes_a_line))]
+#[tactic(auto, using(crate::proofs::TreeLemmas::taking, line_facts::proofs::LawLemmas::closes_a_line))]
 // Evaluates a line, and writes it where it forces something or is dead.
 fn take_line<E: LineEngine>(
     engine: &mut E,

@@ -3,7 +3,7 @@
 ghost use Rattle.std.specs.Prelude.{◌≡◌, ◌≤◌, ◌↔◌, IfOk, IfSome, IsTrue, MatchOption};
 ghost use Rattle.picture.specs.Rows.{HasLine, line_of};
 ghost use Rattle.clues.specs.ClueBook.{clue_at};
-ghost use Rattle.line_settle.specs.Fits.{CanFit};
+ghost use Rattle.line_facts.specs.Fits.{CanFit};
 ghost use Rattle.fixpoint.specs.ClosedFacts.{AreClosable, EachFits};
 ghost use Rattle.second_search.specs.Trees.{Continues, EachFitsAlong, IsComparedTo, IsDeadLine, IsOtherIn};
 
@@ -13,7 +13,7 @@ use crate::tree_lines::line_number;
 use cert_text::CertLine;
 use clues::ClueBook;
 use fixpoint::all_lines;
-use line_settle::{Facts, LineEngine, Outcome, force};
+use line_facts::{Facts, LineEngine, Outcome, force};
 use picture::{Axis, LineId, Picture};
 use split_choice::{Choice, Chosen, Node, Puzzle, choose, filled, fills_all, leaves};
 use std::alloc::{AllocError, Global};

@@ -2,10 +2,10 @@
 use Rattle.std.proofs.Common.{◌≡◌, ◌<◌, ◌⊎◌, ℕ, List, [], ◌∷◌, ◌++◌, length, take, Option, Some, None, Result, Ok, Err, inl, inr, sym, ap, subst, ◌∙◌, arith}
 use Rattle.std.specs.List.{concat}
 use Rattle.std.specs.Io.KnownBytes.{Appends}
-use Rattle.line_settle.specs.Masks.{Masks}
+use Rattle.line_facts.specs.Masks.{Masks}
 use Rattle.picture.specs.Rows.{Rows}
 use Rattle.clues.specs.ClueBook.{Clues, clues_of}
-use Rattle.line_settle.specs.FactSets.{Excludes, IsLeast, col_on, row_on}
+use Rattle.line_facts.specs.FactSets.{Excludes, IsLeast, col_on, row_on}
 use Rattle.picture.specs.declared.line_id.LineId.{LineId}
 use Rattle.justify.specs.Book.{Account, IsAccount, IsKnownBefore}
 use Rattle.justify.specs.Premises.{Says as SaysPremise}

@@ -1,7 +1,7 @@
 -- What a session says: a relation of the state of the bench, a line's request, the text that is written, and the state
 -- after it. The text is fixed by the request and the state, but for the other picture that is shown, the premises of a
 -- reason, and a refusal since memory ran out.
-use Rattle.std.specs.Prelude.{◌≡◌, ◌≤◌, ◌⊎◌, ℕ, true, false, List, [], ◌∷◌, ◌++◌, length, take, Option, Some, None}
+use Rattle.std.specs.Prelude.{◌≡◌, ◌≤◌, ◌⊎◌, ℕ, true, false, List, [], ◌∷◌, ◌++◌, length, take, Option}
 use Rattle.std.specs.Prelude.{Result, Ok, Err}
 use Rattle.std.specs.Io.KnownBytes.{Appends, Consumes, IsAtEnd}
 use Rattle.ppm_text.specs.Text.{ppm_text}

@@ -4,14 +4,14 @@ use Rattle.std.specs.Prelude.{◌≡◌, ◌⊎◌, ℕ, true, false, List, [], 
 use Rattle.std.specs.Prelude.{Ok, Err, ◌↔◌}
 use Rattle.std.specs.List.{concat}
 use Rattle.std.specs.Io.KnownBytes.{Appends, Consumes, IsAtEnd}
-use Rattle.line_settle.specs.Masks.{Masks}
+use Rattle.line_facts.specs.Masks.{Masks}
 use Rattle.picture.specs.Rows.{line_of, Rows}
 use Rattle.picture.specs.declared.line_id.LineId.{LineId}
 use Rattle.clues.specs.ClueBook.{Clues, clue_at, clues_of}
 use Rattle.ppm_text.specs.Text.{ppm_text}
 use Rattle.non_text.specs.WrittenNon.{is_two_colour}
 use Rattle.non_text.specs.Written.{non_text_of}
-use Rattle.line_settle.specs.FactSets.{Excludes, IsLeast, Leaves, col_on, row_on}
+use Rattle.line_facts.specs.FactSets.{Excludes, IsLeast, Leaves, col_on, row_on}
 use Rattle.justify.specs.declared.premise.Premise.{Premise}
 use Rattle.justify.specs.Exclusions.{CanHaveWithout, ForcesFrom}
 use Rattle.justify.specs.Premises.{ArePremises, Mentions, Says, SaysBut}

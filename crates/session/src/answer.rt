@@ -22,7 +22,7 @@ use crate::refusal::Refusal;
 use certificate::{Cert, write_cert};
 use command_text::{Command, Request};
 use edits::{Edit, EditFault};
-use line_settle::{Facts, LineEngine};
+use line_facts::{Facts, LineEngine};
 use live_audit::{Bench, Verdict, Why};
 use non_text::{NonWriteFault, write_non};
 use picture::{Document, Picture};

@@ -6,7 +6,7 @@ ghost use Rattle.session.specs.Truth.{TellsTruth};
 
 use crate::answer::answer_to;
 use command_text::{Lines, SessionFault};
-use line_settle::LineEngine;
+use line_facts::LineEngine;
 use live_audit::Bench;
 use picture::send;
 use propagate::Agenda;

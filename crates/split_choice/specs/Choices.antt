@@ -1,7 +1,7 @@
 -- What may be chosen.
 use Rattle.std.specs.Prelude.{ℕ, ◌<◌, length}
 use Rattle.picture.specs.Rows.{width_of, cell_at}
-use Rattle.line_settle.specs.Masks.{IsOnly, Masks}
+use Rattle.line_facts.specs.Masks.{IsOnly, Masks}
 use Rattle.trail.specs.declared.cell.Cell.{Cell}
 use Rattle.split_choice.specs.declared.choosing.Chosen.{Chosen}
 use Rattle.split_choice.specs.declared.choosing.Chosen.TheVariants.{Splits, Fills, Nothing}

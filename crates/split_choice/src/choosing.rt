@@ -7,7 +7,7 @@ use crate::looking::{Look, look_at};
 use crate::puzzle::{Choice, Node};
 use crate::regions::{OpenCells, Region, smallest_unfilled};
 use crate::telling::{Place, most_telling};
-use line_settle::{Facts, LineEngine};
+use line_facts::{Facts, LineEngine};
 use picture::MAX_SIDE;
 use std::alloc::{AllocError, Global};
 use trail::Cell;

@@ -4,12 +4,12 @@ ghost use Rattle.std.specs.Prelude.{ℕ, ◌<◌, length, IsTrue};
 ghost use Rattle.picture.specs.Picture.{IsPicture};
 ghost use Rattle.picture.specs.Rows.{HasLine, cell_at, row_at};
 ghost use Rattle.clues.specs.ClueBook.{HasClue};
-ghost use Rattle.line_settle.specs.FactSets.{Leaves, SameShape};
+ghost use Rattle.line_facts.specs.FactSets.{Leaves, SameShape};
 
 use crate::puzzle::Puzzle;
 use crate::regions::take_place;
 use clues::{Block, ClueBook, without_run};
-use line_settle::Facts;
+use line_facts::Facts;
 use picture::{Axis, LineId, MAX_COLOURS, MAX_SIDE, Picture};
 use std::alloc::{AllocError, Global};
 

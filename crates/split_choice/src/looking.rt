@@ -6,7 +6,7 @@ ghost use Rattle.picture.specs.Rows.{width_of};
 use crate::filling::{fills_all, held_at, is_filled, is_there};
 use crate::puzzle::{Node, Puzzle};
 use clues::ClueBook;
-use line_settle::{Facts, LineEngine, Outcome, force_crossing};
+use line_facts::{Facts, LineEngine, Outcome, force_crossing};
 use picture::{LineSet, MAX_COLOURS};
 use std::alloc::AllocError;
 use trail::Cell;

@@ -1,7 +1,7 @@
 //! What is searched, and how the cells to split are chosen.
 
 use clues::ClueBook;
-use line_settle::Facts;
+use line_facts::Facts;
 use picture::Picture;
 
 /// Clues, and a picture with these clues to hold on to, where one is known. Both are only lent.

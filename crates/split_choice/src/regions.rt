@@ -5,7 +5,7 @@ ghost use Rattle.std.specs.Prelude.{◌<◌, length, IfSome};
 
 use crate::filling::are_filled;
 use crate::puzzle::Node;
-use line_settle::Facts;
+use line_facts::Facts;
 use picture::{Axis, MAX_SIDE};
 
 // No picture has more rows or columns.

@@ -2,7 +2,7 @@
 
 use crate::colours::{ALL, cell_in, letter_of};
 use anyhow::{Context, Result, bail, ensure};
-use line_settle::Facts;
+use line_facts::Facts;
 use std::alloc::{AllocError, Global};
 
 // So many masks that are equal are printed as one.

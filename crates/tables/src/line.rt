@@ -9,7 +9,8 @@ ghost use Rattle.picture.specs.declared.picture.TheConstants.{MAX_SIDE};
 use crate::sweeping::{draw, leave_out_often};
 use anyhow::{Context, Result, bail, ensure};
 use clues::{Block, Clue};
-use line_settle::{LineEngine, MaskEngine, Outcome, PlainEngine};
+use line_facts::{LineEngine, Outcome};
+use line_settle::{MaskEngine, PlainEngine};
 use std::alloc::{AllocError, Global};
 use table_words::MOST;
 

@@ -4,7 +4,8 @@ ghost use Rattle.std.specs.Prelude.{◌≡◌, ℕ, ◌≤◌, length, slice_ind
 ghost use Rattle.line_settle.specs.LeftOut.{ForcesAll};
 
 use clues::Clue;
-use line_settle::{LineEngine, leave_out};
+use line_facts::LineEngine;
+use line_settle::leave_out;
 use picture::MAX_SIDE;
 
 // Takes the colours of some masks out of others.

@@ -5,7 +5,7 @@ use Rattle.std.specs.List.{filter, range_with_len}
 use Rattle.std.specs.Int.{bit_at}
 use Rattle.std.proofs.lemmas.Bool.{cases_eq}
 use Rattle.picture.proofs.BitLaws.{bit_below, set_bit}
-use Rattle.line_settle.specs.Branches.{colours_of}
+use Rattle.line_facts.specs.Branches.{colours_of}
 
 -- a number in a list of numbers
 abbrev pub Among : List ℕ → ℕ → Type 0

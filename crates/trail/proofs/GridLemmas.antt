@@ -2,10 +2,10 @@
 use Rattle.std.proofs.Common.{◌≡◌, ℕ, ◌<◌, ◌⊎◌, List, [], length, get_or, refl, sym, ap, subst, ◌∙◌, arith, inl, inr}
 use Rattle.std.proofs.lemmas.Bool.{cases_eq, cases_lt}
 use Rattle.std.proofs.lemmas.List.{ext_get_or, get_or_past}
-use Rattle.line_settle.specs.Masks.{Masks}
+use Rattle.line_facts.specs.Masks.{Masks}
 use Rattle.picture.specs.Rows.{row_at, cell_at, with_cell}
-use Rattle.line_settle.specs.FactSets.{SameShape}
-use Rattle.line_settle.proofs.GridLaws.{shape_sym, shape_trans, at_with_cell, off_with_cell, shape_with_cell}
+use Rattle.line_facts.specs.FactSets.{SameShape}
+use Rattle.line_facts.proofs.GridLaws.{shape_sym, shape_trans, at_with_cell, off_with_cell, shape_with_cell}
 
 -- grids of one shape with the same cells are one
 pub same_grid : (a b : List (List ℕ)) → SameShape a b → ((r c : ℕ) → cell_at a r c ≡ cell_at b r c) → a ≡ b

@@ -6,9 +6,9 @@ use Rattle.std.specs.Int.{bit_at, bit_not, trailing_zeros, w16}
 use Rattle.std.proofs.lemmas.Bool.{cases_eq}
 use Rattle.std.proofs.lemmas.List.{reverse-append}
 use Rattle.std.proofs.lemmas.Nat.Bits.{bit_at-zero, bit_at-trailing_zeros, bit_at_clear_same, bit_at_clear_other}
-use Rattle.line_settle.specs.Masks.{Masks}
+use Rattle.line_facts.specs.Masks.{Masks}
 use Rattle.picture.specs.Rows.{width_of, cell_at, with_cell}
-use Rattle.line_settle.specs.FactSets.{IsFacts}
+use Rattle.line_facts.specs.FactSets.{IsFacts}
 use Rattle.trail.specs.declared.cell.Cell.{Cell}
 use Rattle.trail.specs.declared.note.CellMask.{CellMask}
 use Rattle.trail.specs.declared.note.Wait.{Wait}
@@ -16,8 +16,8 @@ use Rattle.trail.specs.declared.note.Wait.TheVariants.{Each, Whole}
 use Rattle.trail.specs.declared.note.Note.{Note}
 use Rattle.trail.specs.declared.note.Note.TheVariants.{Restore, Branch}
 use Rattle.trail.specs.Trail.{AreInside, IsInside, LiesInside, Trailed, cells_held, place, places, trail_of, waiting}
-use Rattle.line_settle.proofs.MaskLaws.{lowest_below, shifted}
-use Rattle.line_settle.specs.Branches.{branches, colours_of, held}
+use Rattle.line_facts.proofs.MaskLaws.{lowest_below, shifted}
+use Rattle.line_facts.specs.Branches.{branches, colours_of, held}
 use Rattle.trail.proofs.GridLemmas.{cell_back}
 
 abbrev from : ℕ → ℕ → ℕ → List ℕ

@@ -1,10 +1,10 @@
 -- Facts that wait, and the notes from which they are told.
 use Rattle.std.specs.Prelude.{◌≡◌, ℕ, ◌^◌, ◌<◌, Option, None, Some, List, [], ◌∷◌, ◌++◌, length, map}
-use Rattle.line_settle.specs.Masks.{Masks}
+use Rattle.line_facts.specs.Masks.{Masks}
 use Rattle.picture.specs.LineSet.{Lines, HasName}
 use Rattle.picture.specs.Rows.{cell_at, with_cell}
-use Rattle.line_settle.specs.FactSets.{SameShape}
-use Rattle.line_settle.specs.Branches.{branches, colours_of}
+use Rattle.line_facts.specs.FactSets.{SameShape}
+use Rattle.line_facts.specs.Branches.{branches, colours_of}
 use Rattle.trail.specs.declared.cell.Cell.{Cell}
 use Rattle.trail.specs.Through.{across}
 use Rattle.trail.specs.declared.note.CellMask.{CellMask}

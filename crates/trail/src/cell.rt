@@ -1,7 +1,7 @@
 //! The place of a cell, and the lines through it.
 
 ghost use Rattle.std.specs.Prelude.{◌≡◌};
-ghost use Rattle.line_settle.specs.FactSets.{col_on, row_on};
+ghost use Rattle.line_facts.specs.FactSets.{col_on, row_on};
 ghost use Rattle.trail.specs.Through.{NamesLinesAt};
 
 use picture::{Axis, LineId, LineSet, MAX_SIDE};

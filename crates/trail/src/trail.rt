@@ -2,14 +2,14 @@
 
 ghost use Rattle.std.specs.Prelude.{◌≡◌, ℕ, ◌<◌, [], ◌∷◌, ◌++◌, length, reverse, IfOk, OnOk, IfSome};
 ghost use Rattle.picture.specs.Rows.{width_of, cell_at, with_cell};
-ghost use Rattle.line_settle.specs.FactSets.{IsFacts, SameShape};
-ghost use Rattle.line_settle.specs.Branches.{branches};
+ghost use Rattle.line_facts.specs.FactSets.{IsFacts, SameShape};
+ghost use Rattle.line_facts.specs.Branches.{branches};
 ghost use Rattle.trail.specs.Trail.{place, places, trail_of, AreInside, AreOthersSame, CanBegin, GoesOn, IsInside, IsRowTaken, PutsBack};
 
 use crate::cell::Cell;
 use crate::note::{CellMask, Note, Wait};
 use crate::rows::has_row;
-use line_settle::Facts;
+use line_facts::Facts;
 use picture::LineSet;
 use std::alloc::{AllocError, Global};
 use std::marker::Model;

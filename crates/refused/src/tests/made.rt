@@ -3,7 +3,8 @@
 use super::{Memory, first_of};
 use clues::ClueBook;
 use justify::Book;
-use line_settle::{Facts, MaskEngine};
+use line_facts::Facts;
+use line_settle::MaskEngine;
 use picture::{Document, MAX_SIDE, Picture};
 use ppm_text::{PpmFault, read_ppm};
 use std::alloc::{AllocError, Global};

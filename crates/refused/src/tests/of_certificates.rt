@@ -3,7 +3,8 @@
 use super::made::{document_of, engine_of};
 use super::{Memory, equal, first_of};
 use certificate::{Cert, CertFault, check_cert, make_cert, read_cert, write_cert};
-use line_settle::{LineEngine, MaskEngine};
+use line_facts::LineEngine;
+use line_settle::MaskEngine;
 use picture::{CellSet, Picture};
 use std::alloc::{AllocError, Global};
 use std::process::Abort;

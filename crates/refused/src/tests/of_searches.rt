@@ -2,7 +2,7 @@
 
 ghost use Rattle.std.specs.Prelude.{◌≡◌, IfOk};
 ghost use Rattle.clues.specs.ClueBook.{clues_of};
-ghost use Rattle.line_settle.specs.FactSets.{IsLeast};
+ghost use Rattle.line_facts.specs.FactSets.{IsLeast};
 ghost use Rattle.second_search.specs.JudgedParts.{AreTrue, parts_of};
 ghost use Rattle.second_search.specs.Other.{AreSound};
 ghost use Rattle.second_search.specs.Parts.{AreParts, IsScene};
@@ -11,7 +11,8 @@ use super::made::{DIAGONALS, engine_of};
 use super::shown::cells_of;
 use super::{Memory, equal, first_of, refused};
 use clues::ClueBook;
-use line_settle::{Facts, LineEngine, MaskEngine, NOTHING_DONE};
+use line_facts::{Facts, LineEngine, NOTHING_DONE};
+use line_settle::MaskEngine;
 use picture::{CellSet, Picture};
 use ppm_text::read_ppm;
 use propagate::{CloseFault, InOrder, settle_afresh};

@@ -3,7 +3,8 @@
 use super::equal;
 use clues::{Clue, ClueBook};
 use justify::{Book, Step};
-use line_settle::{Facts, MaskEngine};
+use line_facts::Facts;
+use line_settle::MaskEngine;
 use live_audit::Bench;
 use picture::{Axis, Document, LineId, Picture};
 use propagate::InOrder;

@@ -9,7 +9,7 @@ ghost use Rattle.second_search.specs.Parts.{IsChained, IsOpenCell};
 
 use crate::parts::open_cells::is_open;
 use fixpoint::all_lines;
-use line_settle::Facts;
+use line_facts::Facts;
 use picture::{Axis, CellSet, LineId, LineSet, MAX_SIDE};
 use trail::Cell;
 

@@ -5,7 +5,7 @@ ghost use Rattle.picture.specs.Rows.{width_of};
 ghost use Rattle.second_search.specs.GrownParts.{HasNoOpenCell, IsFirstOpen};
 ghost use Rattle.second_search.specs.Parts.{HasTwoColours, IsOpenCell};
 
-use line_settle::Facts;
+use line_facts::Facts;
 use trail::Cell;
 
 // The first open cell of a row.

@@ -16,7 +16,8 @@ mod narrowing;
 
 use anyhow::{Context, Result, bail, ensure};
 use clues::Clue;
-use line_settle::{Facts, Forced, LineEngine, MaskEngine, Outcome, PlainEngine, force_crossing};
+use line_facts::{Facts, Forced, LineEngine, Outcome, force_crossing};
+use line_settle::{MaskEngine, PlainEngine};
 use narrowing::{Engines, Narrowed};
 use picture::{Axis, LineId, LineSet};
 use std::alloc::{AllocError, Global};

@@ -1,4 +1,4 @@
-use Rattle.line_settle.specs.FactSets.{SameShape}
+use Rattle.line_facts.specs.FactSets.{SameShape}
 use Rattle.cert_check.proofs.GivenLemmas.{BaseSoFar}
 use Rattle.cert_check.proofs.checking.set_givens.Given as goal
 

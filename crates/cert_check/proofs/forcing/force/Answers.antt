@@ -1,7 +1,7 @@
 use Rattle.std.proofs.Common.{sym, subst}
 use Rattle.std.proofs.lemmas.Result.{on_ok_weaker}
 use Rattle.picture.specs.Rows.{line_of}
-use Rattle.line_settle.specs.NarrowedLine.{Narrows}
+use Rattle.line_facts.specs.NarrowedLine.{Narrows}
 use Rattle.cert_check.proofs.forcing.force.Goals as goal
 
 pub returns-clause-gains : goal.returns-clause-gains

@@ -1,5 +1,5 @@
 use Rattle.std.proofs.Common.{List, ℕ, arith, ap, refl, ◌∙◌}
-use Rattle.line_settle.proofs.AlongLaws.{written_more, written_all}
+use Rattle.line_facts.proofs.AlongLaws.{written_more, written_all}
 use Rattle.trail.specs.Trail.{Trailed}
 use Rattle.cert_check.proofs.forcing.hold_line.Goals as goal
 

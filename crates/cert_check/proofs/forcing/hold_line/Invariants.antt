@@ -1,5 +1,5 @@
 use Rattle.std.proofs.Common.{◌≡◌}
-use Rattle.line_settle.proofs.AlongLaws.{Written}
+use Rattle.line_facts.proofs.AlongLaws.{Written}
 use Rattle.cert_check.proofs.forcing.hold_line.Given as goal
 
 abbrev pub invariant-loop-i : goal.invariant-loop-i

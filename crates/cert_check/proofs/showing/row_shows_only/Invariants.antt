@@ -1,6 +1,6 @@
 use Rattle.std.proofs.Common.{◌≡◌, ℕ, ◌<◌}
 use Rattle.picture.specs.Rows.{cell_at}
-use Rattle.line_settle.specs.FactSets.{Leaves}
+use Rattle.line_facts.specs.FactSets.{Leaves}
 use Rattle.cert_check.proofs.showing.row_shows_only.Given as goal
 
 abbrev pub invariant-loop-col : goal.invariant-loop-col

@@ -1,5 +1,5 @@
 use Rattle.std.proofs.Common.{◌≡◌, ◌+◌, ◌≤◌, ◌∷◌, [], drop}
-use Rattle.line_settle.specs.FactSets.{SameShape}
+use Rattle.line_facts.specs.FactSets.{SameShape}
 use Rattle.cert_check.specs.Walk.{CanCheck, waiting}
 use Rattle.cert_check.proofs.WalkLemmas.{FirstSoFar}
 use Rattle.cert_check.proofs.walk.walk.Given as goal

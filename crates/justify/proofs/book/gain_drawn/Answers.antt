@@ -1,6 +1,6 @@
 use Rattle.std.proofs.Common.{length, arith}
 use Rattle.picture.specs.Rows.{line_of}
-use Rattle.line_settle.proofs.GridLaws.{same_line_length}
+use Rattle.line_facts.proofs.GridLaws.{same_line_length}
 use Rattle.justify.proofs.GainLemmas.{gaining_more}
 use Rattle.justify.proofs.StandingLemmas.{place_inside}
 use Rattle.justify.proofs.book.gain_drawn.Goals as goal

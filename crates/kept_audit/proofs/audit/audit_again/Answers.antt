@@ -1,6 +1,6 @@
 use Rattle.std.proofs.Common.{List, ℕ, subst, sym, arith}
 use Rattle.std.proofs.lemmas.Result.{err_from_is_err_and}
-use Rattle.line_settle.specs.FactSets.{SameShape}
+use Rattle.line_facts.specs.FactSets.{SameShape}
 use Rattle.edits.specs.Design.{design_of}
 use Rattle.kept_audit.proofs.AuditLemmas.{audit_of, base_after, book_closable, can_refresh, goes_on, have_books, no_fault_but_memory, quiet_outside, same_as_fresh}
 use Rattle.kept_audit.proofs.audit.audit_again.Goals as goal

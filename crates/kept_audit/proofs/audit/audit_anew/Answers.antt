@@ -3,7 +3,7 @@ use Rattle.std.proofs.lemmas.Result.{err_from_is_err_and}
 use Rattle.edits.specs.Design.{design_of}
 use Rattle.picture.specs.Rows.{HasLine}
 use Rattle.fixpoint.specs.LineNames.{AllLines}
-use Rattle.line_settle.specs.FactSets.{SameShape}
+use Rattle.line_facts.specs.FactSets.{SameShape}
 use Rattle.justify.specs.Book.{Account, IsDerivation}
 use Rattle.kept_audit.proofs.AuditLemmas.{audit_of, book_closable, derives_anew, is_anew, no_fault_but_memory, starts_trimmed}
 use Rattle.kept_audit.proofs.audit.audit_anew.Goals as goal

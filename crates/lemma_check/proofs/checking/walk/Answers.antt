@@ -20,6 +20,7 @@ loop-i-preserved g c = record {
   same_shape = c.in_ok-going.ensures.takes.1;
   can = subst (CanCheck c.args.claim.now.picture.now c.args.claim.now.clues.now) (sym c.in_ok-going.ensures.same_longest) c.loop-i.invariant.can;
   same_longest = c.in_ok-going.ensures.same_longest ∙ c.loop-i.invariant.same_longest;
+  calls = (let once = c.in_ok-going.ensures.calls in let so_far = c.loop-i.invariant.calls in omega arith);
   work = (let once = c.in_ok-going.ensures.work in let so_far = c.loop-i.invariant.work in omega arith);
   so_far = taken_first _ _ c.loop-i.machine.walk c.loop-i.going c.args.first c.loop-i.i c.args.lines.now
       (omega arith) c.loop-i.invariant.so_far _ _ c.if-not-going.false refl c.step.new.self c.in_ok-going.going c.in_ok-going.ensures.takes;

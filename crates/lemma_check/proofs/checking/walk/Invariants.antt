@@ -1,5 +1,5 @@
 use Rattle.std.proofs.Common.{◌≡◌, ◌+◌, ◌≤◌, true, Some, drop}
-use Rattle.line_settle.specs.FactSets.{SameShape}
+use Rattle.line_facts.specs.FactSets.{SameShape}
 use Rattle.cert_check.specs.Walk.{CanCheck}
 use Rattle.lemma_check.specs.FirstFault.{reached}
 use Rattle.lemma_check.specs.Walk.{IsCounted, root}
@@ -12,6 +12,7 @@ invariant-loop-i g l = record {
   same_shape : SameShape l.claim.picture.now l.machine.walk.at_hand;
   can : CanCheck l.claim.picture.now l.claim.clues.now (g.E.LineEngine.longest l.engine);
   same_longest : g.E.LineEngine.longest l.engine ≡ g.E.LineEngine.longest l.initial.engine;
+  calls : g.E.LineEngine.calls l.initial.engine ≤ g.E.LineEngine.calls l.engine;
   work : g.E.LineEngine.calls l.engine ≤ g.E.LineEngine.calls l.initial.engine + l.i;
   so_far : FirstSoFar l.claim.picture.now (Some (root l.fn.facts)) (reached l.going l.machine.walk) l.first (l.first + l.i) l.lines (drop l.i l.lines);
 }

@@ -1,4 +1,4 @@
-use Rattle.std.proofs.Common.{◌≡◌, ◌<◌, length, refl, sym, ◌∙◌, arith, rules}
+use Rattle.std.proofs.Common.{◌<◌, length, refl, arith, rules}
 use Rattle.lemma_text.proofs.LetterLemmas.{all_read, falls, no_colour, rises, stays_small}
 use Rattle.lemma_text.proofs.letters.colours_in.Goals as goal
 

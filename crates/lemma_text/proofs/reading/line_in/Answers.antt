@@ -1,4 +1,3 @@
-use Rattle.std.proofs.Common.{refl}
 use Rattle.lemma_text.proofs.ReadLemmas.{of_four, of_three, of_two}
 use Rattle.lemma_text.proofs.reading.line_in.Goals as goal
 

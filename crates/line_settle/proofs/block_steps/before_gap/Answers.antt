@@ -1,5 +1,5 @@
 use Rattle.std.proofs.Common.{◌∙◌, ap, bit_and}
-use Rattle.line_settle.specs.Positions.{has}
+use Rattle.line_facts.specs.BitSets.{has}
 use Rattle.line_settle.proofs.LayingLemmas.{gap_before}
 use Rattle.line_settle.proofs.block_steps.before_gap.Goals as goal
 

@@ -1,5 +1,5 @@
 use Rattle.std.proofs.Common.{◌+◌, ◌*◌, ◌%◌, ◌^◌, ◌∙◌, ap, arith}
-use Rattle.line_settle.specs.Positions.{has}
+use Rattle.line_facts.specs.BitSets.{has}
 use Rattle.line_settle.proofs.PositionLemmas.{none_moved_up}
 use Rattle.line_settle.proofs.LayingLemmas.{gap_behind}
 use Rattle.line_settle.proofs.block_steps.behind_gap.Goals as goal

@@ -1,5 +1,5 @@
 use Rattle.std.proofs.Common.{◌+◌, ◌∙◌, ap, refl}
-use Rattle.line_settle.specs.Positions.{has}
+use Rattle.line_facts.specs.BitSets.{has}
 use Rattle.line_settle.proofs.LayingLemmas.{covers_none, covers_more, moved_more}
 use Rattle.line_settle.proofs.block_steps.lay.Goals as goal
 

@@ -1,5 +1,5 @@
 use Rattle.std.proofs.Common.{◌≡◌, ℕ, ◌<◌}
-use Rattle.line_settle.specs.Positions.{has}
+use Rattle.line_facts.specs.BitSets.{has}
 use Rattle.line_settle.specs.LaidBlocks.{moved, covers}
 use Rattle.line_settle.proofs.block_steps.lay.Given as goal
 

@@ -1,6 +1,6 @@
 use Rattle.std.proofs.Common.{◌≡◌, ℕ, ◌<◌, ◌-◌, ◌==◌, ◌&&◌, ◌||◌, nat_lt, length, map, get_or}
 use Rattle.line_settle.specs.Patterns.{allows}
-use Rattle.line_settle.specs.Positions.{has}
+use Rattle.line_facts.specs.BitSets.{has}
 use Rattle.line_settle.proofs.position_tables.write_colours.Given as goal
 
 abbrev pub invariant-loop-k : goal.invariant-loop-k

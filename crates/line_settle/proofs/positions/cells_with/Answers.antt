@@ -1,6 +1,6 @@
 use Rattle.std.proofs.Common.{◌-◌, ◌*◌, ◌%◌, ◌^◌, ◌∙◌, bit_or, sym, ap, arith, length, drop}
 use Rattle.std.proofs.lemmas.List.{length-take-le, length-drop}
-use Rattle.line_settle.specs.Positions.{has}
+use Rattle.line_facts.specs.BitSets.{has}
 use Rattle.line_settle.proofs.GatheringLemmas.{two_halves, whole_taken}
 use Rattle.line_settle.proofs.positions.cells_with.Goals as goal
 

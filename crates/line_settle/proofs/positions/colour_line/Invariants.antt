@@ -1,5 +1,6 @@
 use Rattle.std.proofs.Common.{◌≡◌, ℕ, ◌+◌, ◌*◌}
-use Rattle.line_settle.specs.Positions.{has, IsColoured}
+use Rattle.line_facts.specs.BitSets.{has}
+use Rattle.line_settle.specs.Positions.{IsColoured}
 use Rattle.line_settle.proofs.positions.colour_line.Given as goal
 
 abbrev pub invariant-loop-chunk : goal.invariant-loop-chunk

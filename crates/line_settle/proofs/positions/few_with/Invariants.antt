@@ -1,6 +1,6 @@
 use Rattle.std.proofs.Common.{◌≡◌, ℕ, ◌+◌, ◌<◌, get_or}
 use Rattle.line_settle.specs.Patterns.{allows}
-use Rattle.line_settle.specs.Positions.{has}
+use Rattle.line_facts.specs.BitSets.{has}
 use Rattle.line_settle.proofs.positions.few_with.Given as goal
 
 abbrev pub invariant-loop-i : goal.invariant-loop-i

@@ -1,5 +1,6 @@
 use Rattle.std.proofs.Common.{◌≡◌, ℕ, ◌^◌, map}
-use Rattle.line_settle.specs.Positions.{has, AreSpans}
+use Rattle.line_facts.specs.BitSets.{has}
+use Rattle.line_settle.specs.Positions.{AreSpans}
 use Rattle.line_settle.proofs.PositionLemmas.{fills}
 use Rattle.line_settle.proofs.positions.fill_down.Given as goal
 

@@ -1,6 +1,6 @@
 use Rattle.std.proofs.Common.{◌≡◌, ℕ, ◌*◌, ◌<◌, get_or, take}
 use Rattle.line_settle.specs.Patterns.{allows}
-use Rattle.line_settle.specs.Positions.{has}
+use Rattle.line_facts.specs.BitSets.{has}
 use Rattle.line_settle.proofs.positions.near_with.Given as goal
 
 abbrev pub invariant-loop-chunk : goal.invariant-loop-chunk

@@ -1,5 +1,6 @@
 use Rattle.std.proofs.Common.{◌≡◌, ℕ, ◌^◌, length, map}
-use Rattle.line_settle.specs.Positions.{has, spans}
+use Rattle.line_facts.specs.BitSets.{has}
+use Rattle.line_settle.specs.Positions.{spans}
 use Rattle.line_settle.proofs.SpanLemmas.{AreFirst}
 use Rattle.line_settle.proofs.positions.write_spans.Given as goal
 

@@ -1,8 +1,8 @@
 use Rattle.std.proofs.Common.{ℕ, ◌+◌, Err, refl, ap, ◌∙◌, arith}
 use Rattle.std.proofs.lemmas.Result.{err_from_is_err_and}
 use Rattle.picture.specs.LineSet.{Lines}
-use Rattle.line_settle.proofs.FitLaws.{counting_adds}
-use Rattle.line_settle.proofs.ForceLaws.{gains_grows}
+use Rattle.line_facts.proofs.FitLaws.{counting_adds}
+use Rattle.line_facts.proofs.ForceLaws.{gains_grows}
 use Rattle.worklist.proofs.NameLaws.{filled}
 use Rattle.fixpoint.proofs.ClosingLaws.{Closing, closing_starts}
 use Rattle.propagate.proofs.TurnLemmas.{dead_made, made_over}

@@ -1,6 +1,6 @@
 use Rattle.std.proofs.Common.{ℕ, ◌+◌, drop, Err, refl, ap, ◌∙◌, arith}
 use Rattle.std.proofs.lemmas.Result.{err_from_is_err_and}
-use Rattle.line_settle.proofs.FitLaws.{counting_adds}
+use Rattle.line_facts.proofs.FitLaws.{counting_adds}
 use Rattle.propagate.proofs.GrowLemmas.{all_trimmed}
 use Rattle.propagate.proofs.TurnLemmas.{dead_made, made_over}
 use Rattle.propagate.proofs.ScheduleBookLemmas.{Scheduled, next_in_turn, schedule_dies, schedule_fails, schedule_goes_on, schedule_starts}

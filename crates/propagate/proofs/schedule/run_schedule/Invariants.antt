@@ -1,5 +1,5 @@
 use Rattle.std.proofs.Common.{◌≡◌, drop}
-use Rattle.line_settle.specs.Counts.{Counts}
+use Rattle.line_facts.specs.Counts.{Counts}
 use Rattle.propagate.proofs.ScheduleBookLemmas.{Scheduled}
 use Rattle.propagate.proofs.schedule.run_schedule.Given as goal
 

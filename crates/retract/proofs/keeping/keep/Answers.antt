@@ -1,7 +1,7 @@
 -- Step by step, what stands is kept.
 use Rattle.std.proofs.Common.{◌≡◌, ℕ, ◌<◌, length, sym, ap, subst, ◌∙◌, arith}
 use Rattle.picture.specs.declared.line_id.LineId.{LineId}
-use Rattle.line_settle.specs.FactSets.{Excludes}
+use Rattle.line_facts.specs.FactSets.{Excludes}
 use Rattle.justify.specs.declared.step.Step.{Step}
 use Rattle.justify.specs.Premises.{Mentions}
 use Rattle.justify.specs.Book.{CanAdd}

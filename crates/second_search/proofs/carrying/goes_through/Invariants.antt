@@ -1,6 +1,6 @@
 use Rattle.std.proofs.Common.{ℕ, ◌<◌}
 use Rattle.picture.specs.CellSet.{HasCell}
-use Rattle.line_settle.specs.FactSets.{col_on, row_on}
+use Rattle.line_facts.specs.FactSets.{col_on, row_on}
 use Rattle.second_search.proofs.carrying.goes_through.Given as goal
 
 abbrev pub invariant-loop-i : goal.invariant-loop-i

@@ -1,4 +1,4 @@
-use Rattle.line_settle.proofs.GridLaws.{shape_trans}
+use Rattle.line_facts.proofs.GridLaws.{shape_trans}
 use Rattle.second_search.proofs.ComingLemmas.{comes_closed, splits_but}
 use Rattle.second_search.proofs.DrawLemmas.{closing_few}
 use Rattle.second_search.proofs.LookLemmas.{others_stay, rows_stay}

@@ -1,7 +1,7 @@
 use Rattle.std.proofs.Common.{◌≡◌, ◌∙◌, ◌+◌, ◌≤◌, ℕ, ap, length, suc, [], None, Option, Some, arith, refl}
-use Rattle.line_settle.specs.Masks.{Masks}
-use Rattle.line_settle.specs.FactSets.{SameShape}
-use Rattle.line_settle.proofs.GridLaws.{shape_trans}
+use Rattle.line_facts.specs.Masks.{Masks}
+use Rattle.line_facts.specs.FactSets.{SameShape}
+use Rattle.line_facts.proofs.GridLaws.{shape_trans}
 use Rattle.trail.specs.declared.cell.Cell.{Cell}
 use Rattle.trail.specs.Trail.{GoesOn, Trailed}
 use Rattle.second_search.specs.Through.{across}

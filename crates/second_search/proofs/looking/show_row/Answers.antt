@@ -1,7 +1,7 @@
 use Rattle.std.proofs.Common.{◌≡◌, ◌<◌, ◌+◌, ℕ, List, length, subst, sym, arith}
 use Rattle.picture.specs.Rows.{width_of, cell_at}
-use Rattle.line_settle.specs.Masks.{IsOnly}
-use Rattle.line_settle.specs.FactSets.{SameShape}
+use Rattle.line_facts.specs.Masks.{IsOnly}
+use Rattle.line_facts.specs.FactSets.{SameShape}
 use Rattle.second_search.proofs.LookLemmas.{more_shown, only_small, others_shown, shape_shown}
 use Rattle.second_search.proofs.looking.show_row.Goals as goal
 use Rattle.second_search.proofs.looking.show_row.Goals.{in-Some, in-None}

@@ -1,7 +1,7 @@
 use Rattle.std.proofs.Common.{◌≡◌, ℕ, ◌<◌}
 use Rattle.picture.specs.Rows.{cell_at}
-use Rattle.line_settle.specs.Masks.{IsOnly}
-use Rattle.line_settle.specs.FactSets.{SameShape}
+use Rattle.line_facts.specs.Masks.{IsOnly}
+use Rattle.line_facts.specs.FactSets.{SameShape}
 use Rattle.second_search.proofs.looking.show_row.Given as goal
 
 abbrev pub invariant-loop-col : goal.invariant-loop-col

@@ -1,7 +1,7 @@
 use Rattle.std.proofs.Common.{◌≡◌, ◌≤◌, ℕ, ◌<◌}
 use Rattle.picture.specs.Rows.{width_of, cell_at}
-use Rattle.line_settle.specs.Masks.{IsOnly}
-use Rattle.line_settle.specs.FactSets.{SameShape}
+use Rattle.line_facts.specs.Masks.{IsOnly}
+use Rattle.line_facts.specs.FactSets.{SameShape}
 use Rattle.second_search.proofs.looking.shown_on.Given as goal
 
 abbrev pub invariant-loop-row : goal.invariant-loop-row

@@ -1,6 +1,6 @@
 use Rattle.std.proofs.Common.{ℕ}
 use Rattle.picture.specs.Rows.{cell_at}
-use Rattle.line_settle.specs.Masks.{IsOnly}
+use Rattle.line_facts.specs.Masks.{IsOnly}
 use Rattle.second_search.proofs.LookLemmas.{below_next}
 use Rattle.second_search.proofs.looking.unsettled_in_row.Goals as goal
 

@@ -1,5 +1,5 @@
 use Rattle.std.proofs.Common.{Some, arith}
-use Rattle.line_settle.proofs.GridLaws.{shape_sym, shape_trans}
+use Rattle.line_facts.proofs.GridLaws.{shape_sym, shape_trans}
 use Rattle.second_search.proofs.AloneLemmas.{closable_alone, lines_alone}
 use Rattle.second_search.proofs.KeepLemmas.{quiet_outside, show_others}
 use Rattle.second_search.proofs.WithinLemmas.{found_inside, opened_outside}

@@ -1,5 +1,5 @@
 use Rattle.std.proofs.Common.{refl}
-use Rattle.line_settle.proofs.GridLaws.{shape_sym, shape_trans}
+use Rattle.line_facts.proofs.GridLaws.{shape_sym, shape_trans}
 use Rattle.second_search.proofs.AloneLemmas.{closable_alone, lines_alone, names_lines, names_some}
 use Rattle.second_search.proofs.DrawLemmas.{few_alike}
 use Rattle.second_search.proofs.KeepLemmas.{quiet_outside, show_others}

@@ -1,5 +1,5 @@
 use Rattle.std.proofs.Common.{◌∙◌, refl, arith}
-use Rattle.line_settle.specs.declared.line_engine.Outcome.TheVariants.{Narrowed, Dead}
+use Rattle.line_facts.specs.declared.line_engine.Outcome.TheVariants.{Narrowed, Dead}
 use Rattle.second_search.proofs.KeepLemmas.{can_close_like}
 use Rattle.second_search.proofs.TreeLemmas.{settles_none, settles_on}
 use Rattle.second_search.proofs.tree_closing.close_written.Goals as goal

@@ -1,5 +1,5 @@
 use Rattle.std.proofs.Common.{◌≡◌, ◌≤◌}
-use Rattle.line_settle.specs.declared.line_engine.Outcome.TheVariants.{Narrowed}
+use Rattle.line_facts.specs.declared.line_engine.Outcome.TheVariants.{Narrowed}
 use Rattle.fixpoint.specs.ClosedFacts.{AreClosable}
 use Rattle.second_search.specs.Trees.{Settles}
 use Rattle.second_search.proofs.tree_closing.close_written.Given as goal

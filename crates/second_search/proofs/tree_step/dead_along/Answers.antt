@@ -1,7 +1,7 @@
 use Rattle.std.proofs.Common.{◌∙◌, arith}
 use Rattle.picture.specs.Rows.{line_of}
 use Rattle.clues.specs.ClueBook.{clue_at}
-use Rattle.line_settle.specs.Fits.{CanFit}
+use Rattle.line_facts.specs.Fits.{CanFit}
 use Rattle.second_search.proofs.LookLemmas.{below_next}
 use Rattle.second_search.proofs.tree_step.dead_along.Goals as goal
 

@@ -1,6 +1,6 @@
 use Rattle.std.proofs.Common.{◌<◌, ℕ}
 use Rattle.picture.specs.Rows.{cell_at, width_of}
-use Rattle.line_settle.specs.FactSets.{Leaves}
+use Rattle.line_facts.specs.FactSets.{Leaves}
 use Rattle.split_choice.proofs.filling.leaves.Given as goal
 
 abbrev pub invariant-loop-row : goal.invariant-loop-row

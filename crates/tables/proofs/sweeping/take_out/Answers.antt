@@ -1,6 +1,6 @@
 use Rattle.std.proofs.Common.{ℕ, ◌-◌, ◌<◌, arith, inl, inr, subst, bit_and, length, get_or}
 use Rattle.std.specs.Prelude.{IsBitSet}
-use Rattle.line_settle.proofs.MaskLaws.{without_bit}
+use Rattle.line_facts.proofs.MaskLaws.{without_bit}
 use Rattle.std.proofs.Math.ListN.{set}
 use Rattle.std.proofs.lemmas.Bool.{cases_eq}
 use Rattle.std.proofs.lemmas.List.{get_or-set_same, get_or-set_other}

@@ -3,7 +3,7 @@
 use super::narrowing::Engines;
 use anyhow::{Result, ensure};
 use clues::{Clue, clue_of};
-use line_settle::Outcome;
+use line_facts::Outcome;
 use picture::{Axis, LineId, Picture};
 use std::alloc::Global;
 use table_words::ALL;

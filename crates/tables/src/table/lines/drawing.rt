@@ -4,7 +4,8 @@ ghost use Rattle.std.specs.Prelude.{◌≡◌, ℕ, ◌≤◌, length, slice_ind
 
 use anyhow::{Result, ensure};
 use clues::Clue;
-use line_settle::{LineEngine, leave_out};
+use line_facts::LineEngine;
+use line_settle::leave_out;
 
 /// Draws of some colours those that a line forces, and leaves out what they don't need. What is drawn and what is kept.
 pub fn draw_and_leave_out<E: LineEngine>(

@@ -5,7 +5,8 @@ use super::listing::{MOST, clue_by_number, left_by_number, power};
 use super::narrowing::narrow_by;
 use anyhow::{Result, ensure};
 use clues::Clue;
-use line_settle::{LineEngine, PlainEngine};
+use line_facts::LineEngine;
+use line_settle::PlainEngine;
 use std::alloc::Global;
 use table_words::ALL;
 

@@ -3,7 +3,7 @@
 use super::narrowing::{Engines, Narrowed};
 use anyhow::{Result, ensure};
 use clues::{Block, Clue};
-use line_settle::Outcome;
+use line_facts::Outcome;
 use std::alloc::Global;
 use table_words::clue_in;
 

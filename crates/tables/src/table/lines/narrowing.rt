@@ -4,7 +4,8 @@ ghost use Rattle.std.specs.Prelude.{◌≤◌, length};
 
 use anyhow::{Result, ensure};
 use clues::Clue;
-use line_settle::{LineEngine, MaskEngine, Outcome, PlainEngine};
+use line_facts::{LineEngine, Outcome};
+use line_settle::{MaskEngine, PlainEngine};
 use std::alloc::Global;
 
 /// How the comparison of a line with its clue ended, and what is left of up to 120 cells.

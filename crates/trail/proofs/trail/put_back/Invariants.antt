@@ -1,6 +1,6 @@
 use Rattle.std.proofs.Common.{◌≡◌, length, reverse, vec_len}
 use Rattle.picture.specs.Rows.{width_of}
-use Rattle.line_settle.specs.FactSets.{SameShape}
+use Rattle.line_facts.specs.FactSets.{SameShape}
 use Rattle.trail.specs.Trail.{AreInside, cells_held, waiting}
 use Rattle.trail.proofs.trail.put_back.Given as goal
 

@@ -1,5 +1,5 @@
 use Rattle.std.proofs.Common.{◌∙◌, None, Some, ap, refl, subst, sym}
-use Rattle.line_settle.specs.FactSets.{IsFacts}
+use Rattle.line_facts.specs.FactSets.{IsFacts}
 use Rattle.second_search.specs.declared.tree.Growing.{Growing}
 use Rattle.trail.specs.Trail.{Trailed}
 use Rattle.second_search.proofs.KeepLemmas.{can_close_like}

@@ -1,4 +1,4 @@
-use Rattle.line_settle.proofs.GridLaws.{shape_trans, shape_with_cell}
+use Rattle.line_facts.proofs.GridLaws.{shape_trans, shape_with_cell}
 use Rattle.trail.proofs.trail.Trail.advance.Goals as goal
 
 pub returns-in_ok-begin-in-Each-clause-same_shape : goal.returns-in_ok-begin-in-Each-clause-same_shape

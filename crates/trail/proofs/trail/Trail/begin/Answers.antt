@@ -1,5 +1,5 @@
 use Rattle.std.proofs.Common.{refl}
-use Rattle.line_settle.proofs.GridLaws.{shape_with_cell}
+use Rattle.line_facts.proofs.GridLaws.{shape_with_cell}
 use Rattle.trail.proofs.NoteLemmas.{begins, begins_held}
 use Rattle.trail.proofs.trail.Trail.begin.Goals as goal
 

@@ -1,5 +1,5 @@
 use Rattle.std.proofs.Common.{◌≡◌}
-use Rattle.line_settle.specs.FactSets.{SameShape}
+use Rattle.line_facts.specs.FactSets.{SameShape}
 use Rattle.trail.specs.Trail.{AreOthersSame, AreSameAbove}
 use Rattle.trail.proofs.trail.Trail.narrow.Given as goal
 

@@ -1,6 +1,6 @@
 use Rattle.std.proofs.Common.{◌≡◌, ℕ, ◌<◌}
 use Rattle.picture.specs.Rows.{cell_at}
-use Rattle.line_settle.specs.FactSets.{SameShape}
+use Rattle.line_facts.specs.FactSets.{SameShape}
 use Rattle.trail.proofs.trail.Trail.narrow_row.Given as goal
 
 abbrev pub invariant-loop-col : goal.invariant-loop-col

@@ -1,5 +1,0 @@
-use Rattle.certificate.specs.MadeCert.{NamesUpTo}
-use Rattle.certificate.proofs.making.given_cells.Given as goal
-
-abbrev pub invariant-loop-row : goal.invariant-loop-row
-invariant-loop-row l = NamesUpTo l.givens l.row 0 l.cells.items

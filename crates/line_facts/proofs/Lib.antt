@@ -1,0 +1,17 @@
+pub mod MaskLemmas
+pub mod GridLemmas
+pub mod FactLemmas
+pub mod BaseLemmas
+pub mod AlongLemmas
+pub mod WriteLemmas
+pub mod ChangeLemmas
+pub mod LawLemmas
+pub mod GivenLemmas
+pub mod ApartLemmas
+pub mod AlongLaws
+pub mod FitLaws
+pub mod ForceLaws
+pub mod GridLaws
+pub mod MaskLaws
+pub mod SolutionLaws
+pub mod BitSetLaws

@@ -1,0 +1,10 @@
+pub mod BitSets
+pub mod Branches
+pub mod Counts
+pub mod CrossedLines
+pub mod FactSets
+pub mod Fits
+pub mod Laws
+pub mod Masks
+pub mod NarrowedLine
+pub mod Outside

@@ -1,5 +1,0 @@
-use Rattle.line_settle.proofs.GivenLemmas.{cell_by_cell}
-use Rattle.line_settle.proofs.laws.base_is_cell_by_cell.Goals as goal
-
-pub returns : goal.returns
-returns c = cell_by_cell

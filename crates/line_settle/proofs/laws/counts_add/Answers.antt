@@ -1,5 +1,0 @@
-use Rattle.line_settle.proofs.laws.counts_add.Goals as goal
-use Rattle.line_settle.proofs.FitLaws.{counting_adds}
-
-pub returns : goal.returns
-returns c = counting_adds

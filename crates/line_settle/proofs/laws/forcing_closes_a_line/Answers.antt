@@ -1,5 +1,0 @@
-use Rattle.line_settle.proofs.LawLemmas.{closes_a_line}
-use Rattle.line_settle.proofs.laws.forcing_closes_a_line.Goals as goal
-
-pub returns : goal.returns
-returns c = closes_a_line
