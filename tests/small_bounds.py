@@ -24,12 +24,12 @@ from reference.sessions import Disagreement, agree  # noqa: E402
 
 PATIENCE = 300  # seconds after which a run counts as one that does not end
 SAMPLES = ((3, 3, 2, 1), (2, 4, 2, 1), (3, 3, 3, 41))  # height, width, colours, and each so manieth picture is tried
-# Splits of the fixed order, and when it is begun anew, splits in a window, evaluations of a tree at first. Those of the program;
-# windows first; trees alone, with a bound that each keeps; one that grows; one that cannot grow, so that the last tree is written
-# without a bound.
-PROGRAMS, WINDOWS, TREES = (100, 500, 64, 10000), (0, 0, 64, 10000), (0, 0, 0, 10000)
-GROWING, LAST = (0, 0, 0, 1), (0, 0, 0, 0)
-BOUNDS = (PROGRAMS, WINDOWS, TREES, GROWING, LAST, (1, 5, 1, 7))
+# Splits of the fixed order, and when it is begun anew, splits in a window, conflicts of a search with lemmas, evaluations of a tree at
+# first. Those of the program; windows first; lemmas first; trees alone, with a bound that each keeps; one that grows; one that cannot
+# grow, so that the last tree is written without a bound.
+PROGRAMS, WINDOWS, LEMMAS = (100, 500, 64, 100000, 10000), (0, 0, 64, 0, 10000), (0, 0, 0, 1000, 10000)
+TREES, GROWING, LAST = (0, 0, 0, 0, 10000), (0, 0, 0, 0, 1), (0, 0, 0, 0, 0)
+BOUNDS = (PROGRAMS, WINDOWS, LEMMAS, TREES, GROWING, LAST, (1, 5, 1, 1, 7))
 TOLD = re.compile(r'(unique|ambiguous), (\d+) searched, (\d+) splits, (\d+) evaluations(?:: (\S+))?')
 
 
@@ -119,7 +119,8 @@ class Work:
         for is_unique in (False, True):
             done = {bounds: self.by_kind[bounds, is_unique] for bounds in BOUNDS}
             agree(done[PROGRAMS][1] > 0, 'the fixed order split nothing')
-            agree(all(done[bounds][1] == 0 for bounds in (WINDOWS, TREES, GROWING, LAST)), 'the fixed order was gone on with')
+            agree(all(done[bounds][1] == 0 for bounds in BOUNDS[1:6]), 'the fixed order was gone on with')
+            agree(done[LEMMAS][2] != done[TREES][2], 'lemmas answered nothing')
             spent = [done[bounds][2] for bounds in (PROGRAMS, WINDOWS, TREES, GROWING, LAST)]
             agree(len(set(spent)) == len(spent) and spent[-1] == max(spent), f'evaluations within the bounds: {spent}')
 
@@ -127,7 +128,7 @@ class Work:
 def compare_all(program):
     """Asks a program; how many answers."""
     asked = [(bounds, case) for case in cases() for bounds in BOUNDS]
-    lines = ''.join('within %d %d %d %d %s\n' % (*bounds, text_of(*case[:2])) for bounds, case in asked)
+    lines = ''.join('within %d %d %d %d %d %s\n' % (*bounds, text_of(*case[:2])) for bounds, case in asked)
     run = subprocess.run([program], input=lines.encode(), capture_output=True, timeout=PATIENCE, check=False)
     agree((run.returncode, run.stderr) == (0, b''), f'the program ends with {run.returncode} and says {run.stderr}')
     answers = run.stdout.decode().splitlines()

@@ -1,3 +1,4 @@
 pub mod Outcome
 pub mod Session
 pub mod Step
+pub mod Work

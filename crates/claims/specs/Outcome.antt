@@ -1,10 +1,21 @@
 -- What a run of the program comes to, for arguments that ask for a task or for none.
-use Rattle.std.specs.Prelude.{◌≡◌, ◌⊎◌, ℕ, List, [], ◌∷◌, Option, Ok, take}
-use Rattle.answers.specs.Check.{IsOnlyPicture}
+use Rattle.std.specs.Prelude.{◌≡◌, ◌⊎◌, ℕ, List, [], ◌∷◌, Option, None, Result, Ok, IfSome, string_bytes, take}
+use Rattle.std.specs.Io.KnownBytes.{Appends}
+use Rattle.picture.specs.declared.rgb.Rgb.{Rgb}
+use Rattle.live_audit.specs.Bench.{Seen}
+use Rattle.live_audit.specs.Calls.{Machine, machine}
+use Rattle.session.specs.Truth.{TellsTruth}
+use Rattle.program_options.specs.declared.fault.ProgramFault.{ProgramFault}
+use Rattle.program_options.specs.declared.options.Options.{Options}
+use Rattle.answers.specs.Check.{IsCheckOf, IsOnlyPicture}
+use Rattle.answers.specs.Run.{shown}
+use Rattle.answers.specs.Start.{IsStarted}
 use Rattle.command_line.specs.declared.words.Task.{Task}
 use Rattle.command_line.specs.declared.words.Task.TheVariants.{Check, Clues, Help, Work}
+use Rattle.program.specs.Endings.{status_after}
 use Rattle.program.specs.Files.{Held, IsContent, Names}
 use Rattle.program.specs.Run.{IsTask}
+use Rattle.program.specs.World.{World}
 
 -- the files that a task names, in the order in which they are opened
 abbrev pub files_of : Task → List (List ℕ)
@@ -13,20 +24,57 @@ files_of (Work file options) = file.now ∷ []
 files_of (Check file cert background) = file.now ∷ cert.now ∷ []
 files_of (Help text) = []
 
--- Of a check: no other picture of that size has the clues and the givens' colours of
--- the picture in the first file, with the givens of the certificate in the second one.
-abbrev pub IsProved : (List ℕ → Held) → Task → Type 0
-IsProved held Clues = Unit {0}
-IsProved held (Work file options) = Unit {0}
-IsProved held (Check file cert background) =
-    (text : List ℕ) × ((proof : List ℕ)
-    × (IsContent (held file.now) text × (IsContent (held cert.now) proof × IsOnlyPicture text background proof)))
-IsProved held (Help text) = Unit {0}
+-- ---- a task that is done
+
+-- the clues of the picture that is the whole input went out
+pub record HasShown (before after : World) : Type 0 where
+  pub input : List ℕ
+  pub is_input : IfSome before.input (λ bytes. input ≡ bytes)
+  pub text : List ℕ
+  pub shows : shown input None ≡ Ok text
+  pub went_out : Appends before.output after.output text
+
+-- to each line of the input a true text went out, from the document on that the file holds
+pub record HasAnswered (held : Held) (options : Options) (before after : World) : Type 0 where
+  pub file : List ℕ
+  pub content : IsContent held file
+  pub fresh : Seen
+  pub started : IsStarted file options fresh
+  pub last : Machine
+  pub truth : TellsTruth before.input after.input before.output after.output
+      (machine fresh.history fresh.allowance) last (Ok tt)
+
+-- no other picture of that size has the clues and the givens' colours of the picture
+-- in the first file, with the givens of the certificate in the second one; and its line went out
+pub record HasChecked (picture certificate : Held) (background : Option Rgb) (before after : World) : Type 0 where
+  pub file : List ℕ
+  pub content : IsContent picture file
+  pub cert : List ℕ
+  pub cert_content : IsContent certificate cert
+  pub only : IsOnlyPicture file background cert
+  pub line : List ℕ
+  pub shows : IsCheckOf file background cert (Ok line)
+  pub went_out : Appends before.output after.output line
+
+abbrev pub IsDone : (List ℕ → Held) → World → World → Task → Type 0
+IsDone held before after Clues = HasShown before after
+IsDone held before after (Work file options) = HasAnswered (held file.now) options before after
+IsDone held before after (Check file cert background) =
+    HasChecked (held file.now) (held cert.now) background before after
+IsDone held before after (Help text) = Appends before.output after.output (string_bytes text)
+
+-- ---- a run
 
 -- No file was opened, and the status is not 0; or the first files of a task that
--- the arguments ask for were opened, and with status 0 what a check says is proved.
-abbrev pub Opens : List (List ℕ) → (List ℕ → Held) → Option (List (List ℕ)) → Option (List (List ℕ)) → ℕ → Type 0
+-- the arguments ask for were opened, and with status 0 the task is done.
+abbrev pub Opens : List (List ℕ) → (List ℕ → Held) → World → World → ℕ → Type 0
 Opens arguments held before after status =
-    (Names before after [] × (status ≡ 0 → ⊥))
-    ⊎ ((task : Task) × (IsTask arguments (Ok task)
-    × ((count : ℕ) × (Names before after (take count (files_of task)) × (status ≡ 0 → IsProved held task)))))
+    (Names before.opened after.opened [] × (status ≡ 0 → ⊥))
+    ⊎ ((task : Task) × (IsTask arguments (Ok task) × ((count : ℕ)
+    × (Names before.opened after.opened (take count (files_of task)) × (status ≡ 0 → IsDone held before after task)))))
+
+-- that, with the status of what came of it: 0 without an error, else the error's
+pub record Comes (arguments : List (List ℕ)) (held : List ℕ → Held) (before after : World) (status : ℕ) : Type 0 where
+  pub outcome : Result (Unit {0}) ProgramFault
+  pub right_status : status ≡ status_after outcome
+  pub opens : Opens arguments held before after status

@@ -1,6 +1,8 @@
--- What a session writes whose whole input is a text.
-use Rattle.std.specs.Prelude.{◌≡◌, ℕ, List}
+-- What a session writes: to all lines of a text that is its whole input, or until a write fails.
+use Rattle.std.specs.Prelude.{◌≡◌, ◌⊎◌, ℕ, List, Option, take}
 use Rattle.std.specs.List.{concat}
+use Rattle.std.specs.Io.KnownBytes.{Appends, Consumes}
+use Rattle.command_text.specs.Lines.{ended_lines_of, lines_of}
 use Rattle.live_audit.specs.Calls.{Machine}
 use Rattle.session.specs.Truth.{AreReplies}
 
@@ -9,3 +11,19 @@ pub record AnswersAll (lines : List (List ℕ)) (text : List ℕ) (m last : Mach
   pub texts : List (List ℕ)
   pub text_is : text ≡ concat texts
   pub replies : AreReplies m lines texts last
+
+-- What went out is a prefix of such replies, to the first of the lines.
+pub record AnswersFront (lines : List (List ℕ)) (had has : Option (List ℕ)) (m last : Machine) : Type 0 where
+  pub count : ℕ
+  pub texts : List (List ℕ)
+  pub replies : AreReplies m (take count lines) texts last
+  pub front : ℕ
+  pub went_out : Appends had has (take front (concat texts))
+
+-- the same of the lines that were read, with the last one or without, which no line feed ended
+pub record AnswersRead (had have held holds : Option (List ℕ)) (m last : Machine) : Type 0 where
+  pub read : List ℕ
+  pub consumes : Consumes had have read
+  pub lines : List (List ℕ)
+  pub are_read : (lines ≡ ended_lines_of read) ⊎ (lines ≡ lines_of read)
+  pub front : AnswersFront lines held holds m last

@@ -4,11 +4,13 @@ ghost use Rattle.std.specs.Prelude.{◌≡◌, [], map, string_bytes, Ok};
 ghost use Rattle.std.specs.Io.KnownBytes.{Keeps};
 ghost use Rattle.std.specs.Process.{exit_status};
 ghost use Rattle.command_line.specs.declared.words.Task.{Task};
-ghost use Rattle.claims.specs.Outcome.{Opens};
+ghost use Rattle.claims.specs.Outcome.{Comes};
 ghost use Rattle.program.specs.Files.{Names};
 ghost use Rattle.program.specs.Run.{IsTask};
+ghost use Rattle.program.specs.World.{world};
 
 use program::{Ended, Files, run};
+use session::laws::sessions_are_true;
 use std::alloc::Global;
 use std::io::{Read, Write};
 
@@ -32,8 +34,9 @@ pub fn run_refused<F: Files, R: Read, W: Write, V: Write>(
     run(alloc, Ok(arguments), files, reader, writer, errors)
 }
 
-/// The whole program: it opens only the first of the files that a task names for which the arguments ask. With status 0 there is
-/// such a task; and where it is a check, the picture of the first file is the only one of its size with its clues and its colours
+/// The whole program: it opens only the first of the files that a task names for which the arguments ask. Its status is that of
+/// what came of it. With status 0 there is such a task, and it is done: the clues went out; or a true text to each line of the
+/// input; or the line of a check, and the picture of the first file is the only one of its size with its clues and its colours
 /// in the certificate's givens.
 pub fn run_asked<F: Files, R: Read, W: Write, V: Write>(
     alloc: Global,
@@ -43,8 +46,11 @@ pub fn run_asked<F: Files, R: Read, W: Write, V: Write>(
     writer: &mut W,
     errors: &mut V,
 ) -> Ended
-    ensures { Opens (map (λ text. string_bytes text) arguments.items) (F.held files.old)
-        (F.opened files.old) (F.opened files.new) (exit_status result.code) }
+    ensures { Comes (map (λ text. string_bytes text) arguments.items) (F.held files.old)
+        (world (F.opened files.old) (R.remaining reader.old) (W.contents writer.old))
+        (world (F.opened files.new) (R.remaining reader.new) (W.contents writer.new))
+        (exit_status result.code) }
 {
+    sessions_are_true();
     run(alloc, Ok(arguments), files, reader, writer, errors)
 }

@@ -1,7 +1,7 @@
 //! A session's answers are right.
 
-ghost use Rattle.std.specs.Prelude.{IfOk};
-ghost use Rattle.claims.specs.Session.{AnswersAll};
+ghost use Rattle.std.specs.Prelude.{◌≡◌, IfErr, IfOk};
+ghost use Rattle.claims.specs.Session.{AnswersAll, AnswersRead};
 ghost use Rattle.command_text.specs.Lines.{lines_of};
 ghost use Rattle.live_audit.specs.Calls.{machine};
 
@@ -11,6 +11,7 @@ use live_audit::Bench;
 use propagate::Agenda;
 use session::run_session;
 use std::alloc::Global;
+use std::io::{Read, Write};
 
 /// What a session answers whose whole input is a text: one answer after the other, each true of the document that the lines
 /// before it lead to.
@@ -27,4 +28,20 @@ pub fn answered<E: LineEngine + Drop, A: Agenda + Drop>(
     let mut text = Vec::new(alloc);
     run_session(alloc, &mut left, &mut text, bench)?;
     Ok(text)
+}
+
+/// What a session answers on any writer. Where a write fails, a prefix of the right answers went out.
+pub fn answered_until<R: Read, W: Write, E: LineEngine + Drop, A: Agenda + Drop>(
+    alloc: Global,
+    bench: &mut Bench<E, A>,
+    reader: &mut R,
+    writer: &mut W,
+) -> Result<(), SessionFault>
+    ensures { IfErr result (λ fault. fault ≡ SessionFault.Write → AnswersRead
+        (R.remaining reader.old) (R.remaining reader.new)
+        (W.contents writer.old) (W.contents writer.new)
+        (machine bench.old.history bench.old.allowance)
+        (machine bench.new.history bench.new.allowance)) }
+{
+    run_session(alloc, reader, writer, bench)
 }

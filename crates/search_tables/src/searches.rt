@@ -2,9 +2,9 @@
 //!
 //! `settle ENGINE AGENDA PUZZLE` prints the evaluations and the facts, or `dead`. `first PUZZLE` prints a picture with the
 //! clues. `parts FACTS` prints the cells of each part. `judge PICTURE [ALLOWANCE]` judges a picture by its parts, and once more
-//! under no allowance; `cost` does, and tells the evaluations. `within SPLITS AGAIN WINDOW FIRST PICTURE` decides each part by
-//! so many splits of the fixed order, so many when it is begun anew, windows of so many splits, and trees of so many evaluations
-//! at first; and it makes a certificate within the same bounds.
+//! under no allowance; `cost` does, and tells the evaluations. `within SPLITS AGAIN WINDOW CONFLICTS FIRST PICTURE` decides each
+//! part by so many splits of the fixed order, so many when it is begun anew, windows of so many splits, lemmas from so many conflicts,
+//! and trees of so many evaluations at first; and it makes a certificate within the same bounds.
 
 ghost use Rattle.second_search.specs.Parts.{IsScene};
 
@@ -37,8 +37,9 @@ fn told_of(alloc: Global, words: &[&str]) -> Result<String> {
         ["judge", picture] => judge_text(alloc, picture, None, false),
         ["judge", picture, most] => judge_text(alloc, picture, Some(splits_in(most)?), false),
         ["cost", picture, most] => judge_text(alloc, picture, Some(splits_in(most)?), true),
-        ["within", splits, again, window, first, picture] => {
-            within_text(alloc, bounds_in(splits, again, window, first)?, picture)
+        ["within", splits, again, window, conflicts, first, picture] => {
+            let bounds = bounds_in(splits, again, window, conflicts, first)?;
+            within_text(alloc, bounds, picture)
         }
         _ => bail!("settle, first, parts, judge, cost or within"),
     }
@@ -48,11 +49,18 @@ fn splits_in(word: &str) -> Result<u32> {
     Ok(word.parse().context("the allowance")?)
 }
 
-fn bounds_in(splits: &str, again: &str, window: &str, first: &str) -> Result<Bounds> {
+fn bounds_in(
+    splits: &str,
+    again: &str,
+    window: &str,
+    conflicts: &str,
+    first: &str,
+) -> Result<Bounds> {
     Ok(Bounds {
         fixed_splits: splits_in(splits)?,
         again_splits: splits_in(again)?,
         window_splits: splits_in(window)?,
+        conflicts: conflicts.parse().context("the conflicts")?,
         first_bound: first.parse().context("the first bound")?,
     })
 }

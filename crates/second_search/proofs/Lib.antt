@@ -16,6 +16,7 @@ pub mod AloneLemmas
 pub mod VerdictLemmas
 pub mod EndLemmas
 pub mod WithinLemmas
+pub mod LearnLemmas
 pub mod TruthLemmas
 pub mod CarryLemmas
 pub mod LeastLemmas

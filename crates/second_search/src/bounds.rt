@@ -1,13 +1,14 @@
 //! How far each way of a search goes before the next one is taken.
 
 /// How often a part is split in the fixed order at first, and how often when that is begun anew; how often a search in a window
-/// splits; and how many lines a tree of the whole picture may evaluate at first, sixteen times as many in a part or after a long
-/// judgement. They say which way answers, and never what is true; clauses speak of the first alone.
+/// splits; from how many conflicts a search with lemmas learns, where it is made at all; and how many lines a tree of the whole
+/// picture may evaluate at first, sixteen times as many in a part or after a long judgement. They say which way answers, and never what is true; clauses speak of the first alone.
 #[derive(Clone, Copy)]
 pub struct Bounds {
     pub fixed_splits: u32,
     pub again_splits: u32,
     pub window_splits: u32,
+    pub conflicts: u32,
     pub first_bound: u64,
 }
 
@@ -16,6 +17,7 @@ pub const BOUNDS: Bounds = Bounds {
     fixed_splits: 100,
     again_splits: 500,
     window_splits: 64,
+    conflicts: 100_000,
     first_bound: 10_000,
 };
 

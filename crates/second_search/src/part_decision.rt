@@ -1,5 +1,5 @@
 //! A part decided: by the search of the fixed order, and where that takes long and no allowance is set, by small windows of the
-//! part, the fixed order anew, large windows and trees.
+//! part, the fixed order anew, large windows, lemmas and trees.
 
 ghost use Rattle.std.specs.Prelude.{◌≡◌, ◌-◌, ◌≤◌, ℕ, length, IfOk, OnOk};
 ghost use Rattle.second_search.specs.Parts.{IsPart, IsScene};
@@ -10,6 +10,7 @@ ghost use Rattle.second_search.specs.Evaluations.{AreFew};
 use crate::bounds::{BOUNDS, Bounds, LONGER};
 use crate::counting::{Ending, Searched};
 use crate::finding::find_filling;
+use crate::learning::learn_part;
 use crate::near::{SIZES, SMALL, find_near};
 use crate::part_search::{facts_on, search_part};
 use crate::scene::Scene;
@@ -42,7 +43,7 @@ pub(crate) fn decide_part<E: LineEngine>(
 }
 
 /// Decides a part within bounds: by so many splits of the fixed order, and where they do not suffice by windows, by that order
-/// anew and by trees. Only the first splits are counted. What is answered is true whatever the bounds are, and a part is never
+/// anew, by lemmas and by trees. Only the first splits are counted. What is answered is true whatever the bounds are, and a part is never
 /// left undecided. No line is longer than the engine's `longest`.
 pub fn decide_within<E: LineEngine>(
     alloc: Global,
@@ -73,8 +74,8 @@ pub fn decide_within<E: LineEngine>(
     Ok(Searched { ending, splits })
 }
 
-// Decides a part that costs more than the first splits: by small windows, by more splits of the fixed order, by large windows, and
-// then by trees of the facts on it, with the picture's colours alone left elsewhere.
+// Decides a part that costs more than the first splits: by small windows, by more splits of the fixed order, by large windows, by
+// lemmas, and then by trees of the facts on it, with the picture's colours alone left elsewhere.
 fn climb_part<E: LineEngine>(
     alloc: Global,
     engine: &mut E,
@@ -100,6 +101,9 @@ fn climb_part<E: LineEngine>(
     };
     if let Some(picture) = find_near(alloc, engine, scene, cells, &SIZES[SMALL..], splits)? {
         return Ok(Ending::Found(picture));
+    }
+    if let Some(ending) = learn_part(alloc, engine, scene, cells, bounds.conflicts)? {
+        return Ok(ending);
     }
     let facts = facts_on(scene, cells)?;
     let part = Scene {

@@ -40,8 +40,8 @@ pub(crate) fn line_number(line: LineId) -> LineNumber
     }
 }
 
-/// A cell as a certificate names it.
-pub fn cell_number(cell: Cell) -> CellNumber
+// A cell as a certificate names it.
+pub(crate) fn cell_number(cell: Cell) -> CellNumber
     ensures row { result.row ≡ cell.row + 1 }
     ensures col { result.col ≡ cell.col + 1 }
 {

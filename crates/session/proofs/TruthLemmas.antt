@@ -44,6 +44,7 @@ use Rattle.report_text.specs.Report.{report_text}
 use Rattle.session.specs.Session.{Answered, BrokenOff, IsShort, Judges, Replies, Runs, Says, SaysStroke, SaysTo, SaysToAll}
 use Rattle.session.specs.Refusal.{edit_line}
 use Rattle.session.specs.Texts.{verdict_word}
+use Rattle.session.specs.Laws.{SessionsAreTrue}
 use Rattle.session.specs.Truth.{AreReplies, AreTold, AreToldInPart, IsAnswered, IsCertified, IsMapOf, IsPastSplits, IsReason, IsReply, IsTrueVerdict, IsWhy, TellsStroke, TellsTruth, report_of}
 use Rattle.session.proofs.MachineLemmas.{answered_at, machine_of}
 
@@ -258,3 +259,8 @@ tells_truth had have held holds old new (Ok done) a (read, (consumes, (end, said
 tells_truth had have held holds old new (Err fault.Read) a (read, (consumes, said)) = (read, (consumes, told _ held holds old new a said))
 tells_truth had have held holds old new (Err fault.Write) a (read, (consumes, inl cut)) = (read, (consumes, inl (told_in_part _ held holds old new a cut)))
 tells_truth had have held holds old new (Err fault.Write) a (read, (consumes, inr (end, cut))) = (read, (consumes, inr (end, told_in_part _ held holds old new a cut)))
+
+pub are_true : SessionsAreTrue
+are_true = tells_truth
+
+pub ruleset truths = (are_true)

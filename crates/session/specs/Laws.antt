@@ -1,5 +1,5 @@
--- The law of sessions: what lines come to, over a machine of a history and an allowance.
-use Rattle.std.specs.Prelude.{◌≡◌, ◌≤◌, ℕ, List, [], ◌∷◌, Option, None, Some, if◌then◌else◌}
+-- The laws of sessions: what lines come to, over a machine of a history and an allowance.
+use Rattle.std.specs.Prelude.{◌≡◌, ◌≤◌, ℕ, List, [], ◌∷◌, Option, None, Some, Result, if◌then◌else◌}
 use Rattle.std.specs.List.{concat}
 use Rattle.edits.specs.declared.fault.EditFault.{EditFault}
 use Rattle.live_audit.specs.Bench.{IsAudited, Seen}
@@ -11,7 +11,9 @@ use Rattle.command_text.specs.declared.request.Request.{Request}
 use Rattle.command_text.specs.declared.request.Request.TheVariants as request
 use Rattle.command_text.specs.Lines.{request_of}
 use Rattle.session.specs.Refusal.{memory_line}
-use Rattle.session.specs.Session.{Says, SaysToAll}
+use Rattle.command_text.specs.declared.session_fault.SessionFault.{SessionFault}
+use Rattle.session.specs.Session.{Runs, Says, SaysToAll}
+use Rattle.session.specs.Truth.{TellsTruth}
 use Rattle.command_text.specs.Words.{is_word}
 
 -- ---- the machine
@@ -92,3 +94,9 @@ pub record Follows (lines : List (List ℕ)) (old : Seen) (text : List ℕ) (new
 abbrev pub SessionsStayAudited : Type 0
 SessionsStayAudited = (lines : List (List ℕ)) (old new : Seen) (text : List ℕ) → IsAudited old
     → SaysToAll lines old text new → Follows lines old text new
+
+-- A session that runs on an audited bench tells the truth of its history and its allowance.
+abbrev pub SessionsAreTrue : Type 0
+SessionsAreTrue = (had have held holds : Option (List ℕ)) (old new : Seen) (ended : Result (Unit {0}) SessionFault)
+    → IsAudited old → Runs had have held holds old new ended
+    → TellsTruth had have held holds (machine old.history old.allowance) (machine new.history new.allowance) ended

@@ -16,7 +16,8 @@ loop-col-preserved c =
     elim c.if-has.branch [
       | then-has+in_ok-push w ↦
           more_named givens row col c.loop-col.cells.items _ (omega arith) (omega arith) (c.has.ensures.value.0 w.if-has.true) (ap (λ (v : Vec CellNumber Global). v.items) w.cells-is
-          ∙ (w.in_ok-push.ensures.items ∙ ap (λ (cell : CellNumber). c.loop-col.cells.items ++ (cell ∷ [])) (same_number _ row col (ap (λ (x : ℕ). x + 1) w.from.ensures) (ap (λ (x : ℕ). x + 1) w.from-then-has.ensures)))) so_far
+          ∙ (w.in_ok-push.ensures.items ∙ ap (λ (cell : CellNumber). c.loop-col.cells.items ++ (cell ∷ []))
+          (same_number _ row col (ap (λ (x : ℕ). x + 1) w.from.ensures) (ap (λ (x : ℕ). x + 1) w.from-then-has.ensures)))) so_far
       | else-has w ↦
           subst P (sym (ap (λ (v : Vec CellNumber Global). v.items) w.cells-is))
           (same_named givens row col c.loop-col.cells.items (λ has. false≢true (sym w.if-has.false ∙ c.has.ensures.value.1 has)) so_far)

@@ -30,11 +30,11 @@ returns-in-Some-2-clause-ends g c =
 pub find_filling-requires-clause-closable : goal.find_filling-requires-clause-closable
 find_filling-requires-clause-closable g c =
     let s = c.args.scene.now in
-    let can = rw (← (c.find_near-2.ensures.same_longest ∙ (c.search_part.ensures.same_longest ∙ c.find_near.ensures.same_longest))) at c.requires.can in
+    let can = rw (← (c.learn_part.ensures.same_longest ∙ (c.find_near-2.ensures.same_longest ∙ (c.search_part.ensures.same_longest ∙ c.find_near.ensures.same_longest)))) at c.requires.can in
     closable_alone clues_are_of_lines s.clues.now c.args.cells.now s.picture.now c.in_ok-facts.facts _ c.requires.can.is_scene.has_clues c.in_ok-facts.ensures.outside can.tall can.wide
 
 pub returns-in-None-clause-ends : goal.returns-in-None-clause-ends
 returns-in-None-clause-ends g c = rw (← c.in_ok-facts.ensures.alone) (rw c.in-None.is at c.in_ok-find_filling.ensures.finds)
 
 pub returns-clause-ends : goal.returns-clause-ends
-returns-clause-ends g c = rw (← c.in_ok-facts.ensures.alone) (rw c.in-Some-3.is at c.in_ok-find_filling.ensures.finds)
+returns-clause-ends g c = rw (← c.in_ok-facts.ensures.alone) (rw c.in-Some-4.is at c.in_ok-find_filling.ensures.finds)
