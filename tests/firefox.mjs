@@ -8,7 +8,7 @@ import { connect } from 'node:net';
 import { tmpdir } from 'node:os';
 import { join, resolve } from 'node:path';
 import { pathToFileURL } from 'node:url';
-import { Trial, hookedPage } from './page_trial.mjs';
+import { Trial, eightColours, hookedPage } from './page_trial.mjs';
 
 const KEYS = {
     Shift: '\ue008', Control: '\ue009', Alt: '\ue00a', Enter: '\ue007', Escape: '\ue00c', Tab: '\ue004', Backspace: '\ue003', Delete: '\ue017', Home: '\ue011',
@@ -267,13 +267,15 @@ const steps = {
         writeFileSync(join(folder, 'sheet.pdf'), pdf);
         assert.equal(pdf.subarray(0, 5).toString(), '%PDF-');
     },
-    async 'a link opens in the editor, and in the player alone'({ page, trial }) {
+    async 'a link of 30 by 30 cells in 8 colours is short, and opens in the editor, and in the player alone'({ page, trial }) {
         await trial.load();
-        await drop(page, 'duck.ppm', example('duck.ppm'));
+        await drop(page, 'eight.ppm', Buffer.from(eightColours()));
         await isOpen(page);
-        const { picture } = await trial.state();
+        const { picture, colours } = await trial.state();
+        assert.deepEqual([picture.length, colours.length], [30, 8]);
         const links = await page.run(async () => [await fragmentOf(bench.state, 'edit'), await fragmentOf(bench.state, 'play')]);
         for (const link of links) {
+            assert.ok(trial.url.length + link.length < 2000, `${link.length} characters`);
             await page.goto('about:blank');
             await page.goto(`${trial.url}${link}`);
             await isOpen(page);

@@ -69,6 +69,7 @@ export class Hands {
         await this.press(`#menus [popovertarget="menu-${place}"]`);
         const entry = `#menu-${place} [data-action="${id}"]`;
         if (!this.byKeys) return this.press(entry);
+        await this.page.until((one) => document.getElementById(one).contains(document.activeElement), 3000 * SLACK, `menu-${place}`); // no hand is quicker
         for (let step = 0; step < 40; step++) {
             if (await this.page.run((wanted) => document.activeElement?.matches(wanted) ?? false, entry)) return this.page.press('Enter');
             await this.page.press('ArrowDown');

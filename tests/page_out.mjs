@@ -245,7 +245,7 @@ export async function printPoint(hands, { page, own }) {
     await hands.choose('#print-count', '2');
     await hands.choose('#print-show', 'letters');
     await hands.press('#print-others summary');
-    for (const at of [1, 2]) await hands.tick(`#print-others label:nth-of-type(${at}) input`);
+    await hands.tick('#print-all');
     await hands.press('dialog button.main');
     await page.until(() => window.isPrinted, 5000 * SLACK);
     const sheets = await pdfOf(page, own, 'book.pdf');

@@ -5,7 +5,7 @@ import { mkdirSync, readFileSync, writeFileSync } from 'node:fs';
 import { createServer } from 'node:http';
 import { extname, join } from 'node:path';
 import { DUCK, clean, downloaded, examples, fresh, isKept, isOpen, menu, said } from './page_hands.mjs';
-import { SIZES, SLACK, Trial, noise, ppmOf } from './page_trial.mjs';
+import { SIZES, SLACK, Trial, eightColours, ppmOf } from './page_trial.mjs';
 
 const TWO_WAYS = ['.a', 'a.']; // its mirror has the same clues
 const ONE_WAY = ['a.', '.b', 'bb']; // column 2 has its bs in rows 2 and 3, for row 1 has none; then each row has one place left
@@ -46,11 +46,9 @@ async function linkOf(hands, kind) {
     return text;
 }
 
-const EIGHT = Object.fromEntries([...'.abcdefg'].map((letter, at) => [letter, at ? `${30 * at} ${250 - 30 * at} ${(97 * at) % 256}` : '255 255 255']));
-
 /** A link to edit opens the whole document and is kept from its first stroke on; one of 30 by 30 in 8 colours is short. */
 export async function linkPoint(hands, { page, trial }) {
-    await trial.open(ppmOf(noise(30, 30, '.abcdefg'), EIGHT), 'eight');
+    await trial.open(eightColours(), 'eight');
     const rows = await trial.picture();
     await page.run(() => bench.become((doc) => ({ ...doc, about: { title: 'Ente & Möwe' }, givens: new Set([3]) })));
     const link = await linkOf(hands, 'edit');

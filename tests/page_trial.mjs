@@ -155,3 +155,9 @@ export function noise(rows, columns, letters, seed = 7) {
     const chance = (below) => (state = (state * 48271) % 2147483647) % below;
     return Array.from({ length: rows }, () => Array.from({ length: columns }, () => letters[chance(letters.length)]).join(''));
 }
+
+/** The P3 text of a picture of 30 by 30 cells that cannot be packed, in 8 colours. */
+export function eightColours() {
+    const letters = '.abcdefg';
+    return ppmOf(noise(30, 30, letters), Object.fromEntries([...letters].map((letter, at) => [letter, at ? `${30 * at} ${250 - 30 * at} ${(97 * at) % 256}` : '255 255 255'])));
+}

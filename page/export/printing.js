@@ -64,16 +64,21 @@ function saveSvg(sheets) {
 
 const choice = (id, options, value) => make('select', { id }, ...Object.entries(options).map(([name, text]) => make('option', { value: name, selected: name === String(value) }, text)));
 
+// Puzzles come in the order of their names, as they are called in the library: "2 cat" before "10 dog".
+const names = new Intl.Collator(LANGUAGE, { numeric: true });
+const byName = (one, other) => names.compare(one.name, other.name);
+
 // The other pictures of the library, to be printed with this one.
 async function otherCards() {
   const keeper = await keep.ready();
-  return (await keeper.cards()).filter((card) => card.id !== keep.id);
+  return (await keeper.cards()).filter((card) => card.id !== keep.id).sort(byName);
 }
 
 function libraryPart(cards) {
   const boxes = cards.map((card) => make('input', { type: 'checkbox', value: card.id }));
+  const all = make('input', { type: 'checkbox', id: 'print-all', onchange: () => { for (const box of boxes) box.checked = all.checked; } });
   const facts = (card) => [card.name, sizeText(card.doc), card.verdict && card.verdict !== 'unique' ? verdictName(card.verdict) : ''].filter(Boolean).join(', ');
-  const part = make('details', { id: 'print-others' }, make('summary', {}, phrase('export.othersLibrary', { count: cards.length })), ...cards.map((card, at) => make('label', {}, boxes[at], facts(card))));
+  const part = make('details', { id: 'print-others' }, make('summary', {}, phrase('export.othersLibrary', { count: cards.length })), make('label', {}, all, phrase('export.all')), ...cards.map((card, at) => make('label', {}, boxes[at], facts(card))));
   return { part: cards.length ? part : '', ids: () => boxes.filter((box) => box.checked).map((box) => box.value) };
 }
 
@@ -98,10 +103,6 @@ function readFields({ paper, wide, margin, perSheet, show, answers, grade }) {
   const side = Number(margin.value);
   return { paper: paper.value in PAPERS ? paper.value : USUAL.paper, isWide: wide.checked, margin: clamp(Number.isFinite(side) ? side : USUAL.margin, ...MARGINS), perSheet: Number(perSheet.value), show: show.value, answers: answers.checked, hasGrade: grade.checked };
 }
-
-// Puzzles come in the order of their names, as they are called in the library: "2 cat" before "10 dog".
-const names = new Intl.Collator(LANGUAGE, { numeric: true });
-const byName = (one, other) => names.compare(one.name, other.name);
 
 // What is to be known before it is printed.
 function warningsOf(puzzle, near) {

@@ -6,11 +6,20 @@ import { dotSize, isTransparent, scaledTo } from './images.js';
 import { MOST_POINTS } from './making.js';
 import { hasClear, hasFewColours, spotsOf } from './spots.js';
 
+const SMALL = 0.003; // of the area: a beak, a nose, a star
+const FEW = 8; // colours that a puzzle has easily
+
+// How many colours flat art has: those of small features too, where all of them are few.
+function flatColours(image) {
+  const all = countFlat(image, SMALL);
+  return all <= FEW ? all : countFlat(image);
+}
+
 /** How many colours an image has with a background: all where each pixel counts and they are few, its flat ones, or some. */
 function coloursFor(image, { isExact, some }) {
   const clear = Number(hasClear(image));
   const most = MOST_COLOURS - clear;
-  const own = isExact && hasFewColours(image, most) ? spotsOf(image).length : countFlat(image);
+  const own = isExact && hasFewColours(image, most) ? spotsOf(image).length : flatColours(image);
   return own && own <= most ? Math.max(2, own + clear) : some;
 }
 

@@ -747,6 +747,7 @@ export const EN = /** @type {const} */ ({
   'export.notKnownYetWhether': 'It is not known yet whether this picture is the only solution.',
   'export.sheetsSavedPrintZip': '{sheets|# sheet|# sheets} saved as “{name}-print.zip”.',
   'export.othersLibrary': 'With others of the library, in the order of their names ({count})',
+  'export.all': 'all',
   'export.solutionsEnd': 'Solutions at the end',
   'export.gradeField': 'The grade: {word}',
   'export.gradeWhereOneKnown': 'The grade, if one is known',
