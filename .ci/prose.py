@@ -69,6 +69,13 @@ INSTEAD = {
     r"(?:for|of|so) who": "whoever",
     r"(?<!there )is no (?:part|picture|number|colour|edit|text|command|given|puzzle|program)": "is not a",
     r"instructions a byte": "per",
+    r"for somebody": "for those who",
+    r"went out": "has been written",
+    r"in place of": "instead of",
+    r"by the clock": "wall-clock time",
+    r"one an? (?:line|sheet|cell|processor|side)|a line each": "per, for each",
+    r"comes? nearer": "closer",
+    r"told apart": "distinguished",
 }
 # Documents whose sentences come from the heads of crates: their words count, and are no faults.
 OF_CRATES = {os.path.join("crates", "README.md")}

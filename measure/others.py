@@ -7,7 +7,8 @@ gringo with clasp (an answer set program), gecode (`extensional` for each line, 
 In Debian: apt-get install minisat cadical gringo clasp libgecode-dev g++.
 Each gets N seconds of one processor (by default 10) for the whole answer, including gringo's; writing the text that a solver reads
 is not counted. Answers are compared with each other, and each other picture that a solver finds is checked. If nonobench answers
-`unique`, its certificate is made, checked by `nonobench check` and measured, each step in a process of its own.
+`unique`, its certificate is made, checked by `nonobench check` and measured, each step in a process of its own. If the program has
+the command `prove`, the same is done with proofs by lemmas and `nonobench verify`, also for pictures that the verdict left open.
 
 With `--others`, only nonobench is measured, and the rows of the other solvers are taken from the CSV of an earlier run over the same
 pictures and classes.
@@ -34,7 +35,7 @@ from statistics import median
 sys.dont_write_bytecode = True
 ROOT = Path(__file__).resolve().parent.parent
 sys.path.insert(0, str(ROOT / 'tests'))
-from others_plot import CERTIFY, CHECK, by, of_solvers, print_tables, read_rows, write_plot, write_rows  # noqa: E402
+from others_plot import CERTIFY, CHECK, PROVE, VERIFY, by, of_solvers, print_tables, read_rows, write_plot, write_rows  # noqa: E402
 from reference.faults import Fault  # noqa: E402
 from reference.lines import clues_of, line_of, names  # noqa: E402
 from reference.pictures import read_ppm  # noqa: E402
@@ -299,6 +300,24 @@ def certificate(program, limit, picture):
     return [(CERTIFY, 'unique', took, len(printed.encode())), (CHECK, 'accepted', checking, None)]
 
 
+def has_proofs(program):
+    """Whether a program can print proofs by lemmas."""
+    said = subprocess.run([program, '--help'], capture_output=True, check=False, text=True).stdout
+    return any(line.split()[:1] == ['prove'] for line in said.splitlines())
+
+
+def lemma_proof(program, limit, picture):
+    """The rows of a proof by lemmas: its length and the time to make it, and the time to check it. One that is refused is an error."""
+    printed, took = limit.run([program, 'prove', str(picture)])
+    if printed in (None, 'undecided\n', 'ambiguous\n'):
+        return [(PROVE, 'ambiguous' if printed == 'ambiguous\n' else 'open', took, None)]
+    (limit.folder / 'proof').write_text(printed)
+    said, checking = limit.run([program, 'verify', str(picture), 'proof'])
+    if said != 'proof accepted\n':
+        raise SystemExit(f'{picture}: its proof by lemmas was not accepted')
+    return [(PROVE, 'unique', took, len(printed.encode())), (VERIFY, 'accepted', checking, None)]
+
+
 def answers(found, program, limit, picture):
     """What each solver says of a picture, and its certificate: program, answer, seconds, bytes. Answers that disagree are an error."""
     task = Task(read_ppm(picture.read_bytes()).rows)
@@ -312,6 +331,8 @@ def answers(found, program, limit, picture):
     print(f'{picture.name}: {line}', file=sys.stderr, flush=True)
     if rows[0][:2] == ('nonobench', 'unique'):
         rows += certificate(program, limit, picture)
+    if rows[0][0] == 'nonobench' and rows[0][1] != 'ambiguous' and has_proofs(program):
+        rows += lemma_proof(program, limit, picture)
     return task, rows
 
 

@@ -9,8 +9,9 @@ import sys
 from statistics import median
 
 COLUMNS = ['picture', 'class', 'width', 'height', 'colours', 'program', 'answer', 'seconds', 'bytes']
-# The two steps of a certificate, which are no answers of a solver.
+# The steps of a certificate and of a proof by lemmas, which are not answers of a solver.
 CERTIFY, CHECK = 'nonobench certify', 'nonobench check'
+PROVE, VERIFY = 'nonobench prove', 'nonobench verify'
 # Colours that the colour blind tell apart, a dash and a mark for each program, in the order of the rows.
 STYLES = [('#0072b2', '', 'circle'), ('#d55e00', '7 3', 'square'), ('#007a5e', '2 3', 'diamond'), ('#a8478a', '9 3 2 3', 'cross'),
           ('#5a5a5a', '4 2', 'triangle')]
@@ -46,8 +47,8 @@ def by(key, rows):
 
 
 def of_solvers(rows):
-    """The rows that are answers, without the making and checking of certificates."""
-    return [row for row in rows if row['program'] not in (CERTIFY, CHECK)]
+    """The rows that are answers, without the making and checking of certificates and proofs."""
+    return [row for row in rows if row['program'] not in (CERTIFY, CHECK, PROVE, VERIFY)]
 
 
 def answer_table(rows):
@@ -72,13 +73,13 @@ def class_table(rows):
         yield f'| {name} | {len(by("picture", held))} | ' + ' | '.join(cells) + ' |'
 
 
-def certificate_table(rows):
-    """How long the certificates are, and the time to make and to check them."""
-    made = [row for row in rows if row['program'] == CERTIFY and row['bytes'] is not None]
+def size_table(rows, make, check, name):
+    """How long certificates or proofs are, and the time to make and to check them."""
+    made = [row for row in rows if row['program'] == make and row['bytes'] is not None]
     if not made:
         return
-    yield '| class | certificates | median, bytes | largest, bytes | longest to make, ms | longest to check, ms |\n|---|---|---|---|---|---|'
-    checked = {row['picture']: row['seconds'] for row in rows if row['program'] == CHECK}
+    yield f'| class | {name} | median, bytes | largest, bytes | longest to make, ms | longest to check, ms |\n|---|---|---|---|---|---|'
+    checked = {row['picture']: row['seconds'] for row in rows if row['program'] == check}
     for name, held in [*sorted(by('class', made).items()), ('all', made)]:
         if held:
             sizes = [row['bytes'] for row in held]
@@ -162,9 +163,13 @@ def write_plot(path, rows):
 
 
 def print_tables(rows):
-    """Prints the three tables."""
-    for table in (answer_table, class_table, certificate_table):
-        print(*table(rows), sep='\n', end='\n\n')
+    """Prints the tables."""
+    tables = [answer_table(rows), class_table(rows), size_table(rows, CERTIFY, CHECK, 'certificates'),
+              size_table(rows, PROVE, VERIFY, 'proofs by lemmas')]
+    for table in tables:
+        lines = list(table)
+        if lines:
+            print(*lines, sep='\n', end='\n\n')
 
 
 def main():
