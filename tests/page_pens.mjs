@@ -101,6 +101,7 @@ export async function wandPoint(hands, { page, trial }) {
     await undo(hands);
     await hands.menu('edit', 'wand-adds'); // for fingers, which have no Shift
     assert.equal(await trial.text('[data-tool="wand"] span'), 'Wand +');
+    assert.ok(await page.run(() => { const { left, right } = document.querySelector('[data-tool="wand"]').getBoundingClientRect(); return left >= 0 && right <= innerWidth; }), 'the tool is seen');
     await hands.stroke([1, 2]);
     await hands.stroke([4, 5]);
     assert.deepEqual(await page.run(() => selection.shape), ['aa   ', 'a    ', '     ', '   aa'], 'both are selected');
