@@ -20,10 +20,10 @@ _nonobench() {
     esac
     local offered
     case $command in
-        '') offered='work check help --help --version' ;;
+        '') offered='work check prove verify help --help --version' ;;
         work) offered='--format --background --history --help' files=1 ;;
-        check) offered='--background --help' files=1 ;;
-        help) offered='work check help' ;;
+        check | prove | verify) offered='--background --help' files=1 ;;
+        help) offered='work check prove verify help' ;;
         *) return ;;
     esac
     if [[ $files = 1 && $word != -* ]]; then

@@ -3,7 +3,7 @@ use Rattle.std.proofs.Common.{◌≡◌, ◌∙◌, ℕ, List, Result, Ok, Err, 
 use Rattle.program_options.specs.declared.fault.ProgramFault.{ProgramFault}
 use Rattle.program_options.specs.declared.fault.ProgramFault.TheVariants as fault
 use Rattle.command_line.specs.declared.words.Task.{Task}
-use Rattle.command_line.specs.declared.words.Task.TheVariants.{Check, Clues, Help, Work}
+use Rattle.command_line.specs.declared.words.Task.TheVariants.{Check, Clues, Help, Prove, Verify, Work}
 use Rattle.program_options.specs.Faults.{status_of}
 use Rattle.program.specs.Endings.{status_after}
 use Rattle.program.specs.Files.{Held, Names}
@@ -31,12 +31,18 @@ fails fault.TooLong e = absurd cc
 proved : (held : List ℕ → Held) (before after : World) (task : Task) (r : Result (Unit {0}) ProgramFault) → CarriesOut held before after task r → status_after r ≡ 0 → IsProved held task
 proved held before after Clues r c e = tt
 proved held before after (Work path options) r c e = tt
+proved held before after (Prove path background) r c e = tt
 proved held before after (Help text) r c e = tt
 proved held before after (Check path cert background) (Err f) c e = absurd (fails f e)
 proved held before after (Check path cert background) (Ok done) (inl stopped) e = absurd (let is = stopped.is in cc)
 proved held before after (Check path cert background) (Ok done) (inr (inl half)) e = absurd (let is = half.stopped.is in cc)
 proved held before after (Check path cert background) (Ok done) (inr (inr checked)) e =
     (checked.file, (checked.cert, (checked.content, (checked.cert_content, checked.unique))))
+proved held before after (Verify path proof background) (Err f) c e = absurd (fails f e)
+proved held before after (Verify path proof background) (Ok done) (inl stopped) e = absurd (let is = stopped.is in cc)
+proved held before after (Verify path proof background) (Ok done) (inr (inl half)) e = absurd (let is = half.stopped.is in cc)
+proved held before after (Verify path proof background) (Ok done) (inr (inr verified)) e =
+    (verified.file, (verified.proof, (verified.content, (verified.proof_content, verified.unique))))
 
 opened : (held : List ℕ → Held) (before after : World) (task : Task) (r : Result (Unit {0}) ProgramFault) → CarriesOut held before after task r
     → (count : ℕ) × Names before.opened after.opened (take count (files_of task))
@@ -46,6 +52,11 @@ opened held before after (Work path options) r (inr worked) = (1, worked.names)
 opened held before after (Check path cert background) r (inl stopped) = (1, stopped.only.names)
 opened held before after (Check path cert background) r (inr (inl half)) = (2, half.stopped.only.names)
 opened held before after (Check path cert background) r (inr (inr checked)) = (2, checked.names)
+opened held before after (Prove path background) r (inl stopped) = (1, stopped.only.names)
+opened held before after (Prove path background) r (inr proving) = (1, proving.names)
+opened held before after (Verify path proof background) r (inl stopped) = (1, stopped.only.names)
+opened held before after (Verify path proof background) r (inr (inl half)) = (2, half.stopped.only.names)
+opened held before after (Verify path proof background) r (inr (inr verified)) = (2, verified.names)
 opened held before after (Help text) r c = (0, c.names)
 
 refused : (f : ProgramFault) (before after : World) (r : Result (Unit {0}) ProgramFault) → IsRefused f before after r → status_after r ≡ 0 → ⊥

@@ -1,8 +1,9 @@
 -- What a run of the program comes to, for arguments that ask for a task or for none.
 use Rattle.std.specs.Prelude.{◌≡◌, ◌⊎◌, ℕ, List, [], ◌∷◌, Option, Ok, take}
 use Rattle.answers.specs.Check.{IsOnlyPicture}
+use Rattle.answers.specs.Verify.{IsOnlyByLemmas}
 use Rattle.command_line.specs.declared.words.Task.{Task}
-use Rattle.command_line.specs.declared.words.Task.TheVariants.{Check, Clues, Help, Work}
+use Rattle.command_line.specs.declared.words.Task.TheVariants.{Check, Clues, Help, Prove, Verify, Work}
 use Rattle.program.specs.Files.{Held, IsContent, Names}
 use Rattle.program.specs.Run.{IsTask}
 
@@ -11,16 +12,22 @@ abbrev pub files_of : Task → List (List ℕ)
 files_of Clues = []
 files_of (Work file options) = file.now ∷ []
 files_of (Check file cert background) = file.now ∷ cert.now ∷ []
+files_of (Prove file background) = file.now ∷ []
+files_of (Verify file proof background) = file.now ∷ proof.now ∷ []
 files_of (Help text) = []
 
 -- Of a check: no other picture of that size has the clues and the givens' colours of
--- the picture in the first file, with the givens of the certificate in the second one.
+-- the picture in the first file, with the givens of the certificate or proof in the second one.
 abbrev pub IsProved : (List ℕ → Held) → Task → Type 0
 IsProved held Clues = Unit {0}
 IsProved held (Work file options) = Unit {0}
 IsProved held (Check file cert background) =
     (text : List ℕ) × ((proof : List ℕ)
     × (IsContent (held file.now) text × (IsContent (held cert.now) proof × IsOnlyPicture text background proof)))
+IsProved held (Prove file background) = Unit {0}
+IsProved held (Verify file proof background) =
+    (text : List ℕ) × ((lemmas : List ℕ)
+    × (IsContent (held file.now) text × (IsContent (held proof.now) lemmas × IsOnlyByLemmas text background lemmas)))
 IsProved held (Help text) = Unit {0}
 
 -- No file was opened, and the status is not 0; or the first files of a task that

@@ -33,8 +33,8 @@ pub fn run_refused<F: Files, R: Read, W: Write, V: Write>(
 }
 
 /// The whole program: it opens only the first of the files that a task names for which the arguments ask. With status 0 there is
-/// such a task; and where it is a check, the picture of the first file is the only one of its size with its clues and its colours
-/// in the certificate's givens.
+/// such a task; and where it is a check of a certificate or a proof, the picture of the first file is the only one of its size with
+/// its clues and its colours in the givens of the second.
 pub fn run_asked<F: Files, R: Read, W: Write, V: Write>(
     alloc: Global,
     arguments: Vec<String>,

@@ -7,7 +7,7 @@ use Rattle.clap.specs.declared.builder.value_parser.ValueParser.{ValueParser}
 use Rattle.clap.specs.declared.error.Error.{Error}
 use Rattle.clap.specs.declared.error.kind.ErrorKind.TheVariants.{OutOfMemory}
 use Rattle.clap.specs.declared.parser.matches.ArgMatches.{ArgMatches}
-use Rattle.command_line.specs.Program.{AreFormats, IsLocal, ParsesAs, check_shape, file_rule, file_shape, format_rule, opening_shape, program_app, top_shape, work_shape}
+use Rattle.command_line.specs.Program.{AreFormats, IsLocal, ParsesAs, check_shape, file_rule, file_shape, format_rule, opening_shape, program_app, prove_shape, top_shape, verify_shape, work_shape}
 
 -- the file's command with the format
 pub opening_made : {E : Type 0} (base : Command) (a : Arg) (r : Result Command E) → IfOk r (AddsArg base a) → a.global ≡ false → shape_of base ≡ file_shape
@@ -26,17 +26,23 @@ opening_made base a (Ok c) h g s f = (
 abbrev bare : App
 bare = record { top = top_shape; subs = [] }
 
--- the program's command with its two subcommands
-pub command_made : {E : Type 0} (top work first check : Command) (r : Result Command E) → app_of top ≡ bare → AddsSubcommand top work first → IfOk r (AddsSubcommand first check) → IsLocal work
-    → IsLocal check → shape_of check ≡ check_shape
+-- the program's command with its subcommands
+pub command_made : {E : Type 0} (top work first check second prove third verify : Command) (r : Result Command E) → app_of top ≡ bare → AddsSubcommand top work first
+    → AddsSubcommand first check second
+    → AddsSubcommand second prove third → IfOk r (AddsSubcommand third verify) → IsLocal work → IsLocal check → IsLocal prove → IsLocal verify
+    → shape_of check ≡ check_shape → shape_of prove ≡ prove_shape → shape_of verify ≡ verify_shape
     → (formats : ValueParser) × (AreFormats formats × (shape_of work ≡ work_shape formats)) → IfOk r (λ c. (formats : ValueParser) × (AreFormats formats × (app_of c ≡ program_app formats)))
-command_made top work first check (Err e) t a h l m s f = h
-command_made top work first check (Ok c) t a h l m s f =
+command_made top work first check second prove third verify (Err e) t a b d h l m o n s p v f = h
+command_made top work first check second prove third verify (Ok c) t a b d h l m o n s p v f =
     let one : app_of first ≡ with_subcommand bare (work_shape f.0) =
     a.shape l ∙ ap (λ (x : App). with_subcommand x (shape_of work)) t ∙ ap (λ (x : Shape). with_subcommand bare x) f.1.1 in
-    let both : app_of c ≡ program_app f.0 =
-    h.shape m ∙ ap (λ (x : App). with_subcommand x (shape_of check)) one ∙ ap (λ (x : Shape). with_subcommand (with_subcommand bare (work_shape f.0)) x) s in
-    (f.0, (f.1.0, both))
+    let two = with_subcommand (with_subcommand bare (work_shape f.0)) check_shape in
+    let both : app_of second ≡ two =
+    b.shape m ∙ ap (λ (x : App). with_subcommand x (shape_of check)) one ∙ ap (λ (x : Shape). with_subcommand (with_subcommand bare (work_shape f.0)) x) s in
+    let three = with_subcommand two prove_shape in
+    let more : app_of third ≡ three = d.shape o ∙ ap (λ (x : App). with_subcommand x (shape_of prove)) both ∙ ap (λ (x : Shape). with_subcommand two x) p in
+    let all : app_of c ≡ program_app f.0 = h.shape n ∙ ap (λ (x : App). with_subcommand x (shape_of verify)) more ∙ ap (λ (x : Shape). with_subcommand three x) v in
+    (f.0, (f.1.0, all))
 
 -- what an app's parse fails by
 abbrev Fails : List Text → Result ArgMatches Error → App → Type 0

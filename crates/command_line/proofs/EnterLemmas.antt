@@ -15,7 +15,7 @@ use Rattle.clap.specs.Words.{subcommand_of}
 use Rattle.clap.specs.declared.builder.value_parser.ValueParser.{ValueParser}
 use Rattle.clap.specs.declared.error.kind.ErrorKind.{ErrorKind}
 use Rattle.clap.specs.declared.error.kind.ErrorKind.TheVariants.{DisplayHelp, DisplayHelpOnMissingArgumentOrSubcommand, InvalidSubcommand, MissingSubcommand}
-use Rattle.command_line.specs.Program.{check_shape, program_app, top_shape, work_shape}
+use Rattle.command_line.specs.Program.{check_shape, program_app, prove_shape, top_shape, verify_shape, work_shape}
 use Rattle.command_line.specs.Words.{IsNamed}
 
 -- ---- kinds
@@ -158,13 +158,18 @@ not_help name n =
     (λ e. (bytes_eq-Decides name (codes "help")).1 (sym ((bytes_eq-Decides (codes "help") name).0 e))) n in
     ap (λ (b : Bool). b || false) other
 
-pick : (x y z : Bool) (a b c : Shape) (words : List Text) → a.name ≡ codes "work" → b.name ≡ codes "check" → z ≡ false
-    → is_some (option_map (λ (s : Shape). rows_at s words) (cond x (Some a) (cond y (Some b) (cond z (Some c) None)))) ≡ true
-    → IsNamed (option_map (λ (s : Shape). rows_at s words) (cond x (Some a) (cond y (Some b) (cond z (Some c) None))))
-pick true y z a b c words work check n has = inl work
-pick false true z a b c words work check n has = inr check
-pick false false true a b c words work check n has = absurd (true≢false n)
-pick false false false a b c words work check n has = absurd (true≢false (sym has))
+abbrev picked : (v w x y z : Bool) (a b c d e : Shape) → Option Shape
+picked v w x y z a b c d e = cond v (Some a) (cond w (Some b) (cond x (Some c) (cond y (Some d) (cond z (Some e) None))))
+
+pick : (v w x y z : Bool) (a b c d e : Shape) (words : List Text) → a.name ≡ codes "work" → b.name ≡ codes "check" → c.name ≡ codes "prove" → d.name ≡ codes "verify" → z ≡ false
+    → is_some (option_map (λ (s : Shape). rows_at s words) (picked v w x y z a b c d e)) ≡ true
+    → IsNamed (option_map (λ (s : Shape). rows_at s words) (picked v w x y z a b c d e))
+pick true w x y z a b c d e words work check prove verify n has = inl work
+pick false true x y z a b c d e words work check prove verify n has = inr (inl check)
+pick false false true y z a b c d e words work check prove verify n has = inr (inr (inl prove))
+pick false false false true z a b c d e words work check prove verify n has = inr (inr (inr verify))
+pick false false false false true a b c d e words work check prove verify n has = absurd (true≢false n)
+pick false false false false false a b c d e words work check prove verify n has = absurd (true≢false (sym has))
 
 entered_named : (formats : ValueParser) (stop : Option (Text × List Text)) → is_help stop ≡ false → is_some (entered (built (program_app formats)) stop) ≡ true
     → IsNamed (entered (built (program_app formats)) stop)
@@ -172,10 +177,13 @@ entered_named formats None n has = absurd (true≢false (sym has))
 entered_named formats (Some p) n has =
     let work = built_leaf (inherited top_noted (work_shape formats)) in
     let check = built_leaf (inherited top_noted check_shape) in
+    let prove = built_leaf (inherited top_noted prove_shape) in
+    let verify = built_leaf (inherited top_noted verify_shape) in
     let help = built_leaf help_shape in
-    pick (answers_to p.0 (label_of work)) (answers_to p.0 (label_of check)) (answers_to p.0 (label_of help)) work check help p.1 refl refl (not_help p.0 n) has
+    pick (answers_to p.0 (label_of work)) (answers_to p.0 (label_of check)) (answers_to p.0 (label_of prove)) (answers_to p.0 (label_of verify)) (answers_to p.0 (label_of help))
+    work check prove verify help p.1 refl refl refl refl (not_help p.0 n) has
 
--- the words name a session or a check
+-- the words name one of the program's subcommands
 pub names_one : (formats : ValueParser) (words : List Text) → fault_of (program_app formats) words ≡ [] → IsNamed (subcommand_of (program_app formats) words)
 names_one formats words e =
     let app = built (program_app formats) in

@@ -1,6 +1,6 @@
 -- The words of the command line, as the parser's contract has them.
-use Rattle.std.proofs.Common.{◌≡◌, ◌≢◌, ◌⊎◌, ◌↔◌, ◌≤◌, ℕ, Bool, List, [], ◌∷◌, length, codes, Option, None, Some, Result, Ok, Err, IsTrue, option_map, true, false, true≢false, refl, sym, ap, subst}
-use Rattle.std.proofs.Common.{◌∙◌, arith, inl, inr, ⊎_elim}
+use Rattle.std.proofs.Common.{◌≡◌, ◌≢◌, ◌⊎◌, ◌↔◌, ◌≤◌, ℕ, Bool, List, [], ◌∷◌, get_or, codes, Option, None, Some, Result, Ok, Err, IsTrue, option_map, true, false, true≢false, refl, sym, ap}
+use Rattle.std.proofs.Common.{subst, eqb, eq-eqb, ◌∙◌, arith, inl, inr, ⊎_elim}
 use Rattle.std.specs.Str.Parse.{ParsesUnsigned}
 use Rattle.clap.specs.declared.builder.value_parser.ValueParser.{ValueParser}
 use Rattle.clap.specs.declared.error.Error.{Error}
@@ -14,9 +14,9 @@ use Rattle.clap.proofs.WalkLemmas.{first_value-rows, one_text-rows}
 use Rattle.program_options.specs.declared.fault.ProgramFault.{ProgramFault}
 use Rattle.program_options.specs.declared.fault.ProgramFault.TheVariants as fault
 use Rattle.command_line.specs.declared.words.Task.{Task}
-use Rattle.command_line.specs.declared.words.Task.TheVariants.{Clues, Work, Check, Help}
+use Rattle.command_line.specs.declared.words.Task.TheVariants.{Clues, Work, Check, Prove, Verify, Help}
 use Rattle.command_line.specs.Program.{AreFormats, ParsesAs, program_app}
-use Rattle.command_line.specs.Words.{Given, IsAsked, IsCheck, IsNamed, IsTaskBy, IsTaskOf, IsUntaken, IsWork, Spells, given_in, given_of, is_shown}
+use Rattle.command_line.specs.Words.{Given, IsAsked, IsCheck, IsNamed, IsProve, IsTaskBy, IsTaskOf, IsUntaken, IsVerify, IsWork, Spells, given_in, given_of, is_shown}
 use Rattle.command_line.proofs.EnterLemmas.{names_one, some_kind}
 
 -- ---- values
@@ -56,11 +56,27 @@ name_in = option_map (λ p. p.0)
 abbrev rows_in : Option (Text × List Row) → Option (List Row)
 rows_in = option_map (λ p. p.1)
 
-five_not_four : (a b : ℕ) → a ≡ 5 → b ≡ 4 → a ≡ b → ⊥
-five_not_four a b x y e = absurd (omega (arith, x, y, e))
+-- two names that begin with different letters
+apart : (a b : Text) (m n : ℕ) → get_or a 0 0 ≡ m → get_or b 0 0 ≡ n → eqb m n ≡ false → a ≡ b → ⊥
+apart a b m n p q other e = true≢false (sym (eq-eqb m n (sym p ∙ (ap (λ (t : Text). get_or t 0 0) e ∙ q))) ∙ other)
 
-not_check : codes "check" ≡ codes "work" → ⊥
-not_check e = five_not_four (length (codes "check")) (length (codes "work")) refl refl (ap (λ (t : Text). length t) e)
+check_not_work : codes "check" ≡ codes "work" → ⊥
+check_not_work = apart (codes "check") (codes "work") 99 119 refl refl refl
+
+prove_not_work : codes "prove" ≡ codes "work" → ⊥
+prove_not_work = apart (codes "prove") (codes "work") 112 119 refl refl refl
+
+verify_not_work : codes "verify" ≡ codes "work" → ⊥
+verify_not_work = apart (codes "verify") (codes "work") 118 119 refl refl refl
+
+prove_not_check : codes "prove" ≡ codes "check" → ⊥
+prove_not_check = apart (codes "prove") (codes "check") 112 99 refl refl refl
+
+verify_not_check : codes "verify" ≡ codes "check" → ⊥
+verify_not_check = apart (codes "verify") (codes "check") 118 99 refl refl refl
+
+verify_not_prove : codes "verify" ≡ codes "prove" → ⊥
+verify_not_prove = apart (codes "verify") (codes "prove") 118 112 refl refl refl
 
 some_text : (a b : Text) → Some a ≡ Some b → a ≡ b
 some_text a b e = cc
@@ -68,18 +84,40 @@ some_text a b e = cc
 some_rows : (a b : List Row) → Some a ≡ Some b → a ≡ b
 some_rows a b e = cc
 
-pub asked_work : (entered : Option (Text × List Row)) (rows : List Row) (r : Result Task ProgramFault) → option_map (λ p. p.0) entered ≡ Some (codes "work") → option_map (λ p. p.1) entered ≡ Some rows
-    → IsWork (given_in rows) r → IsAsked entered r
+pub asked_work : (entered : Option (Text × List Row)) (rows : List Row) (r : Result Task ProgramFault) → option_map (λ p. p.0) entered ≡ Some (codes "work")
+    → option_map (λ p. p.1) entered ≡ Some rows → IsWork (given_in rows) r → IsAsked entered r
 asked_work entered rows r name is asked = record {
   work = λ there e. subst (λ (x : List Row). IsWork (given_in x) r) (some_rows rows there (sym is ∙ ap rows_in e)) asked;
-  check = λ there e. absurd (not_check (some_text (codes "check") (codes "work") (sym (ap name_in e) ∙ name)));
+  check = λ there e. absurd (check_not_work (some_text (codes "check") (codes "work") (sym (ap name_in e) ∙ name)));
+  prove = λ there e. absurd (prove_not_work (some_text (codes "prove") (codes "work") (sym (ap name_in e) ∙ name)));
+  verify = λ there e. absurd (verify_not_work (some_text (codes "verify") (codes "work") (sym (ap name_in e) ∙ name)));
 }
 
 pub asked_check : (entered : Option (Text × List Row)) (rows : List Row) (r : Result Task ProgramFault) → option_map (λ p. p.0) entered ≡ Some (codes "check")
     → option_map (λ p. p.1) entered ≡ Some rows → IsCheck (given_in rows) r → IsAsked entered r
 asked_check entered rows r name is asked = record {
-  work = λ there e. absurd (not_check (some_text (codes "check") (codes "work") (sym name ∙ ap name_in e)));
+  work = λ there e. absurd (check_not_work (some_text (codes "check") (codes "work") (sym name ∙ ap name_in e)));
   check = λ there e. subst (λ (x : List Row). IsCheck (given_in x) r) (some_rows rows there (sym is ∙ ap rows_in e)) asked;
+  prove = λ there e. absurd (prove_not_check (some_text (codes "prove") (codes "check") (sym (ap name_in e) ∙ name)));
+  verify = λ there e. absurd (verify_not_check (some_text (codes "verify") (codes "check") (sym (ap name_in e) ∙ name)));
+}
+
+pub asked_prove : (entered : Option (Text × List Row)) (rows : List Row) (r : Result Task ProgramFault) → option_map (λ p. p.0) entered ≡ Some (codes "prove")
+    → option_map (λ p. p.1) entered ≡ Some rows → IsProve (given_in rows) r → IsAsked entered r
+asked_prove entered rows r name is asked = record {
+  work = λ there e. absurd (prove_not_work (some_text (codes "prove") (codes "work") (sym name ∙ ap name_in e)));
+  check = λ there e. absurd (prove_not_check (some_text (codes "prove") (codes "check") (sym name ∙ ap name_in e)));
+  prove = λ there e. subst (λ (x : List Row). IsProve (given_in x) r) (some_rows rows there (sym is ∙ ap rows_in e)) asked;
+  verify = λ there e. absurd (verify_not_prove (some_text (codes "verify") (codes "prove") (sym (ap name_in e) ∙ name)));
+}
+
+pub asked_verify : (entered : Option (Text × List Row)) (rows : List Row) (r : Result Task ProgramFault) → option_map (λ p. p.0) entered ≡ Some (codes "verify")
+    → option_map (λ p. p.1) entered ≡ Some rows → IsVerify (given_in rows) r → IsAsked entered r
+asked_verify entered rows r name is asked = record {
+  work = λ there e. absurd (verify_not_work (some_text (codes "verify") (codes "work") (sym name ∙ ap name_in e)));
+  check = λ there e. absurd (verify_not_check (some_text (codes "verify") (codes "check") (sym name ∙ ap name_in e)));
+  prove = λ there e. absurd (verify_not_prove (some_text (codes "verify") (codes "prove") (sym name ∙ ap name_in e)));
+  verify = λ there e. subst (λ (x : List Row). IsVerify (given_in x) r) (some_rows rows there (sym is ∙ ap rows_in e)) asked;
 }
 
 -- ---- the history
@@ -140,6 +178,8 @@ memory_or : (k : ErrorKind) (r : Result Task ProgramFault) → IsUntaken k r →
 memory_or k (Ok Clues) u = absurd u
 memory_or k (Ok (Work file options)) u = absurd u
 memory_or k (Ok (Check file cert background)) u = absurd u
+memory_or k (Ok (Prove file background)) u = absurd u
+memory_or k (Ok (Verify file proof background)) u = absurd u
 memory_or k (Ok (Help text)) u = inr (shown_not_memory k u)
 memory_or k (Err (fault.Words text)) u = inr u.1
 memory_or k (Err (fault.Ppm x)) u = inl (memory_is (fault.Ppm x) u)

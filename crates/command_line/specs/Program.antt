@@ -57,6 +57,12 @@ work_shape formats =
 abbrev pub check_shape : Shape
 check_shape = record (new_shape (codes "check")) { rules = file_rule ∷ cert_rule ∷ background_rule ∷ [] }
 
+abbrev pub verify_shape : Shape
+verify_shape = record (new_shape (codes "verify")) { rules = file_rule ∷ cert_rule ∷ background_rule ∷ [] }
+
+abbrev pub prove_shape : Shape
+prove_shape = record (new_shape (codes "prove")) { rules = file_rule ∷ background_rule ∷ [] }
+
 -- ---- the program
 
 abbrev pub top_shape : Shape
@@ -67,8 +73,10 @@ top_shape = record (new_shape (codes "nonobench")) {
 }
 
 abbrev pub program_app : ValueParser → App
-program_app formats =
-    record { top = record top_shape { is_leaf = false }; subs = work_shape formats ∷ check_shape ∷ [] }
+program_app formats = record {
+  top = record top_shape { is_leaf = false };
+  subs = work_shape formats ∷ check_shape ∷ prove_shape ∷ verify_shape ∷ [];
+}
 
 -- the formats that a file can have
 abbrev pub AreFormats : ValueParser → Type 0

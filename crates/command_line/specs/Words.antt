@@ -16,7 +16,7 @@ use Rattle.program_options.specs.Background.{background_of}
 use Rattle.program_options.specs.Options.{IsLawful}
 use Rattle.command_line.specs.Program.{AreFormats, program_app}
 use Rattle.command_line.specs.declared.words.Task.{Task}
-use Rattle.command_line.specs.declared.words.Task.TheVariants.{Work, Check, Help}
+use Rattle.command_line.specs.declared.words.Task.TheVariants.{Work, Check, Prove, Verify, Help}
 
 -- the options of a session are lawful
 abbrev pub IsLawfulTask : Task → Type 0
@@ -100,15 +100,33 @@ IsCheck g (Ok (Check file cert background)) =
 IsCheck g (Ok _) = ⊥
 IsCheck g (Err e) = background_asked g.background ≡ Err e
 
--- the subcommand that was entered is one of the program's two
+-- the making of a proof for this file with this background
+abbrev pub IsProve : Given → Result Task ProgramFault → Type 0
+IsProve g (Ok (Prove file background)) =
+    (file.now ≡ path_of g.file) × (background_asked g.background ≡ Ok background)
+IsProve g (Ok _) = ⊥
+IsProve g (Err e) = background_asked g.background ≡ Err e
+
+-- the check of a proof with these two files and this background
+abbrev pub IsVerify : Given → Result Task ProgramFault → Type 0
+IsVerify g (Ok (Verify file proof background)) =
+    (file.now ≡ path_of g.file) × ((proof.now ≡ path_of g.cert) × (background_asked g.background ≡ Ok background))
+IsVerify g (Ok _) = ⊥
+IsVerify g (Err e) = background_asked g.background ≡ Err e
+
+-- the subcommand that was entered is one of the program's
 abbrev pub IsNamed : Option (Text × List Row) → Type 0
 IsNamed None = ⊥
-IsNamed (Some entered) = (entered.0 ≡ codes "work") ⊎ (entered.0 ≡ codes "check")
+IsNamed (Some entered) =
+    (entered.0 ≡ codes "work")
+    ⊎ ((entered.0 ≡ codes "check") ⊎ ((entered.0 ≡ codes "prove") ⊎ (entered.0 ≡ codes "verify")))
 
 -- what a subcommand that was entered asks for, by its name and its rows
 pub record IsAsked (entered : Option (Text × List Row)) (r : Result Task ProgramFault) : Type 0 where
   pub work : (rows : List Row) → entered ≡ Some (codes "work", rows) → IsWork (given_in rows) r
   pub check : (rows : List Row) → entered ≡ Some (codes "check", rows) → IsCheck (given_in rows) r
+  pub prove : (rows : List Row) → entered ≡ Some (codes "prove", rows) → IsProve (given_in rows) r
+  pub verify : (rows : List Row) → entered ≡ Some (codes "verify", rows) → IsVerify (given_in rows) r
 
 -- ---- words that are not taken
 
@@ -127,7 +145,7 @@ IsUntaken kind (Err e) = e ≡ fault.Memory
 
 -- ---- words
 
--- What words come to, by the kinds of error that they have. With none they name one of the two subcommands, and the
+-- What words come to, by the kinds of error that they have. With none they name one of the subcommands, and the
 -- task is what it asks for. Else the definition does not take them, and what comes of them is by one of the kinds.
 abbrev pub IsTaskBy : Kinds → App → List Text → Result Task ProgramFault → Type 0
 IsTaskBy [] app words r = IsNamed (subcommand_of app words) × IsAsked (subcommand_of app words) r

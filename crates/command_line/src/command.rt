@@ -3,7 +3,7 @@
 ghost use Rattle.std.specs.Prelude.{◌≡◌, [], false, IfOk};
 ghost use Rattle.clap.specs.Walk.{texts};
 ghost use Rattle.clap.specs.Words.{app_of, rule_of, shape_of};
-ghost use Rattle.command_line.specs.Program.{AreFormats, IsLocal, ParsesAs, background_rule, check_shape, file_shape, format_rule, history_rule, opening_shape, program_app, top_shape, word_rule, work_shape};
+ghost use Rattle.command_line.specs.Program.{AreFormats, IsLocal, ParsesAs, background_rule, check_shape, file_shape, format_rule, history_rule, opening_shape, program_app, prove_shape, top_shape, verify_shape, word_rule, work_shape};
 
 use clap::{Arg, ArgMatches, Command, Error, value_parser};
 use program_options::VERSION;
@@ -31,8 +31,12 @@ fn command<'a>(alloc: Global) -> Result<Command<'a>, AllocError>
     let top = named(alloc)?;
     let work = work_command(alloc)?;
     let check = check_command(alloc)?;
+    let prove = prove_command(alloc)?;
+    let verify = verify_command(alloc)?;
     let command = top.subcommand(work)?;
-    command.subcommand(check)
+    let command = command.subcommand(check)?;
+    let command = command.subcommand(prove)?;
+    command.subcommand(verify)
 }
 
 fn named<'a>(alloc: Global) -> Result<Command<'a>, AllocError>
@@ -93,6 +97,31 @@ fn check_command<'a>(alloc: Global) -> Result<Command<'a>, AllocError>
         .after_help("Example: nonobench check heart.ppm heart.cert")
         .arg(word(alloc, "file", "FILE", "The picture, as a P3 text"))?
         .arg(word(alloc, "cert", "CERT", "Its certificate"))?
+        .arg(background(alloc))
+}
+
+// The words of the making of a proof by lemmas.
+fn prove_command<'a>(alloc: Global) -> Result<Command<'a>, AllocError>
+    ensures shape { IfOk result (λ c. shape_of c ≡ prove_shape) }
+    ensures local { IfOk result IsLocal }
+{
+    Command::new(alloc, "prove")
+        .about("Prints a proof by lemmas that the picture is the only one with its clues")
+        .after_help("Example: nonobench prove heart.ppm > heart.proof")
+        .arg(word(alloc, "file", "FILE", "The picture, as a P3 text"))?
+        .arg(background(alloc))
+}
+
+// The words of the check of a proof by lemmas.
+fn verify_command<'a>(alloc: Global) -> Result<Command<'a>, AllocError>
+    ensures shape { IfOk result (λ c. shape_of c ≡ verify_shape) }
+    ensures local { IfOk result IsLocal }
+{
+    Command::new(alloc, "verify")
+        .about("Checks a proof by lemmas: whether the picture is the only one with its clues")
+        .after_help("Example: nonobench verify heart.ppm heart.proof")
+        .arg(word(alloc, "file", "FILE", "The picture, as a P3 text"))?
+        .arg(word(alloc, "cert", "PROOF", "Its proof by lemmas"))?
         .arg(background(alloc))
 }
 

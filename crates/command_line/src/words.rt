@@ -4,7 +4,7 @@ ghost use Rattle.std.specs.Prelude.{◌≡◌, ◌↔◌, ◌<◌, ◌≤◌, �
 ghost use Rattle.clap.specs.Walk.{texts};
 ghost use Rattle.clap.specs.Words.{Text, first_value, found_of, kind_of, one_text, subcommand_rows_of};
 ghost use Rattle.command_line.specs.declared.words.Task.TheVariants.{Clues};
-ghost use Rattle.command_line.specs.Words.{IsAsked, IsCheck, IsLawfulTask, IsTaskOf, IsUntaken, IsWork, Spells, background_asked, given_of};
+ghost use Rattle.command_line.specs.Words.{IsAsked, IsCheck, IsLawfulTask, IsProve, IsTaskOf, IsUntaken, IsVerify, IsWork, Spells, background_asked, given_of};
 
 use crate::command::parsed;
 use clap::error::ErrorKind;
@@ -28,6 +28,17 @@ pub enum Task<'a> {
     Check {
         file: &'a str,
         cert: &'a str,
+        background: Option<Rgb>,
+    },
+    /// A proof by lemmas that a picture is the only one with its clues, where one is found.
+    Prove {
+        file: &'a str,
+        background: Option<Rgb>,
+    },
+    /// A yes where a proof by lemmas shows that a picture is the only one with its clues.
+    Verify {
+        file: &'a str,
+        proof: &'a str,
         background: Option<Rgb>,
     },
     /// Help, or the version: this text of the parser.
@@ -66,6 +77,12 @@ fn task_of<'a>(matches: &ArgMatches<'a>) -> Result<Task<'a>, ProgramFault>
     if let Some(matches) = matches.subcommand_matches("check") {
         return check_of(matches);
     }
+    if let Some(matches) = matches.subcommand_matches("prove") {
+        return prove_of(matches);
+    }
+    if let Some(matches) = matches.subcommand_matches("verify") {
+        return verify_of(matches);
+    }
     Ok(Task::Clues)
 }
 
@@ -77,6 +94,29 @@ fn check_of<'a>(matches: &ArgMatches<'a>) -> Result<Task<'a>, ProgramFault>
     Ok(Task::Check {
         file: matches.get_str("file").unwrap_or(""),
         cert: matches.get_str("cert").unwrap_or(""),
+        background: background_of(matches)?,
+    })
+}
+
+// The making of a proof by lemmas that words ask for.
+fn prove_of<'a>(matches: &ArgMatches<'a>) -> Result<Task<'a>, ProgramFault>
+    ensures prove { IsProve (given_of (found_of matches.now)) result }
+    ensures lawful { IfOk result IsLawfulTask }
+{
+    Ok(Task::Prove {
+        file: matches.get_str("file").unwrap_or(""),
+        background: background_of(matches)?,
+    })
+}
+
+// The check of a proof by lemmas that words ask for.
+fn verify_of<'a>(matches: &ArgMatches<'a>) -> Result<Task<'a>, ProgramFault>
+    ensures verify { IsVerify (given_of (found_of matches.now)) result }
+    ensures lawful { IfOk result IsLawfulTask }
+{
+    Ok(Task::Verify {
+        file: matches.get_str("file").unwrap_or(""),
+        proof: matches.get_str("cert").unwrap_or(""),
         background: background_of(matches)?,
     })
 }

@@ -11,12 +11,14 @@ use Rattle.program_options.specs.declared.fault.ProgramFault.{ProgramFault}
 use Rattle.program_options.specs.declared.fault.ProgramFault.TheVariants.{Memory, Write}
 use Rattle.program_options.specs.declared.options.Options.{Options}
 use Rattle.answers.specs.Check.{IsCheckOf, IsOnlyPicture, IsProofOf, WritesBy}
+use Rattle.answers.specs.Prove.{IsProveOf}
+use Rattle.answers.specs.Verify.{IsLemmaProofOf, IsOnlyByLemmas, IsVerifyOf}
 use Rattle.program_options.specs.Faults.{session_fault_of}
 use Rattle.answers.specs.Open.{OpensFile}
 use Rattle.answers.specs.Run.{Writes, shown}
 use Rattle.answers.specs.Start.{IsStarted}
 use Rattle.command_line.specs.declared.words.Task.{Task}
-use Rattle.command_line.specs.declared.words.Task.TheVariants.{Clues, Work, Check, Help}
+use Rattle.command_line.specs.declared.words.Task.TheVariants.{Clues, Work, Check, Prove, Verify, Help}
 use Rattle.program.specs.Files.{Held, IsContent, IsUnread, Names}
 use Rattle.program.specs.World.{IsStopped, World}
 
@@ -66,7 +68,7 @@ pub record IsWorked (held : Held) (path : List ℕ) (options : Options) (before 
   pub names : Names before.opened after.opened (path ∷ [])
   pub works : Works before.input after.input before.output after.output file options r
 
--- the picture's file is read, and then the certificate's is not
+-- the picture's file is read, and then that of the certificate or proof is not
 pub record IsHalfRead (picture certificate : Held) (path cert_path : List ℕ) (before after : World)
     (r : Result (Unit {0}) ProgramFault) : Type 0 where
   pub file : List ℕ
@@ -86,6 +88,30 @@ pub record IsChecked (picture certificate : Held) (path cert_path : List ℕ) (b
   pub only : IsProofOf file background cert → IfErr r (λ e. (e ≡ Memory) ⊎ (e ≡ Write))
   pub unique : OnOk r (IsOnlyPicture file background cert)
 
+-- What is made of the picture in a file by its bytes: a proof by lemmas, or word that there is none. The input is left
+-- alone.
+pub record IsProving (held : Held) (path : List ℕ) (background : Option Rgb) (before after : World)
+    (r : Result (Unit {0}) ProgramFault) : Type 0 where
+  pub file : List ℕ
+  pub content : IsContent held file
+  pub names : Names before.opened after.opened (path ∷ [])
+  pub input : Keeps before.input after.input
+  pub writes : WritesBy before.output after.output r (IsProveOf file background)
+
+-- The check of a picture and a proof by lemmas by the bytes of their files, the picture's first. The input is left
+-- alone.
+pub record IsVerified (picture proved : Held) (path proof_path : List ℕ) (background : Option Rgb)
+    (before after : World) (r : Result (Unit {0}) ProgramFault) : Type 0 where
+  pub file : List ℕ
+  pub proof : List ℕ
+  pub content : IsContent picture file
+  pub proof_content : IsContent proved proof
+  pub names : Names before.opened after.opened (path ∷ proof_path ∷ [])
+  pub input : Keeps before.input after.input
+  pub writes : WritesBy before.output after.output r (IsVerifyOf file background proof)
+  pub only : IsLemmaProofOf file background proof → IfErr r (λ e. (e ≡ Memory) ⊎ (e ≡ Write))
+  pub unique : OnOk r (IsOnlyByLemmas file background proof)
+
 -- a text goes out, and no file is opened and the input left alone
 pub record IsShown (text : List ℕ) (before after : World) (r : Result (Unit {0}) ProgramFault) : Type 0 where
   pub names : Names before.opened after.opened []
@@ -103,4 +129,11 @@ CarriesOut held before after (Check path certificate background) r =
     IsStopped (held path.now) (path.now ∷ []) before after r
     ⊎ (IsHalfRead (held path.now) (held certificate.now) path.now certificate.now before after r
     ⊎ IsChecked (held path.now) (held certificate.now) path.now certificate.now background before after r)
+CarriesOut held before after (Prove path background) r =
+    IsStopped (held path.now) (path.now ∷ []) before after r
+    ⊎ IsProving (held path.now) path.now background before after r
+CarriesOut held before after (Verify path proof background) r =
+    IsStopped (held path.now) (path.now ∷ []) before after r
+    ⊎ (IsHalfRead (held path.now) (held proof.now) path.now proof.now before after r
+    ⊎ IsVerified (held path.now) (held proof.now) path.now proof.now background before after r)
 CarriesOut held before after (Help text) r = IsShown (string_bytes text) before after r

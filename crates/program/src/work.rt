@@ -7,7 +7,7 @@ ghost use Rattle.program.specs.World.{world};
 
 use crate::files::{Files, read_file};
 use crate::input::read_input;
-use answers::{Options, ProgramFault, run_check, run_clues, start_bench};
+use answers::{Options, ProgramFault, run_check, run_clues, run_prove, run_verify, start_bench};
 use command_line::Task;
 use picture::send;
 use session::run_session;
@@ -44,6 +44,19 @@ pub fn carry_out<F: Files, R: Read, W: Write>(
             let file = read_file(alloc, files, file)?;
             let cert = read_file(alloc, files, cert)?;
             run_check(alloc, &file, &cert, *background, writer)
+        }
+        Task::Prove { file, background } => {
+            let file = read_file(alloc, files, file)?;
+            run_prove(alloc, &file, *background, writer)
+        }
+        Task::Verify {
+            file,
+            proof,
+            background,
+        } => {
+            let file = read_file(alloc, files, file)?;
+            let proof = read_file(alloc, files, proof)?;
+            run_verify(alloc, &file, &proof, *background, writer)
         }
         Task::Help(text) => Ok(send(text.as_bytes(), writer)?),
     }

@@ -1,3 +1,4 @@
 pub mod PairLemmas
 pub mod PrintLemmas
+pub mod ProofLemmas
 pub mod SolutionLemmas

@@ -1,3 +1,4 @@
 pub mod Laws
 pub mod Printed
+pub mod Proofs
 pub mod Solution

@@ -2,6 +2,7 @@
 
 ghost use Rattle.published.specs.Laws.{PairsAreAccepted};
 ghost use Rattle.published.specs.Printed.{OneFileIsOneDocument, PrintedAreAccepted, UniqueArePublished};
+ghost use Rattle.published.specs.Proofs.{ProofsAreVerified};
 ghost use Rattle.published.specs.Solution.{PlainLinesAreOneSolution, PublishedAreSolved};
 
 use certificate::laws::round_trip as certificates_are_read;
@@ -57,4 +58,11 @@ pub fn one_file_is_one_document()
 /// Where a check answers Ok, and its line is `certificate accepted` alone, the picture's clues have one solution.
 pub fn plain_lines_are_one_solution()
     ensures { PlainLinesAreOneSolution }
+{}
+
+/// What `prove` shows for a file is what `verify` accepts: where it is neither `ambiguous` nor `undecided`, it is read as a
+/// proof by lemmas, with which `run_verify` accepts the file, with the line `proof accepted`, and the picture's clues have
+/// one solution.
+pub fn proofs_are_verified()
+    ensures { ProofsAreVerified }
 {}
