@@ -153,9 +153,9 @@ typedef struct nonobench_audited {
 uint32_t nonobench_certify(const void *picture, size_t size, const char *background, nonobench_audited *found,
                            nonobench_text *text);
 
-/* A proof by lemmas of a P3 picture, which gives no cell: where a certificate is too long or does not come. The search has bounds, and
- * if it reaches one, the ruling is UNDECIDED; it may take minutes. The text is `unique`, `ambiguous` or `undecided` with a line feed,
- * or why the picture is refused; `text` may be null. */
+/* A proof by lemmas of a P3 picture, which gives no cell: for a puzzle whose certificate is too long or cannot be made. The
+ * search has bounds, and may take minutes; if it reaches a bound, the ruling is UNDECIDED. The text is `unique`, `ambiguous` or
+ * `undecided` with a line feed, or why the picture is refused; `text` may be null. */
 uint32_t nonobench_prove_picture(const void *picture, size_t size, const char *background, nonobench_audited *found,
                                  nonobench_text *text);
 

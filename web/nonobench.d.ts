@@ -42,15 +42,15 @@ export interface Checked {
   status: number;
   /** What the program says; or `certificate UnpublishedGiven at line N`, if a given is not published. */
   text: string;
-  /** The cells that it gives, if the proof is right, even if one of them is not published. */
+  /** The cells that are given, if the proof is right, even if one of them is not published. */
   givens: Place[];
 }
 
-/** The answer of the search for a proof by lemmas. */
+/** What the search for a proof by lemmas found. */
 export type Proved =
   /** The proof, which gives no cell. */
   | { ruling: 'unique'; proof: string }
-  /** Another picture has the clues; or neither it nor a proof was found within the bounds of the search. */
+  /** Another picture has the clues; or neither such a picture nor a proof was found within the bounds of the search. */
   | { ruling: 'ambiguous' | 'undecided'; proof: null };
 
 /** An open picture, until it is closed. A bench without references is closed some time later. */

@@ -120,7 +120,7 @@ export const EN = /** @type {const} */ ({
   'view.publish': 'Publish it.',
   'view.menuFilePrintsExports': 'The menu File prints it, alone or with others as sheets for a book, and exports it: XML for puzzle sites, images, links, and a certificate.',
   'view.certificateProvesYourPuzzle': 'A certificate proves that your puzzle has only one solution. Whoever has it need not trust this page: a small checker reads picture and certificate and follows each step.',
-  'view.exportFileExportCertificate': 'Choose “Export the certificate” in the menu File, and submit it together with the picture (PPM). A site checks both with “nonobench check picture.ppm picture.cert”, or in its own program. A proof by lemmas that is shorter is saved as .proof, and “nonobench verify” checks it.',
+  'view.exportFileExportCertificate': 'Choose “Export the certificate” in the menu File, and submit it together with the picture (PPM). A site checks both with “nonobench check picture.ppm picture.cert”, or in its own program. If a proof by lemmas is shorter, it is saved as .proof, and “nonobench verify” checks it.',
   'view.checkOneHereOpen': 'To check one here, open the picture and drop the certificate on the page.',
   'view.yourPicturesStayLibrary': 'Your pictures stay in the library of this browser until you delete them, with their undo. A browser may lose its data, so save what matters to a file, or all of it by “Save all as a zip” on the start screen.',
   'view.commit': ', commit {commit}',

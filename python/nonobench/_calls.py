@@ -62,14 +62,14 @@ class Questions:
         return self._checked(CHECK, "certificate", picture, certificate, background, published)
 
     def verify(self, picture: Bytes, proof: Bytes, background: Optional[Colour] = None, published: Published = ()) -> Result:
-        """Checks a proof by lemmas of a picture, as `check` does a certificate: by its givens too, and with the same faults."""
+        """Checks a proof by lemmas of a picture, as `check` does a certificate: also its givens, and with the same exceptions."""
         return self._checked(VERIFY, "proof", picture, proof, background, published)
 
     def prove(self, picture: Bytes, background: Optional[Colour] = None) -> Proved:
         """A proof by lemmas of a picture, which gives no cell, or why there is none.
 
-        It is for puzzles whose certificate is too long or does not come. The search has bounds, and where it reaches one, the ruling
-        is UNDECIDED. Until then it may take minutes; `Worker` bounds the time.
+        It is for puzzles whose certificate is too long, or cannot be made. The search has bounds, and if it reaches one, the ruling
+        is UNDECIDED. Until then it may take minutes; `Worker` limits the time.
         """
         return proved_of(self._ask(PROVE, bytes_of(picture), background, b"")[0])
 
