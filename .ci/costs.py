@@ -13,7 +13,7 @@ ROOT = pathlib.Path(__file__).resolve().parent.parent
 LINE = re.compile(r'^ {4}([a-z_]+): ((?:proofs|edits|tests|builds) .*)$')
 HEAD = """# What a change costs
 
-This page is for those who change the code. A changed crate is proved again, its must-fail edits are tried again, and so are all crates that depend on it. These are processor minutes of one run of `bash .ci/run` from nothing, on {date}, in the order of the last column. `.ci/costs.py` makes this page from the output of such a run; newer crates are missing.
+This page is for those who change the code. A changed crate and all crates that depend on it are proved again, and their must-fail edits are tried again. These are processor minutes of one run of `bash .ci/run` from nothing, on {date}, in the order of the last column. `.ci/costs.py` makes this page from the output of such a run; newer crates are missing.
 
 | crate | its proofs, tests and builds | its must-fail edits | with all crates above it |
 |---|---|---|---|

@@ -29,7 +29,7 @@ ROOMS = {
 }
 HEAD = '''# Crates
 
-This page is for those who look for a place in the code. It lists the crates in reading order. [ARCHITECTURE.md](../docs/ARCHITECTURE.md) names their main items, and `crates.txt` has what each depends on. `.ci/crates.py --write` makes this page.
+This page is for those who look for a place in the code. It lists the crates in reading order: each depends only on earlier ones, the crates *below* it. [ARCHITECTURE.md](../docs/ARCHITECTURE.md) names their main items, and `crates.txt` has what each depends on. `.ci/crates.py --write` makes this page.
 
 '''
 

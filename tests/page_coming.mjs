@@ -81,6 +81,23 @@ export async function choosingPoint(hands, { page, trial }) {
     assert.deepEqual(made.map((triple) => triple.join()).sort(), ['120,74,40', '150,205,240', '232,211,168', '255,215,0', '40,90,200'].sort());
 }
 
+/** A colour that is pressed is chosen, though a new preview comes before it is let go. */
+export async function pressedColour({ browser, url, folder }) {
+    const { page } = await fresh(browser, url, folder, 'pressed');
+    await openIcon(page, 'house');
+    const third = '#import-palette button:nth-of-type(3)';
+    const at = await page.middle(third);
+    const before = await page.run(() => document.querySelector('#import-preview').toDataURL());
+    await page.mouse('mouseMoved', ...at);
+    await page.mouse('mousePressed', ...at);
+    await page.run(() => { const one = document.getElementById('import-brightness'); one.value = 20; one.dispatchEvent(new Event('input', { bubbles: true })); });
+    await page.until((from) => document.querySelector('#import-preview').toDataURL() !== from, 5000 * SLACK, before);
+    await page.mouse('mouseReleased', ...at);
+    await page.until((one) => document.querySelector(one).getAttribute('aria-checked') === 'true', 2000 * SLACK, third);
+    await page.press('Escape');
+    await page.close();
+}
+
 /** Verdict and grade follow each change; the newest wins. */
 export async function slidingPoint(hands, { page, trial }) {
     await openIcon(page, 'mug');

@@ -110,12 +110,15 @@ export class Inks {
   show(doc) {
     Object.assign(this, { doc, isClear: doc.isClear ?? false, at: Math.min(this.at, doc.colours.length - 1) });
     const had = this.row.contains(document.activeElement);
-    this.row.replaceChildren(...doc.colours.map((triple, at) => {
-      const button = make('button', { type: 'button', role: 'radio', 'data-at': at, title: hexOf(triple, 255) }, at === 0 ? '·' : this.isLocked(at) ? '■' : '');
-      button.style.background = hexOf(triple, 255);
+    // The buttons stay, so that one that is pressed is there still when it is let go.
+    while (this.row.children.length > doc.colours.length) this.row.lastChild.remove();
+    for (let at = this.row.children.length; at < doc.colours.length; at++) this.row.append(make('button', { type: 'button', role: 'radio', 'data-at': at }));
+    for (const [at, triple] of doc.colours.entries()) {
+      const button = this.row.children[at];
+      button.title = button.style.background = hexOf(triple, 255);
+      button.textContent = at === 0 ? '·' : this.isLocked(at) ? '■' : '';
       button.style.color = triple[0] * 2 + triple[1] * 5 + triple[2] > 1100 ? '#000' : '#fff';
-      return button;
-    }));
+    }
     this.mark();
     if (had) /** @type {any} */ (this.row.children[this.at]).focus();
   }
