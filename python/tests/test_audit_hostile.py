@@ -311,7 +311,7 @@ class Processes(Case):
     def test_a_library_that_is_not_there(self):
         done = self.run_audit("site", NONOBENCH_LIBRARY="/nowhere/libnonobench.so")
         self.assertNotEqual(done.returncode, 0)
-        self.assertIn("/nowhere/libnonobench.so is not there", done.stderr)
+        self.assertIn("cannot load /nowhere/libnonobench.so; build it with c/build, or set NONOBENCH_LIBRARY to its path", done.stderr)
 
     def test_libraries_that_are_not_there(self):
         self.put("one.ppm", p3(UNIQUE))
