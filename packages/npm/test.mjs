@@ -105,10 +105,11 @@ test('a stream that does not wait is waited for', { timeout: 60000 }, async (t) 
   return assert.deepEqual(await child.ended, { status: 0, signal: null, out: 'refused: UndoEmpty\nunique\n', err: '' });
 });
 
-// A board of squares of two by two cells, whose verdict takes longer than anybody waits.
+// A chequerboard of 60 by 60 cells in four colours, whose verdict takes longer than anybody waits.
 function chequered() {
-  const cells = Array.from({ length: 120 * 120 }, (_, at) => ((Math.floor(at / 240) + Math.floor((at % 120) / 2)) % 2 ? '0 0 0' : '1 1 1'));
-  return `P3 120 120 1\n${cells.join('\n')}\n`;
+  const colours = ['1 1 1', '0 0 0', '1 0 0', '0 0 1'];
+  const cells = Array.from({ length: 60 * 60 }, (_, at) => colours[(Math.floor(at / 60) + at % 60) % 4]);
+  return `P3 60 60 1\n${cells.join('\n')}\n`;
 }
 
 test('Ctrl-C ends a search', { timeout: 60000 }, async (t) => {
