@@ -41,8 +41,8 @@ function showTool() {
     const is = button.dataset.tool === tools.name;
     button.setAttribute('aria-checked', is);
     button.tabIndex = is ? 0 : -1;
-    if (is) button.scrollIntoView({ block: 'nearest', inline: 'nearest' }); // on a phone the bar is wider than the window
     if (button.dataset.tool === 'wand') button.querySelector('span').textContent = TOOLS.wand.name + (tools.adds ? ' +' : '');
+    if (is) button.scrollIntoView({ block: 'nearest', inline: 'nearest' }); // on a phone the bar is wider than the window
   }
   bar.hint.textContent = TOOLS[tools.name].hint;
   sheet.stage.dataset.tool = tools.name;
