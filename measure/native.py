@@ -201,4 +201,5 @@ def main():
             globals()[figure](native, folder, start)
 
 
-main()
+if __name__ == '__main__':
+    main()
