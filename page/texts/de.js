@@ -333,7 +333,7 @@ export const DE = /** @type {const} */ ({
   'view.noRepaintFound': 'Keine Ummalung gefunden{ended}.',
   'view.whatListedGivesCells': ' Die Vorschläge geben auch Felder vor.',
   'view.whatListedComesNearer': ' Die Vorschläge kommen dem Ziel näher.',
-  'view.noneSmaller': ' Keiner ist kleiner.',
+  'view.noneSmaller': ' Nach diesen Regeln ist keiner kleiner.',
   'view.moreCellsPictureToo': ' Mehr als {few} Felder: Das Bild ist zu locker; eine kräftigere Schwelle beim Import oder dickere Linien helfen vielleicht mehr.',
   'view.proposalsFoundChooseOne': '{proposals|# Vorschlag|# Vorschläge} gefunden.{least}{loose} Wählen Sie einen, um ihn zu malen; zeigen Sie darauf, um ihn vorher zu sehen.',
   'view.andGiven': ' und {count} vorgegeben',

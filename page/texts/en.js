@@ -333,7 +333,7 @@ export const EN = /** @type {const} */ ({
   'view.noRepaintFound': 'No repaint was found{ended}.',
   'view.whatListedGivesCells': ' The proposals below also give cells.',
   'view.whatListedComesNearer': ' The changes below come closest.',
-  'view.noneSmaller': ' No smaller one exists.',
+  'view.noneSmaller': ' No smaller one exists under these rules.',
   'view.moreCellsPictureToo': ' More than {few} cells: the picture is too sparse, and a bolder threshold at import, or thicker lines, may help more.',
   'view.proposalsFoundChooseOne': '{proposals|# proposal|# proposals} found.{least}{loose} Choose one to paint it; point at one to see it first.',
   'view.andGiven': ' and {count} given',
