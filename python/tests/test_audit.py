@@ -15,10 +15,12 @@ import unittest
 from pathlib import Path
 
 sys.path.insert(0, str(Path(__file__).resolve().parent))
-from audit_parts import AMBIGUOUS, BLACK, GIVEN_CERT, OTHER, RED, ROOT, UNIQUE, WHITE, Case, chequered, p3, webpbn  # noqa: E402
+from audit_parts import (  # noqa: E402
+    ALL_PROOF, AMBIGUOUS, BLACK, CERT, GIVEN_CERT, GIVEN_PROOF, OTHER, PROOF, RED, ROOT, UNIQUE, WHITE, Case, chequered, p3, webpbn,
+)
 
 import nonobench  # noqa: E402
-from nonobench.collection import judging, readers  # noqa: E402
+from nonobench.collection import judging, readers, serving  # noqa: E402
 from nonobench.collection.puzzles import Unreadable  # noqa: E402
 
 # One solution, whose certificate says much twice: it is three times as long as a proof by lemmas.
@@ -308,6 +310,138 @@ class Running(Case):
             (self.site / name).unlink()
         self.run_audit("site", status=0)
 
+    # Proofs beside puzzles: the picture, the proof, the cells that are published, and what is said of it. Each cell of `all` is given.
+    PROOFS = {
+        "good": (UNIQUE, PROOF, "", {"accepted": True}, "proof accepted"),
+        "cut": (UNIQUE, "nonolemma 1\ndone\n", "", {"accepted": False, "why": "certificate NotDone at line 2"},
+                "proof refused: certificate NotDone at line 2"),
+        # Whichever cell of the first row is black: the second column has room for a black cell, and it needs one.
+        "other": (AMBIGUOUS, PROOF, "", {"accepted": False, "why": "certificate NotDead at line 4"},
+                  "proof refused: certificate NotDead at line 4"),
+        "kind": (UNIQUE, CERT, "", {"accepted": False, "why": "certificate NotCert at line 1"},
+                 "proof refused: certificate NotCert at line 1"),
+        "unpublished": (AMBIGUOUS, GIVEN_PROOF, "", {"accepted": True, "givens": [[1, 1]], "unpublished": [[1, 1]]},
+                        "proof accepted, unpublished givens 1"),
+        "published": (AMBIGUOUS, GIVEN_PROOF, "given 1 1\n", {"accepted": True, "givens": [[1, 1]]}, "proof accepted, givens 1"),
+        "all": (AMBIGUOUS, ALL_PROOF, "given 1 1\n",
+                {"accepted": True, "givens": [[1, 1], [1, 2], [2, 1], [2, 2]], "unpublished": [[1, 2], [2, 1], [2, 2]]},
+                "proof accepted, unpublished givens 3"),
+    }
+
+    def test_proofs_beside(self):
+        for name, (picture, proof, givens, _, _) in self.PROOFS.items():
+            self.put(f"{name}.ppm", p3(picture))
+            self.put(f"{name}.proof", proof)
+            self.put(f"{name}.givens", givens)
+        done = self.run_audit("site", "--jsonl", "rows", "--csv", "rows.csv", "--html", "report.html", status=1)
+        rows = self.read("rows")
+        table = self.run_audit("site", status=1).stdout
+        sheet = {row["file"]: row for row in csv.DictReader(io.StringIO((self.folder / "rows.csv").read_text()))}
+        shown = {record[0]: record for record in records_of((self.folder / "report.html").read_text())}
+        for name, (_, _, _, told, words) in self.PROOFS.items():
+            file = f"site/{name}.ppm"
+            with self.subTest(name):
+                self.assertEqual((rows[file].get("lemmas"), rows[file].get("certificate")), (told, None))
+                self.assertIn(f"  {file}; {words}\n", table)
+                self.assertEqual((f"proof {sheet[file]['lemmas']}", sheet[file]["certificate"]), (words, ""))
+                self.assertEqual(shown[file][12], words)
+        self.assertIn("besides: proofs not accepted 3, proofs with unpublished givens 2\n", done.stdout)
+
+    def test_the_status_counts_proofs(self):
+        for name, (picture, proof, givens, told, _) in self.PROOFS.items():
+            self.put("one.ppm", p3(picture))
+            self.put("one.proof", proof)
+            self.put("one.givens", givens)
+            with self.subTest(name):
+                self.run_audit("site", "--quiet", status=0 if name in ("good", "published") else 1)
+
+    def test_a_proof_and_a_certificate(self):
+        accepted, refused = {"accepted": True}, {"accepted": False, "why": "certificate NotCert at line 1"}
+        for certificate, proof, told in ((CERT, PROOF, (accepted, accepted)), (CERT, "", (accepted, refused)), ("", PROOF, (refused, accepted)),
+                                         (PROOF, CERT, (refused, refused))):
+            self.put("one.ppm", p3(UNIQUE))
+            self.put("one.cert", certificate)
+            self.put("one.proof", proof)
+            with self.subTest((certificate, proof)):
+                row = self.rows("site", status=0 if told == (accepted, accepted) else 1)["site/one.ppm"]
+                self.assertEqual((row.get("certificate"), row.get("lemmas")), told)
+        self.assertIn("; certificate refused: certificate NotCert at line 1; proof refused: ", self.run_audit("site").stdout)
+
+    def test_proofs_of_a_puzzle_that_is_undecided(self):
+        # Without a split it is open which diagonal is black; as for a certificate, the verdict stays what it is.
+        self.put("one.ppm", p3(AMBIGUOUS))
+        for ending, text, field in (("cert", GIVEN_CERT, "certificate"), ("proof", GIVEN_PROOF, "lemmas")):
+            self.put(f"one.{ending}", text)
+            row = self.rows("site", "--allow", "0", status=1)["site/one.ppm"]
+            self.assertEqual((row["verdict"], row.get(field, {}).get("accepted")), ("undecided", True))
+
+    def test_proofs_are_found(self):
+        self.put("small/one.ppm", p3(UNIQUE))
+        self.put("twin.ppm", p3(UNIQUE))
+        self.put("twin.png", image("PNG"))
+        self.put("set.xml", "<puzzleset>" + webpbn(UNIQUE) + webpbn(AMBIGUOUS) + webpbn(UNIQUE) + "</puzzleset>")
+        for name, text in (("small/one", PROOF), ("twin.ppm", PROOF), ("twin.png", CERT), ("set", PROOF), ("set.2", PROOF), ("set.3", PROOF)):
+            place = self.folder / "proofs" / f"{name}.proof"
+            place.parent.mkdir(parents=True, exist_ok=True)
+            place.write_text(text)
+        rows = self.rows("site", "--certificates", "proofs", status=1)
+        self.assertEqual({name.removeprefix("site/"): row.get("lemmas", {}).get("accepted") for name, row in rows.items()}, {
+            "small/one.ppm": True, "twin.ppm": True, "twin.png": False, "set.xml#1": True, "set.xml#2": False, "set.xml#3": True,
+        })
+
+    def test_of_several_files_the_worst_is_told(self):
+        refused = {"accepted": False, "why": "certificate NotCert at line 1"}
+        for ending, good, field in (("cert", CERT, "certificate"), ("proof", PROOF, "lemmas")):
+            for first, second in ((good, "x"), ("x", good)):
+                self.put("one.ppm", p3(UNIQUE))
+                self.put(f"one.ppm.{ending}", first)
+                self.put(f"one.{ending}", second)
+                self.put("set.xml", webpbn(UNIQUE))
+                self.put(f"set.{ending}", second)
+                self.put(f"set.1.{ending}", first)
+                with self.subTest((ending, first)):
+                    rows = self.rows("site", status=1)
+                    self.assertEqual([row.get(field) for row in rows.values()], [refused, refused])
+
+    def test_what_lies_beside_is_checked_before_a_certificate_is_made(self):
+        class Slow(judging.Desk):
+            def say(self, lines):
+                if lines == b"certify\n":
+                    raise TimeoutError
+                return super().say(lines)
+
+        class Answers(list):
+            def put(self, *words):
+                self.append(words)
+
+            def flush(self):
+                pass
+
+        # What is known of a puzzle is its row where its process is ended while it makes a certificate.
+        self.addCleanup(setattr, serving, "LONG", serving.LONG)
+        serving.LONG = -1.0
+        answers = Answers()
+        judge = serving.Judging(serving.Settings("", "", 1024, None, "white", True, True, False, None), answers)
+        judge._desk = Slow()
+        place = self.put("one.ppm", p3(UNIQUE))
+        beside = [(1, kind, str(self.put(f"one.{kind}", "x"))) for kind in ("cert", "proof")]
+        task = serving.Task(0, "one.ppm", str(place), tuple(beside), None, None, None, "", 1, serving.FULL)
+        with self.assertRaises(TimeoutError):
+            judge.answer(task)
+        self.assertEqual([words[1] for words in answers], ["known"])
+        row = json.loads(answers[0][3])
+        self.assertEqual([row.get(field, {}).get("accepted") for field in ("certificate", "lemmas")], [False, False])
+
+    def test_certificates_in_a_folder_that_is_not_there(self):
+        self.put("one.ppm", p3(UNIQUE))
+        self.assertIn("no such folder: 'certz'", self.run_audit("site", "--certificates", "certz", status=2).stderr)
+        # A folder of certificates that cannot be listed may hold some that are not accepted.
+        self.put("in/one.ppm", p3(UNIQUE))
+        (self.folder / "certs").mkdir()
+        os.symlink("in", self.folder / "certs" / "in")
+        row = self.rows("site", "--certificates", "certs", status=3)["site/in/one.ppm"]
+        self.assertEqual(row["error"], "its certificate: Too many levels of symbolic links")
+
     def test_givens_that_do_not_fit(self):
         self.put("one.ppm", p3(AMBIGUOUS))
         for text, words in (("given 3 1\n", "outside the picture"), ("given 1\n", "not `given R C`"), ("x", "not `given R C`")):
@@ -384,6 +518,35 @@ class Again(Case):
         self.assertEqual(again["site/0/000.ppm"]["verdict"], "unique")
         self.assertTrue((self.folder / "certs" / "2" / "002.cert").exists())
 
+    def test_resume_minds_what_lies_beside(self):
+        refused = {"accepted": False, "why": "certificate NotDone at line 2"}
+        self.put("one.ppm", p3(UNIQUE))
+        wanted = {"one.proof": (PROOF, "lemmas", {"accepted": True}), "one.cert": (CERT, "certificate", {"accepted": True})}
+        self.assertNotIn("lemmas", self.rows("site", status=0)["site/one.ppm"])
+        for name, (text, field, told) in wanted.items():
+            self.put(name, text)
+            self.assertEqual(self.rows("site", "--resume", status=0)["site/one.ppm"].get(field), told)
+            self.put(name, text.split("\n")[0] + "\ndone\n")
+            self.assertEqual(self.rows("site", "--resume", status=1)["site/one.ppm"].get(field), refused)
+            before = (self.folder / "rows.jsonl").read_bytes()
+            self.rows("site", "--resume", status=1)
+            self.assertEqual((self.folder / "rows.jsonl").read_bytes(), before)
+            (self.site / name).unlink()
+            self.assertNotIn(field, self.rows("site", "--resume", status=0)["site/one.ppm"])
+
+    def test_resume_minds_what_a_file_is_for(self):
+        # The same bytes under another name are another kind, or for another puzzle.
+        self.put("one.ppm", p3(UNIQUE))
+        self.put("one.cert", CERT)
+        self.put("set.xml", "<puzzleset>" + webpbn(UNIQUE) + webpbn(AMBIGUOUS) + "</puzzleset>")
+        self.put("set.cert", CERT)
+        self.rows("site", status=1)
+        os.rename(self.site / "one.cert", self.site / "one.proof")
+        os.rename(self.site / "set.cert", self.site / "set.2.cert")
+        rows = self.rows("site", "--resume", status=1)
+        told = [row.get(field, {}).get("accepted") for row in rows.values() for field in ("certificate", "lemmas")]
+        self.assertEqual(told, [None, False, None, None, False, None])
+
     def test_resume_minds_options_and_limits(self):
         self.put("one.ppm", p3(UNIQUE))
         self.put("hard.ppm", p3_of_letters(chequered(60, 4)))
@@ -457,9 +620,6 @@ class Again(Case):
 class Report(Case):
     """The report."""
 
-    def records(self, page):
-        return json.loads(re.search(r'<script type="application/json" id="rows">(.*?)</script>', page, re.DOTALL)[1])
-
     def test_report(self):
         self.put("one.ppm", p3(UNIQUE))
         self.put("two.ppm", p3(AMBIGUOUS))
@@ -469,7 +629,7 @@ class Report(Case):
         self.assertIn("<h1>Mine &amp; &lt;i&gt;yours&lt;/i&gt;</h1>", page)
         self.assertNotRegex(page, r"""(?:src|href)=["'](?!data:|#)|@import|url\((?!["']?data:)""")
         self.assertRegex(page, r"default-src 'none'")
-        bad, one, two = self.records(page)
+        bad, one, two = records_of(page)
         self.assertEqual(bad, ["site/bad.ppm", "", 0, 0, 3, -1, 0, "", "", "", 0, bad[11], "ppm Truncated at byte 4"])
         self.assertEqual((one[0], one[2:5], one[8]), ("site/one.ppm", [2, 2, 0], "a.2b"))
         self.assertEqual((two[4], two[8], two[9]), (1, "a.2a", ".a2."))
@@ -477,7 +637,12 @@ class Report(Case):
     def test_a_report_of_nothing_but_errors(self):
         self.put("bad.ppm", b"P3 9")
         self.run_audit("site", "--html", "report.html", status=3)
-        self.assertEqual(len(self.records((self.folder / "report.html").read_text())), 1)
+        self.assertEqual(len(records_of((self.folder / "report.html").read_text())), 1)
+
+
+def records_of(page):
+    """The records of a report."""
+    return json.loads(re.search(r'<script type="application/json" id="rows">(.*?)</script>', page, re.DOTALL)[1])
 
 
 def p3_of_letters(rows):

@@ -75,6 +75,25 @@ class Files(Case):
             "long.ppm": "more than 16777216 bytes", "longest.ppm": None,
         })
 
+    def test_what_lies_beside(self):
+        for ending, word, field in (("cert", "certificate", "certificate"), ("proof", "proof", "lemmas")):
+            for name in ("folder", "gone", "long", "most", "zeros"):
+                self.put(f"{name}.ppm", p3(UNIQUE))
+            (self.site / f"folder.{ending}").mkdir()
+            os.symlink("nowhere", self.site / f"gone.{ending}")
+            self.put(f"long.{ending}", bytes(16_777_217))
+            self.put(f"most.{ending}", bytes(16_777_216))
+            os.symlink("/dev/zero", self.site / f"zeros.{ending}")
+            with self.subTest(ending):
+                rows = self.rows("site", status=3)
+                self.assertEqual({name.removeprefix("site/"): row.get("error") for name, row in rows.items()}, {
+                    "folder.ppm": f"its {word}: this folder is not read", "gone.ppm": f"its {word}: No such file or directory",
+                    "long.ppm": f"its {word}: more than 16777216 bytes", "most.ppm": None, "zeros.ppm": f"its {word}: this is not a file",
+                })
+                self.assertEqual(rows["site/most.ppm"][field], {"accepted": False, "why": "certificate NotCert at line 1"})
+            for place in self.site.iterdir():
+                place.rmdir() if place.is_dir() else place.unlink()
+
     def test_xml(self):
         entity = '<!DOCTYPE a [<!ENTITY a "{}">{}]><puzzleset>{}</puzzleset>'
         laughs = "".join(f'<!ENTITY a{at} "{f"&a{at - 1};" * 10}">' for at in range(1, 10))

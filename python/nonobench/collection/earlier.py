@@ -7,6 +7,7 @@ import os
 import re
 from typing import BinaryIO, Optional
 
+from .kinds import KINDS
 from .outputs import Failure, failure, lines_of
 from .rows import Row, row_of
 
@@ -66,9 +67,9 @@ def content_before(rows: list[tuple[int, Row]], made: str, limit: str, to: Optio
             return ""
         number = row.get("puzzle", 1)
         name = to if number == 1 else f"{to}.{number}"
-        for ending in ("cert",) * ("lines" in row) + ("proof",) * ("proof" in row):
-            if to is not None and not os.path.exists(f"{name}.{ending}"):
-                return ""
+        made_of = [kind.ending for kind in KINDS if kind.lines in row]
+        if to is not None and not all(os.path.exists(f"{name}.{ending}") for ending in made_of):
+            return ""
     return rows[0][1].get("content", "") if rows else ""
 
 

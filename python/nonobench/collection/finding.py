@@ -7,9 +7,13 @@ import os
 import re
 from typing import Iterator, NamedTuple, Optional
 
+from .kinds import KINDS
+
 SUFFIXES = frozenset((".ppm", ".pgm", ".pbm", ".pnm", ".png", ".gif", ".bmp", ".webp", ".non", ".xml"))
 Names = frozenset[str]
 NONE: Names = frozenset()
+Beside = tuple[int, str, str]  # a certificate or a proof: the puzzle of the file that it is for, from 1; how its name ends; its path
+_NUMBERED = re.compile(rf"(.+)\.([1-9][0-9]{{0,5}})\.({'|'.join(kind.ending for kind in KINDS)})", re.DOTALL)
 
 
 class Found(NamedTuple):
@@ -17,8 +21,8 @@ class Found(NamedTuple):
 
     path: str
     name: str  # the path as it is shown and sorted, in letters alone
-    stem: str  # below its PATH, without the suffix: what its certificates are called
-    certificates: tuple[tuple[int, str], ...]  # the puzzle of the file that each is for, from 1
+    stem: str  # below its PATH, without the suffix: what its certificates and proofs are called
+    beside: tuple[Beside, ...]
     givens: Optional[str]
     background: Optional[str]
 
@@ -29,9 +33,10 @@ class Folder(NamedTuple):
     prefix: str  # what its files' paths begin with
     front: str  # the same below its PATH
     names: Names
-    certificates: Names  # the names in the folder where certificates lie
-    certificates_in: str
-    numbered: dict[str, list[tuple[int, str]]]  # the certificates of files with several puzzles
+    held: Names  # the names in the folder where certificates and proofs lie
+    held_in: str
+    numbered: dict[str, list[Beside]]  # those of files with several puzzles
+    unlisted: tuple[Beside, ...]  # a folder that cannot be listed stands for what lies there: it cannot be read either
 
 
 def shown(path: str) -> str:
@@ -60,7 +65,7 @@ def front_of(path: str) -> str:
 
 
 def find(paths: list[str], certificates: Optional[str]) -> Iterator[Found]:
-    """The files of paths in order, their certificates beside them or in a folder of the same shape.
+    """The files of paths in order, their certificates and proofs beside them or in a folder of the same shape.
 
     Folders that links lead to are not searched, nor is what is hidden. What is named by a path itself is.
     """
@@ -91,26 +96,31 @@ def _below(path: str, prefix: str, front: str, certificates: Optional[str]) -> I
 
 
 @functools.lru_cache(maxsize=4)
-def _names(folder: str) -> Names:
+def _names(folder: str) -> Optional[Names]:
+    """The names in a folder, of which there are none where it is missing; nothing where it cannot be listed."""
     try:
         return frozenset(os.listdir(folder))
-    except OSError:
+    except (FileNotFoundError, NotADirectoryError):
         return NONE
+    except OSError:
+        return None
 
 
 @functools.lru_cache(maxsize=4)
-def _folder(prefix: str, front: str, names: Names, certificates: Optional[str]) -> Folder:
+def _folder(prefix: str, front: str, names: Optional[Names], certificates: Optional[str]) -> Folder:
     held, held_in = names, prefix
     if certificates is not None:
         held_in = os.path.join(certificates, front)
         held = _names(held_in)
-    numbered: dict[str, list[tuple[int, str]]] = {}
-    if any(name.lower().endswith(".xml") for name in names):
-        for name in held:
-            parts = re.fullmatch(r"(.+)\.([1-9][0-9]{0,5})\.cert", name, re.DOTALL)
+    unlisted = [place or "." for place, listed in ((prefix, names), (held_in, held)) if listed is None]
+    numbered: dict[str, list[Beside]] = {}
+    if any(name.lower().endswith(".xml") for name in names or ()):
+        for name in held or ():
+            parts = _NUMBERED.fullmatch(name)
             if parts:
-                numbered.setdefault(parts[1], []).append((int(parts[2]), held_in + name))
-    return Folder(prefix, front, names, held, held_in, numbered)
+                numbered.setdefault(parts[1], []).append((int(parts[2]), parts[3], held_in + name))
+    whole = tuple((1, kind.ending, place) for kind in KINDS for place in unlisted)
+    return Folder(prefix, front, names or NONE, held or NONE, held_in, numbered, whole)
 
 
 def _found(folder: Folder, name: str) -> Found:
@@ -118,16 +128,17 @@ def _found(folder: Folder, name: str) -> Found:
     path = folder.prefix + name
     is_only = not any(other != suffix and stem + other in folder.names for other in SUFFIXES)
     called = stem if is_only else name
-    first = _either(name, stem, ".cert", folder.certificates, folder.certificates_in)
-    certificates = [(1, first)] if first is not None else []
+    beside = list(folder.unlisted)
+    for ending in (kind.ending for kind in KINDS):
+        # What is called after the name alone may belong to the other puzzle of that name.
+        places = _named(name, stem, f".{ending}", folder.held, folder.held_in)
+        beside += [(1, ending, place) for place in places[: None if is_only else 1]]
     if suffix.lower() == ".xml":
-        certificates += sorted(folder.numbered.get(called, ()))
-    givens, background = (_either(name, stem, end, folder.names, folder.prefix) for end in (".givens", ".background"))
-    return Found(path, shown(path), folder.front + called, tuple(certificates), givens, background)
+        beside += sorted(folder.numbered.get(called, ()))
+    givens, background = (next(iter(_named(name, stem, end, folder.names, folder.prefix)), None) for end in (".givens", ".background"))
+    return Found(path, shown(path), folder.front + called, tuple(beside), givens, background)
 
 
-def _either(name: str, stem: str, end: str, names: Names, prefix: str) -> Optional[str]:
-    for other in (name + end, stem + end):
-        if other in names:
-            return prefix + other
-    return None
+def _named(name: str, stem: str, end: str, names: Names, prefix: str) -> list[str]:
+    """The files that go with a puzzle and have an ending: NAME.png.cert, then NAME.cert."""
+    return [prefix + other for other in (name + end, stem + end) if other in names]

@@ -180,7 +180,7 @@ class Run:
                 self._kept[number] = Kept(tuple(place for place, _ in rows) if before else (), to)
             elif to is not None:
                 self._kept[number] = Kept((), to)
-            yield Task(number, found.name, found.path, found.certificates, found.givens, found.background, to, before, 1, FULL)
+            yield Task(number, found.name, found.path, found.beside, found.givens, found.background, to, before, 1, FULL)
 
     def _guarded(self, work: Callable[[], None]) -> int:
         """Does the work, and ends what is written whatever comes: what is done is kept."""

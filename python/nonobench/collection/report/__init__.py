@@ -14,7 +14,7 @@ from typing import Any, Optional
 from ..._library import version
 from ..outputs import Failure, Output, failure
 from ..puzzles import Missing
-from ..rows import FIGURES, GRADES, VERDICTS, Row, certificate_words, name_of, near_words, printable, text_of
+from ..rows import FIGURES, GRADES, VERDICTS, Row, beside_words, name_of, near_words, printable, text_of
 
 SIDES = (10, 15, 20, 25, 30, 40, 60, 120)  # the longer sides that puzzles are counted by
 _FOLDER = Path(__file__).resolve().parent
@@ -106,9 +106,8 @@ class Report:
 def record_of(row: Row) -> list[Any]:
     """A row as the page's script reads it. What is empty at its end is left out."""
     verdict, grade = VERDICTS.index(row["verdict"]), GRADES.index(row["grade"]) if "grade" in row else -1
-    told = (row.get("error"), row.get("note"), near_words(row), "")
-    beside = certificate_words(row)
-    words = "; ".join(printable(word) for word in (*told, f"certificate {beside}" if beside else "") if word)
+    told = (row.get("error"), row.get("note"), near_words(row), *beside_words(row))
+    words = "; ".join(printable(word) for word in told if word)
     figures = row.get("figures", {})
     givens = [(place[0] - 1) * row["columns"] + place[1] - 1 for place in row.get("givens", ())]
     record: list[Any] = [
