@@ -154,6 +154,13 @@ word.proof 2'
 ln -s nowhere grounds/none.background
 echo white >grounds/word.background
 same 'a background that cannot be read' 123 $'1 grounds/black.cert\n1 grounds/black.proof\n2 grounds/none.cert\n2 grounds/none.proof' checked grounds
+# Endings in capital letters, as some systems write them, are no reason to leave a file out.
+mkdir capitals
+cp "$examples/diagonal.ppm" capitals/good.ppm
+cp "$examples/diagonal.cert" capitals/good.CERT
+cp "$examples/diagonal.cert" capitals/good.Proof
+answers 'endings in capital letters' capitals 'good.CERT 0
+good.Proof 1'
 mkdir ./-name
 cp site/good.* ./-name
 same 'a folder whose name looks like an option' 0 '' "$examples/check-site" -name

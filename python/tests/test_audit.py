@@ -90,6 +90,9 @@ class Reading(unittest.TestCase):
         self.assertEqual(one(p3(UNIQUE), ground=readers.ground_of("corner")).background, BLACK)
         self.assertEqual(one(b"P3 # 9 9\n1 1 7 #\r 3 4 5", ground=readers.ground_of("corner")).background, (3, 4, 5))
         self.assertEqual(one(p3(UNIQUE), ground=readers.ground_of("5,6,7")).background, (5, 6, 7))
+        # Zeros before a number are lawful, however many.
+        for zeros in ("0" * 9, "0" * 5000):
+            self.assertEqual(one(f"P3 1 1 7 {zeros}3 4 5".encode(), ground=readers.ground_of("corner")).background, (3, 4, 5))
         self.assertIsNone(one(p3(UNIQUE), ground=readers.ground_of("white")).background)
         for word in ("black", "1,2", "1,2,3,4", "-1,0,0", "0,0,65536", ""):
             with self.subTest(word), self.assertRaises(ValueError):
@@ -432,6 +435,39 @@ class Running(Case):
         row = json.loads(answers[0][3])
         self.assertEqual([row.get(field, {}).get("accepted") for field in ("certificate", "lemmas")], [False, False])
 
+    def test_endings_in_capital_letters(self):
+        refused = {"accepted": False, "why": "certificate NotCert at line 1"}
+        self.put("DUCK.PNG", image("PNG"))
+        self.put("SET.XML", "<puzzleset>" + webpbn(UNIQUE) + webpbn(UNIQUE) + "</puzzleset>")
+        for ending, field in (("CERT", "certificate"), ("PROOF", "lemmas")):
+            for name in (f"DUCK.{ending}", f"SET.2.{ending}"):
+                self.put(name, "x")
+            rows = self.rows("site", status=1)
+            self.assertEqual([row.get(field) for row in rows.values()], [refused, None, refused])
+            for name in (f"DUCK.{ending}", f"SET.2.{ending}"):
+                (self.site / name).unlink()
+        # By a black background the red cells may change places.
+        self.put("DUCK.PPM", b"P3 2 2 1 0 0 0 1 0 0 1 0 0 0 0 0\n")
+        self.put("DUCK.PPM.BACKGROUND", "0,0,0")
+        self.assertEqual(self.rows("site", "--certify", "certs", status=1)["site/DUCK.PPM"]["verdict"], "ambiguous")
+        # Each has a name of its own, since the two differ in their suffix alone.
+        self.assertEqual([place.name for place in (self.folder / "certs").glob("DUCK*")], ["DUCK.PNG.cert"])
+
+    def test_paths_that_a_search_leaves_out(self):
+        self.put("one.ppm", p3(UNIQUE))
+        for name in (".drafts/two.ppm", "in/.two.ppm", "in/two.txt", "in/one.ppm"):
+            self.put(name, p3(UNIQUE if "one" in name else AMBIGUOUS))
+        (self.folder / "other").mkdir()
+        (self.folder / "other" / "two.ppm").write_bytes(p3(AMBIGUOUS))
+        os.symlink("../other", self.site / "link")
+        for path in (".drafts", ".drafts/two.ppm", "in/.two.ppm", "in/two.txt", "link", "link/two.ppm"):
+            with self.subTest(path):
+                self.assertIn(f"'site/{path}' lies in 'site', whose search leaves it out", self.run_audit("site", f"site/{path}", status=2).stderr)
+                self.assertIn(f"'site/{path}' lies in '.'", self.run_audit(f"site/{path}", ".", status=2).stderr)
+                self.run_audit(f"site/{path}", status=1)
+        rows = self.rows("site/in", "site", "site/one.ppm", "site/in/one.ppm", status=0)
+        self.assertEqual(list(rows), ["site/in/one.ppm", "site/one.ppm"])
+
     def test_certificates_in_a_folder_that_is_not_there(self):
         self.put("one.ppm", p3(UNIQUE))
         self.assertIn("no such folder: 'certz'", self.run_audit("site", "--certificates", "certz", status=2).stderr)
@@ -441,6 +477,14 @@ class Running(Case):
         os.symlink("in", self.folder / "certs" / "in")
         row = self.rows("site", "--certificates", "certs", status=3)["site/in/one.ppm"]
         self.assertEqual(row["error"], "its certificate: Too many levels of symbolic links")
+        # One that has none of these puzzles is not the one that was meant; in a part there need be none.
+        (self.folder / "certs" / "in").unlink()
+        (self.folder / "certs" / "two.cert").write_text(CERT)
+        done = self.run_audit("site", "--certificates", "certs", status=3)
+        self.assertIn("nonobench-audit: certs: no certificate or proof in it is of one of these puzzles\n", done.stderr)
+        self.run_audit("site", "--certificates", "certs", "--shard", "1/2", status=0)
+        (self.folder / "certs" / "one.cert").write_text(CERT)
+        self.run_audit("site", "--certificates", "certs", status=0)
 
     def test_givens_that_do_not_fit(self):
         self.put("one.ppm", p3(AMBIGUOUS))
@@ -546,6 +590,35 @@ class Again(Case):
         rows = self.rows("site", "--resume", status=1)
         told = [row.get(field, {}).get("accepted") for row in rows.values() for field in ("certificate", "lemmas")]
         self.assertEqual(told, [None, False, None, None, False, None])
+
+    def test_resume_after_a_run_that_was_stopped_within_a_file(self):
+        self.put("set.xml", "<puzzleset>" + webpbn(UNIQUE) * 2 + "</puzzleset>")
+        self.rows("site", "--allow", "9", status=0)
+        before = (self.folder / "rows.jsonl").read_bytes().splitlines(keepends=True)
+        self.put("set.xml", "<puzzleset>" + webpbn(UNIQUE) + webpbn(AMBIGUOUS) + "</puzzleset>")
+        self.rows("site", "--allow", "9", status=1)
+        whole = (self.folder / "rows.jsonl").read_bytes()
+        # The second run was stopped when it had written its first row.
+        (self.folder / "rows.jsonl").write_bytes(b"".join(before) + whole.splitlines(keepends=True)[0])
+        self.rows("site", "--allow", "9", "--resume", status=1)
+        self.assertEqual((self.folder / "rows.jsonl").read_bytes(), whole)
+
+    def test_merge_reads_rows_that_were_written_anew(self):
+        self.put("one.ppm", p3(UNIQUE))
+        self.put("one.proof", "x")
+        self.put("two.ppm", p3(UNIQUE))
+        self.put("two.cert", "x")
+        rows = self.rows("site", "--allow", "9", status=1)
+        whole = (self.folder / "rows.jsonl").read_bytes()
+        (self.folder / "blanks").write_text("".join(json.dumps(row) + "\n" for row in rows.values()))
+        done = self.run_audit("merge", "blanks", "--jsonl", "merged", status=1)
+        self.assertIn("besides: certificates not accepted 1, proofs not accepted 1\n", done.stdout)
+        self.assertEqual((self.folder / "merged").read_bytes(), whole)
+        for line in ('{"file":"x"}', '{"file":"x","verdict":"fine"}', "[]", '{"file":1,"verdict":"unique"}'):
+            (self.folder / "other").write_text(line + "\n")
+            with self.subTest(line):
+                done = self.run_audit("merge", "blanks", "other", status=3)
+                self.assertEqual(done.stderr, "nonobench-audit: other: line 1 is not a row of an audit\n")
 
     def test_resume_minds_options_and_limits(self):
         self.put("one.ppm", p3(UNIQUE))

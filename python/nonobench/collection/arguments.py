@@ -8,6 +8,7 @@ import re
 from dataclasses import dataclass
 from typing import Optional
 
+from .finding import unreached
 from .readers import ground_of
 
 ABOUT = """Says which puzzles of a collection have exactly one solution.
@@ -70,6 +71,9 @@ def options_of(words: list[str]) -> Options:
     for path in told.paths:
         if not os.path.lexists(path):
             parser.error(f"no such file or folder: {path!r}" + (" (a folder of that name is ./merge)" if path == "merge" else ""))
+    nested = unreached(told.paths)
+    if nested is not None:
+        parser.error(f"{nested[0]!r} lies in {nested[1]!r}, whose search leaves it out: name it in a run of its own")
     if told.certificates is not None and not os.path.isdir(told.certificates):
         parser.error(f"no such folder: {told.certificates!r}")
     if told.prove is not None and (told.certify is None or told.scheduler is not None):

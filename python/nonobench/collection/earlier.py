@@ -57,7 +57,12 @@ class Earlier:
 
 
 def content_before(rows: list[tuple[int, Row]], made: str, limit: str, to: Optional[str]) -> str:
-    """What the content of a file was when its rows were made; empty where they are to be made again."""
+    """What the content of a file was when its rows were made; empty where they are to be made again.
+
+    Where a run was stopped within a file of several puzzles, some of its rows may be newer than the others.
+    """
+    if len({row.get("content") for _, row in rows}) > 1:
+        return ""
     for _, row in rows:
         if row.get("made") != made or "note" in row or "missing" in row:
             return ""

@@ -5,6 +5,7 @@ from __future__ import annotations
 import functools
 import os
 import re
+from collections import Counter
 from typing import Iterator, NamedTuple, Optional
 
 from .kinds import KINDS
@@ -13,7 +14,7 @@ SUFFIXES = frozenset((".ppm", ".pgm", ".pbm", ".pnm", ".png", ".gif", ".bmp", ".
 Names = frozenset[str]
 NONE: Names = frozenset()
 Beside = tuple[int, str, str]  # a certificate or a proof: the puzzle of the file that it is for, from 1; how its name ends; its path
-_NUMBERED = re.compile(rf"(.+)\.([1-9][0-9]{{0,5}})\.({'|'.join(kind.ending for kind in KINDS)})", re.DOTALL)
+_NUMBERED = re.compile(rf"(.+)\.([1-9][0-9]{{0,5}})\.({'|'.join(kind.ending for kind in KINDS)})", re.DOTALL | re.IGNORECASE)
 
 
 class Found(NamedTuple):
@@ -33,6 +34,7 @@ class Folder(NamedTuple):
     prefix: str  # what its files' paths begin with
     front: str  # the same below its PATH
     names: Names
+    stems: Counter[str]  # how many puzzles have a name, without its suffix
     held: Names  # the names in the folder where certificates and proofs lie
     held_in: str
     numbered: dict[str, list[Beside]]  # those of files with several puzzles
@@ -51,12 +53,43 @@ def order_of(name: str) -> str:
 
 def without_nested(paths: list[str]) -> list[str]:
     """The paths in the order of names, each once and without those that lie in another one."""
+    every = {os.path.normpath(path) for path in paths}
     kept: list[str] = []
-    for path in sorted([os.path.normpath(path) for path in paths], key=lambda path: order_of(shown(path))):
-        is_here = kept[:1] == ["."] and not os.path.isabs(path) and path.split("/")[0] != ".."
-        if not is_here and not (kept and (path == kept[-1] or path.startswith(kept[-1].rstrip("/") + "/"))):
+    for path in sorted(every, key=lambda path: order_of(shown(path))):
+        outers = [*kept[-1:], *(["."] if "." in every and path != "." else [])]
+        if not any(_is_within(path, outer) for outer in outers):
             kept.append(path)
     return kept
+
+
+def unreached(paths: list[str]) -> Optional[tuple[str, str]]:
+    """A path that lies in another one, and that the search of this does not find; with that other one."""
+    kept = without_nested(paths)
+    for path in sorted({os.path.normpath(path) for path in paths}.difference(kept)):
+        outer = next(outer for outer in kept if _is_within(path, outer))
+        if not _finds(outer, path):
+            return path, outer
+    return None
+
+
+def _finds(outer: str, path: str) -> bool:
+    """Whether the search of a folder finds a path that lies in it: nothing hidden, and not by a link to a folder."""
+    if any(part[0] == "." for part in os.path.relpath(path, outer).split("/")):
+        return False
+    if not os.path.isdir(path) and os.path.splitext(path)[1].lower() not in SUFFIXES:
+        return False
+    while path != outer:
+        if os.path.islink(path) and os.path.isdir(path):
+            return False
+        path = os.path.dirname(path) or "."
+    return True
+
+
+def _is_within(path: str, outer: str) -> bool:
+    """Whether a path is another one, or leads into it by its name."""
+    if outer == ".":
+        return not os.path.isabs(path) and path.split("/")[0] != ".."
+    return path == outer or path.startswith(outer.rstrip("/") + "/")
 
 
 def front_of(path: str) -> str:
@@ -118,15 +151,16 @@ def _folder(prefix: str, front: str, names: Optional[Names], certificates: Optio
         for name in held or ():
             parts = _NUMBERED.fullmatch(name)
             if parts:
-                numbered.setdefault(parts[1], []).append((int(parts[2]), parts[3], held_in + name))
+                numbered.setdefault(parts[1], []).append((int(parts[2]), parts[3].lower(), held_in + name))
+    stems = Counter(stem for stem, suffix in [os.path.splitext(name) for name in names or ()] if suffix.lower() in SUFFIXES)
     whole = tuple((1, kind.ending, place) for kind in KINDS for place in unlisted)
-    return Folder(prefix, front, names or NONE, held or NONE, held_in, numbered, whole)
+    return Folder(prefix, front, names or NONE, stems, held or NONE, held_in, numbered, whole)
 
 
 def _found(folder: Folder, name: str) -> Found:
     stem, suffix = os.path.splitext(name)
     path = folder.prefix + name
-    is_only = not any(other != suffix and stem + other in folder.names for other in SUFFIXES)
+    is_only = folder.stems[stem] == (suffix.lower() in SUFFIXES)
     called = stem if is_only else name
     beside = list(folder.unlisted)
     for ending in (kind.ending for kind in KINDS):
@@ -140,5 +174,5 @@ def _found(folder: Folder, name: str) -> Found:
 
 
 def _named(name: str, stem: str, end: str, names: Names, prefix: str) -> list[str]:
-    """The files that go with a puzzle and have an ending: NAME.png.cert, then NAME.cert."""
-    return [prefix + other for other in (name + end, stem + end) if other in names]
+    """The files that go with a puzzle and have an ending, in small or capital letters: NAME.png.cert, then NAME.cert."""
+    return [prefix + front + ending for front in (name, stem) for ending in (end, end.upper()) if front + ending in names]

@@ -15,7 +15,7 @@ from .earlier import Earlier, content_before
 from .finding import find, order_of
 from .outputs import CLOSED, Failure, Lines, Sheet, Table, kept_folder, lines_of
 from .progress import Progress
-from .rows import row_of
+from .rows import VERDICTS, row_of, text_of
 from .serving import FULL, Settings, Task
 from .tally import ERRORS, Tally
 from .workers import Answer, Broken, Pool
@@ -84,6 +84,7 @@ class Run:
         self._complete: set[int] = set()
         self._size = 0
         self._next = 0
+        self._beside = 0  # how many certificates and proofs lie beside the puzzles
 
     def audit(self) -> int:
         """Audits a collection."""
@@ -117,8 +118,11 @@ class Run:
                 try:
                     row = row_of(line)
                     rows[order_of(row["file"]), row.get("puzzle", 1)] = (at, place)
-                except (ValueError, KeyError, TypeError):
-                    raise Failure(f"{path}: line {number} is not a row of an audit") from None
+                    is_row = row["verdict"] in VERDICTS
+                except (ValueError, KeyError, TypeError, AttributeError):
+                    is_row = False
+                if not is_row:
+                    raise Failure(f"{path}: line {number} is not a row of an audit")
         self._open()
         return self._guarded(lambda: self._join(files, rows))
 
@@ -126,8 +130,8 @@ class Run:
         for key in sorted(rows):
             at, place = rows[key]
             files[at].seek(place)
-            text = files[at].readline().decode("ascii").rstrip("\n")
-            self._deliver(row_of(text)["verdict"], text)
+            row = row_of(files[at].readline())
+            self._deliver(row["verdict"], text_of(row))  # written anew: other programs may have put blanks in
 
     def _source(self, settings: Settings) -> Any:
         options = self._options
@@ -172,6 +176,7 @@ class Run:
             if at % parts != part - 1:
                 continue
             number += 1
+            self._beside += len(found.beside)
             to = None if options.certify is None else os.path.join(options.certify, found.stem)
             before = ""
             if self._earlier is not None:
@@ -184,6 +189,7 @@ class Run:
 
     def _guarded(self, work: Callable[[], None]) -> int:
         """Does the work, and ends what is written whatever comes: what is done is kept."""
+        options = self._options
         failures: list[Exception] = []
         status, is_whole = 0, False
         try:
@@ -196,6 +202,8 @@ class Run:
         if status:
             for number in sorted(self._complete):
                 self._release(number)
+        if is_whole and options.certificates is not None and options.shard == (1, 1) and not self._beside:
+            failures.append(Failure(f"{options.certificates}: no certificate or proof in it is of one of these puzzles"))
         failures += self._close(is_whole)
         self._progress.close()
         for words in dict.fromkeys(map(str, failures)):
