@@ -152,7 +152,11 @@ class Reading(unittest.TestCase):
     def test_xml_colours_alike_stay_two(self):
         text = '<puzzle><color name="snow" char="s">fff</color><solution><image>|s.|</image></solution></puzzle>'
         puzzle = one(text.encode())
-        self.assertEqual((puzzle.text, puzzle.background), (b"P3\n2 1\n255\n255 255 0\n255 255 255\n", WHITE))
+        self.assertEqual((puzzle.text, puzzle.background), (b"P3\n2 1\n255\n255 255 254\n255 255 255\n", WHITE))
+        # Three alike, and between two others: each is as near as it can be.
+        colours = "".join(f'<color name="{name}" char="{name}">{triple}</color>' for name, triple in (("a", "100000"), ("b", "100001"), ("c", "100000"), ("d", "100000")))
+        puzzle = one(f"<puzzle>{colours}<solution><image>|abcd|</image></solution></puzzle>".encode())
+        self.assertEqual(puzzle.text, b"P3\n4 1\n255\n16 0 0\n16 0 1\n16 0 2\n16 0 3\n")
 
     def test_xml_without_a_solution(self):
         clues = '<clues type="columns"><line><count>1</count></line><line/></clues><clues type="rows"><line><count>1</count></line></clues>'
@@ -172,6 +176,7 @@ class Reading(unittest.TestCase):
             (webpbn(UNIQUE).replace("|X.|", "|X|"), "several lengths"),
             (webpbn(["." * 121]), "larger than 120 by 120"),
             (webpbn(UNIQUE).replace('<puzzle type="grid"', '<puzzle type="grid" backgroundcolor="blue"'), "background of the puzzle"),
+            (webpbn(UNIQUE).replace("</color>", '</color><color name="rose" char="r">f08</color>'), "two colours of the puzzle have the sign 'r'"),
             ("<puzzle/>", "neither a solution nor all clues"),
         ):
             with self.subTest(words):
@@ -340,14 +345,16 @@ class Running(Case):
         rows = self.read("rows")
         table = self.run_audit("site", status=1).stdout
         sheet = {row["file"]: row for row in csv.DictReader(io.StringIO((self.folder / "rows.csv").read_text()))}
-        shown = {record[0]: record for record in records_of((self.folder / "report.html").read_text())}
+        page = (self.folder / "report.html").read_text()
+        self.assertIn('<p class="flaws">Besides: proofs not accepted 3, proofs with unpublished givens 2. Such puzzles', page)
+        shown = {record[0]: record for record in records_of(page)}
         for name, (_, _, _, told, words) in self.PROOFS.items():
             file = f"site/{name}.ppm"
             with self.subTest(name):
                 self.assertEqual((rows[file].get("lemmas"), rows[file].get("certificate")), (told, None))
                 self.assertIn(f"  {file}; {words}\n", table)
                 self.assertEqual((f"proof {sheet[file]['lemmas']}", sheet[file]["certificate"]), (words, ""))
-                self.assertEqual(shown[file][12], words)
+                self.assertEqual((shown[file][12], shown[file][15:]), (words, [] if name in ("good", "published") else [1]))
         self.assertIn("besides: proofs not accepted 3, proofs with unpublished givens 2\n", done.stdout)
 
     def test_the_status_counts_proofs(self):
@@ -507,6 +514,21 @@ class Running(Case):
         rows = self.rows("site", status=3)
         self.assertEqual([(name, row["verdict"], row.get("title")) for name, row in rows.items()], [
             ("site/set.xml#1", "unique", "One"), ("site/set.xml#2", "ambiguous", "Two"), ("site/set.xml#3", "error", None),
+        ])
+
+    def test_xml_with_colours_alike_is_not_fit(self):
+        for colour in ("fff", "fffffe", "000"):
+            text = f'<puzzle><color name="snow" char="s">{colour}</color><solution><image>|sX.|</image></solution></puzzle>'
+            self.put("one.xml", text)
+            with self.subTest(colour):
+                row = self.rows("site", status=1)["site/one.xml"]
+                self.assertEqual((row["verdict"], len(row["near"])), ("unique", 1))
+
+    def test_xml_with_a_puzzle_elsewhere(self):
+        self.put("set.xml", f"<puzzleset>{webpbn(UNIQUE)}<more>{webpbn(AMBIGUOUS)}</more></puzzleset>")
+        rows = self.rows("site", status=3)
+        self.assertEqual([(row["verdict"], row.get("error")) for row in rows.values()], [
+            ("unique", None), ("error", "the XML has a puzzle that is not directly in its set"),
         ])
 
     def test_order_of_names(self):
@@ -705,6 +727,7 @@ class Report(Case):
         bad, one, two = records_of(page)
         self.assertEqual(bad, ["site/bad.ppm", "", 0, 0, 3, -1, 0, "", "", "", 0, bad[11], "ppm Truncated at byte 4"])
         self.assertEqual((one[0], one[2:5], one[8]), ("site/one.ppm", [2, 2, 0], "a.2b"))
+        self.assertNotIn('class="flaws"', page)
         self.assertEqual((two[4], two[8], two[9]), (1, "a.2a", ".a2."))
 
     def test_a_report_of_nothing_but_errors(self):
