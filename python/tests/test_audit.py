@@ -642,6 +642,33 @@ class Again(Case):
                 done = self.run_audit("merge", "blanks", "other", status=3)
                 self.assertEqual(done.stderr, "nonobench-audit: other: line 1 is not a row of an audit\n")
 
+    def test_merge_refuses_rows_of_a_file_that_do_not_go_together(self):
+        self.put("set.xml", "<puzzleset>" + webpbn(UNIQUE) * 2 + "</puzzleset>")
+        self.put("a.ppm", p3(UNIQUE))
+        self.put("z.ppm", p3(UNIQUE))
+        self.rows("site", "--allow", "9", status=0)
+        lines = (self.folder / "rows.jsonl").read_text().splitlines(keepends=True)
+        self.put("set.xml", "<puzzleset>" + webpbn(UNIQUE) + webpbn(AMBIGUOUS) + "</puzzleset>")
+        self.run_audit("site/set.xml", "--allow", "9", "--jsonl", "two", status=1)
+        self.put("set.xml", webpbn(UNIQUE))
+        self.run_audit("site/set.xml", "--allow", "9", "--jsonl", "one", status=0)
+        new = (self.folder / "two").read_text().splitlines(keepends=True)
+        (self.folder / "whole").write_text("".join(lines))
+        cases = {
+            "a part that was stopped": [*lines[:2], lines[3]],
+            "that was stopped at its end": lines[:2],
+            "the second alone": [lines[0], *lines[2:]],
+            "the second of the run before": [lines[0], new[0], *lines[2:]],
+        }
+        for name, rows in cases.items():
+            (self.folder / "part").write_text("".join(rows))
+            with self.subTest(name):
+                done = self.run_audit("merge", "part", "--jsonl", "merged", status=3)
+                self.assertEqual(done.stderr, "nonobench-audit: site/set.xml: rows of some of its puzzles are missing, or of another run\n")
+        self.assertIn("of another run", self.run_audit("merge", "whole", "one", "--jsonl", "merged", status=3).stderr)
+        self.run_audit("merge", "whole", "two", "--jsonl", "merged", status=1)
+        self.run_audit("merge", "whole", "--jsonl", "merged", status=0)
+
     def test_resume_minds_options_and_limits(self):
         self.put("one.ppm", p3(UNIQUE))
         self.put("hard.ppm", p3_of_letters(chequered(60, 4)))

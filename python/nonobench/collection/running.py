@@ -15,12 +15,22 @@ from .earlier import Earlier, content_before
 from .finding import find, order_of
 from .outputs import CLOSED, Failure, Lines, Sheet, Table, kept_folder, lines_of
 from .progress import Progress
-from .rows import VERDICTS, row_of, text_of
+from .rows import VERDICTS, Row, row_of, text_of
 from .serving import FULL, Settings, Task
 from .tally import ERRORS, Tally
 from .workers import Answer, Broken, Pool
 
 MOST_WAITING = 64 << 20  # bytes of rows that wait for one before them
+
+
+MIXED = "rows of some of its puzzles are missing, or of another run"
+
+
+def _follows(before: Row, row: Row) -> bool:
+    """Whether a row comes directly behind another one where files are joined: a file's puzzles are told whole, and by one run."""
+    if row["file"] != before.get("file"):
+        return not before.get("more") and row.get("puzzle", 1) == 1
+    return bool(before.get("more")) and row.get("puzzle") == before["puzzle"] + 1 and row.get("content") == before.get("content")
 
 
 class Stopped(BaseException):
@@ -127,11 +137,17 @@ class Run:
         return self._guarded(lambda: self._join(files, rows))
 
     def _join(self, files: list[Any], rows: dict[tuple[str, int], tuple[int, int]]) -> None:
+        before: Row = {}
         for key in sorted(rows):
             at, place = rows[key]
             files[at].seek(place)
             row = row_of(files[at].readline())
+            if not _follows(before, row):
+                raise Failure(f"{(before if before.get('more') else row)['file']}: {MIXED}")
+            before = row
             self._deliver(row["verdict"], text_of(row))  # written anew: other programs may have put blanks in
+        if before.get("more"):
+            raise Failure(f"{before['file']}: {MIXED}")
 
     def _source(self, settings: Settings) -> Any:
         options = self._options
