@@ -302,7 +302,8 @@ class Processes(Case):
             self.put(f"{at:02}.ppm", p3(UNIQUE))
         process = self.start("site", "--jobs", "1", "--seconds", "1.5", "--jsonl", "rows", "--no-grade")
         deadline = time.monotonic() + 60
-        while time.monotonic() < deadline and not children(process.pid):
+        # Until it runs its program, who started it waits for it.
+        while time.monotonic() < deadline and not any(b"serving" in cmdline_of(pid) for pid in children(process.pid)):
             time.sleep(0.01)
         os.kill(children(process.pid)[0], signal.SIGSTOP)
         said = process.communicate(timeout=120)[1]
@@ -376,6 +377,11 @@ class Terminal(Case):
         os.close(ours)
         self.assertEqual(done.returncode, 0)
         self.assertRegex(shown.decode(), r"1/1 .* files/s, unique 1|1/1 .*unique 1")
+
+
+def cmdline_of(pid):
+    """The command line of a process, while it is there."""
+    return Path(f"/proc/{pid}/cmdline").read_bytes()
 
 
 def cpu_of(pid):
