@@ -33,6 +33,17 @@ expect 1 'refused: certificate UnpublishedGiven at line 2' given.ppm given.cert
 expect 1 'refused: certificate UnpublishedGiven at line 2' cross.ppm cross.cert
 expect 1 'refused: certificate UnpublishedGiven at line 4' cross.ppm cross.cert 1,2 1,1 2,2
 expect 1 'refused: certificate NotDead at line 5' given.ppm diagonal.cert
+# Proofs by lemmas (tests/cases/published.case).
+printf 'nonolemma 1\npart 1 1 a\nline r 1\ndead c 2\nline r 1\nline c 1\nline r 2\ndone\n' >diagonal.proof
+printf 'nonolemma 1\ngiven 1 1\nline r 1\nline c 1\nline r 2\ndone\n' >given.proof
+printf 'nonolemma 1\ngiven 1 1\ngiven 1 2\ngiven 2 1\ngiven 2 2\ndone\n' >cross.proof
+printf nonolemma >cut.proof
+expect 0 'taken: proof accepted' diagonal.ppm diagonal.proof
+expect 0 'taken: proof accepted, givens 1' given.ppm given.proof 2,2 1,1
+expect 1 'refused: certificate UnpublishedGiven at line 2' given.ppm given.proof
+expect 1 'refused: certificate UnpublishedGiven at line 4' cross.ppm cross.proof 1,2 1,1 2,2
+expect 1 'refused: certificate NotDead at line 4' given.ppm diagonal.proof
+expect 1 'refused: certificate NotCert at line 1' diagonal.ppm cut.proof
 # What stands behind a MiB is read too.
 { cat diagonal.ppm; head -c 1048576 /dev/zero | tr '\0' ' '; } >blank.ppm
 cat blank.ppm <(echo '99 9 9') >more.ppm

@@ -1,6 +1,6 @@
 #!/usr/bin/env bash
-# Checks many pairs of picture and certificate over several hosts, by the scripts of examples/, ends one host in the middle, and asks
-# for each pair's answer exactly once, as one machine answers it. The hosts are network namespaces of this machine with an sshd
+# Checks many pairs of picture and certificate, or proof by lemmas, over several hosts, by the scripts of examples/, ends one host in the
+# middle, and asks for each pair's answer exactly once, as one machine answers it. The hosts are network namespaces of this machine with an sshd
 # each, and with a root of their own: of this machine's files they see those of the system alone, read only. Each is bound to one
 # processor, and so is the one machine that they are compared with. Besides the namespaces and a folder of its own it makes nothing.
 #
@@ -45,7 +45,8 @@ clean_up() {
 trap clean_up EXIT
 
 # Makes the pairs by one session, in which each picture differs from the one before in a row: its text and its certificate. Of
-# some pairs the certificate is that of another picture, or cut off, or the picture is missing. A folder has a thousand of them.
+# some pairs the certificate is that of another picture, or cut off, or the picture is missing. A folder has a thousand of them. The
+# first hundred with a picture have a proof instead, every fourth of which is cut off.
 make_pairs() {
     mkdir "$work/site"
     {
@@ -77,7 +78,14 @@ make_pairs() {
         /^(ok|refused: .*)$/ { next }
         into == 1 { picture = picture $0 "\n" }
         into == 2 { cert = cert $0 "\n" }
-        END { keep(); if (made != pairs) { print "only " made " pairs were made" >"/dev/stderr"; exit 1 } }'
+        END { keep(); if (made != pairs) { print "only " made " pairs were made" >"/dev/stderr"; exit 1 } }' || return 1
+    local picture name count=0
+    while read -r picture; do
+        name=${picture%.ppm}
+        rm "$name.cert" && "$program" prove "$picture" >"$name.proof" || return 1
+        [ $((++count % 4)) != 0 ] || sed -i '$d' "$name.proof"
+    done < <(find "$work/site" -name '*.ppm' | sort | head -n 100)
+    [ "$count" -gt 0 ]
 }
 
 # The processor of a host, and of the one machine: 0.
@@ -181,8 +189,11 @@ for tar in "$work"/packs/*.tar; do
     rm -r "$work/unpacked"
 done | sort >"$work/wanted"
 echo "many machines: one machine: $(seconds_since "$from"); load $(cut -d ' ' -f 1 /proc/loadavg)"
-accepted=$(grep -c ' 0 certificate accepted' "$work/wanted")
+accepted=$(grep -c ' 0 .* accepted$' "$work/wanted")
 [ "$accepted" -gt 0 ] && [ "$accepted" -lt "$pairs" ] || { echo "many machines: $accepted of $pairs accepted"; exit 1; }
+for said in '\.proof 0 proof accepted$' '\.proof 1 nonobench: certificate Ended '; do
+    grep -q "$said" "$work/wanted" || { echo "many machines: no answer is $said"; exit 1; }
+done
 [ "$(wc -l <"$work/wanted")" = "$pairs" ] || { echo "many machines: not every pair is answered by one machine"; exit 1; }
 
 make_network

@@ -1,4 +1,4 @@
-"""A small site for puzzles: it takes a picture and a certificate, stores what is proved, and prints the puzzle.
+"""A small site for puzzles: it takes a picture with a certificate or a proof by lemmas, stores what is proved, and prints the puzzle.
 
     PYTHONPATH=python python3 -m flask --app examples/site/app run
 
@@ -38,14 +38,15 @@ JOINERS = "\u200c\u200d"
 # Letters and a sign that show nothing: fillers of Hangul, and the empty cell of Braille.
 BLANK = dict.fromkeys(map(ord, "\u115f\u1160\u2800\u3164\uffa0"), " ")
 
-# `shown` is the sum of the picture as it is shown: what makes two puzzles one, whatever cells their certificates give.
+# `certificate` is that, or a proof by lemmas. `shown` is the sum of the picture as it is shown: what makes two puzzles one, whatever
+# cells are given.
 TABLE = """
 CREATE TABLE IF NOT EXISTS published (
     id INTEGER PRIMARY KEY, title TEXT NOT NULL, picture BLOB NOT NULL, certificate BLOB NOT NULL,
     puzzle TEXT NOT NULL, shown TEXT NOT NULL UNIQUE
 )"""
 
-# What a fault is called in docs/FORMATS.md, in the words of a reader.
+# What a fault is called in docs/FORMATS.md, in the words of a reader; {} is `certificate` or `proof`.
 WORDS = {
     "NotP3": "The picture is neither a PNG image nor a plain PPM text (P3).",
     "Truncated": "The picture ends too early.",
@@ -56,13 +57,16 @@ WORDS = {
     "SampleOver": "A sample of the picture is larger than the picture's maximum.",
     "TooManyColours": "The picture has more than 16 colours, white included.",
     "TrailingToken": "The picture goes on after its last cell.",
-    "NotCert": "This is not a certificate.",
-    "BadLine": "The certificate has a line that no certificate may have.",
-    "Place": "The certificate names a place outside the picture.",
-    "NotDead": "The certificate says that a line cannot be filled, but it can.",
-    "NotDone": "The certificate says that all cells are decided, but one is not.",
-    "Ended": "The certificate ends before its proof is complete.",
-    "Trailing": "The certificate goes on after its proof.",
+    "NotCert": "This is neither a certificate nor a proof by lemmas.",
+    "BadLine": "The {} has a line that no {} may have.",
+    "Place": "The {} names a place outside the picture.",
+    "NotDead": "The {} says that a line cannot be filled, or a lemma not be met, but it can.",
+    "NotDone": "The {} says that all cells are decided, but one is not.",
+    "Ended": "The {} ends before all is proved.",
+    "Trailing": "The {} goes on after all is proved.",
+    "NoLemma": "The {} uses a lemma that is not there.",
+    "Misplaced": "The {} has a line about lemmas in the wrong place.",
+    "Full": "The {} has too many lemmas.",
     "TooLong": "A file is too long.",
 }
 
@@ -88,7 +92,7 @@ FORM = PAGE + """{% if reason %}<p class="refused">{{ reason }}</p>{% endif %}
 <form method="post" action="{{ url_for('take') }}" enctype="multipart/form-data">
 <label>Title <input name="title" maxlength="100"></label>
 <label>Picture, one cell per pixel (PNG, or PPM as P3 text) <input type="file" name="picture" required></label>
-<label>Certificate <input type="file" name="certificate" required></label><button>Check and publish</button></form>"""
+<label>Certificate or proof by lemmas <input type="file" name="certificate" required></label><button>Check and publish</button></form>"""
 
 PUZZLE = PAGE + """{% macro clue(blocks) %}{% for length, letter in blocks %}<span style="{{ inks[letter] }}">{{ length }}</span>
 {%- else %}<span>0</span>{% endfor %}{% endmacro %}
@@ -162,14 +166,19 @@ def puzzle_of(picture, clues, givens):
     })
 
 
-def refuse_no_puzzle(picture, givens):
+def word_of(certificate):
+    """What was uploaded with a picture: a `certificate`, or a `proof` by lemmas."""
+    return "proof" if certificate.startswith(b"nonolemma") else "certificate"
+
+
+def refuse_no_puzzle(picture, givens, word):
     """Refuses what is proved, and yet no puzzle that a solver can be handed."""
     near = picture.near()
     if near:
         first, second = ("white" if triple == WHITE else "rgb({}, {}, {})".format(*triple) for triple in near)
         raise Refused(f"Two colours look alike: {first} and {second}. Make them differ more; white is the background.")
     if len(givens) == len(picture.cells):
-        raise Refused("The certificate gives every cell, so there is nothing left to solve.")
+        raise Refused(f"The {word} gives every cell, so there is nothing left to solve.")
 
 
 def title_of(text):
@@ -180,10 +189,10 @@ def title_of(text):
     return seen if any(unicodedata.category(sign)[0] in "LNPS" for sign in seen) else "Untitled"
 
 
-def reason_of(fault):
-    """A fault in words."""
+def reason_of(fault, word):
+    """A fault in words, of a picture or of what came with it."""
     place = fault.text.rpartition(" at ")[2]
-    return WORDS.get(fault.name, fault.text) + (f" ({place})" if " at " in fault.text else "")
+    return WORDS.get(fault.name, fault.text).replace("{}", word) + (f" ({place})" if " at " in fault.text else "")
 
 
 def ink_of(triple):
@@ -227,19 +236,21 @@ class Site:
                 self.workers.get_nowait().close()
 
     def proved(self, file, certificate):
-        """A picture whose certificate is accepted, and what is published of it: with the cells that the certificate gives."""
+        """A picture whose certificate or proof is accepted, and what is published of it: with the cells that this gives."""
+        word = word_of(certificate)
         try:
             with self.worker() as worker:
-                givens = worker.check(file, certificate, published=nonobench.ANY_GIVEN).givens
+                check = worker.verify if word == "proof" else worker.check
+                givens = check(file, certificate, published=nonobench.ANY_GIVEN).givens
                 clues = worker.clues(file)
         except nonobench.Fault as fault:
-            raise Refused(reason_of(fault)) from fault
+            raise Refused(reason_of(fault, word)) from fault
         except TimeoutError as error:
             raise Refused(f"The check took more than {self.config['SECONDS']:g} seconds.") from error
         except MemoryError as error:
             raise Refused("The check took too much memory.", 503) from error
         picture = Picture(file)
-        refuse_no_puzzle(picture, givens)
+        refuse_no_puzzle(picture, givens, word)
         return picture, puzzle_of(picture, clues, givens)
 
     def database(self):
@@ -307,7 +318,7 @@ def create_app(**config):
     def take():
         files = [request.files.get(name) for name in ("picture", "certificate")]
         if not all(files):
-            raise Refused("Choose a picture and a certificate.")
+            raise Refused("Choose a picture, and a certificate or a proof by lemmas.")
         picture, certificate = (file.read() for file in files)
         number = site.store(title_of(request.form.get("title", "")), picture_of(picture), certificate)
         return redirect(url_for("puzzle", number=number), 303)

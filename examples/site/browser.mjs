@@ -66,7 +66,7 @@ const steps = {
     },
     async 'a certificate of another picture is refused, with the reason'(page) {
         const text = await bring(page, 'Wrong', example('given.ppm'), example('diagonal.cert'));
-        assert.match(text, /The certificate says that a line cannot be filled, and it can\. \(line 5\)/);
+        assert.match(text, /The certificate says that a line cannot be filled, or a lemma not be met, but it can\. \(line 5\)/);
         await page.shot(join(folder, 'refused.png'));
         page.faults.length = 0; // the browser notes the status 422
         await page.goto(address);
@@ -95,6 +95,19 @@ const steps = {
         await bring(page, 'Empty', join(work, 'other.ppm'), join(work, 'empty.cert'));
         assert.deepEqual(await page.run(looks), [['\u00d7', 'rgb(255, 255, 255)', 'rgb(0, 0, 0)', 'solid']]);
         await page.shot(join(folder, 'empty.png'));
+    },
+    async 'proofs by lemmas are taken as certificates are'(page) {
+        // A black and a blue cell on the diagonal, and the proof of such a picture in tests/cases/lemmas.case.
+        writeFileSync(join(work, 'blue.ppm'), 'P3 2 2 255 0 0 0 255 255 255 255 255 255 0 0 255\n');
+        writeFileSync(join(work, 'blue.proof'), 'nonolemma 1\npart 1 1 a\nline r 1\ndead c 2\nline r 1\nline c 1\nline r 2\ndone\n');
+        writeFileSync(join(work, 'all.proof'), 'nonolemma 1\ngiven 1 1\ngiven 1 2\ngiven 2 1\ngiven 2 2\ndone\n');
+        assert.match(await bring(page, 'Other', join(work, 'cross.ppm'), join(work, 'blue.proof')), /The proof says .* \(line 4\)/);
+        assert.match(await bring(page, 'All', join(work, 'cross.ppm'), join(work, 'all.proof')), /The proof gives every cell/);
+        page.faults.length = 0; // the browser notes the statuses 422
+        assert.match(await bring(page, 'Blue', join(work, 'blue.ppm'), join(work, 'blue.proof')), /It has one solution: this was proved/);
+        assert.deepEqual(await page.run(looks), []);
+        await page.goto(address);
+        assert.deepEqual(await titles(page), ['Blue', 'Empty', 'Two <b>cells</b>']);
     },
     async 'the puzzle is printed without the links'(page) {
         await page.goto(`${address}/puzzles/1`);

@@ -8,6 +8,7 @@ import re
 import signal
 import tempfile
 import unittest
+from collections import Counter
 from pathlib import Path
 
 import app as site
@@ -22,6 +23,9 @@ GIVEN_CERT = (EXAMPLES / "given.cert").read_bytes()
 CROSS = b"P3 2 2 1 0 0 0 1 1 1 1 1 1 0 0 0\n"
 EMPTY_CERT = b"nonocert 2\ngiven 1 2\nline r 1\nline c 1\nline r 2\ndone\n"
 ALL_CERT = b"nonocert 2\ngiven 1 1\ngiven 1 2\ngiven 2 1\ngiven 2 2\ndone\n"
+# The same as proofs by lemmas, and one of the black and the red cell of DIAGONAL (tests/cases/lemmas.case).
+EMPTY_PROOF, ALL_PROOF = (text.replace(b"nonocert 2", b"nonolemma 1") for text in (EMPTY_CERT, ALL_CERT))
+DIAGONAL_PROOF = b"nonolemma 1\npart 1 1 a\nline r 1\ndead c 2\nline r 1\nline c 1\nline r 2\ndone\n"
 
 
 class Case(unittest.TestCase):
@@ -82,6 +86,42 @@ class Site(Case):
 
     def test_a_certificate_that_gives_every_cell_is_no_puzzle(self):
         self.assert_refused(self.bring(CROSS, ALL_CERT), "The certificate gives every cell, so there is nothing left to solve.")
+
+    def test_a_proof_by_lemmas_is_stored_and_shown(self):
+        answer = self.bring(DIAGONAL, DIAGONAL_PROOF)
+        self.assertEqual((answer.status_code, answer.headers.get("Location")), (303, "/puzzles/1"))
+        page = self.client.get("/puzzles/1").text
+        self.assertEqual(len(re.findall("<td>", page)), 4)
+        self.assertIn("<p>It has one solution: this was proved", page)
+        # The puzzle is stored once, however it was proved.
+        answer = self.bring(DIAGONAL, DIAGONAL_CERT)
+        self.assertEqual(answer.status_code, 409)
+
+    def test_cells_that_a_proof_gives_are_shown(self):
+        self.assertEqual(self.bring(CROSS, EMPTY_PROOF).status_code, 303)
+        page = self.client.get("/puzzles/1").text
+        self.assertEqual(len(re.findall("<td>", page)), 3)
+        self.assertIn('<td class="given" style="background: rgb(255, 255, 255); color: black">\N{MULTIPLICATION SIGN}</td>', page)
+        self.assertIn("with the 1 framed", page)
+
+    def test_proofs_that_are_refused(self):
+        for proof, reason in (
+            (b"nonolemma 2\n" + DIAGONAL_PROOF[12:], "This is neither a certificate nor a proof by lemmas. (line 1)"),
+            (b"nonolemma 1\n" + DIAGONAL_CERT[11:], "The proof has a line that no proof may have."),
+            (DIAGONAL_PROOF[:-5], "The proof ends before all is proved. (line 8)"),
+            (DIAGONAL_PROOF + b"done\n", "The proof goes on after all is proved. (line 9)"),
+            (b"nonolemma 1\ndone\n", "The proof says that all cells are decided, but one is not. (line 2)"),
+            (b"nonolemma 1\npart 3 1 a\n", "The proof names a place outside the picture. (line 2)"),
+            (b"nonolemma 1\nuse 1\n", "The proof uses a lemma that is not there. (line 2)"),
+            (b"nonolemma 1\ndeny 1 1 a\n", "The proof has a line about lemmas in the wrong place. (line 2)"),
+            (b"nonolemma 1\ndead r 1\n", "The proof says that a line cannot be filled, or a lemma not be met, but it can. (line 2)"),
+            (b"nonolemma 1\n".ljust(3 << 20), "The files have more than 2 MiB."),
+        ):
+            with self.subTest(reason):
+                self.assert_refused(self.bring(DIAGONAL, proof), reason, 413 if len(proof) > 2 << 20 else 422)
+        # One of another picture, and one that gives every cell of a picture with two solutions.
+        self.assert_refused(self.bring(CROSS, DIAGONAL_PROOF), "The proof says that a line cannot be filled")
+        self.assert_refused(self.bring(CROSS, ALL_PROOF), "The proof gives every cell, so there is nothing left to solve.")
 
     def test_colours_that_look_alike_are_refused(self):
         # Black and nearly black on the diagonal: with other letters, but both clues look the same.
@@ -146,11 +186,11 @@ class Site(Case):
 
     def test_what_is_refused(self):
         self.assert_refused(self.bring(b"GIF89a", DIAGONAL_CERT), "The picture is neither a PNG image nor a plain PPM text (P3).")
-        self.assert_refused(self.bring(DIAGONAL, b"no"), "This is not a certificate. (line 1)")
+        self.assert_refused(self.bring(DIAGONAL, b"no"), "This is neither a certificate nor a proof by lemmas. (line 1)")
         self.assert_refused(self.bring(DIAGONAL, b"nonocert 1\ndone\n"), "The certificate says that all cells are decided")
-        self.assert_refused(self.bring(GIVEN, DIAGONAL_CERT), "The certificate says that a line cannot be filled, but it can.")
+        self.assert_refused(self.bring(GIVEN, DIAGONAL_CERT), "The certificate says that a line cannot be filled, or a lemma not be met, but it can.")
         self.assert_refused(self.bring(b"", b""), "The picture is neither a PNG")
-        self.assert_refused(self.client.post("/puzzles"), "Choose a picture and a certificate.")
+        self.assert_refused(self.client.post("/puzzles"), "Choose a picture, and a certificate or a proof by lemmas.")
         self.assert_refused(self.bring(b"P3 121 1 1", b""), "The picture has more than 120 rows or columns. (byte 3)")
         self.assert_refused(self.bring(b" " * (3 << 20), b""), "The files have more than 2 MiB.", 413)
 
@@ -193,6 +233,10 @@ class Site(Case):
         for name in site.WORDS:
             if name != "TooLong":
                 self.assertIn(name, formats)
+        # All that tests/cases/ have of a certificate or a proof that is refused.
+        for case in ("certificates", "lemmas"):
+            text = (EXAMPLES.parent / "tests" / "cases" / f"{case}.case").read_text(encoding="utf-8")
+            self.assertLessEqual(set(re.findall(r"! certificate (\w+)", text)), set(site.WORDS))
 
     @unittest.skipIf(site.Image is None, "there is no Pillow")
     def test_images(self):
@@ -219,6 +263,16 @@ class Site(Case):
         self.assert_refused(self.bring(site.PNG, DIAGONAL_CERT), "This site reads no PNG, since Pillow is not installed.")
 
 
+def proof_of(picture, givens):
+    """A proof by lemmas of a picture with some cells given: of forced lines alone, or without these one that is searched for."""
+    if not givens:
+        return nonobench.prove(picture).proof or b""
+    lines = "".join(f"line r {at}\nline c {at}\n" for at in range(1, 4)) * 9
+    size = picture.split(b" ")[1:3]
+    inside = [line for line in lines.splitlines() if int(line[-1]) <= int(size[line[5] == "r"])]
+    return "\n".join(["nonolemma 1", *(f"given {row} {column}" for row, column in givens), *inside, "done", ""]).encode()
+
+
 def certificate_of(picture, givens):
     """A certificate of a picture with some cells given; empty where there is none."""
     desk_lines = "".join(f"pin {row} {column}\n" for row, column in givens) + "certify\n"
@@ -235,15 +289,16 @@ class Shown(Case):
     COLOURS = ("0 0 0", "255 0 0", "0 0 255", "1 0 0", "250 250 250", "255 255 254", "0 140 0", "20 20 20")
 
     def random_pair(self, source):
-        """A small picture, and a certificate that is right, of other cells, or marred."""
+        """A small picture, and a certificate or a proof that is right, of other cells, or marred."""
         rows, columns = source.randint(1, 3), source.randint(2, 3)
         inks = ["255 255 255", *source.sample(self.COLOURS, source.choice([1, 1, 2]))]
         cells = [source.choice(inks) for _ in range(rows * columns)]
         picture = f"P3 {columns} {rows} 255 {' '.join(cells)}\n".encode()
         places = [(row, column) for row in range(1, rows + 1) for column in range(1, columns + 1)]
-        certificate = certificate_of(picture, sorted(source.sample(places, source.randint(0, len(places)))))
+        make = source.choice([certificate_of, proof_of])
+        certificate = make(picture, sorted(source.sample(places, source.randint(0, len(places)))))
         if source.random() < 0.3:
-            certificate = source.choice([ALL_CERT, EMPTY_CERT, GIVEN_CERT, DIAGONAL_CERT])
+            certificate = source.choice([ALL_CERT, EMPTY_CERT, GIVEN_CERT, DIAGONAL_CERT, ALL_PROOF, EMPTY_PROOF, DIAGONAL_PROOF])
         return picture, certificate
 
     def solutions(self, page):
@@ -266,7 +321,7 @@ class Shown(Case):
 
     def test_by_trying_all(self):
         source = random.Random(int(os.environ.get("SEED", "1")))
-        stored = refused = 0
+        stored, refused = Counter(), 0
         for _ in range(int(os.environ.get("CASES", "150"))):
             pair = self.random_pair(source)
             answer = self.bring(*pair)
@@ -274,9 +329,9 @@ class Shown(Case):
             if answer.status_code == 303:
                 page = self.client.get(answer.headers["Location"]).text
                 self.assertEqual(self.solutions(page), 1, (pair, page))
-            stored += answer.status_code == 303
+                stored[site.word_of(pair[1])] += 1
             refused += answer.status_code == 422
-        self.assertGreater(min(stored, refused), 10)
+        self.assertGreater(min(stored["certificate"], stored["proof"], refused), 10)
 
 
 # White as Shown.solutions sees it.

@@ -15,6 +15,7 @@ from ._library import DONE, Desk
 # What is asked: whether a certificate of a picture is accepted, what a bench on a picture answers to lines, whether a proof by lemmas
 # is accepted, or for one.
 CHECK, SESSION, VERIFY, PROVE = 1, 2, 3, 4
+CHECKS = {CHECK: Desk.check, VERIFY: Desk.verify}
 
 QUESTION = struct.Struct("!QBI3Q")
 ANSWER = struct.Struct("!QB3Q")
@@ -26,11 +27,8 @@ LAST = (b"refused: ", b"ambiguous\n", b"undecided ")
 def answer(kind: int, picture: bytes, background: bytes, rest: bytes) -> tuple[int, list[bytes]]:
     """The status, and the texts that were said. `rest` is the certificate, the proof, or the lines."""
     with Desk() as desk:
-        if kind == CHECK:
-            status = desk.check(picture, rest, background)
-            return status, [desk.text()]
-        if kind == VERIFY:
-            status = desk.verify(picture, rest, background)
+        if kind in CHECKS:
+            status = CHECKS[kind](desk, picture, rest, background)
             return status, [desk.text()]
         if kind == PROVE:
             status = desk.prove(picture, background)

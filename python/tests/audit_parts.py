@@ -17,6 +17,11 @@ UNIQUE = ("a.", ".b")
 AMBIGUOUS = ("a.", ".a")
 OTHER = ".a/a."
 GIVEN_CERT = "nonocert 2\ngiven 1 1\nline r 1\nline c 1\nline r 2\ndone\n"
+# As in tests/cases/: a certificate and a proof by lemmas of UNIQUE, and proofs of AMBIGUOUS with a cell given, and with all of them.
+CERT = "nonocert 1\nline r 1\nsplit 1 1\nline c 1\ndead r 2\nline r 1\nline c 1\nline c 2\ndone\n"
+PROOF = "nonolemma 1\npart 1 1 a\nline r 1\ndead c 2\nline r 1\nline c 1\nline r 2\ndone\n"
+GIVEN_PROOF = "nonolemma 1\ngiven 1 1\nline r 1\nline c 1\nline r 2\ndone\n"
+ALL_PROOF = "nonolemma 1\ngiven 1 1\ngiven 1 2\ngiven 2 1\ngiven 2 2\ndone\n"
 
 
 def p3(rows, background=None):

@@ -15,10 +15,12 @@ import unittest
 from pathlib import Path
 
 sys.path.insert(0, str(Path(__file__).resolve().parent))
-from audit_parts import AMBIGUOUS, BLACK, GIVEN_CERT, OTHER, RED, ROOT, UNIQUE, WHITE, Case, chequered, p3, webpbn  # noqa: E402
+from audit_parts import (  # noqa: E402
+    ALL_PROOF, AMBIGUOUS, BLACK, CERT, GIVEN_CERT, GIVEN_PROOF, OTHER, PROOF, RED, ROOT, UNIQUE, WHITE, Case, chequered, p3, webpbn,
+)
 
 import nonobench  # noqa: E402
-from nonobench.collection import judging, readers  # noqa: E402
+from nonobench.collection import judging, readers, serving  # noqa: E402
 from nonobench.collection.puzzles import Unreadable  # noqa: E402
 
 # One solution, whose certificate says much twice: it is three times as long as a proof by lemmas.
@@ -88,6 +90,9 @@ class Reading(unittest.TestCase):
         self.assertEqual(one(p3(UNIQUE), ground=readers.ground_of("corner")).background, BLACK)
         self.assertEqual(one(b"P3 # 9 9\n1 1 7 #\r 3 4 5", ground=readers.ground_of("corner")).background, (3, 4, 5))
         self.assertEqual(one(p3(UNIQUE), ground=readers.ground_of("5,6,7")).background, (5, 6, 7))
+        # Zeros before a number are lawful, however many.
+        for zeros in ("0" * 9, "0" * 5000):
+            self.assertEqual(one(f"P3 1 1 7 {zeros}3 4 5".encode(), ground=readers.ground_of("corner")).background, (3, 4, 5))
         self.assertIsNone(one(p3(UNIQUE), ground=readers.ground_of("white")).background)
         for word in ("black", "1,2", "1,2,3,4", "-1,0,0", "0,0,65536", ""):
             with self.subTest(word), self.assertRaises(ValueError):
@@ -147,7 +152,11 @@ class Reading(unittest.TestCase):
     def test_xml_colours_alike_stay_two(self):
         text = '<puzzle><color name="snow" char="s">fff</color><solution><image>|s.|</image></solution></puzzle>'
         puzzle = one(text.encode())
-        self.assertEqual((puzzle.text, puzzle.background), (b"P3\n2 1\n255\n255 255 0\n255 255 255\n", WHITE))
+        self.assertEqual((puzzle.text, puzzle.background), (b"P3\n2 1\n255\n255 255 254\n255 255 255\n", WHITE))
+        # Three alike, and between two others: each is as near as it can be.
+        colours = "".join(f'<color name="{name}" char="{name}">{triple}</color>' for name, triple in (("a", "100000"), ("b", "100001"), ("c", "100000"), ("d", "100000")))
+        puzzle = one(f"<puzzle>{colours}<solution><image>|abcd|</image></solution></puzzle>".encode())
+        self.assertEqual(puzzle.text, b"P3\n4 1\n255\n16 0 0\n16 0 1\n16 0 2\n16 0 3\n")
 
     def test_xml_without_a_solution(self):
         clues = '<clues type="columns"><line><count>1</count></line><line/></clues><clues type="rows"><line><count>1</count></line></clues>'
@@ -167,6 +176,7 @@ class Reading(unittest.TestCase):
             (webpbn(UNIQUE).replace("|X.|", "|X|"), "several lengths"),
             (webpbn(["." * 121]), "larger than 120 by 120"),
             (webpbn(UNIQUE).replace('<puzzle type="grid"', '<puzzle type="grid" backgroundcolor="blue"'), "background of the puzzle"),
+            (webpbn(UNIQUE).replace("</color>", '</color><color name="rose" char="r">f08</color>'), "two colours of the puzzle have the sign 'r'"),
             ("<puzzle/>", "neither a solution nor all clues"),
         ):
             with self.subTest(words):
@@ -308,6 +318,181 @@ class Running(Case):
             (self.site / name).unlink()
         self.run_audit("site", status=0)
 
+    # Proofs beside puzzles: the picture, the proof, the cells that are published, and what is said of it. Each cell of `all` is given.
+    PROOFS = {
+        "good": (UNIQUE, PROOF, "", {"accepted": True}, "proof accepted"),
+        "cut": (UNIQUE, "nonolemma 1\ndone\n", "", {"accepted": False, "why": "certificate NotDone at line 2"},
+                "proof refused: certificate NotDone at line 2"),
+        # Whichever cell of the first row is black: the second column has room for a black cell, and it needs one.
+        "other": (AMBIGUOUS, PROOF, "", {"accepted": False, "why": "certificate NotDead at line 4"},
+                  "proof refused: certificate NotDead at line 4"),
+        "kind": (UNIQUE, CERT, "", {"accepted": False, "why": "certificate NotCert at line 1"},
+                 "proof refused: certificate NotCert at line 1"),
+        "unpublished": (AMBIGUOUS, GIVEN_PROOF, "", {"accepted": True, "givens": [[1, 1]], "unpublished": [[1, 1]]},
+                        "proof accepted, unpublished givens 1"),
+        "published": (AMBIGUOUS, GIVEN_PROOF, "given 1 1\n", {"accepted": True, "givens": [[1, 1]]}, "proof accepted, givens 1"),
+        "all": (AMBIGUOUS, ALL_PROOF, "given 1 1\n",
+                {"accepted": True, "givens": [[1, 1], [1, 2], [2, 1], [2, 2]], "unpublished": [[1, 2], [2, 1], [2, 2]]},
+                "proof accepted, unpublished givens 3"),
+    }
+
+    def test_proofs_beside(self):
+        for name, (picture, proof, givens, _, _) in self.PROOFS.items():
+            self.put(f"{name}.ppm", p3(picture))
+            self.put(f"{name}.proof", proof)
+            self.put(f"{name}.givens", givens)
+        done = self.run_audit("site", "--jsonl", "rows", "--csv", "rows.csv", "--html", "report.html", status=1)
+        rows = self.read("rows")
+        table = self.run_audit("site", status=1).stdout
+        sheet = {row["file"]: row for row in csv.DictReader(io.StringIO((self.folder / "rows.csv").read_text()))}
+        page = (self.folder / "report.html").read_text()
+        self.assertIn('<p class="flaws">Besides: proofs not accepted 3, proofs with unpublished givens 2. Such puzzles', page)
+        shown = {record[0]: record for record in records_of(page)}
+        for name, (_, _, _, told, words) in self.PROOFS.items():
+            file = f"site/{name}.ppm"
+            with self.subTest(name):
+                self.assertEqual((rows[file].get("lemmas"), rows[file].get("certificate")), (told, None))
+                self.assertIn(f"  {file}; {words}\n", table)
+                self.assertEqual((f"proof {sheet[file]['lemmas']}", sheet[file]["certificate"]), (words, ""))
+                self.assertEqual((shown[file][12], shown[file][15:]), (words, [] if name in ("good", "published") else [1]))
+        self.assertIn("besides: proofs not accepted 3, proofs with unpublished givens 2\n", done.stdout)
+
+    def test_the_status_counts_proofs(self):
+        for name, (picture, proof, givens, told, _) in self.PROOFS.items():
+            self.put("one.ppm", p3(picture))
+            self.put("one.proof", proof)
+            self.put("one.givens", givens)
+            with self.subTest(name):
+                self.run_audit("site", "--quiet", status=0 if name in ("good", "published") else 1)
+
+    def test_a_proof_and_a_certificate(self):
+        accepted, refused = {"accepted": True}, {"accepted": False, "why": "certificate NotCert at line 1"}
+        for certificate, proof, told in ((CERT, PROOF, (accepted, accepted)), (CERT, "", (accepted, refused)), ("", PROOF, (refused, accepted)),
+                                         (PROOF, CERT, (refused, refused))):
+            self.put("one.ppm", p3(UNIQUE))
+            self.put("one.cert", certificate)
+            self.put("one.proof", proof)
+            with self.subTest((certificate, proof)):
+                row = self.rows("site", status=0 if told == (accepted, accepted) else 1)["site/one.ppm"]
+                self.assertEqual((row.get("certificate"), row.get("lemmas")), told)
+        self.assertIn("; certificate refused: certificate NotCert at line 1; proof refused: ", self.run_audit("site").stdout)
+
+    def test_proofs_of_a_puzzle_that_is_undecided(self):
+        # Without a split it is open which diagonal is black; as for a certificate, the verdict stays what it is.
+        self.put("one.ppm", p3(AMBIGUOUS))
+        for ending, text, field in (("cert", GIVEN_CERT, "certificate"), ("proof", GIVEN_PROOF, "lemmas")):
+            self.put(f"one.{ending}", text)
+            row = self.rows("site", "--allow", "0", status=1)["site/one.ppm"]
+            self.assertEqual((row["verdict"], row.get(field, {}).get("accepted")), ("undecided", True))
+
+    def test_proofs_are_found(self):
+        self.put("small/one.ppm", p3(UNIQUE))
+        self.put("twin.ppm", p3(UNIQUE))
+        self.put("twin.png", image("PNG"))
+        self.put("set.xml", "<puzzleset>" + webpbn(UNIQUE) + webpbn(AMBIGUOUS) + webpbn(UNIQUE) + "</puzzleset>")
+        for name, text in (("small/one", PROOF), ("twin.ppm", PROOF), ("twin.png", CERT), ("set", PROOF), ("set.2", PROOF), ("set.3", PROOF)):
+            place = self.folder / "proofs" / f"{name}.proof"
+            place.parent.mkdir(parents=True, exist_ok=True)
+            place.write_text(text)
+        rows = self.rows("site", "--certificates", "proofs", status=1)
+        self.assertEqual({name.removeprefix("site/"): row.get("lemmas", {}).get("accepted") for name, row in rows.items()}, {
+            "small/one.ppm": True, "twin.ppm": True, "twin.png": False, "set.xml#1": True, "set.xml#2": False, "set.xml#3": True,
+        })
+
+    def test_of_several_files_the_worst_is_told(self):
+        refused = {"accepted": False, "why": "certificate NotCert at line 1"}
+        for ending, good, field in (("cert", CERT, "certificate"), ("proof", PROOF, "lemmas")):
+            for first, second in ((good, "x"), ("x", good)):
+                self.put("one.ppm", p3(UNIQUE))
+                self.put(f"one.ppm.{ending}", first)
+                self.put(f"one.{ending}", second)
+                self.put("set.xml", webpbn(UNIQUE))
+                self.put(f"set.{ending}", second)
+                self.put(f"set.1.{ending}", first)
+                with self.subTest((ending, first)):
+                    rows = self.rows("site", status=1)
+                    self.assertEqual([row.get(field) for row in rows.values()], [refused, refused])
+
+    def test_what_lies_beside_is_checked_before_a_certificate_is_made(self):
+        class Slow(judging.Desk):
+            def say(self, lines):
+                if lines == b"certify\n":
+                    raise TimeoutError
+                return super().say(lines)
+
+        class Answers(list):
+            def put(self, *words):
+                self.append(words)
+
+            def flush(self):
+                pass
+
+        # What is known of a puzzle is its row where its process is ended while it makes a certificate.
+        self.addCleanup(setattr, serving, "LONG", serving.LONG)
+        serving.LONG = -1.0
+        answers = Answers()
+        judge = serving.Judging(serving.Settings("", "", 1024, None, "white", True, True, False, None), answers)
+        judge._desk = Slow()
+        place = self.put("one.ppm", p3(UNIQUE))
+        beside = [(1, kind, str(self.put(f"one.{kind}", "x"))) for kind in ("cert", "proof")]
+        task = serving.Task(0, "one.ppm", str(place), tuple(beside), None, None, None, "", 1, serving.FULL)
+        with self.assertRaises(TimeoutError):
+            judge.answer(task)
+        self.assertEqual([words[1] for words in answers], ["known"])
+        row = json.loads(answers[0][3])
+        self.assertEqual([row.get(field, {}).get("accepted") for field in ("certificate", "lemmas")], [False, False])
+
+    def test_endings_in_capital_letters(self):
+        refused = {"accepted": False, "why": "certificate NotCert at line 1"}
+        self.put("DUCK.PNG", image("PNG"))
+        self.put("SET.XML", "<puzzleset>" + webpbn(UNIQUE) + webpbn(UNIQUE) + "</puzzleset>")
+        for ending, field in (("CERT", "certificate"), ("PROOF", "lemmas")):
+            for name in (f"DUCK.{ending}", f"SET.2.{ending}"):
+                self.put(name, "x")
+            rows = self.rows("site", status=1)
+            self.assertEqual([row.get(field) for row in rows.values()], [refused, None, refused])
+            for name in (f"DUCK.{ending}", f"SET.2.{ending}"):
+                (self.site / name).unlink()
+        # By a black background the red cells may change places.
+        self.put("DUCK.PPM", b"P3 2 2 1 0 0 0 1 0 0 1 0 0 0 0 0\n")
+        self.put("DUCK.PPM.BACKGROUND", "0,0,0")
+        self.assertEqual(self.rows("site", "--certify", "certs", status=1)["site/DUCK.PPM"]["verdict"], "ambiguous")
+        # Each has a name of its own, since the two differ in their suffix alone.
+        self.assertEqual([place.name for place in (self.folder / "certs").glob("DUCK*")], ["DUCK.PNG.cert"])
+
+    def test_paths_that_a_search_leaves_out(self):
+        self.put("one.ppm", p3(UNIQUE))
+        for name in (".drafts/two.ppm", "in/.two.ppm", "in/two.txt", "in/one.ppm"):
+            self.put(name, p3(UNIQUE if "one" in name else AMBIGUOUS))
+        (self.folder / "other").mkdir()
+        (self.folder / "other" / "two.ppm").write_bytes(p3(AMBIGUOUS))
+        os.symlink("../other", self.site / "link")
+        for path in (".drafts", ".drafts/two.ppm", "in/.two.ppm", "in/two.txt", "link", "link/two.ppm"):
+            with self.subTest(path):
+                self.assertIn(f"'site/{path}' lies in 'site', whose search leaves it out", self.run_audit("site", f"site/{path}", status=2).stderr)
+                self.assertIn(f"'site/{path}' lies in '.'", self.run_audit(f"site/{path}", ".", status=2).stderr)
+                self.run_audit(f"site/{path}", status=1)
+        rows = self.rows("site/in", "site", "site/one.ppm", "site/in/one.ppm", status=0)
+        self.assertEqual(list(rows), ["site/in/one.ppm", "site/one.ppm"])
+
+    def test_certificates_in_a_folder_that_is_not_there(self):
+        self.put("one.ppm", p3(UNIQUE))
+        self.assertIn("no such folder: 'certz'", self.run_audit("site", "--certificates", "certz", status=2).stderr)
+        # A folder of certificates that cannot be listed may hold some that are not accepted.
+        self.put("in/one.ppm", p3(UNIQUE))
+        (self.folder / "certs").mkdir()
+        os.symlink("in", self.folder / "certs" / "in")
+        row = self.rows("site", "--certificates", "certs", status=3)["site/in/one.ppm"]
+        self.assertEqual(row["error"], "its certificate: Too many levels of symbolic links")
+        # One that has none of these puzzles is not the one that was meant; in a part there need be none.
+        (self.folder / "certs" / "in").unlink()
+        (self.folder / "certs" / "two.cert").write_text(CERT)
+        done = self.run_audit("site", "--certificates", "certs", status=3)
+        self.assertIn("nonobench-audit: certs: no certificate or proof in it is of one of these puzzles\n", done.stderr)
+        self.run_audit("site", "--certificates", "certs", "--shard", "1/2", status=0)
+        (self.folder / "certs" / "one.cert").write_text(CERT)
+        self.run_audit("site", "--certificates", "certs", status=0)
+
     def test_givens_that_do_not_fit(self):
         self.put("one.ppm", p3(AMBIGUOUS))
         for text, words in (("given 3 1\n", "outside the picture"), ("given 1\n", "not `given R C`"), ("x", "not `given R C`")):
@@ -329,6 +514,21 @@ class Running(Case):
         rows = self.rows("site", status=3)
         self.assertEqual([(name, row["verdict"], row.get("title")) for name, row in rows.items()], [
             ("site/set.xml#1", "unique", "One"), ("site/set.xml#2", "ambiguous", "Two"), ("site/set.xml#3", "error", None),
+        ])
+
+    def test_xml_with_colours_alike_is_not_fit(self):
+        for colour in ("fff", "fffffe", "000"):
+            text = f'<puzzle><color name="snow" char="s">{colour}</color><solution><image>|sX.|</image></solution></puzzle>'
+            self.put("one.xml", text)
+            with self.subTest(colour):
+                row = self.rows("site", status=1)["site/one.xml"]
+                self.assertEqual((row["verdict"], len(row["near"])), ("unique", 1))
+
+    def test_xml_with_a_puzzle_elsewhere(self):
+        self.put("set.xml", f"<puzzleset>{webpbn(UNIQUE)}<more>{webpbn(AMBIGUOUS)}</more></puzzleset>")
+        rows = self.rows("site", status=3)
+        self.assertEqual([(row["verdict"], row.get("error")) for row in rows.values()], [
+            ("unique", None), ("error", "the XML has a puzzle that is not directly in its set"),
         ])
 
     def test_order_of_names(self):
@@ -383,6 +583,91 @@ class Again(Case):
         self.assertLessEqual(redone, {"site/0/000.ppm", "site/0/new.ppm", "site/2/002.ppm"})
         self.assertEqual(again["site/0/000.ppm"]["verdict"], "unique")
         self.assertTrue((self.folder / "certs" / "2" / "002.cert").exists())
+
+    def test_resume_minds_what_lies_beside(self):
+        refused = {"accepted": False, "why": "certificate NotDone at line 2"}
+        self.put("one.ppm", p3(UNIQUE))
+        wanted = {"one.proof": (PROOF, "lemmas", {"accepted": True}), "one.cert": (CERT, "certificate", {"accepted": True})}
+        self.assertNotIn("lemmas", self.rows("site", status=0)["site/one.ppm"])
+        for name, (text, field, told) in wanted.items():
+            self.put(name, text)
+            self.assertEqual(self.rows("site", "--resume", status=0)["site/one.ppm"].get(field), told)
+            self.put(name, text.split("\n")[0] + "\ndone\n")
+            self.assertEqual(self.rows("site", "--resume", status=1)["site/one.ppm"].get(field), refused)
+            before = (self.folder / "rows.jsonl").read_bytes()
+            self.rows("site", "--resume", status=1)
+            self.assertEqual((self.folder / "rows.jsonl").read_bytes(), before)
+            (self.site / name).unlink()
+            self.assertNotIn(field, self.rows("site", "--resume", status=0)["site/one.ppm"])
+
+    def test_resume_minds_what_a_file_is_for(self):
+        # The same bytes under another name are another kind, or for another puzzle.
+        self.put("one.ppm", p3(UNIQUE))
+        self.put("one.cert", CERT)
+        self.put("set.xml", "<puzzleset>" + webpbn(UNIQUE) + webpbn(AMBIGUOUS) + "</puzzleset>")
+        self.put("set.cert", CERT)
+        self.rows("site", status=1)
+        os.rename(self.site / "one.cert", self.site / "one.proof")
+        os.rename(self.site / "set.cert", self.site / "set.2.cert")
+        rows = self.rows("site", "--resume", status=1)
+        told = [row.get(field, {}).get("accepted") for row in rows.values() for field in ("certificate", "lemmas")]
+        self.assertEqual(told, [None, False, None, None, False, None])
+
+    def test_resume_after_a_run_that_was_stopped_within_a_file(self):
+        self.put("set.xml", "<puzzleset>" + webpbn(UNIQUE) * 2 + "</puzzleset>")
+        self.rows("site", "--allow", "9", status=0)
+        before = (self.folder / "rows.jsonl").read_bytes().splitlines(keepends=True)
+        self.put("set.xml", "<puzzleset>" + webpbn(UNIQUE) + webpbn(AMBIGUOUS) + "</puzzleset>")
+        self.rows("site", "--allow", "9", status=1)
+        whole = (self.folder / "rows.jsonl").read_bytes()
+        # The second run was stopped when it had written its first row.
+        (self.folder / "rows.jsonl").write_bytes(b"".join(before) + whole.splitlines(keepends=True)[0])
+        self.rows("site", "--allow", "9", "--resume", status=1)
+        self.assertEqual((self.folder / "rows.jsonl").read_bytes(), whole)
+
+    def test_merge_reads_rows_that_were_written_anew(self):
+        self.put("one.ppm", p3(UNIQUE))
+        self.put("one.proof", "x")
+        self.put("two.ppm", p3(UNIQUE))
+        self.put("two.cert", "x")
+        rows = self.rows("site", "--allow", "9", status=1)
+        whole = (self.folder / "rows.jsonl").read_bytes()
+        (self.folder / "blanks").write_text("".join(json.dumps(row) + "\n" for row in rows.values()))
+        done = self.run_audit("merge", "blanks", "--jsonl", "merged", status=1)
+        self.assertIn("besides: certificates not accepted 1, proofs not accepted 1\n", done.stdout)
+        self.assertEqual((self.folder / "merged").read_bytes(), whole)
+        for line in ('{"file":"x"}', '{"file":"x","verdict":"fine"}', "[]", '{"file":1,"verdict":"unique"}'):
+            (self.folder / "other").write_text(line + "\n")
+            with self.subTest(line):
+                done = self.run_audit("merge", "blanks", "other", status=3)
+                self.assertEqual(done.stderr, "nonobench-audit: other: line 1 is not a row of an audit\n")
+
+    def test_merge_refuses_rows_of_a_file_that_do_not_go_together(self):
+        self.put("set.xml", "<puzzleset>" + webpbn(UNIQUE) * 2 + "</puzzleset>")
+        self.put("a.ppm", p3(UNIQUE))
+        self.put("z.ppm", p3(UNIQUE))
+        self.rows("site", "--allow", "9", status=0)
+        lines = (self.folder / "rows.jsonl").read_text().splitlines(keepends=True)
+        self.put("set.xml", "<puzzleset>" + webpbn(UNIQUE) + webpbn(AMBIGUOUS) + "</puzzleset>")
+        self.run_audit("site/set.xml", "--allow", "9", "--jsonl", "two", status=1)
+        self.put("set.xml", webpbn(UNIQUE))
+        self.run_audit("site/set.xml", "--allow", "9", "--jsonl", "one", status=0)
+        new = (self.folder / "two").read_text().splitlines(keepends=True)
+        (self.folder / "whole").write_text("".join(lines))
+        cases = {
+            "a part that was stopped": [*lines[:2], lines[3]],
+            "that was stopped at its end": lines[:2],
+            "the second alone": [lines[0], *lines[2:]],
+            "the second of the run before": [lines[0], new[0], *lines[2:]],
+        }
+        for name, rows in cases.items():
+            (self.folder / "part").write_text("".join(rows))
+            with self.subTest(name):
+                done = self.run_audit("merge", "part", "--jsonl", "merged", status=3)
+                self.assertEqual(done.stderr, "nonobench-audit: site/set.xml: rows of some of its puzzles are missing, or of another run\n")
+        self.assertIn("of another run", self.run_audit("merge", "whole", "one", "--jsonl", "merged", status=3).stderr)
+        self.run_audit("merge", "whole", "two", "--jsonl", "merged", status=1)
+        self.run_audit("merge", "whole", "--jsonl", "merged", status=0)
 
     def test_resume_minds_options_and_limits(self):
         self.put("one.ppm", p3(UNIQUE))
@@ -457,9 +742,6 @@ class Again(Case):
 class Report(Case):
     """The report."""
 
-    def records(self, page):
-        return json.loads(re.search(r'<script type="application/json" id="rows">(.*?)</script>', page, re.DOTALL)[1])
-
     def test_report(self):
         self.put("one.ppm", p3(UNIQUE))
         self.put("two.ppm", p3(AMBIGUOUS))
@@ -469,15 +751,21 @@ class Report(Case):
         self.assertIn("<h1>Mine &amp; &lt;i&gt;yours&lt;/i&gt;</h1>", page)
         self.assertNotRegex(page, r"""(?:src|href)=["'](?!data:|#)|@import|url\((?!["']?data:)""")
         self.assertRegex(page, r"default-src 'none'")
-        bad, one, two = self.records(page)
+        bad, one, two = records_of(page)
         self.assertEqual(bad, ["site/bad.ppm", "", 0, 0, 3, -1, 0, "", "", "", 0, bad[11], "ppm Truncated at byte 4"])
         self.assertEqual((one[0], one[2:5], one[8]), ("site/one.ppm", [2, 2, 0], "a.2b"))
+        self.assertNotIn('class="flaws"', page)
         self.assertEqual((two[4], two[8], two[9]), (1, "a.2a", ".a2."))
 
     def test_a_report_of_nothing_but_errors(self):
         self.put("bad.ppm", b"P3 9")
         self.run_audit("site", "--html", "report.html", status=3)
-        self.assertEqual(len(self.records((self.folder / "report.html").read_text())), 1)
+        self.assertEqual(len(records_of((self.folder / "report.html").read_text())), 1)
+
+
+def records_of(page):
+    """The records of a report."""
+    return json.loads(re.search(r'<script type="application/json" id="rows">(.*?)</script>', page, re.DOTALL)[1])
 
 
 def p3_of_letters(rows):

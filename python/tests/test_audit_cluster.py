@@ -13,7 +13,7 @@ import unittest
 from pathlib import Path
 
 sys.path.insert(0, str(Path(__file__).resolve().parent))
-from audit_parts import AMBIGUOUS, UNIQUE, Case, p3, webpbn  # noqa: E402
+from audit_parts import AMBIGUOUS, CERT, GIVEN_PROOF, PROOF, UNIQUE, Case, p3, webpbn  # noqa: E402
 
 
 class Cluster(Case):
@@ -43,6 +43,11 @@ class Cluster(Case):
         for at in range(700):
             self.put(f"{at % 5}/{at:03}.ppm", p3(UNIQUE if at % 4 else AMBIGUOUS))
         self.put("set.xml", "<puzzleset>" + webpbn(UNIQUE) + webpbn(AMBIGUOUS) + "</puzzleset>")
+        # Certificates and proofs go with their puzzles: accepted, refused, with givens that are published or not, and not read.
+        for name, text in (("0/000.cert", CERT), ("1/001.proof", PROOF), ("2/002.cert", PROOF), ("3/003.proof", CERT), ("0/020.proof", GIVEN_PROOF),
+                           ("4/004.proof", GIVEN_PROOF), ("4/004.givens", "given 1 1\n"), ("set.2.proof", PROOF)):
+            self.put(name, text)
+        (self.site / "1" / "006.proof").mkdir()
         self.put("bad.png", b"no image")
         os.symlink("nowhere", self.site / "gone.ppm")
 
@@ -60,6 +65,12 @@ class Cluster(Case):
         said = run.communicate(timeout=240)[1]
         self.assertEqual(run.returncode, 3, said)
         self.assertEqual((self.folder / "there").read_bytes(), (self.folder / "here").read_bytes())
+        rows = self.read("there")
+        self.assertEqual({name.removeprefix("site/"): row["lemmas"]["accepted"] for name, row in rows.items() if "lemmas" in row}, {
+            "0/020.ppm": True, "1/001.ppm": True, "3/003.ppm": False, "4/004.ppm": True, "set.xml#2": False,
+        })
+        self.assertEqual(rows["site/1/006.ppm"]["error"], "its proof: this folder is not read")
+        # 004 has one solution with its given, and 006 is not judged.
         for name in ("certs", "more"):
             self.assertEqual(len(list((self.folder / name).rglob("*.cert"))), 525 + 1)
 

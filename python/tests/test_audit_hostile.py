@@ -75,6 +75,25 @@ class Files(Case):
             "long.ppm": "more than 16777216 bytes", "longest.ppm": None,
         })
 
+    def test_what_lies_beside(self):
+        for ending, word, field in (("cert", "certificate", "certificate"), ("proof", "proof", "lemmas")):
+            for name in ("folder", "gone", "long", "most", "zeros"):
+                self.put(f"{name}.ppm", p3(UNIQUE))
+            (self.site / f"folder.{ending}").mkdir()
+            os.symlink("nowhere", self.site / f"gone.{ending}")
+            self.put(f"long.{ending}", bytes(16_777_217))
+            self.put(f"most.{ending}", bytes(16_777_216))
+            os.symlink("/dev/zero", self.site / f"zeros.{ending}")
+            with self.subTest(ending):
+                rows = self.rows("site", status=3)
+                self.assertEqual({name.removeprefix("site/"): row.get("error") for name, row in rows.items()}, {
+                    "folder.ppm": f"its {word}: this folder is not read", "gone.ppm": f"its {word}: No such file or directory",
+                    "long.ppm": f"its {word}: more than 16777216 bytes", "most.ppm": None, "zeros.ppm": f"its {word}: this is not a file",
+                })
+                self.assertEqual(rows["site/most.ppm"][field], {"accepted": False, "why": "certificate NotCert at line 1"})
+            for place in self.site.iterdir():
+                place.rmdir() if place.is_dir() else place.unlink()
+
     def test_xml(self):
         entity = '<!DOCTYPE a [<!ENTITY a "{}">{}]><puzzleset>{}</puzzleset>'
         laughs = "".join(f'<!ENTITY a{at} "{f"&a{at - 1};" * 10}">' for at in range(1, 10))
@@ -283,7 +302,8 @@ class Processes(Case):
             self.put(f"{at:02}.ppm", p3(UNIQUE))
         process = self.start("site", "--jobs", "1", "--seconds", "1.5", "--jsonl", "rows", "--no-grade")
         deadline = time.monotonic() + 60
-        while time.monotonic() < deadline and not children(process.pid):
+        # Until it runs its program, who started it waits for it.
+        while time.monotonic() < deadline and not any(b"serving" in cmdline_of(pid) for pid in children(process.pid)):
             time.sleep(0.01)
         os.kill(children(process.pid)[0], signal.SIGSTOP)
         said = process.communicate(timeout=120)[1]
@@ -357,6 +377,11 @@ class Terminal(Case):
         os.close(ours)
         self.assertEqual(done.returncode, 0)
         self.assertRegex(shown.decode(), r"1/1 .* files/s, unique 1|1/1 .*unique 1")
+
+
+def cmdline_of(pid):
+    """The command line of a process, while it is there."""
+    return Path(f"/proc/{pid}/cmdline").read_bytes()
 
 
 def cpu_of(pid):

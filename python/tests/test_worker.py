@@ -17,12 +17,13 @@ import unittest
 from pathlib import Path
 
 import nonobench
-from nonobench import CertificateFault, Given, PictureFault, UnpublishedGiven
+from nonobench import CertificateFault, Given, LengthFault, PictureFault, UnpublishedGiven
 
 PACKAGE = Path(nonobench.__file__).resolve().parent.parent
 # Two rows, black and white, white and black: another picture has the clues, and a given decides it.
 DIAGONAL = b"P3 2 2 255 0 0 0 255 255 255 255 255 255 0 0 0\n"
 GIVEN = b"nonocert 2\ngiven 1 1\nline r 1\nline c 1\nline r 2\ndone\n"
+GIVEN_PROOF = b"nonolemma 1\ngiven 1 1\nline r 1\nline c 1\nline r 2\ndone\n"
 TILE = b"P3 1 1 1 0 0 0"
 
 
@@ -58,6 +59,12 @@ class Workers(unittest.TestCase):
             self.assertEqual(worker.prove(TILE), nonobench.prove(TILE))
             self.assertEqual(worker.prove(DIAGONAL), nonobench.prove(DIAGONAL))
             self.assertEqual(str(worker.verify(TILE, worker.prove(TILE).proof)), "proof accepted\n")
+            self.assertEqual(worker.verify(DIAGONAL, GIVEN_PROOF, published=[(1, 1)]).givens, (Given(1, 1),))
+            with self.assertRaises(UnpublishedGiven) as caught:
+                worker.verify(DIAGONAL, GIVEN_PROOF)
+            self.assertEqual((caught.exception.line, caught.exception.givens), (2, (Given(1, 1),)))
+            with self.assertRaises(LengthFault):
+                worker.verify(DIAGONAL, GIVEN_PROOF.ljust(16777217))
             with self.assertRaisesRegex(CertificateFault, "^certificate NotCert at line 1$"):
                 worker.verify(TILE, GIVEN)
             with self.assertRaises(CertificateFault) as caught:
@@ -159,6 +166,11 @@ QUESTIONS = (
     ("verdict", DIAGONAL, 0),
     ("verdict", DIAGONAL, 1),
     ("verdict", TILE),
+    ("verify", TILE, b"junk"),
+    ("verify", TILE, b"nonolemma 1\nline r 1\ndone\n"),
+    ("verify", DIAGONAL, GIVEN_PROOF),
+    ("prove", TILE),
+    ("prove", DIAGONAL),
     ("certify", TILE),
     ("audit", DIAGONAL),
 )

@@ -8,13 +8,14 @@ import re
 from dataclasses import dataclass
 from typing import Optional
 
+from .finding import unreached
 from .readers import ground_of
 
 ABOUT = """Says which puzzles of a collection have exactly one solution.
 
 PATH is a file, or a folder that is searched: pictures (plain and raw PPM, PGM and PBM, PNG, GIF, BMP, WebP, one pixel per cell),
-.non puzzles, and Web Paint-by-Number's XML with every puzzle in it. NAME.cert beside NAME.png is checked; NAME.givens has the
-cells that are published with the puzzle, and NAME.background its background."""
+.non puzzles, and Web Paint-by-Number's XML with every puzzle in it. NAME.cert (a certificate) and NAME.proof (a proof by lemmas)
+beside NAME.png are checked; NAME.givens has the cells that are published with the puzzle, and NAME.background its background."""
 
 EXAMPLES = """examples:
   nonobench-audit site                                      a table of all puzzles below the folder site
@@ -26,8 +27,9 @@ EXAMPLES = """examples:
   nonobench-audit site --scheduler tcp://ada.example:8786 --allow 20000 --jsonl rows.jsonl
 
 status:
-  0  every puzzle has one solution, no two of its colours look alike, and each certificate is accepted without unpublished givens
-  1  some puzzles are ambiguous or undecided, have colours that look alike, or have a certificate that is not accepted
+  0  every puzzle has one solution, no two of its colours look alike, and each certificate and proof beside it is accepted without
+     unpublished givens
+  1  some puzzles are ambiguous or undecided, have colours that look alike, or have a certificate or proof that is not accepted
   2  the arguments are wrong
   3  a file could not be read or written, or a library is missing; what is done is kept
   130, 143  it was stopped; what is done is kept"""
@@ -69,6 +71,11 @@ def options_of(words: list[str]) -> Options:
     for path in told.paths:
         if not os.path.lexists(path):
             parser.error(f"no such file or folder: {path!r}" + (" (a folder of that name is ./merge)" if path == "merge" else ""))
+    nested = unreached(told.paths)
+    if nested is not None:
+        parser.error(f"{nested[0]!r} lies in {nested[1]!r}, whose search leaves it out: name it in a run of its own")
+    if told.certificates is not None and not os.path.isdir(told.certificates):
+        parser.error(f"no such folder: {told.certificates!r}")
     if told.prove is not None and (told.certify is None or told.scheduler is not None):
         parser.error("--prove goes with --certify DIR, and not with --scheduler")
     if told.certify is not None:
@@ -93,7 +100,7 @@ def _parser() -> argparse.ArgumentParser:
     write.add_argument("--prove", metavar="BYTES", type=_bytes,
                        help="write NAME.proof too, a proof by lemmas, where a certificate has more bytes or does not come")
     read = parser.add_argument_group("what is read")
-    read.add_argument("--certificates", metavar="DIR", help="the certificates are below this folder, not beside the puzzles")
+    read.add_argument("--certificates", metavar="DIR", help="certificates and proofs are below this folder, not beside the puzzles")
     read.add_argument("--background", metavar="COLOUR", type=_ground, default="white",
                       help="of pictures: white (the default), corner (the first pixel), or R,G,B")
     bounds = parser.add_argument_group("bounds")

@@ -1,4 +1,4 @@
-"""Certificates that lie beside puzzles, and those that an audit writes, with proofs by lemmas."""
+"""Certificates and proofs by lemmas: those that lie beside puzzles, and those that an audit writes."""
 
 from __future__ import annotations
 
@@ -9,6 +9,7 @@ import zlib
 from typing import TYPE_CHECKING, Optional
 
 from .judging import Desk
+from .kinds import KINDS, Kind
 from .puzzles import Puzzle, one_line
 from .rows import UNWRITTEN, Row, row_of, text_of
 
@@ -16,12 +17,30 @@ if TYPE_CHECKING:
     from .workers import Answer
 
 
-def told(desk: Desk, text: bytes, puzzle: Puzzle, certificate: bytes) -> Row:
-    """What is said of a certificate: whether it is accepted, and with which givens, of which some may not be published."""
-    why = desk.check(text, certificate, puzzle.word())
+Files = list[tuple[str, bytes]]  # what lies beside a puzzle: how its name ends, and its bytes
+
+
+def told(desk: Desk, puzzle: Puzzle, beside: Files) -> Row:
+    """What a row says of the certificates and proofs that lie beside the puzzle that was opened: of several of a kind, of the worst."""
+    row: Row = {}
+    for kind in KINDS:
+        files = [held for ending, held in beside if ending == kind.ending]
+        if files:
+            row[kind.beside] = min((_told(desk, kind, puzzle, held) for held in files), key=_merit)
+    return row
+
+
+def _merit(told_of: Row) -> tuple[bool, bool]:
+    """Grows from what is refused to what is accepted with unpublished givens, and then to what is accepted."""
+    return told_of["accepted"], "unpublished" not in told_of
+
+
+def _told(desk: Desk, kind: Kind, puzzle: Puzzle, held: bytes) -> Row:
+    """What is said of one: whether it is accepted, and with which givens, of which some may not be published."""
+    why = desk.check(kind, desk.picture(puzzle), held, puzzle.word())
     if why:
         return {"accepted": False, "why": one_line(why)}
-    givens = givens_of(certificate)
+    givens = givens_of(held)
     row: Row = {"accepted": True}
     if givens:
         row["givens"] = [list(place) for place in givens]
@@ -31,10 +50,10 @@ def told(desk: Desk, text: bytes, puzzle: Puzzle, certificate: bytes) -> Row:
     return row
 
 
-def givens_of(certificate: bytes) -> list[tuple[int, int]]:
-    """The cells that an accepted certificate gives, rows and columns from 1."""
+def givens_of(held: bytes) -> list[tuple[int, int]]:
+    """The cells that an accepted certificate or proof gives, rows and columns from 1."""
     givens = []
-    for line in certificate.split(b"\n")[1:]:
+    for line in held.split(b"\n")[1:]:
         words = line.split(b" ")
         if words[0] != b"given":
             break

@@ -11,10 +11,9 @@ from collections import deque
 from typing import Any, Callable, Iterator, NamedTuple, Optional
 
 from .._library import version
-from . import readers
 from .outputs import Failure
 from .puzzles import Missing, Unreadable
-from .serving import Settings, Task, unread
+from .serving import Settings, Task, files_of, unread
 from .workers import TICK, Answer, Broken, Pool
 
 MOST_FILES = 256  # in a pack
@@ -125,14 +124,12 @@ def _packs(tasks: Iterator[Task], settings: Settings) -> Iterator[tuple[list[Tas
     size = 0
     for task in tasks:
         try:
-            certificates = tuple((number, readers.bytes_of(file)) for number, file in task.certificates)
-            givens, background = (None if file is None else readers.bytes_of(file) for file in (task.givens, task.background))
-            file = readers.bytes_of(task.file)
+            files = files_of(task)
         except Unreadable as error:
             answers.append(Answer(task.number, True, "error", unread(task.name, error, settings.has_times)))
         else:
-            pack.append(task._replace(file=file, certificates=certificates, givens=givens, background=background))
-            size += len(file) + sum(len(file) for _, file in certificates)
+            pack.append(task._replace(**files._asdict()))
+            size += len(files.file) + sum(len(held) for _, _, held in files.beside)
         if len(pack) + len(answers) >= MOST_FILES or size >= MOST_BYTES:
             yield pack, answers
             pack, answers, size = [], [], 0

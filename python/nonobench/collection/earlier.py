@@ -7,6 +7,7 @@ import os
 import re
 from typing import BinaryIO, Optional
 
+from .kinds import KINDS
 from .outputs import Failure, failure, lines_of
 from .rows import Row, row_of
 
@@ -56,7 +57,12 @@ class Earlier:
 
 
 def content_before(rows: list[tuple[int, Row]], made: str, limit: str, to: Optional[str]) -> str:
-    """What the content of a file was when its rows were made; empty where they are to be made again."""
+    """What the content of a file was when its rows were made; empty where they are to be made again.
+
+    Where a run was stopped within a file of several puzzles, some of its rows may be newer than the others.
+    """
+    if len({row.get("content") for _, row in rows}) > 1:
+        return ""
     for _, row in rows:
         if row.get("made") != made or "note" in row or "missing" in row:
             return ""
@@ -66,9 +72,9 @@ def content_before(rows: list[tuple[int, Row]], made: str, limit: str, to: Optio
             return ""
         number = row.get("puzzle", 1)
         name = to if number == 1 else f"{to}.{number}"
-        for ending in ("cert",) * ("lines" in row) + ("proof",) * ("proof" in row):
-            if to is not None and not os.path.exists(f"{name}.{ending}"):
-                return ""
+        made_of = [kind.ending for kind in KINDS if kind.lines in row]
+        if to is not None and not all(os.path.exists(f"{name}.{ending}") for ending in made_of):
+            return ""
     return rows[0][1].get("content", "") if rows else ""
 
 

@@ -5,11 +5,16 @@ from __future__ import annotations
 import functools
 import os
 import re
+from collections import Counter
 from typing import Iterator, NamedTuple, Optional
+
+from .kinds import KINDS
 
 SUFFIXES = frozenset((".ppm", ".pgm", ".pbm", ".pnm", ".png", ".gif", ".bmp", ".webp", ".non", ".xml"))
 Names = frozenset[str]
 NONE: Names = frozenset()
+Beside = tuple[int, str, str]  # a certificate or a proof: the puzzle of the file that it is for, from 1; how its name ends; its path
+_NUMBERED = re.compile(rf"(.+)\.([1-9][0-9]{{0,5}})\.({'|'.join(kind.ending for kind in KINDS)})", re.DOTALL | re.IGNORECASE)
 
 
 class Found(NamedTuple):
@@ -17,8 +22,8 @@ class Found(NamedTuple):
 
     path: str
     name: str  # the path as it is shown and sorted, in letters alone
-    stem: str  # below its PATH, without the suffix: what its certificates are called
-    certificates: tuple[tuple[int, str], ...]  # the puzzle of the file that each is for, from 1
+    stem: str  # below its PATH, without the suffix: what its certificates and proofs are called
+    beside: tuple[Beside, ...]
     givens: Optional[str]
     background: Optional[str]
 
@@ -29,9 +34,11 @@ class Folder(NamedTuple):
     prefix: str  # what its files' paths begin with
     front: str  # the same below its PATH
     names: Names
-    certificates: Names  # the names in the folder where certificates lie
-    certificates_in: str
-    numbered: dict[str, list[tuple[int, str]]]  # the certificates of files with several puzzles
+    stems: Counter[str]  # how many puzzles have a name, without its suffix
+    held: Names  # the names in the folder where certificates and proofs lie
+    held_in: str
+    numbered: dict[str, list[Beside]]  # those of files with several puzzles
+    unlisted: tuple[Beside, ...]  # a folder that cannot be listed stands for what lies there: it cannot be read either
 
 
 def shown(path: str) -> str:
@@ -46,12 +53,43 @@ def order_of(name: str) -> str:
 
 def without_nested(paths: list[str]) -> list[str]:
     """The paths in the order of names, each once and without those that lie in another one."""
+    every = {os.path.normpath(path) for path in paths}
     kept: list[str] = []
-    for path in sorted([os.path.normpath(path) for path in paths], key=lambda path: order_of(shown(path))):
-        is_here = kept[:1] == ["."] and not os.path.isabs(path) and path.split("/")[0] != ".."
-        if not is_here and not (kept and (path == kept[-1] or path.startswith(kept[-1].rstrip("/") + "/"))):
+    for path in sorted(every, key=lambda path: order_of(shown(path))):
+        outers = [*kept[-1:], *(["."] if "." in every and path != "." else [])]
+        if not any(_is_within(path, outer) for outer in outers):
             kept.append(path)
     return kept
+
+
+def unreached(paths: list[str]) -> Optional[tuple[str, str]]:
+    """A path that lies in another one, and that the search of this does not find; with that other one."""
+    kept = without_nested(paths)
+    for path in sorted({os.path.normpath(path) for path in paths}.difference(kept)):
+        outer = next(outer for outer in kept if _is_within(path, outer))
+        if not _finds(outer, path):
+            return path, outer
+    return None
+
+
+def _finds(outer: str, path: str) -> bool:
+    """Whether the search of a folder finds a path that lies in it: nothing hidden, and not by a link to a folder."""
+    if any(part[0] == "." for part in os.path.relpath(path, outer).split("/")):
+        return False
+    if not os.path.isdir(path) and os.path.splitext(path)[1].lower() not in SUFFIXES:
+        return False
+    while path != outer:
+        if os.path.islink(path) and os.path.isdir(path):
+            return False
+        path = os.path.dirname(path) or "."
+    return True
+
+
+def _is_within(path: str, outer: str) -> bool:
+    """Whether a path is another one, or leads into it by its name."""
+    if outer == ".":
+        return not os.path.isabs(path) and path.split("/")[0] != ".."
+    return path == outer or path.startswith(outer.rstrip("/") + "/")
 
 
 def front_of(path: str) -> str:
@@ -60,7 +98,7 @@ def front_of(path: str) -> str:
 
 
 def find(paths: list[str], certificates: Optional[str]) -> Iterator[Found]:
-    """The files of paths in order, their certificates beside them or in a folder of the same shape.
+    """The files of paths in order, their certificates and proofs beside them or in a folder of the same shape.
 
     Folders that links lead to are not searched, nor is what is hidden. What is named by a path itself is.
     """
@@ -91,43 +129,50 @@ def _below(path: str, prefix: str, front: str, certificates: Optional[str]) -> I
 
 
 @functools.lru_cache(maxsize=4)
-def _names(folder: str) -> Names:
+def _names(folder: str) -> Optional[Names]:
+    """The names in a folder, of which there are none where it is missing; nothing where it cannot be listed."""
     try:
         return frozenset(os.listdir(folder))
-    except OSError:
+    except (FileNotFoundError, NotADirectoryError):
         return NONE
+    except OSError:
+        return None
 
 
 @functools.lru_cache(maxsize=4)
-def _folder(prefix: str, front: str, names: Names, certificates: Optional[str]) -> Folder:
+def _folder(prefix: str, front: str, names: Optional[Names], certificates: Optional[str]) -> Folder:
     held, held_in = names, prefix
     if certificates is not None:
         held_in = os.path.join(certificates, front)
         held = _names(held_in)
-    numbered: dict[str, list[tuple[int, str]]] = {}
-    if any(name.lower().endswith(".xml") for name in names):
-        for name in held:
-            parts = re.fullmatch(r"(.+)\.([1-9][0-9]{0,5})\.cert", name, re.DOTALL)
+    unlisted = [place or "." for place, listed in ((prefix, names), (held_in, held)) if listed is None]
+    numbered: dict[str, list[Beside]] = {}
+    if any(name.lower().endswith(".xml") for name in names or ()):
+        for name in held or ():
+            parts = _NUMBERED.fullmatch(name)
             if parts:
-                numbered.setdefault(parts[1], []).append((int(parts[2]), held_in + name))
-    return Folder(prefix, front, names, held, held_in, numbered)
+                numbered.setdefault(parts[1], []).append((int(parts[2]), parts[3].lower(), held_in + name))
+    stems = Counter(stem for stem, suffix in [os.path.splitext(name) for name in names or ()] if suffix.lower() in SUFFIXES)
+    whole = tuple((1, kind.ending, place) for kind in KINDS for place in unlisted)
+    return Folder(prefix, front, names or NONE, stems, held or NONE, held_in, numbered, whole)
 
 
 def _found(folder: Folder, name: str) -> Found:
     stem, suffix = os.path.splitext(name)
     path = folder.prefix + name
-    is_only = not any(other != suffix and stem + other in folder.names for other in SUFFIXES)
+    is_only = folder.stems[stem] == (suffix.lower() in SUFFIXES)
     called = stem if is_only else name
-    first = _either(name, stem, ".cert", folder.certificates, folder.certificates_in)
-    certificates = [(1, first)] if first is not None else []
+    beside = list(folder.unlisted)
+    for ending in (kind.ending for kind in KINDS):
+        # What is called after the name alone may belong to the other puzzle of that name.
+        places = _named(name, stem, f".{ending}", folder.held, folder.held_in)
+        beside += [(1, ending, place) for place in places[: None if is_only else 1]]
     if suffix.lower() == ".xml":
-        certificates += sorted(folder.numbered.get(called, ()))
-    givens, background = (_either(name, stem, end, folder.names, folder.prefix) for end in (".givens", ".background"))
-    return Found(path, shown(path), folder.front + called, tuple(certificates), givens, background)
+        beside += sorted(folder.numbered.get(called, ()))
+    givens, background = (next(iter(_named(name, stem, end, folder.names, folder.prefix)), None) for end in (".givens", ".background"))
+    return Found(path, shown(path), folder.front + called, tuple(beside), givens, background)
 
 
-def _either(name: str, stem: str, end: str, names: Names, prefix: str) -> Optional[str]:
-    for other in (name + end, stem + end):
-        if other in names:
-            return prefix + other
-    return None
+def _named(name: str, stem: str, end: str, names: Names, prefix: str) -> list[str]:
+    """The files that go with a puzzle and have an ending, in small or capital letters: NAME.png.cert, then NAME.cert."""
+    return [prefix + front + ending for front in (name, stem) for ending in (end, end.upper()) if front + ending in names]

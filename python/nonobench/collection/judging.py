@@ -6,6 +6,7 @@ import ctypes
 from typing import Callable, NamedTuple, Optional
 
 from .._library import _calls
+from .kinds import Kind
 from .puzzles import Puzzle, Unreadable
 
 DONE, REFUSED, MEMORY = 0, 1, 4
@@ -46,10 +47,10 @@ class Desk:
         self._look(_calls.nonobench_say(self._at, self._handle, lines, len(lines)))
         return self._text()
 
-    def check(self, text: bytes, certificate: bytes, word: bytes) -> str:
-        """What is wrong with a certificate of a P3 picture; empty where it is accepted."""
+    def check(self, kind: Kind, text: bytes, held: bytes, word: bytes) -> str:
+        """What is wrong with a certificate or a proof of a P3 picture; empty where it is accepted."""
         try:
-            self._look(_calls.nonobench_check(self._at, text, len(text), certificate, len(certificate), word, len(word)))
+            self._look(getattr(_calls, kind.call)(self._at, text, len(text), held, len(held), word, len(word)))
         except Unreadable as error:
             return str(error)
         return ""

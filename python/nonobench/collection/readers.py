@@ -83,11 +83,11 @@ def _is_xml(data: bytes) -> bool:
 
 def first_triple(data: bytes) -> Optional[Triple]:
     """The first pixel of a P3 text, where it has one."""
-    numbers = re.match(rb"P3(?:(?:\s|#[^\r\n]*(?:[\r\n]|$))+([0-9]{1,9})){6}", data)
+    numbers = re.match(rb"P3(?:(?:\s|#[^\r\n]*(?:[\r\n]|$))+0*[0-9]{1,9}(?![0-9])){6}", data)
     if numbers is None:
         return None
     words = re.sub(rb"#[^\r\n]*", b" ", data[: numbers.end()]).split()
-    red, green, blue = (int(word) for word in words[-3:])
+    red, green, blue = (int(word.lstrip(b"0") or b"0") for word in words[-3:])
     return red, green, blue
 
 

@@ -10,6 +10,7 @@ from typing import Any, Optional
 
 from .._colours import colour_shown, colours_too_near
 from .judging import Judged
+from .kinds import KINDS, Kind
 from .puzzles import Puzzle, Triple
 
 VERDICTS = ("unique", "ambiguous", "undecided", "error")
@@ -18,7 +19,7 @@ UNWRITTEN = "its certificate was not written"
 FIGURES = ("rounds", "evaluations", "wait", "splits", "depth")
 COLUMNS = (
     "file", "puzzle", "title", "rows", "columns", "colours", "verdict", "open", "grade", *(f"grade_{name}" for name in FIGURES),
-    "lines", "proof", "certificate", "givens", "near_colours", "error", "seconds",
+    *(kind.lines for kind in KINDS), *(kind.beside for kind in KINDS), "givens", "near_colours", "error", "seconds",
 )
 
 Row = dict[str, Any]
@@ -78,9 +79,9 @@ def name_of(row: Row) -> str:
     return f"{row['file']}#{row['puzzle']}" if "puzzle" in row else str(row["file"])
 
 
-def certificate_words(row: Row) -> str:
-    """What is said of the certificate that lies beside a puzzle."""
-    told: Optional[Row] = row.get("certificate")
+def kind_words(row: Row, kind: Kind) -> str:
+    """What is said of the certificate, or of the proof, that lies beside a puzzle."""
+    told: Optional[Row] = row.get(kind.beside)
     if told is None:
         return ""
     if not told["accepted"]:
@@ -90,12 +91,24 @@ def certificate_words(row: Row) -> str:
     return f"accepted, givens {len(told['givens'])}" if told.get("givens") else "accepted"
 
 
+def beside_words(row: Row) -> list[str]:
+    """The same of all that lies beside it, each with the word for it."""
+    return [f"{kind.word} {words}" for kind in KINDS if (words := kind_words(row, kind))]
+
+
+# What a row's text has where there may be flaws. No string in it holds these marks: a quote in one follows a backslash.
+FLAW_MARKS = (*(f'"{kind.beside}":{{' for kind in KINDS), '"near":[')
+
+
 def flaws_of(row: Row) -> list[str]:
     """Why a puzzle cannot be published as it is, apart from its verdict."""
-    told = row.get("certificate") or {"accepted": True}
-    flaws = [] if told["accepted"] else ["certificates not accepted"]
-    if told.get("unpublished"):
-        flaws.append("certificates with unpublished givens")
+    flaws = []
+    for kind in KINDS:
+        told = row.get(kind.beside) or {"accepted": True}
+        if not told["accepted"]:
+            flaws.append(f"{kind.word}s not accepted")
+        if told.get("unpublished"):
+            flaws.append(f"{kind.word}s with unpublished givens")
     if row.get("near"):
         flaws.append("colours that look alike")
     return flaws
@@ -112,7 +125,7 @@ def table_line(row: Row) -> str:
         f"{row['verdict']:9}  {size:>7}  {row.get('colours', ''):>7}  {row.get('open', ''):>5}  {row.get('grade', ''):9}  "
         f"{row.get('lines', ''):>7}  {seconds:>7}  {printable(name_of(row))}"
     )
-    told = [row.get("error", ""), row.get("note", ""), certificate_words(row), near_words(row)]
+    told = [row.get("error", ""), row.get("note", ""), *beside_words(row), near_words(row)]
     return "; ".join([line, *(printable(word) for word in told if word)])
 
 
@@ -132,7 +145,7 @@ def _escaped(sign: str) -> str:
 
 def csv_cells(row: Row) -> list[Any]:
     """The cells of a row in the order of COLUMNS. A text that a spreadsheet would take for a formula begins with an apostrophe."""
-    cells: Row = {**row, "near_colours": " ".join(row.get("near", ())), "certificate": certificate_words(row)}
+    cells: Row = {**row, "near_colours": " ".join(row.get("near", ())), **{kind.beside: kind_words(row, kind) for kind in KINDS}}
     cells.update({f"grade_{name}": figure for name, figure in row.get("figures", {}).items()})
     cells["rows"], cells["columns"] = row.get("rows", ""), row.get("columns", "")
     cells["givens"] = len(row.get("givens", ()))

@@ -15,12 +15,22 @@ from .earlier import Earlier, content_before
 from .finding import find, order_of
 from .outputs import CLOSED, Failure, Lines, Sheet, Table, kept_folder, lines_of
 from .progress import Progress
-from .rows import row_of
+from .rows import VERDICTS, Row, row_of, text_of
 from .serving import FULL, Settings, Task
 from .tally import ERRORS, Tally
 from .workers import Answer, Broken, Pool
 
 MOST_WAITING = 64 << 20  # bytes of rows that wait for one before them
+
+
+MIXED = "rows of some of its puzzles are missing, or of another run"
+
+
+def _follows(before: Row, row: Row) -> bool:
+    """Whether a row comes directly behind another one where files are joined: a file's puzzles are told whole, and by one run."""
+    if row["file"] != before.get("file"):
+        return not before.get("more") and row.get("puzzle", 1) == 1
+    return bool(before.get("more")) and row.get("puzzle") == before["puzzle"] + 1 and row.get("content") == before.get("content")
 
 
 class Stopped(BaseException):
@@ -84,6 +94,7 @@ class Run:
         self._complete: set[int] = set()
         self._size = 0
         self._next = 0
+        self._beside = 0  # how many certificates and proofs lie beside the puzzles
 
     def audit(self) -> int:
         """Audits a collection."""
@@ -117,17 +128,26 @@ class Run:
                 try:
                     row = row_of(line)
                     rows[order_of(row["file"]), row.get("puzzle", 1)] = (at, place)
-                except (ValueError, KeyError, TypeError):
-                    raise Failure(f"{path}: line {number} is not a row of an audit") from None
+                    is_row = row["verdict"] in VERDICTS
+                except (ValueError, KeyError, TypeError, AttributeError):
+                    is_row = False
+                if not is_row:
+                    raise Failure(f"{path}: line {number} is not a row of an audit")
         self._open()
         return self._guarded(lambda: self._join(files, rows))
 
     def _join(self, files: list[Any], rows: dict[tuple[str, int], tuple[int, int]]) -> None:
+        before: Row = {}
         for key in sorted(rows):
             at, place = rows[key]
             files[at].seek(place)
-            text = files[at].readline().decode("ascii").rstrip("\n")
-            self._deliver(row_of(text)["verdict"], text)
+            row = row_of(files[at].readline())
+            if not _follows(before, row):
+                raise Failure(f"{(before if before.get('more') else row)['file']}: {MIXED}")
+            before = row
+            self._deliver(row["verdict"], text_of(row))  # written anew: other programs may have put blanks in
+        if before.get("more"):
+            raise Failure(f"{before['file']}: {MIXED}")
 
     def _source(self, settings: Settings) -> Any:
         options = self._options
@@ -172,6 +192,7 @@ class Run:
             if at % parts != part - 1:
                 continue
             number += 1
+            self._beside += len(found.beside)
             to = None if options.certify is None else os.path.join(options.certify, found.stem)
             before = ""
             if self._earlier is not None:
@@ -180,10 +201,11 @@ class Run:
                 self._kept[number] = Kept(tuple(place for place, _ in rows) if before else (), to)
             elif to is not None:
                 self._kept[number] = Kept((), to)
-            yield Task(number, found.name, found.path, found.certificates, found.givens, found.background, to, before, 1, FULL)
+            yield Task(number, found.name, found.path, found.beside, found.givens, found.background, to, before, 1, FULL)
 
     def _guarded(self, work: Callable[[], None]) -> int:
         """Does the work, and ends what is written whatever comes: what is done is kept."""
+        options = self._options
         failures: list[Exception] = []
         status, is_whole = 0, False
         try:
@@ -196,6 +218,8 @@ class Run:
         if status:
             for number in sorted(self._complete):
                 self._release(number)
+        if is_whole and options.certificates is not None and options.shard == (1, 1) and not self._beside:
+            failures.append(Failure(f"{options.certificates}: no certificate or proof in it is of one of these puzzles"))
         failures += self._close(is_whole)
         self._progress.close()
         for words in dict.fromkeys(map(str, failures)):

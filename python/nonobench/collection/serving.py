@@ -21,6 +21,7 @@ from typing import Any, BinaryIO, Iterator, NamedTuple, Optional, Union
 from .._grade import NoGrade, grade_of
 from . import certificates, readers
 from .judging import Desk, Judged, judge
+from .kinds import BY_ENDING
 from .puzzles import Missing, Puzzle, Unreadable, one_line
 from .rows import FIGURES, Row, judged_row, map_of, text_of
 
@@ -55,10 +56,10 @@ class Task(NamedTuple):
     number: int
     name: str
     file: File
-    certificates: tuple[tuple[int, File], ...]  # those that lie beside it, each with the number of its puzzle
+    beside: tuple[tuple[int, str, File], ...]  # certificates and proofs, each with the number of its puzzle and how its name ends
     givens: Optional[File]
     background: Optional[File]
-    to: Optional[str]  # where its certificate is written, without the ending
+    to: Optional[str]  # where its certificate and its proof are written, without the ending
     before: str  # what its content was when it was judged before
     start: int  # the first puzzle that is wanted
     mode: int
@@ -172,17 +173,16 @@ class Judging:
     def _answer(self, task: Task) -> None:
         begun = time.perf_counter()
         try:
-            data, givens, background = (_bytes(file) for file in (task.file, task.givens, task.background))
-            certificates = {number: _bytes(file) for number, file in task.certificates}
+            files = files_of(task)
         except Unreadable as error:
             self._answers.put(task.number, "last", "error", unread(task.name, error, self._settings.has_times))
             return
-        content = _content(data, givens, background, *certificates.values())
+        content = _content(files)
         if content == task.before:
             self._answers.put(task.number, "same", "")
             return
         try:
-            puzzles = numbered(self._puzzles(task.name, data, givens, background))
+            puzzles = numbered(self._puzzles(task.name, files))
         except Unreadable as error:
             puzzles = iter([(1, False, error)])
         number = 0
@@ -197,29 +197,29 @@ class Judging:
             if has_more:
                 front["more"] = True
             about = About(front, "more" if has_more else "last", content, begun)
-            self._judge(task, about, puzzle, certificates.get(number))
+            self._judge(task, about, puzzle, [(ending, held) for of, ending, held in files.beside if of == number])
             if task.mode == GLANCE:
                 return
             begun = time.perf_counter()
         if number < task.start:
             self._answers.put(task.number, "none", "")
 
-    def _puzzles(self, name: str, data: bytes, givens: bytes, background: bytes) -> Iterator[Union[Puzzle, Unreadable]]:
+    def _puzzles(self, name: str, files: Files) -> Iterator[Union[Puzzle, Unreadable]]:
         ground = self._ground
-        if background:
+        if files.background:
             try:
-                ground = readers.ground_of(background.decode("ascii", "replace").strip())
+                ground = readers.ground_of(files.background.decode("ascii", "replace").strip())
             except ValueError as error:
                 raise Unreadable(f"the file of its background {error}") from error
-        return readers.puzzles_of(data, os.path.splitext(name)[1].lower(), ground, givens)
+        return readers.puzzles_of(files.file, os.path.splitext(name)[1].lower(), ground, files.givens)
 
-    def _judge(self, task: Task, about: About, puzzle: Union[Puzzle, Unreadable], certificate: Optional[bytes]) -> None:
+    def _judge(self, task: Task, about: About, puzzle: Union[Puzzle, Unreadable], beside: certificates.Files) -> None:
         """Puts the row of one puzzle."""
         made = ""
         try:
             if isinstance(puzzle, Unreadable):
                 raise puzzle
-            row, made = self._row(task, about, puzzle, certificate)
+            row, made = self._row(task, about, puzzle, beside)
         except Unreadable as error:
             row = {"verdict": "error", "error": str(error)}
             if isinstance(error, Missing):
@@ -239,18 +239,22 @@ class Judging:
             row["limit"] = self._settings.limit
         self._answers.put(task.number, kind, row["verdict"], text_of({**about.front, **row}), certificate)
 
-    def _row(self, task: Task, about: About, puzzle: Puzzle, beside: Optional[bytes]) -> tuple[Row, str]:
+    def _row(self, task: Task, about: About, puzzle: Puzzle, beside: certificates.Files) -> tuple[Row, str]:
         """The row of a puzzle, and its certificate where that goes back."""
         settings, desk = self._settings, self._desk
         number = about.front.get("puzzle", 1)
         name = task.to if number == 1 else f"{task.to}.{number}"
         notes: list[str] = []
+        told: Row = {}
 
         def tell(known: Judged) -> None:
+            # What lies beside is checked before a certificate is made: it is wanted most where none comes in time.
+            if beside and not told:
+                told.update(certificates.told(desk, puzzle, beside))
             if known.proof:
                 notes.append(certificates.write(f"{name}.proof", known.proof))
             if known.proof or time.perf_counter() - about.begun > LONG:
-                self._put(task, about, judged_row(puzzle, known), "known", about.kind)
+                self._put(task, about, {**judged_row(puzzle, known), **told}, "known", about.kind)
                 self._answers.flush()
 
         allowance = FEW_SPLITS if task.mode == GLANCE else settings.allowance
@@ -264,8 +268,7 @@ class Judging:
             row["lines"] = judged.certificate.count("\n")
             if settings.has_grades:
                 row.update(_grade(puzzle, row, judged))
-        if beside is not None:
-            row["certificate"] = certificates.told(desk, desk.picture(puzzle), puzzle, beside)
+        row.update(told or certificates.told(desk, puzzle, beside))
         if task.to is None or not judged.certificate:
             return row, ""
         if settings.is_inline:
@@ -295,17 +298,37 @@ def numbered(puzzles: Iterator[Union[Puzzle, Unreadable]]) -> Iterator[tuple[int
         number, held = number + 1, puzzle
 
 
-def _bytes(file: Optional[File]) -> bytes:
+class Files(NamedTuple):
+    """The bytes of a file, and of what lies beside it."""
+
+    file: bytes
+    beside: tuple[tuple[int, str, bytes], ...]
+    givens: bytes
+    background: bytes
+
+
+def files_of(task: Task) -> Files:
+    """The bytes of a task's files. Raises Unreadable, which names what lies beside the file where that is not read."""
+    beside = tuple((of, ending, _bytes(held, f"its {BY_ENDING[ending].word}: ")) for of, ending, held in task.beside)
+    return Files(_bytes(task.file), beside, _bytes(task.givens, "its givens: "), _bytes(task.background, "its background: "))
+
+
+def _bytes(file: Optional[File], whose: str = "") -> bytes:
     """The bytes of a file; none where there is no file."""
     if file is None or isinstance(file, bytes):
         return file or b""
-    return readers.bytes_of(file)
+    try:
+        return readers.bytes_of(file)
+    except Unreadable as error:
+        raise Unreadable(f"{whose}{error}") from error
 
 
-def _content(*files: bytes) -> str:
-    """A digest of a file and of what lies beside it."""
-    front = ",".join(str(len(file)) for file in files).encode("ascii")
-    return hashlib.blake2b(b":".join((front, *files)), digest_size=16).hexdigest()
+def _content(files: Files) -> str:
+    """A digest of a file and of what lies beside it: also of which puzzle each certificate or proof is for, and which it is."""
+    parts = [("", files.file), ("givens", files.givens), ("background", files.background)]
+    parts += [(f"{of}.{ending}", held) for of, ending, held in files.beside]
+    front = ",".join(f"{name} {len(held)}" for name, held in parts).encode("ascii")
+    return hashlib.blake2b(b":".join((front, *(held for _, held in parts))), digest_size=16).hexdigest()
 
 
 def _grade(puzzle: Puzzle, row: Row, judged: Judged) -> Row:

@@ -7,7 +7,7 @@ from collections import Counter
 from typing import Iterable
 
 from .arguments import Options
-from .rows import GRADES, UNWRITTEN, VERDICTS, flaws_of, row_of
+from .rows import FLAW_MARKS, GRADES, UNWRITTEN, VERDICTS, flaws_of, row_of
 
 ALL_UNIQUE, SOME_NOT, ERRORS = 0, 1, 3
 
@@ -23,11 +23,11 @@ class Tally:
         self._unwritten = 0
 
     def put(self, verdict: str, text: str) -> None:
-        """Counts a row. No string in its text holds the marks that are looked for: a quote in one follows a backslash."""
+        """Counts a row."""
         self._verdicts[verdict] += 1
         if verdict == "error":
             self._missing.update(name for name in [row_of(text).get("missing")] if name)
-        elif '"certificate":{' in text or '"near":[' in text:
+        elif any(mark in text for mark in FLAW_MARKS):
             self._flaws.update(flaws_of(row_of(text)))
         if f'"note":"{UNWRITTEN}' in text:
             self._unwritten += 1

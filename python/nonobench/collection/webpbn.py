@@ -58,8 +58,10 @@ def _puzzles(events: Any) -> Iterator[Puzzle | Unreadable]:
                 raise Unreadable("the XML cannot be read: it has too many elements")
             continue
         depth -= 1
-        if element.tag != "puzzle" or depth > 1 or (depth == 1 and outer.tag != "puzzleset"):
+        if element.tag != "puzzle":
             continue
+        if depth > 1 or (depth == 1 and outer.tag != "puzzleset"):
+            raise Unreadable("the XML has a puzzle that is not directly in its set")
         found += 1
         try:
             yield puzzle_of(element)
@@ -121,7 +123,10 @@ def _order(colours: dict[str, Colour], ground: str, used: set[str]) -> tuple[lis
         raise Unreadable("the background of the puzzle is a colour that it does not have")
     by_sign: dict[str, Colour] = {}
     for colour in colours.values():
-        if colour.sign and (colour.sign not in by_sign or colour.is_declared):
+        before = by_sign.get(colour.sign or "")
+        if before is not None and before.is_declared and colour.is_declared and colour.sign in used:
+            raise Unreadable(f"two colours of the puzzle have the sign {one_line(before.sign or '', 2)!r}")
+        if colour.sign and (before is None or colour.is_declared):
             by_sign[colour.sign] = colour
     for sign in sorted(used - by_sign.keys()):
         raise Unreadable(f"the solution has a cell {one_line(sign, 2)!r}, which is not a colour of the puzzle")
@@ -132,12 +137,11 @@ def _order(colours: dict[str, Colour], ground: str, used: set[str]) -> tuple[lis
 
 
 def _apart(order: list[Colour]) -> list[Triple]:
-    """The triples of colours: two that are declared alike stay two."""
+    """The triples of colours: two that are declared alike stay two, as near as they can be, so that it is told that they look alike."""
     made: list[Triple] = []
     for red, green, blue in (colour.triple for colour in order):
-        while (red, green, blue) in made:
-            blue = (blue + 1) % 256
-        made.append((red, green, blue))
+        blues = sorted(range(256), key=lambda other: abs(other - blue))
+        made.append(next(triple for triple in ((red, green, other) for other in blues) if triple not in made))
     return made
 
 

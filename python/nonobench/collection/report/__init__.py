@@ -14,7 +14,7 @@ from typing import Any, Optional
 from ..._library import version
 from ..outputs import Failure, Output, failure
 from ..puzzles import Missing
-from ..rows import FIGURES, GRADES, VERDICTS, Row, certificate_words, name_of, near_words, printable, text_of
+from ..rows import FIGURES, GRADES, VERDICTS, Row, beside_words, flaws_of, name_of, near_words, printable, text_of
 
 SIDES = (10, 15, 20, 25, 30, 40, 60, 120)  # the longer sides that puzzles are counted by
 _FOLDER = Path(__file__).resolve().parent
@@ -32,11 +32,13 @@ class Report:
         self._verdicts: Counter[str] = Counter()
         self._grades: Counter[str] = Counter()
         self._sides: Counter[tuple[int, str]] = Counter()
+        self._flaws: Counter[str] = Counter()
 
     def put(self, text: str, row: Row) -> None:
         """Puts a row."""
         verdict = row["verdict"]
         self._verdicts[verdict] += 1
+        self._flaws.update(flaws_of(row))
         if "grade" in row:
             self._grades[row["grade"]] += 1
         if "rows" in row:
@@ -94,6 +96,7 @@ class Report:
             "total": total,
             "verdicts": [(name, self._verdicts[name], self._verdicts[name] / (total or 1)) for name in VERDICTS],
             "grades": [(name, self._grades[name], self._grades[name] / tallest) for name in GRADES],
+            "flaws": sorted(self._flaws.items()),
             "graded": sum(self._grades.values()),
             "sides": [
                 (least + 1, most, sum(counts), [(name, count, count / widest) for name, count in zip(VERDICTS, counts)])
@@ -106,15 +109,14 @@ class Report:
 def record_of(row: Row) -> list[Any]:
     """A row as the page's script reads it. What is empty at its end is left out."""
     verdict, grade = VERDICTS.index(row["verdict"]), GRADES.index(row["grade"]) if "grade" in row else -1
-    told = (row.get("error"), row.get("note"), near_words(row), "")
-    beside = certificate_words(row)
-    words = "; ".join(printable(word) for word in (*told, f"certificate {beside}" if beside else "") if word)
+    told = (row.get("error"), row.get("note"), near_words(row), *beside_words(row))
+    words = "; ".join(printable(word) for word in told if word)
     figures = row.get("figures", {})
     givens = [(place[0] - 1) * row["columns"] + place[1] - 1 for place in row.get("givens", ())]
     record: list[Any] = [
         printable(name_of(row)), row.get("title", ""), row.get("rows", 0), row.get("columns", 0), verdict, grade, row.get("open", 0),
         "".join(row.get("palette", ())), runs_of(row.get("picture", "")), runs_of(row.get("other", "")), row.get("lines", 0),
-        row.get("seconds", 0), words, givens, [figures[name] for name in FIGURES if name in figures],
+        row.get("seconds", 0), words, givens, [figures[name] for name in FIGURES if name in figures], len(flaws_of(row)),
     ]
     while record[-1] in (0, "", []):
         record.pop()

@@ -25,7 +25,7 @@ function make(tag, properties = {}, ...children) {
 
 // ---- the rows
 
-const NAMES = ['name', 'title', 'rows', 'columns', 'verdict', 'grade', 'open', 'palette', 'picture', 'other', 'lines', 'seconds', 'words', 'givens', 'figures'];
+const NAMES = ['name', 'title', 'rows', 'columns', 'verdict', 'grade', 'open', 'palette', 'picture', 'other', 'lines', 'seconds', 'words', 'givens', 'figures', 'flaws'];
 const at = Object.fromEntries(NAMES.map((name, place) => [name, place]));
 const records = JSON.parse(byId('rows').textContent);
 byId('rows').remove();
@@ -138,7 +138,9 @@ function cardOf(index, width) {
   const under = make('div', {},
     make('div', { className: 'name', title: puzzle.name }, puzzle.title || puzzle.name.split('/').at(-1)),
     make('div', { className: 'told' }, verdict, make('span', {}, toldOf(puzzle))),
-    make('div', { className: 'told faint' }, make('span', {}, sizesOf(puzzle))));
+    puzzle.flaws
+      ? make('div', { className: 'told besides', title: puzzle.words }, make('span', {}, puzzle.words))
+      : make('div', { className: 'told faint' }, make('span', {}, sizesOf(puzzle))));
   const card = make('div', { className: 'card', role: 'listitem', tabIndex: -1 }, make('div', { className: 'shots' }, ...shots), under);
   const words = [puzzle.name, puzzle.title, SHOWN[puzzle.verdict], toldOf(puzzle), sizesOf(puzzle), puzzle.words];
   card.setAttribute('aria-label', words.filter(Boolean).join(', '));
