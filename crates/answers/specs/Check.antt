@@ -20,13 +20,13 @@ use Rattle.program_options.specs.declared.fault.ProgramFault.TheVariants.{Memory
 use Rattle.program_options.specs.Faults.{cert_fault_of, fault_of}
 
 -- how many cells are given, where there are some
-abbrev pub givens_text : List CellNumber → List ℕ
-givens_text [] = []
-givens_text (cell ∷ cells) = codes ", givens " ++ decimal (length (cell ∷ cells))
+abbrev pub givens_count_text : List CellNumber → List ℕ
+givens_count_text [] = []
+givens_count_text (cell ∷ cells) = codes ", givens " ++ decimal (length (cell ∷ cells))
 
 -- the line for a certificate that is accepted
 abbrev pub accepted_text : List CellNumber → List ℕ
-accepted_text givens = codes "certificate accepted" ++ (givens_text givens ++ 10 ∷ [])
+accepted_text givens = codes "certificate accepted" ++ (givens_count_text givens ++ 10 ∷ [])
 
 -- What is to be shown for a picture's text and a certificate's text: the error of the first of the two readers and the
 -- checker that refuses, or the line where none does.

@@ -29,13 +29,13 @@ abbrev pub black_on_white : Rows → Design
 black_on_white rows = design two_colours rows (marks_of (length rows) (width_of rows) no_cells)
 
 -- what a call answers that looks for a picture with these clues
-abbrev pub FindsPicture : Clues → Result (List (List ℕ)) ProgramFault → Type 0
+abbrev pub FindsPicture : Clues → Result Rows ProgramFault → Type 0
 FindsPicture clues (Ok rows) = FindsFirst clues (Some rows)
 FindsPicture clues (Err fault) = (fault ≡ Memory) ⊎ ((fault ≡ NoPicture) × FindsFirst clues None)
 
 -- A puzzle with a goal is opened as the goal; one without as a
 -- picture that was found and has the clues, or there is none.
-abbrev pub OpensPuzzle : Clues → Option (List (List ℕ)) → Result Design ProgramFault → Type 0
+abbrev pub OpensPuzzle : Clues → Option Rows → Result Design ProgramFault → Type 0
 OpensPuzzle clues (Some goal) opened = opened ≡ Ok (black_on_white goal)
 OpensPuzzle clues None (Ok d) = (rows : Rows) × (FindsFirst clues (Some rows) × (d ≡ black_on_white rows))
 OpensPuzzle clues None (Err fault) = (fault ≡ NoPicture) × FindsFirst clues None

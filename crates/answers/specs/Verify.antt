@@ -12,11 +12,11 @@ use Rattle.lemma_text.specs.Text.{proof_of}
 use Rattle.lemma_check.specs.FirstFault.{IsLemmaProof, ProofFirstFault}
 use Rattle.program_options.specs.declared.fault.ProgramFault.{ProgramFault}
 use Rattle.program_options.specs.Faults.{cert_fault_of, fault_of}
-use Rattle.answers.specs.Check.{givens_text}
+use Rattle.answers.specs.Check.{givens_count_text}
 
 -- the line for a proof that is accepted
 abbrev pub verified_text : List CellNumber → List ℕ
-verified_text givens = codes "proof accepted" ++ (givens_text givens ++ 10 ∷ [])
+verified_text givens = codes "proof accepted" ++ (givens_count_text givens ++ 10 ∷ [])
 
 -- What is to be shown for a picture's text and a proof's text: the error of the first of the two readers and the
 -- checker that refuses, or the line where none does.

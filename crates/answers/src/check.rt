@@ -5,7 +5,7 @@ ghost use Rattle.certificate.specs.FirstFault.{AnswersFirst, CertFirstFault};
 ghost use Rattle.certificate.specs.Puzzle.{IsUnique};
 ghost use Rattle.certificate.specs.Tree.{IsProof};
 ghost use Rattle.program_options.specs.declared.fault.ProgramFault.TheVariants.{Memory, Write as Unwritten};
-ghost use Rattle.answers.specs.Check.{Answers, IsCheckOf, IsOnlyPicture, IsProofOf, WritesBy, accepted_text, givens_text};
+ghost use Rattle.answers.specs.Check.{Answers, IsCheckOf, IsOnlyPicture, IsProofOf, WritesBy, accepted_text, givens_count_text};
 
 use certificate::{CellNumber, Cert, CertFault, check_cert, read_cert};
 use line_settle::MaskEngine;
@@ -80,7 +80,7 @@ fn accepted_text(alloc: Global, cert: &Cert) -> Result<Vec<u8>, AllocError>
 
 // How many cells are given, where there are some.
 pub(crate) fn push_givens(text: &mut Vec<u8>, givens: &[CellNumber]) -> Result<(), AllocError>
-    ensures { OnOk result (text.new.items ≡ text.old.items ++ givens_text givens.now) }
+    ensures { OnOk result (text.new.items ≡ text.old.items ++ givens_count_text givens.now) }
 {
     let count = givens.len();
     if count > 0 {

@@ -28,7 +28,7 @@ use Rattle.second_search.proofs.FindLemmas.{held_within}
 use Rattle.line_facts.specs.Branches.{colours_of, held}
 use Rattle.cert_text.specs.Cert.{AreWritable, IsWritable}
 use Rattle.cert_check.specs.FirstFault.{FirstFault, Leads}
-use Rattle.certificate.specs.MadeCert.{EachExcludes, Excludes, WritesTree}
+use Rattle.certificate.specs.MadeCert.{EachExcludes, ExcludesSome, WritesTree}
 use Rattle.cert_check.specs.Puzzle.{HasCellNumber, HasLineNumber, line_id}
 use Rattle.cert_check.specs.Walk.{CanCheck}
 use Rattle.cert_check.proofs.BaseLemmas.{left_inside}
@@ -106,7 +106,7 @@ writable picture facts (Dead number) next is s h = let q = line_number picture f
     (let l : number.number < 1000 = omega (arith, q.1, few) in l)
 writable picture facts Done next is s h = tt
 
-excludes : OneLineDecides → (picture : Rows) (facts : Masks) (line : CertLine) (next : List (List (List ℕ))) → Stands (clues_of picture) picture facts line next → Excludes picture facts line
+excludes : OneLineDecides → (picture : Rows) (facts : Masks) (line : CertLine) (next : List (List (List ℕ))) → Stands (clues_of picture) picture facts line next → ExcludesSome picture facts line
 excludes law picture facts (Line number) next h = λ gained forced same.
     let mine = h.1.1.0 in
     mine.more (ap (λ (fs : List (List ℕ)). line_of fs (line_id number)) (sym same) ∙ narrowed_masks law (clue_at (clues_of picture) (line_id number)) (line_of facts (line_id number))

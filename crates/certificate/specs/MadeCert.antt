@@ -23,24 +23,24 @@ use Rattle.lemma_proof.specs.Naming.{NamesGivens}
 
 -- A `line` excludes something: the facts with all that it forces are
 -- others. A `split` is of a cell in which not just one colour is left.
-abbrev pub Excludes : Rows → Masks → CertLine → Type 0
-Excludes picture facts (Line number) = (gained : Masks) → IsForced picture facts (line_id number) gained
+abbrev pub ExcludesSome : Rows → Masks → CertLine → Type 0
+ExcludesSome picture facts (Line number) = (gained : Masks) → IsForced picture facts (line_id number) gained
     → gained ≡ facts → ⊥
-Excludes picture facts (Split cell) = IsUnsettledAt facts cell
-Excludes picture facts (Dead number) = Unit {0}
-Excludes picture facts Done = Unit {0}
+ExcludesSome picture facts (Split cell) = IsUnsettledAt facts cell
+ExcludesSome picture facts (Dead number) = Unit {0}
+ExcludesSome picture facts Done = Unit {0}
 
 -- the lines have no error where branches with these facts wait
-abbrev pub HasNoFault : Rows → List (List (List ℕ)) → List CertLine → Type 0
+abbrev pub HasNoFault : Rows → List Masks → List CertLine → Type 0
 HasNoFault picture waits lines = (n : ℕ) → FirstFault picture waits n lines None
 
 -- each `line` excludes something and no `split` is of a settled cell, where branches with these facts wait
-abbrev pub EachExcludes : Rows → List (List (List ℕ)) → List CertLine → Type 0
+abbrev pub EachExcludes : Rows → List Masks → List CertLine → Type 0
 EachExcludes picture [] [] = Unit {0}
 EachExcludes picture (facts ∷ others) [] = Unit {0}
 EachExcludes picture [] (line ∷ lines) = Unit {0}
 EachExcludes picture (facts ∷ others) (line ∷ lines) =
-    Excludes picture facts line × ((next : List (List (List ℕ)))
+    ExcludesSome picture facts line × ((next : List Masks)
     × (Leads picture facts line next × EachExcludes picture (next ++ others) lines))
 
 abbrev pub lines_seen : Option (Vec CertLine Global) → Option (List CertLine)

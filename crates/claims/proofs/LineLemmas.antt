@@ -6,9 +6,10 @@ use Rattle.std.proofs.lemmas.List.Folds.{concat-append}
 use Rattle.std.proofs.Math.Seq.{take-append-add}
 use Rattle.command_text.specs.declared.session_fault.SessionFault.{SessionFault}
 use Rattle.command_text.specs.declared.session_fault.SessionFault.TheVariants as fault
-use Rattle.command_text.specs.Lines.{lines_of, request_of}
+use Rattle.command_text.specs.Lines.{lines_of}
+use Rattle.command_text.specs.Words.{Texts}
 use Rattle.live_audit.specs.Calls.{Machine}
-use Rattle.session.specs.Truth.{AreReplies, AreToldInPart, IsReply, TellsTruth}
+use Rattle.session.specs.Truth.{AreReplies, AreToldInPart, TellsTruth}
 use Rattle.claims.specs.Session.{AnswersAll, AnswersFront, AnswersRead}
 
 pub answers_all : (input left held text : List ℕ) (m last : Machine) (done : Unit {0}) → held ≡ [] → TellsTruth (Some input) (Some left) (Some held) (Some text) m last (Ok done)
@@ -21,29 +22,21 @@ answers_all input left held text m last done empty (read, (consumes, (at_end, to
       replies = subst (λ (xs : List ℕ). AreReplies m (lines_of xs) told.texts last) (sym whole) told.replies;
     }
 
--- one more line and its text
-one_more : (m between last : Machine) (lines texts : List (List ℕ)) (line text : List ℕ) → AreReplies m lines texts between → IsReply between (request_of line) text last
-    → AreReplies m (lines ++ line ∷ []) (texts ++ text ∷ []) last
-one_more m between last [] [] line text are is = (last, (subst (λ (n : Machine). IsReply n (request_of line) text last) are is, refl))
-one_more m between last [] (first ∷ texts) line text are is = absurd are
-one_more m between last (first ∷ lines) [] line text are is = absurd are
-one_more m between last (first ∷ lines) (its ∷ texts) line text (next, (reply, rest)) is = (next, (reply, one_more next between last lines texts line text rest is))
-
-joined : (texts : List (List ℕ)) (text : List ℕ) → concat (texts ++ text ∷ []) ≡ concat texts ++ text
+joined : (texts : Texts) (text : List ℕ) → concat (texts ++ text ∷ []) ≡ concat texts ++ text
 joined texts text = concat-append texts (text ∷ []) ∙ ap (λ (xs : List ℕ). concat texts ++ xs) (append-nil text)
 
-in_part : (lines : List (List ℕ)) (had has : Option (List ℕ)) (m last : Machine) → AreToldInPart lines had has m last → AnswersFront lines had has m last
+in_part : (lines : Texts) (had has : Option (List ℕ)) (m last : Machine) → AreToldInPart lines had has m last → AnswersFront lines had has m last
 in_part lines had has m last told =
     let texts = told.texts ++ told.text ∷ [] in
-    let count : ℕ = length told.before + 1 in
+    let count : ℕ = length told.first + 0 in
     let front : ℕ = length (concat told.texts) + told.front in
-    let first : take count lines ≡ told.before ++ told.line ∷ [] = ap (λ (xs : List (List ℕ)). take count xs) told.cut ∙ take-append-add told.before (told.line ∷ told.behind) 1 in
+    let first : take count lines ≡ told.first = ap (λ (xs : Texts). take count xs) told.cut ∙ take-append-add told.first told.behind 0 ∙ append-nil told.first in
     let out : take front (concat texts) ≡ concat told.texts ++ take told.front told.text =
     ap (λ (xs : List ℕ). take front xs) (joined told.texts told.text) ∙ take-append-add (concat told.texts) told.text told.front in
     record {
       count = count;
       texts = texts;
-      replies = subst (λ (xs : List (List ℕ)). AreReplies m xs texts last) (sym first) (one_more m told.between last told.before told.texts told.line told.text told.replies told.reply);
+      replies = subst (λ (xs : Texts). AreReplies m xs texts last) (sym first) told.replies;
       front = front;
       went_out = subst (Appends had has) (sym out) told.went_out;
     }

@@ -13,6 +13,7 @@ use Rattle.program.specs.World.{World}
 use Rattle.live_audit.specs.Calls.{machine}
 use Rattle.session.specs.Laws.{SessionsAreTrue}
 use Rattle.claims.specs.Outcome.{Comes, IsDone, Opens, files_of}
+use Rattle.command_text.specs.Words.{Texts}
 
 fails : (f : ProgramFault) → status_of f ≡ 0 → ⊥
 fails (fault.Words text) e = absurd cc
@@ -99,7 +100,7 @@ opened held before after (Help text) r c = (0, c.names)
 refused : (f : ProgramFault) (before after : World) (r : Result (Unit {0}) ProgramFault) → IsRefused f before after r → status_after r ≡ 0 → ⊥
 refused f before after r c e = fails f (ap status_after (sym c.is) ∙ e)
 
-comes_to_after : (arguments : List (List ℕ)) (held : List ℕ → Held) (before after : World) (r : Result (Unit {0}) ProgramFault) → SessionsAreTrue → AnswersAll arguments held before after r
+comes_to_after : (arguments : Texts) (held : List ℕ → Held) (before after : World) (r : Result (Unit {0}) ProgramFault) → SessionsAreTrue → AnswersAll arguments held before after r
     → Opens arguments held before after (status_after r)
 comes_to_after arguments held before after r law (inl short) = inl (short.only.names, refused fault.Memory before after r short)
 comes_to_after arguments held before after r law (inr (inl (f, (asks, c)))) = inl (c.only.names, refused f before after r c)
@@ -107,7 +108,7 @@ comes_to_after arguments held before after r law (inr (inr (task, (asks, c)))) =
     let files = opened held before after task r c in
     inr (task, (asks, (files.0, (files.1, is_done held before after task r law c))))
 
-pub comes_to : (arguments : List (List ℕ)) (held : List ℕ → Held) (before after : World) (r : Result (Unit {0}) ProgramFault) (status : ℕ) → status ≡ status_after r
+pub comes_to : (arguments : Texts) (held : List ℕ → Held) (before after : World) (r : Result (Unit {0}) ProgramFault) (status : ℕ) → status ≡ status_after r
     → SessionsAreTrue → AnswersAll arguments held before after r → Comes arguments held before after status
 comes_to arguments held before after r status is law c =
     record {

@@ -18,9 +18,10 @@ use Rattle.program.specs.Endings.{status_after}
 use Rattle.program.specs.Files.{Held, IsContent, Names}
 use Rattle.program.specs.Run.{IsTask}
 use Rattle.program.specs.World.{World}
+use Rattle.command_text.specs.Words.{Texts}
 
 -- the files that a task names, in the order in which they are opened
-abbrev pub files_of : Task → List (List ℕ)
+abbrev pub files_of : Task → Texts
 files_of Clues = []
 files_of (Work file options) = file.now ∷ []
 files_of (Check file cert background) = file.now ∷ cert.now ∷ []
@@ -68,7 +69,8 @@ pub record HasMade (picture : Held) (background : Option Rgb) (before after : Wo
   pub shows : IsProveOf file background (Ok text)
   pub went_out : Appends before.output after.output text
 
--- the same as of a certificate, of a proof by lemmas in the second file
+-- no other picture of that size has the clues and the givens' colours of the picture in the first
+-- file, with the givens of the proof by lemmas in the second one; and its line went out
 pub record HasVerified (picture proved : Held) (background : Option Rgb) (before after : World) : Type 0 where
   pub file : List ℕ
   pub content : IsContent picture file
@@ -93,14 +95,14 @@ IsDone held before after (Help text) = Appends before.output after.output (strin
 
 -- No file was opened, and the status is not 0; or the first files of a task that
 -- the arguments ask for were opened, and with status 0 the task is done.
-abbrev pub Opens : List (List ℕ) → (List ℕ → Held) → World → World → ℕ → Type 0
+abbrev pub Opens : Texts → (List ℕ → Held) → World → World → ℕ → Type 0
 Opens arguments held before after status =
     (Names before.opened after.opened [] × (status ≡ 0 → ⊥))
     ⊎ ((task : Task) × (IsTask arguments (Ok task) × ((count : ℕ)
     × (Names before.opened after.opened (take count (files_of task)) × (status ≡ 0 → IsDone held before after task)))))
 
 -- that, with the status of what came of it: 0 without an error, else the error's
-pub record Comes (arguments : List (List ℕ)) (held : List ℕ → Held) (before after : World) (status : ℕ) : Type 0 where
+pub record Comes (arguments : Texts) (held : List ℕ → Held) (before after : World) (status : ℕ) : Type 0 where
   pub outcome : Result (Unit {0}) ProgramFault
   pub right_status : status ≡ status_after outcome
   pub opens : Opens arguments held before after status

@@ -20,7 +20,7 @@ use Rattle.command_text.specs.Lines.{BreaksOff, CutsOne, Drafts, NoFeed, TakesPi
 use Rattle.command_text.specs.Lines.{request_of_words, steps_left}
 use Rattle.command_text.specs.declared.fault.CommandFault.TheVariants.{LongLine}
 use Rattle.command_text.specs.declared.request.Request.TheVariants.{Refused}
-use Rattle.command_text.specs.Words.{words_of}
+use Rattle.command_text.specs.Words.{Texts, words_of}
 
 -- ---- the place of a line feed
 
@@ -32,11 +32,11 @@ feed_found bytes end e = (
 
 -- ---- lines
 
-two_pieces : (piece : List ℕ) (pieces : List (List ℕ)) → 0 < length pieces → all_pieces (piece ∷ pieces) ≡ strip_carriage_return piece ∷ all_pieces pieces
+two_pieces : (piece : List ℕ) (pieces : Texts) → 0 < length pieces → all_pieces (piece ∷ pieces) ≡ strip_carriage_return piece ∷ all_pieces pieces
 two_pieces piece [] some = absurd (omega (arith, some))
 two_pieces piece (next ∷ pieces) some = refl
 
-two_ended : (piece : List ℕ) (pieces : List (List ℕ)) → 0 < length pieces → ended_pieces (piece ∷ pieces) ≡ strip_carriage_return piece ∷ ended_pieces pieces
+two_ended : (piece : List ℕ) (pieces : Texts) → 0 < length pieces → ended_pieces (piece ∷ pieces) ≡ strip_carriage_return piece ∷ ended_pieces pieces
 two_ended piece [] some = absurd (omega (arith, some))
 two_ended piece (next ∷ pieces) some = refl
 
@@ -222,7 +222,7 @@ cuts_last had have old now draft d none met some = record {
     read = d.read;
     lines = λ rest may.
         ap lines_of (at_end had have old now draft d none rest (may met)) ∙ lines_last d.raw d.no_feed (some_kept draft d.raw d.kept some)
-        ∙ ap (λ (lines : List (List ℕ)). strip_carriage_return d.raw ∷ lines) (sym (ap lines_of (ap (λ (xs : List ℕ). xs ++ rest) none ∙ may met) ∙ nothing_has_no_lines));
+        ∙ ap (λ (lines : Texts). strip_carriage_return d.raw ∷ lines) (sym (ap lines_of (ap (λ (xs : List ℕ). xs ++ rest) none ∙ may met) ∙ nothing_has_no_lines));
     ended = λ on rest. absurd (true≢false (sym met ∙ on));
     end = d.end;
     behind = d.behind;

@@ -12,7 +12,7 @@ use Rattle.command_text.specs.declared.request.Request.{Request}
 use Rattle.command_text.specs.declared.request.Request.TheVariants as request
 use Rattle.command_text.specs.declared.lines.Lines.{Lines}
 use Rattle.command_text.specs.Parse.{IsBounded, command_at}
-use Rattle.command_text.specs.Words.{has_byte, words_of}
+use Rattle.command_text.specs.Words.{Texts, has_byte, words_of}
 
 -- ---- lines
 
@@ -20,23 +20,23 @@ abbrev pub is_feed : ℕ → Bool
 is_feed b = b == 10
 
 -- the pieces after which a line feed stands, each without the carriage return at its end
-abbrev pub ended_pieces : List (List ℕ) → List (List ℕ)
+abbrev pub ended_pieces : Texts → Texts
 ended_pieces [] = []
 ended_pieces (piece ∷ []) = []
 ended_pieces (piece ∷ next ∷ pieces) = strip_carriage_return piece ∷ ended_pieces (next ∷ pieces)
 
 -- and the last piece too, where it has a byte
-abbrev pub all_pieces : List (List ℕ) → List (List ℕ)
+abbrev pub all_pieces : Texts → Texts
 all_pieces [] = []
 all_pieces (piece ∷ []) = if has_byte piece then strip_carriage_return piece ∷ [] else []
 all_pieces (piece ∷ next ∷ pieces) = strip_carriage_return piece ∷ all_pieces (next ∷ pieces)
 
 -- The lines of an input that was read to its end: what stands between line feeds, where the last line needs none.
-unfoldable pub lines_of : List ℕ → List (List ℕ)
+unfoldable pub lines_of : List ℕ → Texts
 lines_of bytes = all_pieces (slice_split is_feed bytes)
 
 -- the lines of bytes whose line feed has come
-unfoldable pub ended_lines_of : List ℕ → List (List ℕ)
+unfoldable pub ended_lines_of : List ℕ → Texts
 ended_lines_of bytes = ended_pieces (slice_split is_feed bytes)
 
 -- none of the bytes is a line feed
@@ -50,7 +50,7 @@ request_by (Ok command) = request.Command command
 request_by (Err fault) = request.Refused fault
 
 -- no word asks for nothing, and a first word for the command that it begins
-abbrev pub request_of_words : List (List ℕ) → Request
+abbrev pub request_of_words : Texts → Request
 request_of_words [] = request.Nothing
 request_of_words (first ∷ words) = request_by (command_at first words)
 
@@ -83,7 +83,7 @@ MayCome l rest = l.ended ≡ true → rest ≡ []
 -- The bytes that came in a call. Of those that waited before, the ones that came and whatever may come after them, the
 -- first lines are these, and the others are those of the bytes that wait now and what comes. So it is for lines whose
 -- line feed has come, too. A call does not take the end for met unless it was, and after the end nothing comes.
-pub record Cuts (had have : Option (List ℕ)) (old new : Lines) (front : List (List ℕ)) : Type 0 where
+pub record Cuts (had have : Option (List ℕ)) (old new : Lines) (front : Texts) : Type 0 where
   pub came : List ℕ
   pub read : Consumes had have came
   pub lines : (rest : List ℕ) → MayCome new rest

@@ -1,5 +1,6 @@
 -- The words of a command that stand for numbers and colours.
-use Rattle.std.specs.Prelude.{◌≡◌, ℕ, ◌-◌, ◌&&◌, List, [], ◌∷◌, codes, Option, None, Some, nat_le, ◌==◌, if◌then◌else◌}
+use Rattle.std.specs.Prelude.{◌≡◌, ℕ, ◌-◌, ◌&&◌, List, [], ◌∷◌, codes, Option, None, Some, option_and_then, nat_le}
+use Rattle.std.specs.Prelude.{◌==◌, if◌then◌else◌}
 use Rattle.std.proofs.Common.{refl}
 use Rattle.picture.specs.Numbers.{number_spelled, short_number, value_after}
 
@@ -8,50 +9,38 @@ unfoldable pub number_of : List ℕ → Option ℕ
 number_of word = short_number 5 word
 
 -- a number from 1 to 256, as a place from 0
-abbrev pub place_by : Option ℕ → Option ℕ
-place_by None = None
-place_by (Some n) = if nat_le 1 n && nat_le n 256 then Some (n - 1) else None
-
-abbrev pub place_of : List ℕ → Option ℕ
-place_of word = place_by (number_of word)
+abbrev pub place_named : List ℕ → Option ℕ
+place_named word =
+    option_and_then (λ n. if nat_le 1 n && nat_le n 256 then Some (n - 1) else None) (number_of word)
 
 -- a number up to 65535
-abbrev pub sample_by : Option ℕ → Option ℕ
-sample_by None = None
-sample_by (Some n) = if nat_le n 65535 then Some n else None
-
 abbrev pub sample_of : List ℕ → Option ℕ
-sample_of word = sample_by (number_of word)
+sample_of word = option_and_then (λ n. if nat_le n 65535 then Some n else None) (number_of word)
 
--- `.` for the background, and `a` to `o` for 1 to 15
-abbrev pub colour_at : ℕ → Option ℕ
-colour_at b = if b == 46 then Some 0 else if nat_le 97 b && nat_le b 111 then Some (b - 96) else None
-
--- a colour's word has one byte
+-- a byte: `.` for the background, and `a` to `o` for 1 to 15
 abbrev pub colour_of : List ℕ → Option ℕ
-colour_of [] = None
-colour_of (b ∷ []) = colour_at b
-colour_of (b ∷ c ∷ bytes) = None
+colour_of (b ∷ []) = if b == 46 then Some 0 else if nat_le 97 b && nat_le b 111 then Some (b - 96) else None
+colour_of word = None
 
 -- ---- worked words
 
-leading_zeros : place_of (codes "00001") ≡ Some 0
+leading_zeros : place_named (codes "00001") ≡ Some 0
 unfolding number_of number_spelled value_after
 leading_zeros = refl
 
-six_digits : place_of (codes "000001") ≡ None
+six_digits : place_named (codes "000001") ≡ None
 unfolding number_of number_spelled value_after
 six_digits = refl
 
-nought_is_no_place : place_of (codes "0") ≡ None
+nought_is_no_place : place_named (codes "0") ≡ None
 unfolding number_of number_spelled value_after
 nought_is_no_place = refl
 
-last_place : place_of (codes "256") ≡ Some 255
+last_place : place_named (codes "256") ≡ Some 255
 unfolding number_of number_spelled value_after
 last_place = refl
 
-past_places : place_of (codes "257") ≡ None
+past_places : place_named (codes "257") ≡ None
 unfolding number_of number_spelled value_after
 past_places = refl
 

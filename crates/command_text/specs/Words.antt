@@ -7,6 +7,10 @@ use Rattle.std.specs.Cmp.Lexicographic.{pointwise}
 use Rattle.std.specs.List.{slice_split}
 pub use Rattle.picture.specs.Numbers.{has_byte}
 
+-- words, or lines, or other texts: each by its bytes
+abbrev pub Texts : Type 0
+Texts = List (List ℕ)
+
 -- a space or a TAB
 abbrev pub is_blank : ℕ → Bool
 is_blank b = (b == 32) || (b == 9)
@@ -15,7 +19,7 @@ abbrev pub is_no_blank : ℕ → Bool
 is_no_blank b = not (is_blank b)
 
 -- the pieces between blanks that have a byte
-unfoldable pub words_of : List ℕ → List (List ℕ)
+unfoldable pub words_of : List ℕ → Texts
 words_of line = filter has_byte (slice_split is_blank line)
 
 -- the bytes are these

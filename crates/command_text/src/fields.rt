@@ -2,7 +2,7 @@
 
 ghost use Rattle.std.specs.Prelude.{◌≡◌, ◌<◌, IfOk, IfSome};
 ghost use Rattle.picture.specs.Readers.{Reads};
-ghost use Rattle.command_text.specs.Parse.{allowance_of, axis_at, cell_alone_at, cell_at, colour_at, counted, field_seen, line_at, place_at, rgb_at, sample_at, spot_at, word_at, word_seen};
+ghost use Rattle.command_text.specs.Parse.{allowance_of, axis_at, cell_alone_at, colour_at, counted, field_seen, line_at, place_at, rgb_at, row_and_column_at, sample_at, spot_at, word_at, word_seen};
 ghost use Rattle.command_text.specs.Words.{words_of};
 
 use crate::fault::CommandFault;
@@ -72,21 +72,21 @@ pub(crate) fn read_axis(rest: &[u8]) -> Result<(Axis, &[u8]), CommandFault>
     }
 }
 
-// Three samples.
+// Three samples, and what follows them.
 #[tactic(auto, unfolding(crate::specs::Parse::rgb_at))]
-pub(crate) fn read_rgb(rest: &[u8]) -> Result<Rgb, CommandFault>
-    ensures { Reads (λ rgb. rgb) result (rgb_at (words_of rest.now)) }
+pub(crate) fn read_rgb(rest: &[u8]) -> Result<(Rgb, &[u8]), CommandFault>
+    ensures { Reads field_seen result (rgb_at (words_of rest.now)) }
 {
     let (r, rest) = read_sample(rest)?;
     let (g, rest) = read_sample(rest)?;
-    let (b, _) = read_sample(rest)?;
-    Ok(Rgb { r, g, b })
+    let (b, rest) = read_sample(rest)?;
+    Ok((Rgb { r, g, b }, rest))
 }
 
 // A row and a column, and what follows them.
-#[tactic(auto, unfolding(crate::specs::Parse::cell_at))]
+#[tactic(auto, unfolding(crate::specs::Parse::row_and_column_at))]
 pub(crate) fn read_cell(rest: &[u8]) -> Result<((u8, u8), &[u8]), CommandFault>
-    ensures { Reads field_seen result (cell_at (words_of rest.now)) }
+    ensures { Reads field_seen result (row_and_column_at (words_of rest.now)) }
 {
     let (row, rest) = read_place(rest)?;
     let (col, rest) = read_place(rest)?;

@@ -1,7 +1,7 @@
 //! The words of a command that stand for numbers and colours.
 
 ghost use Rattle.std.specs.Prelude.{◌≡◌, ◌<◌, IfSome};
-ghost use Rattle.command_text.specs.Numbers.{colour_of, number_of, place_of, sample_of};
+ghost use Rattle.command_text.specs.Numbers.{colour_of, number_of, place_named, sample_of};
 
 use picture::short_number_in;
 
@@ -19,7 +19,7 @@ pub(crate) fn number_in(word: &[u8]) -> Option<u32>
 
 // A place from 1 to 256, counted from 0.
 pub(crate) fn place_in(word: &[u8]) -> Option<u8>
-    ensures { result ≡ place_of word.now }
+    ensures { result ≡ place_named word.now }
 {
     u8::try_from(number_in(word)?.checked_sub(1)?).ok()
 }

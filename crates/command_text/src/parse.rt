@@ -55,17 +55,16 @@ fn read_swap(rest: &[u8]) -> Result<Edit, CommandFault>
     })
 }
 
-#[tactic(auto, unfolding(crate::specs::Parse::add_colour_at, crate::specs::Parse::set_colour_at))]
 // A colour added to the palette, or another triple for one of it.
 fn read_palette(rest: &[u8]) -> Result<Edit, CommandFault>
     ensures { Reads (λ e. e) result (palette_at (words_of rest.now)) }
 {
     let (word, rest) = read_word(rest)?;
     match word {
-        b"add" => read_rgb(counted(rest, 3)?).map(|rgb| Edit::AddColour { rgb }),
+        b"add" => read_rgb(counted(rest, 3)?).map(|(rgb, _)| Edit::AddColour { rgb }),
         b"set" => {
             let (colour, rest) = read_colour(counted(rest, 4)?)?;
-            read_rgb(rest).map(|rgb| Edit::SetColour { colour, rgb })
+            read_rgb(rest).map(|(rgb, _)| Edit::SetColour { colour, rgb })
         }
         _ => Err(CommandFault::UnknownWord),
     }

@@ -13,7 +13,7 @@ use Rattle.line_facts.specs.NarrowedLine.{Narrows}
 use Rattle.line_facts.specs.FactSets.{Leaves, IsWithin, IsClosed, IsClosedLine, Gains, row_on, col_on}
 use Rattle.justify.specs.declared.step.Step.{Step}
 use Rattle.justify.specs.Premises.{Says}
-use Rattle.justify.specs.Steps.{step_at, Draws, IsForced, IsTrimmed}
+use Rattle.justify.specs.Steps.{step_at, Draws, IsForcedStep, IsTrimmed}
 use Rattle.justify.specs.Book.{Account, IsAccount, IsDrawnBefore, CanAdd, GainDrawn, Adds, IsDerivation, AreTrimmed}
 use Rattle.justify.specs.NewSteps.{IsNewStep}
 use Rattle.justify.specs.Laws.{FactsAreWhatIsKnown, NewStepsFollow, NewStepsDerive, DerivationsGrow, DerivationsStayInside}
@@ -109,7 +109,7 @@ pub new_follow : NewStepsFollow
 new_follow = record { can_add = can_add; gains = gains_new; closes = closes_new }
 
 forced_new : (clues : Clues) (book : Account) (line : LineId) (step : Step) → IsAccount book → IsNewStep (clue_at clues line) line (line_of book.facts line) step
-    → IsForced (clue_at clues step.line) (length (line_of book.base step.line)) step
+    → IsForcedStep (clue_at clues step.line) (length (line_of book.base step.line)) step
 forced_new clues book line step is n = grind (arith, clue_at, length, line_of, same_line_length)
 
 trimmed_new : (clues : Clues) (book : Account) (line : LineId) (step : Step) → IsAccount book → IsNewStep (clue_at clues line) line (line_of book.facts line) step
@@ -136,13 +136,13 @@ each_added : (R : Step → Type 0) (old new : Account) (step : Step) → new.ste
 each_added R old new step e before now =
     subst (λ (steps : List Step). (n : ℕ) → n < length steps → R (step_at steps n)) (sym e) (each_more R old.steps step before now)
 
-derives_more : (clues : Clues) (old new : Account) (step : Step) → IsAccount old → Adds old step new → IsForced (clue_at clues step.line) (length (line_of old.base step.line)) step
+derives_more : (clues : Clues) (old new : Account) (step : Step) → IsAccount old → Adds old step new → IsForcedStep (clue_at clues step.line) (length (line_of old.base step.line)) step
     → IsDerivation clues old → IsDerivation clues new
 derives_more clues old new step is a forced d = record {
   rows = ap length a.base ∙ d.rows;
   columns = ap width_of a.base ∙ d.columns;
   forced =
-      rw a.base (each_added (λ s. IsForced (clue_at clues s.line) (length (line_of old.base s.line)) s) old new step a.steps d.forced forced);
+      rw a.base (each_added (λ s. IsForcedStep (clue_at clues s.line) (length (line_of old.base s.line)) s) old new step a.steps d.forced forced);
 }
 
 trimmed_more : (clues : Clues) (old new : Account) (step : Step) → IsAccount old → Adds old step new → IsTrimmed (clue_at clues step.line) (length (line_of old.base step.line)) step

@@ -13,11 +13,11 @@ use Rattle.line_facts.specs.NarrowedLine.{Narrows}
 use Rattle.justify.specs.declared.premise.Premise.{Premise}
 use Rattle.justify.specs.declared.step.Step.{Step}
 use Rattle.justify.specs.Premises.{premise_at, HasSaid, LeavesRest, Mentions, Says}
-use Rattle.justify.specs.Steps.{step_at, IsForced}
+use Rattle.justify.specs.Steps.{step_at, IsForcedStep}
 use Rattle.justify.proofs.ForcingLemmas.{have_without, without_have}
 
 module _ (clue : List Block) (step : Step) (left out : List ℕ) (outcome : Outcome) (rest : LeavesRest step.premises left) (n : Narrows clue left outcome out) where
-  forced_if : (HasSaid step.drawn out → ⊥) → IsForced clue (length left) step
+  forced_if : (HasSaid step.drawn out → ⊥) → IsForcedStep clue (length left) step
   forced_if none i k says can = none (record {
     place = i;
     colour = k;
@@ -25,11 +25,11 @@ module _ (clue : List Block) (step : Step) (left out : List ℕ) (outcome : Outc
     has = (n.exact i k).1 (without_have clue left (length left) (Says step.premises) refl (λ j h b small not. (rest j h b).1 (small, not)) i k can);
   })
 
-  not_forced : HasSaid step.drawn out → IsForced clue (length left) step → ⊥
+  not_forced : HasSaid step.drawn out → IsForcedStep clue (length left) step → ⊥
   not_forced h forced =
       forced h.place h.colour h.says (have_without clue left (length left) (Says step.premises) refl (λ j c b s. (rest j c b).0 s) h.place h.colour ((n.exact h.place h.colour).0 h.has))
 
-  pub forced_is : (result : Bool) → MatchBool result (HasSaid step.drawn out → ⊥) (HasSaid step.drawn out) → IsTrue result ↔ IsForced clue (length left) step
+  pub forced_is : (result : Bool) → MatchBool result (HasSaid step.drawn out → ⊥) (HasSaid step.drawn out) → IsTrue result ↔ IsForcedStep clue (length left) step
   forced_is true h = ((λ t. forced_if h), (λ f. refl))
   forced_is false h = ((λ t. absurd (false≢true t)), (λ f. absurd (not_forced h f)))
 
@@ -53,5 +53,5 @@ mentions_same items premises cells e inside = let P : List Premise → Type 0 = 
 
 -- what is forced of a step that was read from a book
 pub forced_at : (clues : Clues) (base : Masks) (steps : List Step) (n : ℕ) (step : Step) (clue : List Block) (cells : ℕ) → step ≡ step_at steps n → clue ≡ clue_at clues step.line
-    → cells ≡ length (line_of base step.line) → IsForced clue cells step ↔ IsForced (clue_at clues (step_at steps n).line) (length (line_of base (step_at steps n).line)) (step_at steps n)
+    → cells ≡ length (line_of base step.line) → IsForcedStep clue cells step ↔ IsForcedStep (clue_at clues (step_at steps n).line) (length (line_of base (step_at steps n).line)) (step_at steps n)
 forced_at clues base steps n step clue cells same e len = grind (arith, clue_at, length, line_of)

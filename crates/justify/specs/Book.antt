@@ -6,7 +6,7 @@ use Rattle.clues.specs.ClueBook.{Clues, clue_at}
 use Rattle.line_facts.specs.FactSets.{IsFacts, Leaves, Excludes, SameShape, row_on, col_on}
 use Rattle.justify.specs.declared.step.Step.{Step}
 use Rattle.justify.specs.Premises.{Mentions, Says}
-use Rattle.justify.specs.Steps.{step_at, Draws, IsForced, IsTrimmed}
+use Rattle.justify.specs.Steps.{step_at, Draws, IsForcedStep, IsTrimmed}
 
 -- what a book is seen as: the exclusions that were given, the steps, and the exclusions that are known after them
 pub record Account : Type 0 where
@@ -71,9 +71,8 @@ pub record Adds (old : Account) (step : Step) (new : Account) : Type 0 where
 pub record IsDerivation (clues : Clues) (book : Account) : Type 0 where
   pub rows : length book.base ≡ length clues.rows
   pub columns : width_of book.base ≡ length clues.columns
-  pub forced : (n : ℕ) → n < length book.steps
-      → IsForced (clue_at clues (step_at book.steps n).line) (length (line_of book.base (step_at book.steps n).line))
-      (step_at book.steps n)
+  pub forced : (n : ℕ) → n < length book.steps → IsForcedStep (clue_at clues (step_at book.steps n).line)
+      (length (line_of book.base (step_at book.steps n).line)) (step_at book.steps n)
 
 -- no step of the book has a premise that it can do without
 abbrev pub AreTrimmed : Clues → Account → Type 0

@@ -8,7 +8,7 @@ use Rattle.clues.specs.ClueBook.{Clues, clue_at}
 use Rattle.line_facts.specs.declared.line_engine.Outcome.TheVariants.{Narrowed}
 use Rattle.line_facts.specs.FactSets.{Excludes, Gains, IsClosed, IsClosedLine, IsWithin}
 use Rattle.justify.specs.declared.step.Step.{Step}
-use Rattle.justify.specs.Steps.{IsForced, IsTrimmed}
+use Rattle.justify.specs.Steps.{IsForcedStep, IsTrimmed}
 use Rattle.justify.specs.Book.{Account, IsAccount, IsKnownBefore, AreFactsBehind, CanAdd, Adds, IsDerivation}
 use Rattle.justify.specs.Book.{AreTrimmed}
 use Rattle.justify.specs.NewSteps.{IsNewStep}
@@ -35,7 +35,7 @@ pub record NewStepsFollow : Type 0 where
 pub record NewStepsDerive : Type 0 where
   pub forced : (clues : Clues) (book : Account) (line : LineId) (step : Step) → IsAccount book
       → IsNewStep (clue_at clues line) line (line_of book.facts line) step
-      → IsForced (clue_at clues step.line) (length (line_of book.base step.line)) step
+      → IsForcedStep (clue_at clues step.line) (length (line_of book.base step.line)) step
   pub trimmed : (clues : Clues) (book : Account) (line : LineId) (step : Step) → IsAccount book
       → IsNewStep (clue_at clues line) line (line_of book.facts line) step
       → IsTrimmed (clue_at clues step.line) (length (line_of book.base step.line)) step
@@ -43,7 +43,7 @@ pub record NewStepsDerive : Type 0 where
 -- a book with one step more is a derivation where the old one was and the step is forced, and so for trimmed
 pub record DerivationsGrow : Type 0 where
   pub derives : (clues : Clues) (old new : Account) (step : Step) → IsAccount old → Adds old step new
-      → IsForced (clue_at clues step.line) (length (line_of old.base step.line)) step → IsDerivation clues old
+      → IsForcedStep (clue_at clues step.line) (length (line_of old.base step.line)) step → IsDerivation clues old
       → IsDerivation clues new
   pub trimmed : (clues : Clues) (old new : Account) (step : Step) → IsAccount old → Adds old step new
       → IsTrimmed (clue_at clues step.line) (length (line_of old.base step.line)) step → AreTrimmed clues old

@@ -9,7 +9,7 @@ use Rattle.justify.specs.declared.fault.StepFault.{StepFault}
 use Rattle.justify.specs.declared.fault.StepFault.TheVariants as fault
 use Rattle.justify.specs.declared.step.Step.{Step}
 use Rattle.justify.specs.Premises.{Mentions, Says}
-use Rattle.justify.specs.Steps.{IsForced, IsTrimmed}
+use Rattle.justify.specs.Steps.{IsForcedStep, IsTrimmed}
 
 -- a line that forces nothing new, while some list fits it
 pub record DrawsNothing (clue : List Block) (left : List ℕ) : Type 0 where
@@ -28,7 +28,7 @@ pub record IsNewStep (clue : List Block) (line : LineId) (left : List ℕ) (step
   pub inside : (i : ℕ) → Mentions step.premises i → i < length left
   pub whole : (i k : ℕ) → Mentions step.premises i
       → Says step.premises i k ↔ ((k < 16) × (IsBitSet (slice_index left i) k → ⊥))
-  pub forced : IsForced clue (length left) step
+  pub forced : IsForcedStep clue (length left) step
   pub trimmed : IsTrimmed clue (length left) step
   pub fits : CanFit clue left
 

@@ -20,8 +20,8 @@ pub record Draws (step : Step) (row col k : ℕ) : Type 0 where
   pub says : Says step.drawn place k
 
 -- its line, of so many cells, forces all that it draws from its premises alone
-abbrev pub IsForced : List Block → ℕ → Step → Type 0
-IsForced clue cells step = (i k : ℕ) → Says step.drawn i k → ForcesFrom clue cells (Says step.premises) i k
+abbrev pub IsForcedStep : List Block → ℕ → Step → Type 0
+IsForcedStep clue cells step = (i k : ℕ) → Says step.drawn i k → ForcesFrom clue cells (Says step.premises) i k
 
 -- without the premises of one cell, something that is drawn is not forced
 pub record LosesWithout (clue : List Block) (cells : ℕ) (premises drawn : List Premise) (cell : ℕ) : Type 0 where

@@ -3,7 +3,7 @@
 ghost use Rattle.std.specs.Prelude.{◌≡◌, ℕ, ◌<◌, ◌≤◌, ◌↔◌, length, IsTrue};
 ghost use Rattle.picture.specs.Rows.{line_of, width_of, HasLine};
 ghost use Rattle.justify.specs.Premises.{Mentions};
-ghost use Rattle.justify.specs.Steps.{IsForced};
+ghost use Rattle.justify.specs.Steps.{IsForcedStep};
 ghost use Rattle.justify.specs.Book.{IsDerivation};
 
 use crate::book::Book;
@@ -43,7 +43,7 @@ fn is_forced<E: LineEngine>(engine: &mut E, clue: &Clue, cells: u8, step: &Step)
     requires short { cells ≤ MOST_CELLS }
     requires premises_inside { (i : ℕ) → Mentions step.now.premises i → i < cells }
     requires drawn_inside { (i : ℕ) → Mentions step.now.drawn i → i < cells }
-    ensures forced { IsTrue result ↔ IsForced clue.now cells step.now }
+    ensures forced { IsTrue result ↔ IsForcedStep clue.now cells step.now }
     ensures same_longest { E.longest engine.new ≡ E.longest engine.old }
 {
     let mut left = [0; MOST_CELLS];
@@ -73,7 +73,7 @@ fn is_forced_on<E: LineEngine>(
     requires long { cells ≤ E.longest engine.old }
     requires premises_inside { (i : ℕ) → Mentions step.now.premises i → i < cells }
     requires drawn_inside { (i : ℕ) → Mentions step.now.drawn i → i < cells }
-    ensures forced { IsTrue result ↔ IsForced clue.now cells step.now }
+    ensures forced { IsTrue result ↔ IsForcedStep clue.now cells step.now }
     ensures same_longest { E.longest engine.new ≡ E.longest engine.old }
 {
     leave_rest(step.premises.as_slice(), left);

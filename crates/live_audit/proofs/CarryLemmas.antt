@@ -12,7 +12,7 @@ use Rattle.kept_audit.specs.Audit.{GoesOn}
 use Rattle.second_search.specs.declared.keeper.KeptPart.{KeptPart}
 use Rattle.second_search.specs.CarriedParts.{Carries}
 use Rattle.second_search.specs.JudgedParts.{AreTrue, parts_of}
-use Rattle.second_search.specs.Parts.{AreParts}
+use Rattle.second_search.specs.Parts.{AreParts, board}
 use Rattle.edits.specs.Design.{Design, design_of}
 use Rattle.edits.specs.History.{Advance, History, advanced}
 use Rattle.live_audit.specs.declared.work.Work.{Work}
@@ -36,14 +36,14 @@ goes_to d p advance h now after e gives was made =
 pub carries_on : (moves way : Moves) (d next : Document) (h after : History) (clues more : Clues) (book longer : Account) (kept carried : List KeptPart) (allowance : Option ℕ) (work : Work)
     (edit : Meter) (before calls : ℕ) (old : Seen)
     → design_of d ≡ h.document → design_of next ≡ after.document → seen h clues book kept allowance work before ≡ old
-    → way ≡ moves → GoesOn way clues more book longer nothing_done edit before calls → Carries clues book.facts d.picture more longer.facts next.picture kept carried
+    → way ≡ moves → GoesOn way clues more book longer nothing_done edit before calls → Carries (board clues book.facts d.picture) (board more longer.facts next.picture) kept carried
     → CarriesOn moves old (seen after more longer carried allowance (record { edit = edit; search = work.search; parts = work.parts; splits = work.splits }) calls)
 carries_on moves way d next h after clues more book longer kept carried allowance work edit before calls old e f was moved goes carries =
     let new : Seen = seen after more longer carried allowance (record { edit = edit; search = work.search; parts = work.parts; splits = work.splits }) calls in
-    let there : Carries clues book.facts h.document.rows more longer.facts next.picture kept carried =
-    subst (λ (x : Design). Carries clues book.facts x.rows more longer.facts next.picture kept carried) e carries in
-    let both : Carries clues book.facts h.document.rows more longer.facts after.document.rows kept carried =
-    subst (λ (x : Design). Carries clues book.facts h.document.rows more longer.facts x.rows kept carried) f there in
+    let there : Carries (board clues book.facts h.document.rows) (board more longer.facts next.picture) kept carried =
+    subst (λ (x : Design). Carries (board clues book.facts x.rows) (board more longer.facts next.picture) kept carried) e carries in
+    let both : Carries (board clues book.facts h.document.rows) (board more longer.facts after.document.rows) kept carried =
+    subst (λ (x : Design). Carries (board clues book.facts h.document.rows) (board more longer.facts x.rows) kept carried) f there in
     let here : CarriesOn moves (seen h clues book kept allowance work before) new =
     record { book = subst (λ (m : Moves). GoesOn m clues more book longer nothing_done edit before calls) moved goes; kept = both; allowance = refl; search = refl } in
     subst (λ (s : Seen). CarriesOn moves s new) was here

@@ -10,7 +10,7 @@ use Rattle.second_search.specs.declared.keeper.Answer.TheVariants.{Filling, Noth
 use Rattle.second_search.specs.declared.keeper.KeptPart.{KeptPart}
 use Rattle.second_search.specs.CarriedParts.{Carries, carried}
 use Rattle.second_search.specs.JudgedParts.{HasNoFilling, IsFilling, answer_at, cells_at, kept_at, parts_of}
-use Rattle.second_search.specs.Parts.{AreParts, IsPart, IsScene, KeepsLines, part_at}
+use Rattle.second_search.specs.Parts.{AreParts, IsPart, IsScene, KeepsLines, part_at, board}
 use Rattle.second_search.proofs.GrowLemmas.{line_inside}
 use Rattle.second_search.proofs.PartLemmas.{one_part_each, open_in_picture, part_open}
 use Rattle.second_search.proofs.RowLemmas.{all_one_list, has_first}
@@ -18,7 +18,7 @@ use Rattle.second_search.proofs.VerdictLemmas.{each_is_part, part_of_kept}
 
 -- each line through a part is the same in a scene and in itself
 same_lines : (clues : Clues) (givens : List ℕ) (facts : Masks) (picture : Rows) (cells : List ℕ) → IsScene clues givens facts picture → IsPart facts cells
-    → KeepsLines clues facts picture clues facts picture cells
+    → KeepsLines (board clues facts picture) (board clues facts picture) cells
 same_lines clues givens facts picture cells scene part line through =
     let shown = part_open facts cells through.row through.col part through.has in
     let inside = open_in_picture clues givens facts picture through.row through.col scene shown in
@@ -36,7 +36,7 @@ record IsCopied (clues : Clues) (givens : List ℕ) (facts : Masks) (picture : R
   parts : AreParts facts (parts_of old)
   copied : AreParts facts (parts_of new)
   none : HasNoFilling old (length old)
-  carries : Carries clues facts picture clues facts picture old new
+  carries : Carries (board clues facts picture) (board clues facts picture) old new
 
 same_list : (clues : Clues) (givens : List ℕ) (facts : Masks) (picture : Rows) (old new : List KeptPart) → IsCopied clues givens facts picture old new → parts_of new ≡ parts_of old
 same_list clues givens facts picture old new c = all_one_list facts (parts_of new) (parts_of old) c.copied c.parts
@@ -77,7 +77,7 @@ same_part old new i c a =
 
 -- where no filling is kept, what is carried to the same scene is the same
 pub copied : (clues : Clues) (givens : List ℕ) (facts : Masks) (picture : Rows) (old new : List KeptPart) → IsScene clues givens facts picture → AreParts facts (parts_of old)
-    → AreParts facts (parts_of new) → HasNoFilling old (length old) → Carries clues facts picture clues facts picture old new → new ≡ old
+    → AreParts facts (parts_of new) → HasNoFilling old (length old) → Carries (board clues facts picture) (board clues facts picture) old new → new ≡ old
 copied clues givens facts picture old new scene parts again none carries =
     let c : IsCopied clues givens facts picture old new = record { scene = scene; parts = parts; copied = again; none = none; carries = carries } in
     let e = same_list clues givens facts picture old new c in
@@ -86,7 +86,7 @@ copied clues givens facts picture old new scene parts again none carries =
 -- the same of what a call answers
 pub copied_by : {X : Type 0} (clues : Clues) (givens : List ℕ) (facts : Masks) (picture : Rows) (seen : List (List ℕ)) (old : List KeptPart) (r : Result (List KeptPart) X) → seen ≡ facts
     → IsScene clues givens seen picture → AreParts facts (parts_of old) → HasNoFilling old (length old)
-    → IfOk r (λ new. AreParts seen (parts_of new)) → IfOk r (Carries clues seen picture clues seen picture old) → IfOk r (λ new. new ≡ old)
+    → IfOk r (λ new. AreParts seen (parts_of new)) → IfOk r (Carries (board clues seen picture) (board clues seen picture) old) → IfOk r (λ new. new ≡ old)
 copied_by clues givens facts picture seen old (Ok new) e scene parts none again carries =
     copied clues givens seen picture old new scene (subst (λ (x : List (List ℕ)). AreParts x (parts_of old)) (sym e) parts) again none carries
 copied_by clues givens facts picture seen old (Err x) e scene parts none again carries = tt

@@ -14,6 +14,7 @@ use Rattle.second_search.specs.Verdict.{Verdict as Judgement}
 use Rattle.second_search.specs.Verdict as judgement
 use Rattle.second_search.specs.JudgedParts.{EndsBy, EndsPart, HasFilling, Judges, Passes, answer_at, cells_at, kept_at}
 use Rattle.second_search.specs.Laws.{AllowancesBreakOff}
+use Rattle.second_search.specs.Parts.{board}
 use Rattle.live_audit.specs.declared.verdict.Verdict.{Verdict}
 use Rattle.live_audit.specs.declared.verdict.Verdict.TheVariants as verdicts
 use Rattle.live_audit.specs.declared.work.Work.{Work}
@@ -29,7 +30,8 @@ AreKnown : List KeptPart → Type 0
 AreKnown kept = ((i : ℕ) → i < length kept → answer_at kept i ≡ Nothing) ⊎ ((i : ℕ) × HasFilling kept i)
 
 -- so it is once a verdict without an allowance has searched
-are_known : AllowancesBreakOff → (clues : Clues) (facts : Masks) (picture : Rows) (old new : List KeptPart) (j : Judgement) (m n : ℕ) → Judges clues facts picture None old new j m n → AreKnown new
+are_known : AllowancesBreakOff → (clues : Clues) (facts : Masks) (picture : Rows) (old new : List KeptPart) (j : Judgement) (m n : ℕ)
+    → Judges (board clues facts picture) None old new j m n → AreKnown new
 unfolding AreKnown
 are_known law clues facts picture old new judgement.Unique m n h = inl (λ i l. h.noted.before i (subst (λ k. i < k) h.noted.count l))
 are_known law clues facts picture old new judgement.Other m n h = inr (keeps_so clues facts picture None old new judgement.Other m n h)
@@ -40,12 +42,12 @@ are_known law clues facts picture old new judgement.Undecided m n h =
 
 -- a part without another filling is passed over
 passed_over : (clues : Clues) (facts : Masks) (picture : Rows) (allowance : Option ℕ) (kept : List KeptPart) (i : ℕ) (found : Ending) (m n : ℕ) → answer_at kept i ≡ Nothing
-    → EndsPart clues facts picture allowance (kept_at kept i) found m n → (found ≡ ending.Nothing) × ((m ≡ 0) × (n ≡ 0))
+    → EndsPart (board clues facts picture) allowance (kept_at kept i) found m n → (found ≡ ending.Nothing) × ((m ≡ 0) × (n ≡ 0))
 passed_over clues facts picture allowance kept i found m n e h =
-    subst (λ (a : Answer). EndsBy clues facts picture allowance (cells_at kept i) a found m n) e h
+    subst (λ (a : Answer). EndsBy (board clues facts picture) allowance (cells_at kept i) a found m n) e h
 
 all_passed : (clues : Clues) (facts : Masks) (picture : Rows) (allowance : Option ℕ) (kept : List KeptPart) (count m n : ℕ) → ((i : ℕ) → i < count → answer_at kept i ≡ Nothing)
-    → Passes clues facts picture allowance kept count m n → (m ≡ 0) × (n ≡ 0)
+    → Passes (board clues facts picture) allowance kept count m n → (m ≡ 0) × (n ≡ 0)
 all_passed clues facts picture allowance kept zero m n none h = h
 all_passed clues facts picture allowance kept (suc count) m n none h =
     let p = h.0 in
@@ -64,7 +66,7 @@ record SearchesNone (j : Judgement) (m n : ℕ) : Type 0 where
   decided : j ≡ judgement.Undecided → ⊥
 
 searches_none : (clues : Clues) (facts : Masks) (picture : Rows) (allowance : Option ℕ) (old new : List KeptPart) (j : Judgement) (m n : ℕ) → AreKnown old
-    → Judges clues facts picture allowance old new j m n → SearchesNone j m n
+    → Judges (board clues facts picture) allowance old new j m n → SearchesNone j m n
 unfolding AreKnown
 searches_none clues facts picture allowance old new judgement.Unique m n k h = elim k [
   | inl none ↦

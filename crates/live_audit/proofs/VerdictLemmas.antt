@@ -25,7 +25,7 @@ use Rattle.second_search.specs.Answer.{IsAnswer}
 use Rattle.second_search.specs.JudgedParts.{AreTrue, Changes, Done, HasFilling, HasNoFilling, IsFilling, IsTrueOf, Judges, Starts, cells_at, parts_of}
 use Rattle.second_search.specs.JudgedParts as judging
 use Rattle.second_search.specs.Laws.{AllowancesBreakOff, SoundFacts}
-use Rattle.second_search.specs.Parts.{AreParts, IsScene}
+use Rattle.second_search.specs.Parts.{AreParts, IsScene, board}
 use Rattle.second_search.specs.Evaluations.{AreFew}
 use Rattle.edits.specs.Design.{Design, design_of}
 use Rattle.edits.specs.History.{History, history}
@@ -98,7 +98,7 @@ Keeps kept judgement.Unique = HasNoFilling kept (length kept)
 Keeps kept judgement.Other = (i : ℕ) × HasFilling kept i
 Keeps kept judgement.Undecided = HasNoFilling kept (length kept)
 
-pub keeps_so : (clues : Clues) (facts : Masks) (picture : Rows) (allowance : Option ℕ) (old new : List KeptPart) (j : Judgement) (m n : ℕ) → Judges clues facts picture allowance old new j m n
+pub keeps_so : (clues : Clues) (facts : Masks) (picture : Rows) (allowance : Option ℕ) (old new : List KeptPart) (j : Judgement) (m n : ℕ) → Judges (board clues facts picture) allowance old new j m n
     → Keeps new j
 keeps_so clues facts picture allowance old new judgement.Unique m n h = none_then old new (length old) h.none_kept h.noted
 keeps_so clues facts picture allowance old new judgement.Other m n h = elim h [
@@ -116,7 +116,7 @@ shows_others d clues givens kept g e t other f =
 -- what tells the judgement that an answer stands for
 tells : AllowancesBreakOff
     → (d : Design) (clues : Clues) (facts : Masks) (givens : List ℕ) (allowance : Option ℕ) (old new : List KeptPart) (searched splits : ℕ) (answer : Judged) (j : Judgement) (is_decided : Bool)
-    → AreGivenCells d givens → clues ≡ clues_of d.rows → IsAnswer clues givens d.rows answer → judging.AnswersAs new answer j → Judges clues facts d.rows allowance old new j searched splits
+    → AreGivenCells d givens → clues ≡ clues_of d.rows → IsAnswer clues givens d.rows answer → judging.AnswersAs new answer j → Judges (board clues facts d.rows) allowance old new j searched splits
     → WasDecided answer is_decided → ShowsOthers d new → IsToldBy d allowance new is_decided j
 tells law d clues facts givens allowance old new searched splits judged.Unique j is_decided g e t a is by others =
     let none : Keeps new judgement.Unique = subst (Keeps new) a (keeps_so clues facts d.rows allowance old new j searched splits is) in
@@ -136,7 +136,7 @@ tells law d clues facts givens allowance old new searched splits (judged.Other o
     }
 tells law d clues facts givens allowance old new searched splits judged.Undecided j is_decided g e t a is by others =
     let none : Keeps new judgement.Undecided = subst (Keeps new) a (keeps_so clues facts d.rows allowance old new j searched splits is) in
-    let most = law clues facts d.rows allowance old new searched splits (subst (λ (v : Judgement). Judges clues facts d.rows allowance old new v searched splits) a is) in
+    let most = law clues facts d.rows allowance old new searched splits (subst (λ (v : Judgement). Judges (board clues facts d.rows) allowance old new v searched splits) a is) in
     record {
       others = others;
       other = λ i f. absurd (none i f.place f.is);
@@ -153,13 +153,13 @@ record Heard (clues : Clues) (facts : Masks) (givens : List ℕ) (picture : Rows
   answers : AreTrue clues givens picture new
   j : Judgement
   said : judging.AnswersAs new answer j
-  done : Done sb sa pb pa mb ma cb ca (Judges clues facts picture allowance old new j)
+  done : Done sb sa pb pa mb ma cb ca (Judges (board clues facts picture) allowance old new j)
   told : IsAnswer clues givens picture answer
 
 -- what comes of it for the document
 pub record Comes (d : Design) (clues : Clues) (facts : Masks) (allowance : Option ℕ) (old new : List KeptPart) (is_decided : Bool) (sb sa pb pa : ℕ) (mb ma : Meter) (cb ca : ℕ) : Type 0 where
   pub answers : AreAnswersOf d clues facts new
-  pub judges : (j : Judgement) × (IsToldBy d allowance new is_decided j × Done sb sa pb pa mb ma cb ca (Judges clues facts d.rows allowance old new j))
+  pub judges : (j : Judgement) × (IsToldBy d allowance new is_decided j × Done sb sa pb pa mb ma cb ca (Judges (board clues facts d.rows) allowance old new j))
 
 come : SameCellsAreEqual → AllowancesBreakOff → (d : Design) (clues : Clues) (facts : Masks) (givens : List ℕ) (allowance : Option ℕ) (old new : List KeptPart) (answer : Judged) (is_decided : Bool)
     (sb sa pb pa : ℕ) (mb ma : Meter) (cb ca : ℕ)
@@ -176,10 +176,10 @@ pub heard : {X : Type 0} → SameCellsAreEqual → AllowancesBreakOff → (d : D
     (result : Result Judged X) (answer : Judged) (is_decided : Bool) (sb sa pb pa : ℕ) (mb ma : Meter) (cb ca : ℕ)
     → sc ≡ clues → sf ≡ facts → sg ≡ d.givens → sp ≡ d.picture → AreGivenCells (design_of d) d.givens → clues ≡ clues_of d.picture → WasDecided answer is_decided
     → result ≡ Ok answer → IsAnswer sc sg sp answer → AreParts sf (parts_of new) → AreTrue sc sg sp new
-    → MatchResult result (λ judged. (j : Judgement) × (judging.AnswersAs new judged j × Done sb sa pb pa mb ma cb ca (Judges sc sf sp allowance old new j))) (λ _. new ≡ old)
+    → MatchResult result (λ judged. (j : Judgement) × (judging.AnswersAs new judged j × Done sb sa pb pa mb ma cb ca (Judges (board sc sf sp) allowance old new j))) (λ _. new ≡ old)
     → Comes (design_of d) clues facts allowance old new is_decided sb sa pb pa mb ma cb ca
 heard {X = X} same law d clues sc facts sf sg sp allowance old new result answer is_decided sb sa pb pa mb ma cb ca ec ef eg ep g e by is told parts answers h =
-    let k = subst (λ (x : Result Judged X). MatchResult x (λ judged. (j : Judgement) × (judging.AnswersAs new judged j × Done sb sa pb pa mb ma cb ca (Judges sc sf sp allowance old new j)))
+    let k = subst (λ (x : Result Judged X). MatchResult x (λ judged. (j : Judgement) × (judging.AnswersAs new judged j × Done sb sa pb pa mb ma cb ca (Judges (board sc sf sp) allowance old new j)))
     (λ _. new ≡ old)) is h in
     let there : Heard sc sf sg sp allowance old new answer sb sa pb pa mb ma cb ca = record { parts = parts; answers = answers; j = k.0; said = k.1.0; done = k.1.1; told = told } in
     let here : Heard clues facts d.givens d.picture allowance old new answer sb sa pb pa mb ma cb ca = rw (ec, ef, eg, ep) at there in
@@ -209,11 +209,11 @@ few_counted (Some most) facts parts evaluations before after meter end e c few =
 pub decided : (d : Document) (h : History) (clues : Clues) (book : Account) (kept next : List KeptPart) (allowance : Option ℕ) (work : Work) (search : Meter) (parts splits before after : ℕ)
     (old : Seen) (j : Judgement)
     → design_of d ≡ h.document → seen h clues book kept allowance work before ≡ old
-    → Done 0 parts 0 splits nothing_done search before after (Judges clues book.facts d.picture allowance kept next j)
+    → Done 0 parts 0 splits nothing_done search before after (Judges (board clues book.facts d.picture) allowance kept next j)
     → AreFew allowance book.facts (length kept) search.evaluations
     → Decides old (seen h clues book next allowance (record { edit = work.edit; search = search; parts = parts; splits = splits }) after) j
 decided d h clues book kept next allowance work search parts splits before after old j e was done few =
-    let P : Design → Type 0 = λ x. Done 0 parts 0 splits nothing_done search before after (Judges clues book.facts x.rows allowance kept next j) in
+    let P : Design → Type 0 = λ x. Done 0 parts 0 splits nothing_done search before after (Judges (board clues book.facts x.rows) allowance kept next j) in
     let new : Seen = seen h clues book next allowance (record { edit = work.edit; search = search; parts = parts; splits = splits }) after in
     let here : Decides (seen h clues book kept allowance work before) new j =
     record { same = refl; work = subst P e done; calls = each_called parts splits search before after _ done; evaluated = each_evaluated parts splits search before after _ done; few = few } in

@@ -10,7 +10,7 @@ use Rattle.kept_audit.specs.Audit.{IsAnew, IsAuditOf}
 pub use Rattle.kept_audit.specs.Audit.{nothing_done}
 use Rattle.second_search.specs.declared.keeper.KeptPart.{KeptPart}
 use Rattle.second_search.specs.JudgedParts.{AreTrue, Starts, parts_of}
-use Rattle.second_search.specs.Parts.{AreParts}
+use Rattle.second_search.specs.Parts.{AreParts, Board, board}
 use Rattle.edits.specs.Design.{Design}
 use Rattle.edits.specs.declared.studio.TheConstants.{MAX_DEPTH}
 use Rattle.edits.specs.History.{History, history}
@@ -39,6 +39,10 @@ seen history clues book kept allowance work calls =
       work = work;
       calls = calls;
     }
+
+-- its clues, its map and its picture
+abbrev pub board_seen : Seen → Board
+board_seen s = board s.clues s.book.facts s.history.document.rows
 
 -- the cell is a given
 abbrev pub IsGiven : Design → ℕ → ℕ → Type 0

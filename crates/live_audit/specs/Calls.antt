@@ -11,7 +11,7 @@ use Rattle.edits.specs.declared.fault.EditFault.{EditFault}
 use Rattle.edits.specs.History.{History, or_memory}
 use Rattle.live_audit.specs.declared.certifying.Finding.{Finding}
 use Rattle.live_audit.specs.declared.verdict.Verdict.{Verdict}
-use Rattle.live_audit.specs.Bench.{AreAnswersOf, Seen, IsAudited, nothing_done}
+use Rattle.live_audit.specs.Bench.{AreAnswersOf, Seen, IsAudited, board_seen, nothing_done}
 use Rattle.live_audit.specs.Certify.{Certifies}
 use Rattle.live_audit.specs.Stroke.{Stroke, after_stroke, stroke_fault, stroke_moves}
 use Rattle.live_audit.specs.Verdict.{IsVerdictOn, Tells}
@@ -21,8 +21,7 @@ use Rattle.live_audit.specs.Verdict.{IsVerdictOn, Tells}
 -- same, and of the others nothing is known. The allowance stays, and what was searched before stays counted.
 pub record CarriesOn (moves : Moves) (old new : Seen) : Type 0 where
   pub book : GoesOn moves old.clues new.clues old.book new.book nothing_done new.work.edit old.calls new.calls
-  pub kept : Carries old.clues old.book.facts old.history.document.rows new.clues new.book.facts
-      new.history.document.rows old.kept new.kept
+  pub kept : Carries (board_seen old) (board_seen new) old.kept new.kept
   pub allowance : new.allowance ≡ old.allowance
   pub search : new.work ≡ record old.work { edit = new.work.edit }
 
@@ -33,7 +32,7 @@ IsAsBefore old new = new ≡ record old { calls = new.calls }
 -- What is known of the parts is what a verdict without an allowance keeps of them.
 abbrev pub IsSearchedTo : Seen → List KeptPart → Type 0
 IsSearchedTo old kept = (j : Judgement) × ((searched : ℕ)
-    × ((splits : ℕ) × Judges old.clues old.book.facts old.history.document.rows None old.kept kept j searched splits))
+    × ((splits : ℕ) × Judges (board_seen old) None old.kept kept j searched splits))
 
 abbrev pub IsSearched : Seen → Seen → Type 0
 IsSearched old new = IsSearchedTo old new.kept

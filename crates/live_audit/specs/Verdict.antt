@@ -14,7 +14,7 @@ use Rattle.second_search.specs.Evaluations.{AreFew}
 use Rattle.edits.specs.Design.{Design}
 use Rattle.live_audit.specs.declared.verdict.Verdict.{Verdict}
 use Rattle.live_audit.specs.declared.verdict.Verdict.TheVariants.{Unique, Ambiguous, Undecided}
-use Rattle.live_audit.specs.Bench.{IsGiven, Seen, nothing_done}
+use Rattle.live_audit.specs.Bench.{IsGiven, Seen, board_seen, nothing_done}
 
 -- another picture for a document: one with its clues, and with its colours in its givens
 abbrev pub IsOtherFor : Design → Rows → Type 0
@@ -37,7 +37,7 @@ IsVerdictOn d allowance (Undecided splits) = allowance ≡ Some splits
 pub record Decides (old new : Seen) (j : Judgement) : Type 0 where
   pub same : new ≡ record old { kept = new.kept; work = record new.work { edit = old.work.edit }; calls = new.calls }
   pub work : Done 0 new.work.parts 0 new.work.splits nothing_done new.work.search old.calls new.calls
-      (Judges old.clues old.book.facts old.history.document.rows old.allowance old.kept new.kept j)
+      (Judges (board_seen old) old.allowance old.kept new.kept j)
   pub calls : new.calls ≡ counted old.calls new.work.search.evaluations
   pub evaluated : new.work.parts ≤ new.work.search.evaluations
   pub few : AreFew old.allowance old.book.facts (length old.kept) new.work.search.evaluations

@@ -276,7 +276,7 @@ impl<E: LineEngine + Drop, A: Agenda + Drop> Bench<E, A> {
         }
     }
 
-    // The same where no other filling of a part is kept: the present picture is judged by its parts without an allowance, and a
+    // Judges and makes a certificate where no other filling of a part is kept: the present picture is judged by its parts without an allowance, and a
     // certificate is made where that finds no other picture.
     fn search_certificate(&mut self) -> Result<Finding, AllocError>
         requires { HasNoFilling self.old.kept (length self.old.kept) }

@@ -4,7 +4,7 @@ ghost use Rattle.std.specs.Prelude.{◌≡◌, ◌≤◌, ℕ, length, None, IfO
 ghost use Rattle.second_search.specs.Verdict.{Verdict};
 ghost use Rattle.second_search.specs.CarriedParts.{Carries};
 ghost use Rattle.second_search.specs.JudgedParts.{Done, FirstFilling, HasNoFilling, Judges};
-ghost use Rattle.second_search.specs.Parts.{IsScene};
+ghost use Rattle.second_search.specs.Parts.{IsScene, board};
 ghost use Rattle.second_search.specs.Evaluations.{AreFew};
 ghost use Rattle.kept_audit.specs.Audit.{IsAuditOf};
 ghost use Rattle.edits.specs.Design.{design_of};
@@ -54,8 +54,9 @@ pub(crate) fn answers_next(
     requires next { IsAuditOf (design_of new.now) after.now.clues after.now.book }
     ensures answers { IfOk result
         (AreAnswersOf (design_of new.now) after.now.clues after.now.book.facts) }
-    ensures carries { IfOk result (Carries before.now.clues before.now.book.facts old.now.picture
-        after.now.clues after.now.book.facts new.now.picture keeper.now) }
+    ensures carries { IfOk result (Carries
+        (board before.now.clues before.now.book.facts old.now.picture)
+        (board after.now.clues after.now.book.facts new.now.picture) keeper.now) }
 {
     let before = scene_of(old, before);
     let after = scene_of(new, after);
@@ -81,8 +82,8 @@ pub(crate) fn rule<E: LineEngine>(
         × (IsToldBy (design_of document.now) allowance keeper.new is_decided j
         × Done 0 work.parts 0 work.splits nothing_done work.search (E.calls engine.old)
         (E.calls engine.new)
-        (Judges audit.now.clues audit.now.book.facts document.now.picture allowance keeper.old
-        keeper.new j))) }
+        (Judges (board audit.now.clues audit.now.book.facts document.now.picture) allowance
+        keeper.old keeper.new j))) }
     ensures few { IfOk result (λ (_, work).
         AreFew allowance audit.now.book.facts (length keeper.old) work.search.evaluations) }
     ensures answers { AreAnswersOf (design_of document.now) audit.now.clues audit.now.book.facts
@@ -119,8 +120,8 @@ pub(crate) fn rule_beside<E: LineEngine>(
     requires none { HasNoFilling keeper.now (length keeper.now) }
     requires long { MAX_SIDE ≤ E.longest engine.old }
     ensures judges { IfOk result (λ next. (j : Verdict) × ((searched : ℕ) × ((splits : ℕ)
-        × Judges audit.now.clues audit.now.book.facts document.now.picture None keeper.now next j
-        searched splits))) }
+        × Judges (board audit.now.clues audit.now.book.facts document.now.picture) None
+        keeper.now next j searched splits))) }
     ensures others { IfOk result (ShowsOthers (design_of document.now)) }
     ensures answers { IfOk result
         (AreAnswersOf (design_of document.now) audit.now.clues audit.now.book.facts) }
@@ -132,7 +133,7 @@ pub(crate) fn rule_beside<E: LineEngine>(
     Ok(next)
 }
 
-// The same parts with what is known of them, where no other filling is kept.
+// A copy of the parts with what is known of them, where no other filling is kept.
 fn copy_of(keeper: &Keeper, document: &Document, audit: &Audit) -> Result<Keeper, AllocError>
     requires audited { IsAuditOf (design_of document.now) audit.now.clues audit.now.book }
     requires answers { AreAnswersOf (design_of document.now) audit.now.clues audit.now.book.facts

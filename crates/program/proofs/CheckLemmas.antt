@@ -13,16 +13,17 @@ use Rattle.program.specs.Files.{Held, IsContent, IsUnreadFile, Names}
 use Rattle.program.specs.Work.{CarriesOut, IsHalfRead}
 use Rattle.program.specs.World.{World, world}
 use Rattle.program.proofs.FileLemmas.{keeps_same, names_both}
+use Rattle.command_text.specs.Words.{Texts}
 
 -- two files were opened, what they hold was the same for both, and this is what the first gave
-pub record AreBoth (held later : List ℕ → Held) (opened between after : Option (List (List ℕ))) (path cert : List ℕ) (file : List ℕ) : Type 0 where
+pub record AreBoth (held later : List ℕ → Held) (opened between after : Option Texts) (path cert : List ℕ) (file : List ℕ) : Type 0 where
   pub content : IsContent (held path) file
   pub first : Names opened between (path ∷ [])
   pub keeps : (name : List ℕ) → later name ≡ held name
   pub next : Names between after (cert ∷ [])
 
 -- the second file was not read
-half : (held later : List ℕ → Held) (opened between after : Option (List (List ℕ))) (input output : Option (List ℕ)) (path cert : Bor (List ℕ)) (file : List ℕ) (fault : ProgramFault)
+half : (held later : List ℕ → Held) (opened between after : Option Texts) (input output : Option (List ℕ)) (path cert : Bor (List ℕ)) (file : List ℕ) (fault : ProgramFault)
     (r : Result (Unit {0}) ProgramFault)
     → AreBoth held later opened between after path.now cert.now file → IsUnreadFile (later cert.now) fault → r ≡ Err fault
     → IsHalfRead (held path.now) (held cert.now) path.now cert.now (world opened input output) (world after input output) r
@@ -37,7 +38,7 @@ half held later opened between after input output path cert file fault r both un
   };
 }
 
-pub half_read : (held later : List ℕ → Held) (opened between after : Option (List (List ℕ))) (input output : Option (List ℕ)) (task : Task) (path cert : Bor (List ℕ)) (background : Option Rgb)
+pub half_read : (held later : List ℕ → Held) (opened between after : Option Texts) (input output : Option (List ℕ)) (task : Task) (path cert : Bor (List ℕ)) (background : Option Rgb)
     (file : List ℕ) (fault : ProgramFault) (r : Result (Unit {0}) ProgramFault)
     → task ≡ Check path cert background → AreBoth held later opened between after path.now cert.now file → IsUnreadFile (later cert.now) fault → r ≡ Err fault
     → CarriesOut held (world opened input output) (world after input output) task r
@@ -46,7 +47,7 @@ half_read held later opened between after input output task path cert background
     inr (inl (half held later opened between after input output path cert file fault r both unread failed)) in
     subst (λ (t : Task). CarriesOut held (world opened input output) (world after input output) t r) (sym is) here
 
-pub half_verified : (held later : List ℕ → Held) (opened between after : Option (List (List ℕ))) (input output : Option (List ℕ)) (task : Task) (path cert : Bor (List ℕ)) (background : Option Rgb)
+pub half_verified : (held later : List ℕ → Held) (opened between after : Option Texts) (input output : Option (List ℕ)) (task : Task) (path cert : Bor (List ℕ)) (background : Option Rgb)
     (file : List ℕ) (fault : ProgramFault) (r : Result (Unit {0}) ProgramFault)
     → task ≡ Verify path cert background → AreBoth held later opened between after path.now cert.now file → IsUnreadFile (later cert.now) fault → r ≡ Err fault
     → CarriesOut held (world opened input output) (world after input output) task r
@@ -55,7 +56,7 @@ half_verified held later opened between after input output task path cert backgr
     inr (inl (half held later opened between after input output path cert file fault r both unread failed)) in
     subst (λ (t : Task). CarriesOut held (world opened input output) (world after input output) t r) (sym is) here
 
-pub checked : (held later : List ℕ → Held) (opened between after : Option (List (List ℕ))) (input output written : Option (List ℕ)) (task : Task) (path cert : Bor (List ℕ)) (background : Option Rgb)
+pub checked : (held later : List ℕ → Held) (opened between after : Option Texts) (input output written : Option (List ℕ)) (task : Task) (path cert : Bor (List ℕ)) (background : Option Rgb)
     (file cert_bytes seen cert_seen : List ℕ) (r : Result (Unit {0}) ProgramFault)
     → task ≡ Check path cert background → AreBoth held later opened between after path.now cert.now file → IsContent (later cert.now) cert_bytes → seen ≡ file → cert_seen ≡ cert_bytes
     → WritesBy output written r (IsCheckOf seen background cert_seen) → (IsProofOf seen background cert_seen → IfErr r (λ e. (e ≡ Memory) ⊎ (e ≡ Write)))
@@ -77,7 +78,7 @@ checked held later opened between after input output written task path cert back
     })) in
     subst (λ (t : Task). CarriesOut held before behind t r) (sym is) here
 
-pub verified : (held later : List ℕ → Held) (opened between after : Option (List (List ℕ))) (input output written : Option (List ℕ)) (task : Task) (path cert : Bor (List ℕ)) (background : Option Rgb)
+pub verified : (held later : List ℕ → Held) (opened between after : Option Texts) (input output written : Option (List ℕ)) (task : Task) (path cert : Bor (List ℕ)) (background : Option Rgb)
     (file cert_bytes seen cert_seen : List ℕ) (r : Result (Unit {0}) ProgramFault)
     → task ≡ Verify path cert background → AreBoth held later opened between after path.now cert.now file → IsContent (later cert.now) cert_bytes → seen ≡ file → cert_seen ≡ cert_bytes
     → WritesBy output written r (IsVerifyOf seen background cert_seen) → (IsLemmaProofOf seen background cert_seen → IfErr r (λ e. (e ≡ Memory) ⊎ (e ≡ Write)))

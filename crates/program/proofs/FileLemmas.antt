@@ -3,19 +3,20 @@ use Rattle.std.proofs.Common.{ℕ, List, [], ◌∷◌, ◌++◌, Option, Some, 
 use Rattle.std.specs.Io.KnownBytes.{Keeps}
 use Rattle.std.proofs.lemmas.List.{append-nil, append_assoc}
 use Rattle.program.specs.Files.{Names}
+use Rattle.command_text.specs.Words.{Texts}
 
 -- ---- names
 
-pub names_none : (opened : Option (List (List ℕ))) → Names opened opened []
+pub names_none : (opened : Option Texts) → Names opened opened []
 names_none None = tt
 names_none (Some paths) = sym (append-nil paths)
 
-pub names_both : (before between after : Option (List (List ℕ))) (one other : List ℕ) → Names before between (one ∷ []) → Names between after (other ∷ []) → Names before after (one ∷ other ∷ [])
+pub names_both : (before between after : Option Texts) (one other : List ℕ) → Names before between (one ∷ []) → Names between after (other ∷ []) → Names before after (one ∷ other ∷ [])
 names_both None between after one other first next = tt
 names_both (Some paths) None after one other first next = absurd first
 names_both (Some paths) (Some more) None one other first next = absurd next
 names_both (Some paths) (Some more) (Some all) one other first next =
-    next ∙ (ap (λ (xs : List (List ℕ)). xs ++ (other ∷ [])) first ∙ append_assoc paths (one ∷ []) (other ∷ []))
+    next ∙ (ap (λ (xs : Texts). xs ++ (other ∷ [])) first ∙ append_assoc paths (one ∷ []) (other ∷ []))
 
 -- ---- what is left alone
 

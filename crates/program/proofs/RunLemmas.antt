@@ -13,6 +13,7 @@ use Rattle.program.specs.Files.{Held}
 use Rattle.program.specs.Run.{Answers, AnswersAll, Ends, IsRefused, IsTask, texts}
 use Rattle.program.specs.World.{OnlyOpens, World}
 use Rattle.program.proofs.FileLemmas.{keeps_same, names_none}
+use Rattle.command_text.specs.Words.{Texts}
 
 pub task_so : (words : List (Bor (List ℕ))) (r : Result Task ProgramFault) → (words ≡ [] → r ≡ Ok Clues) → (words ≢ [] → IsTaskOf (texts words) r) → IsTask (texts words) r
 task_so [] r none asked = none refl
@@ -26,10 +27,10 @@ pub refused : (words : List (Bor (List ℕ))) (held : List ℕ → Held) (before
 refused words held before fault r is task = inl (fault, (task, record { is = is; only = untouched before }))
 
 -- the same words
-pub answered : (words : List (Bor (List ℕ))) (items : List (Bor (List ℕ))) (texts_are : List (List ℕ)) (held : List ℕ → Held) (before after : World) (r : Result (Unit {0}) ProgramFault)
+pub answered : (words : List (Bor (List ℕ))) (items : List (Bor (List ℕ))) (texts_are : Texts) (held : List ℕ → Held) (before after : World) (r : Result (Unit {0}) ProgramFault)
     → words ≡ items → texts items ≡ texts_are → Answers (texts words) held before after r → AnswersAll texts_are held before after r
 answered words items texts_are held before after r same is answers =
-    inr (subst (λ (xs : List (List ℕ)). Answers xs held before after r) (ap texts same ∙ is) answers)
+    inr (subst (λ (xs : Texts). Answers xs held before after r) (ap texts same ∙ is) answers)
 
 -- how it ends, by what came of texts, or by the error of what are none
 pub ends_ok : (arguments : Result (Vec (String Global) Global) ProgramFault) (vec : Vec (String Global) Global) (now : List (String Global)) (held : List ℕ → Held) (before after : World)

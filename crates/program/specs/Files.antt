@@ -3,6 +3,7 @@ use Rattle.std.specs.Prelude.{◌≡◌, ◌⊎◌, ℕ, ◌<◌, ◌≤◌, Lis
 use Rattle.std.proofs.Common.{Vec, Global}
 use Rattle.program_options.specs.declared.fault.ProgramFault.{ProgramFault}
 use Rattle.program_options.specs.declared.fault.ProgramFault.TheVariants.{Memory, TooLong, Read}
+use Rattle.command_text.specs.Words.{Texts}
 
 -- What a name holds: nobody knows; or no file; or a file with these bytes.
 pub data Held : Type 0 where
@@ -23,7 +24,7 @@ IsAbsent Missing = Unit {0}
 IsAbsent (Holds bytes) = ⊥
 
 -- these names were opened, in this order
-abbrev pub Names : Option (List (List ℕ)) → Option (List (List ℕ)) → List (List ℕ) → Type 0
+abbrev pub Names : Option Texts → Option Texts → Texts → Type 0
 Names None new paths = Unit {0}
 Names (Some before) None paths = ⊥
 Names (Some before) (Some after) paths = after ≡ before ++ paths

@@ -13,14 +13,15 @@ use Rattle.program.specs.Endings.{line_after, status_after}
 use Rattle.program.specs.Files.{Held}
 use Rattle.program.specs.Work.{CarriesOut}
 use Rattle.program.specs.World.{OnlyOpens, World}
+use Rattle.command_text.specs.Words.{Texts}
 
 -- the texts of words
-abbrev pub texts : List (Bor (List ℕ)) → List (List ℕ)
+abbrev pub texts : List (Bor (List ℕ)) → Texts
 texts words = map (λ (word : Bor (List ℕ)). word.now) words
 
 -- what the words ask for: the clues where there is none, and else
 -- as the definition of the program's command line reads them
-abbrev pub IsTask : List (List ℕ) → Result Task ProgramFault → Type 0
+abbrev pub IsTask : Texts → Result Task ProgramFault → Type 0
 IsTask [] r = r ≡ Ok Clues
 IsTask (word ∷ words) r = IsTaskOf (word ∷ words) r
 
@@ -30,13 +31,13 @@ pub record IsRefused (fault : ProgramFault) (before after : World) (r : Result (
   pub only : OnlyOpens before after []
 
 -- What is done for words: they are refused; or they ask for a task, which is carried out.
-abbrev pub Answers : List (List ℕ) → (List ℕ → Held) → World → World → Result (Unit {0}) ProgramFault → Type 0
+abbrev pub Answers : Texts → (List ℕ → Held) → World → World → Result (Unit {0}) ProgramFault → Type 0
 Answers words held before after r =
     ((fault : ProgramFault) × (IsTask words (Err fault) × IsRefused fault before after r))
     ⊎ ((task : Task) × (IsTask words (Ok task) × CarriesOut held before after task r))
 
 -- What is done for arguments: what is done for their texts, or nothing, where memory ran out before they were read.
-abbrev pub AnswersAll : List (List ℕ) → (List ℕ → Held) → World → World → Result (Unit {0}) ProgramFault → Type 0
+abbrev pub AnswersAll : Texts → (List ℕ → Held) → World → World → Result (Unit {0}) ProgramFault → Type 0
 AnswersAll words held before after r = IsRefused Memory before after r ⊎ Answers words held before after r
 
 -- How the program ends: what came of the arguments, the status that this

@@ -40,7 +40,7 @@ pub fn run<F: Files, R: Read, W: Write, V: Write>(
     }
 }
 
-// The same of arguments that are texts, before the end.
+// Answers arguments that are texts, without the error line and the status.
 fn answer_all<F: Files, R: Read, W: Write>(
     alloc: Global,
     arguments: &[String],

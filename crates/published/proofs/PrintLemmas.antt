@@ -16,7 +16,7 @@ use Rattle.command_text.specs.declared.command.Command.TheVariants as command
 use Rattle.command_text.specs.declared.request.Request.{Request}
 use Rattle.command_text.specs.declared.request.Request.TheVariants as request
 use Rattle.command_text.specs.Lines.{lines_of, request_of}
-use Rattle.command_text.specs.Words.{words_of}
+use Rattle.command_text.specs.Words.{Texts, words_of}
 use Rattle.session.specs.Refusal.{memory_line}
 use Rattle.session.specs.Session.{IsShort, Replies, Runs, Says, SaysTo, SaysToAll}
 use Rattle.published.specs.Laws.{PairsAreAccepted}
@@ -54,7 +54,7 @@ wrote c input line s bytes lines asks short w =
     let h = w.runs in
     let read = all_read input h.0 w.left h.1.0 h.1.1.0 in
     let answered = h.1.1.1 in
-    let P : List (List ℕ) → Type 0 = λ all. SaysToAll all s answered.0 w.last in
+    let P : Texts → Type 0 = λ all. SaysToAll all s answered.0 w.last in
     let one : P (line ∷ []) = subst P lines (subst (λ (xs : List ℕ). P (lines_of xs)) read answered.1.0) in
     one_text c line s w.last answered.0 bytes asks short w.made answered.1.1 one
 

@@ -15,7 +15,7 @@ use Rattle.certificate.specs.Puzzle.{HasCellNumbers, IsAmong, IsUnique, numbered
 use Rattle.cert_text.specs.Text.{cert_of}
 use Rattle.edits.specs.Design.{Design}
 use Rattle.live_audit.specs.Certify.{IsCertificateFor, NamesMarks, ordered}
-use Rattle.answers.specs.Check.{IsCheck, IsCheckOf, IsOnlyPicture, accepted_text, givens_text}
+use Rattle.answers.specs.Check.{IsCheck, IsCheckOf, IsOnlyPicture, accepted_text, givens_count_text}
 use Rattle.published.specs.Laws.{background_in}
 use Rattle.published.specs.Solution.{GivesNothing, IsSolved, PlainLinesAreOneSolution, nowhere, plain_line}
 
@@ -28,8 +28,8 @@ no_givens (cell ∷ cells) e =
     let front = codes ", givens " in
     let number = decimal (length (cell ∷ cells)) in
     let all = ap (λ (t : List ℕ). length t) e in
-    let head = length-append (codes "certificate accepted") (givens_text (cell ∷ cells) ++ 10 ∷ []) in
-    let tail = length-append (givens_text (cell ∷ cells)) (10 ∷ []) in
+    let head = length-append (codes "certificate accepted") (givens_count_text (cell ∷ cells) ++ 10 ∷ []) in
+    let tail = length-append (givens_count_text (cell ∷ cells)) (10 ∷ []) in
     let words = length-append front number in
     let a : length plain_line ≡ 21 = refl in
     let b : length (codes "certificate accepted") ≡ 20 = refl in

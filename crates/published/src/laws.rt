@@ -38,9 +38,9 @@ pub fn unique_pictures_are_published<E: LineEngine + Drop, A: Agenda + Drop>(ben
     let _ = (document.palette.len(), document.picture.height());
 }
 
-/// The same as of published pairs by the bytes that sessions write: where a session that is given `write ppm` alone wrote the picture, and one that is
-/// given `certify` alone the certificate, and neither says `refused: Memory` nor the second `ambiguous`, then these bytes are a
-/// pair that `run_check` accepts, with the background of the bench's document. The sessions may run on benches of their own that
+/// The bytes that sessions write are a pair that can be published: where a session that is given `write ppm` alone wrote the
+/// picture, and one that is given `certify` alone the certificate, and neither says `refused: Memory` nor the second
+/// `ambiguous`, `run_check` accepts them, with the background of the bench's document. The sessions may run on benches of their own that
 /// have this bench's history, as those have that are started with one P3 file (`one_file_is_one_document`).
 pub fn printed_bytes_are_accepted<E: LineEngine + Drop, A: Agenda + Drop>(bench: &Bench<E, A>)
     ensures { PrintedAreAccepted bench.now }

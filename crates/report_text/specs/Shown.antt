@@ -4,6 +4,7 @@ use Rattle.std.proofs.Common.{refl}
 use Rattle.std.specs.Int.{trailing_zeros, w16}
 use Rattle.std.specs.List.{flat_map}
 use Rattle.picture.specs.Rows.{Rows}
+use Rattle.line_facts.specs.Masks.{Masks}
 
 -- `.` for the background, and `a` to `o` for 1 to 15
 abbrev pub letter : ℕ → ℕ
@@ -22,7 +23,7 @@ abbrev pub mask_letter : ℕ → ℕ
 mask_letter mask = if count_ones mask == 1 then letter (trailing_zeros w16 mask) else 63
 
 -- the rows of a map
-abbrev pub map_text : List (List ℕ) → List ℕ
+abbrev pub map_text : Masks → List ℕ
 map_text masks = flat_map (shown_row mask_letter) masks
 
 -- ---- worked cells

@@ -21,7 +21,7 @@ pub fn clues_text(alloc: Global, book: &ClueBook) -> Result<Vec<u8>, AllocError>
     Ok(text)
 }
 
-// The same, after what is there.
+// Appends the clues of the rows and then of the columns to a text, a line each.
 pub(crate) fn push_clues(text: &mut Vec<u8>, book: &ClueBook) -> Result<(), AllocError>
     ensures { OnOk result (text.new.items ≡ text.old.items ++ clues_text book.now) }
 {

@@ -1,10 +1,11 @@
 //! The report of a bench.
 
-ghost use Rattle.std.specs.Prelude.{◌≡◌, ◌<◌, ◌≤◌, ◌+◌, ◌++◌, ◌==◌, length, OnOk};
+ghost use Rattle.std.specs.Prelude.{◌≡◌, ◌<◌, ◌≤◌, ◌+◌, ◌++◌, ◌==◌, count_by, length, OnOk};
 ghost use Rattle.picture.specs.Rows.{cell_at, row_at, width_of};
+ghost use Rattle.picture.specs.Writers.{number_text};
 ghost use Rattle.edits.specs.Design.{design_of};
 ghost use Rattle.report_text.specs.Room.{TakesRoom};
-ghost use Rattle.report_text.specs.Report.{audit_text, colour_line, colour_lines, colours_text, document_text, ending_text, shown_given, front_text, shown_givens, number_before, open_cells, open_in_row, row_givens, size_text};
+ghost use Rattle.report_text.specs.Report.{audit_text, colour_line, colour_lines, colours_text, document_text, ending_text, front_text, givens_in, is_open, open_cells, row_givens, shown_given, size_text};
 
 use crate::clue_text::{push_clues, push_number};
 use crate::shown::{letter_of, push_map, push_picture};
@@ -36,7 +37,7 @@ pub fn push_front(
 #[tactic(auto, using(crate::proofs::RoomLemmas::long_numbers))]
 // A number, and the byte after it: a space, or the end of the line.
 fn push_before(text: &mut Vec<u8>, number: usize, end: u8) -> Result<(), AllocError>
-    ensures items { OnOk result (text.new.items ≡ text.old.items ++ number_before end number) }
+    ensures items { OnOk result (text.new.items ≡ text.old.items ++ number_text number end) }
     ensures room { TakesRoom text.old text.new 21 result }
 {
     push_number(text, number)?;
@@ -102,7 +103,7 @@ fn push_colour(text: &mut Vec<u8>, number: u8, rgb: Rgb) -> Result<(), AllocErro
 // A line for each given, in row order.
 fn push_givens(text: &mut Vec<u8>, document: &Document) -> Result<(), AllocError>
     ensures { OnOk result (text.new.items
-        ≡ text.old.items ++ shown_givens (design_of document.now)) }
+        ≡ text.old.items ++ givens_in (design_of document.now) (length document.now.picture)) }
 {
     for row in 0..document.picture.height() {
         push_row_givens(text, document, row)?;
@@ -172,7 +173,7 @@ fn open_cells(map: &Facts) -> usize
 #[tactic(auto, using(crate::proofs::ReportLemmas::sums))]
 fn open_in_row(map: &Facts, row: u8) -> usize
     requires { row < length map.now }
-    ensures value { result ≡ open_in_row (row_at map.now row) }
+    ensures value { result ≡ count_by is_open (row_at map.now row) }
     ensures small { result ≤ 120 }
 {
     let mut count = 0;

@@ -15,7 +15,7 @@ use Rattle.clues.proofs.LawLemmas.{images}
 use Rattle.line_facts.specs.FactSets.{IsFacts, row_on, col_on}
 use Rattle.justify.specs.declared.step.Step.{Step}
 use Rattle.justify.specs.Premises.{Mentions, Says}
-use Rattle.justify.specs.Steps.{IsForced, IsTrimmed, step_at}
+use Rattle.justify.specs.Steps.{IsForcedStep, IsTrimmed, step_at}
 use Rattle.justify.specs.Book.{Account, CanFollow, IsAccount, IsDerivation, IsDrawnBefore, IsKnownBefore}
 use Rattle.retract.specs.StandingSteps.{HaveBooks, KeepsLength, Stands, moved}
 use Rattle.retract.proofs.CellLemmas.{CameBefore, CameFrom, mentioned, moved_cell, one_cell, was_drawn}
@@ -72,7 +72,7 @@ module _ (moves : Moves) (old new : Clues) (book : Account) (base : Masks) (kept
     drawn_once = drawn_once came;
   }
 
-  pub is_forced : IsForced (clue_at new to) (length (line_of base to)) (moved step to)
+  pub is_forced : IsForcedStep (clue_at new to) (length (line_of base to)) (moved step to)
   is_forced = rw (stands.same_clue, same_length) (derivation.forced n within)
 
   pub is_trimmed : IsTrimmed (clue_at old step.line) (length (line_of book.base step.line)) step → IsTrimmed (clue_at new to) (length (line_of base to)) (moved step to)

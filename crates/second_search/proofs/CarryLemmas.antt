@@ -21,7 +21,7 @@ use Rattle.second_search.specs.declared.keeper.KeptPart.{KeptPart}
 use Rattle.second_search.specs.CarriedParts.{AreSameLines, Carries, CarriesFirst, HoldsCells, IsCarried, KnowsNothing, LieInside, NamesThrough, PutsOn, carried}
 use Rattle.second_search.specs.JudgedParts.{IsTrueOf, Starts, answer_at, cells_at, parts_of}
 use Rattle.second_search.specs.Laws.{FillingsStay}
-use Rattle.second_search.specs.Parts.{AreParts, GoesThrough, IsPart, IsScene, KeepsLines, part_at, picked}
+use Rattle.second_search.specs.Parts.{Board, AreParts, GoesThrough, IsPart, IsScene, KeepsLines, part_at, picked, board}
 use Rattle.second_search.proofs.AloneLemmas.{part_inside}
 use Rattle.second_search.proofs.GrowLemmas.{at_place, line_inside}
 use Rattle.second_search.proofs.RowLemmas.{has_first, same_part}
@@ -83,40 +83,46 @@ module _ (clues : Clues) (givens : List ℕ) (facts picture : List (List ℕ)) w
   part_in_picture cells s p row col h = open_in_picture clues givens facts picture row col s (part_open facts cells row col p h)
 
 module _ (clues : Clues) (facts : Masks) (picture : Rows) (clues_after : Clues) (givens_after : List ℕ) (facts_after picture_after : List (List ℕ)) where
+  abbrev board_before : Board
+  board_before = board clues facts picture
+
+  abbrev board_after : Board
+  board_after = board clues_after facts_after picture_after
+
   pub named_keeps : (lines : Lines) (cells : List ℕ) → IsScene clues_after givens_after facts_after picture_after → IsPart facts_after cells
-      → AreSameLines clues facts picture clues_after facts_after picture_after lines → NamesThrough lines cells → KeepsLines clues facts picture clues_after facts_after picture_after cells
+      → AreSameLines board_before board_after lines → NamesThrough lines cells → KeepsLines board_before board_after cells
   named_keeps lines cells s p same named line t =
       (same line (through_inside picture_after cells line (part_in_picture clues_after givens_after facts_after picture_after cells s p) t)).0 (named line t)
 
-  keeps_named : (lines : Lines) (cells : List ℕ) → AreSameLines clues facts picture clues_after facts_after picture_after lines
-      → KeepsLines clues facts picture clues_after facts_after picture_after cells → NamesThrough lines cells
+  keeps_named : (lines : Lines) (cells : List ℕ) → AreSameLines board_before board_after lines
+      → KeepsLines board_before board_after cells → NamesThrough lines cells
   keeps_named lines cells same keeps line t = (same line (keeps line t).after).1 (keeps line t)
 
-  pub part_before : FillingsStay → (cells : List ℕ) → IsPart facts_after cells → KeepsLines clues facts picture clues_after facts_after picture_after cells → IsPart facts cells
+  pub part_before : FillingsStay → (cells : List ℕ) → IsPart facts_after cells → KeepsLines board_before board_after cells → IsPart facts cells
   part_before law cells p keeps = law.part clues_after clues facts_after picture_after facts picture cells (law.back clues clues_after facts picture facts_after picture_after cells keeps) p
 
   -- ---- what is known
 
-  pub nothing_carried : (old : List KeptPart) (lines : Lines) (cells : List ℕ) → AreSameLines clues facts picture clues_after facts_after picture_after lines → (NamesThrough lines cells → ⊥)
-      → IsCarried clues facts picture clues_after facts_after picture_after old cells Unknown
+  pub nothing_carried : (old : List KeptPart) (lines : Lines) (cells : List ℕ) → AreSameLines board_before board_after lines → (NamesThrough lines cells → ⊥)
+      → IsCarried board_before board_after old cells Unknown
   nothing_carried old lines cells same none = record { keeps = λ keeps. absurd (none (keeps_named lines cells same keeps)); drops = λ n. refl }
 
-  pub answer_carried : (old : List KeptPart) (at : ℕ) (cells : List ℕ) (answer : Answer) → KeepsLines clues facts picture clues_after facts_after picture_after cells → at < length old
-      → cells_at old at ≡ cells → answer ≡ carried cells picture_after (answer_at old at) → IsCarried clues facts picture clues_after facts_after picture_after old cells answer
+  pub answer_carried : (old : List KeptPart) (at : ℕ) (cells : List ℕ) (answer : Answer) → KeepsLines board_before board_after cells → at < length old
+      → cells_at old at ≡ cells → answer ≡ carried cells picture_after (answer_at old at) → IsCarried board_before board_after old cells answer
   answer_carried old at cells answer keeps l e same = record {
     keeps = λ k. (answer_at old at, (record { at = at; place = l; cells_are = e; answer_is = refl }, same));
     drops = λ n. absurd (n keeps);
   }
 
   still_true : FillingsStay → (givens : List ℕ) (cells : List ℕ) → IsScene clues givens facts picture → IsScene clues_after givens_after facts_after picture_after
-      → KeepsLines clues facts picture clues_after facts_after picture_after cells → IsPart facts cells → (answer : Answer) → IsTrueOf clues givens picture cells answer
+      → KeepsLines board_before board_after cells → IsPart facts cells → (answer : Answer) → IsTrueOf clues givens picture cells answer
       → IsTrueOf clues_after givens_after picture_after cells (carried cells picture_after answer)
   still_true law givens cells s t keeps p Unknown known = tt
   still_true law givens cells s t keeps p Nothing known = law.none clues clues_after givens givens_after facts picture facts_after picture_after cells s t keeps p known
   still_true law givens cells s t keeps p (Filling other) known = law.carried clues clues_after givens givens_after facts picture facts_after picture_after other cells s t keeps p known
 
   pub carried_true : FillingsStay → (givens : List ℕ) (cells known_cells : List ℕ) (known answer : Answer) → IsScene clues givens facts picture
-      → IsScene clues_after givens_after facts_after picture_after → KeepsLines clues facts picture clues_after facts_after picture_after cells → IsPart facts cells → known_cells ≡ cells
+      → IsScene clues_after givens_after facts_after picture_after → KeepsLines board_before board_after cells → IsPart facts cells → known_cells ≡ cells
       → answer ≡ carried cells picture_after known → IsTrueOf clues givens picture known_cells known → IsTrueOf clues_after givens_after picture_after cells answer
   carried_true law givens cells known_cells known answer s t keeps p e same is =
       subst (λ (a : Answer). IsTrueOf clues_after givens_after picture_after cells a) (sym same)
@@ -168,11 +174,12 @@ kept_place same facts kept cells are p =
 
 -- where nothing is known of any part, nothing is carried
 pub nothing_known : FillingsStay → SameCellsAreEqual → (clues : Clues) (facts : Masks) (picture : Rows) (clues_after : Clues) (givens_after : List ℕ) (facts_after : Masks) (picture_after : Rows)
-    (old new : List KeptPart) → AreParts facts (parts_of old) → KnowsNothing old (length old) → Starts facts_after new → Carries clues facts picture clues_after facts_after picture_after old new
+    (old new : List KeptPart) → AreParts facts (parts_of old) → KnowsNothing old (length old) → Starts facts_after new
+    → Carries (board clues facts picture) (board clues_after facts_after picture_after) old new
 nothing_known law same clues facts picture clues_after givens_after facts_after picture_after old new are none starts = λ i l.
     let cells = cells_at new i in
     let p = each_is_part facts_after new starts.parts i l in
-    subst (λ (answer : Answer). IsCarried clues facts picture clues_after facts_after picture_after old cells answer) (sym (starts.unknown i)) (record {
+    subst (λ (answer : Answer). IsCarried (board clues facts picture) (board clues_after facts_after picture_after) old cells answer) (sym (starts.unknown i)) (record {
       keeps = λ keeps.
           let at = kept_place same facts old cells are (part_before clues facts picture clues_after givens_after facts_after picture_after law cells p keeps) in
           (Unknown, (record { at = at.0; place = at.1.0; cells_are = at.1.1; answer_is = none at.0 at.1.0 }, refl));
@@ -181,16 +188,17 @@ nothing_known law same clues facts picture clues_after givens_after facts_after 
 
 pub carries_more : (clues : Clues) (facts : Masks) (picture : Rows) (clues_after : Clues) (givens_after : List ℕ) (facts_after : Masks) (picture_after : Rows) (old : List KeptPart)
     (parts : List (List ℕ)) (kept more : List KeptPart) (cells : List ℕ) (answer : Answer) (count : ℕ)
-    → CarriesFirst clues facts picture clues_after givens_after facts_after picture_after old parts kept count
-    → more ≡ kept ++ ((record { cells = cells; answer = answer }) ∷ []) → cells ≡ part_at parts count → IsCarried clues facts picture clues_after facts_after picture_after old cells answer
-    → IsTrueOf clues_after givens_after picture_after cells answer → CarriesFirst clues facts picture clues_after givens_after facts_after picture_after old parts more (count + 1)
+    → CarriesFirst (board clues facts picture) (board clues_after facts_after picture_after) givens_after old parts kept count
+    → more ≡ kept ++ ((record { cells = cells; answer = answer }) ∷ []) → cells ≡ part_at parts count
+    → IsCarried (board clues facts picture) (board clues_after facts_after picture_after) old cells answer
+    → IsTrueOf clues_after givens_after picture_after cells answer → CarriesFirst (board clues facts picture) (board clues_after facts_after picture_after) givens_after old parts more (count + 1)
 carries_more clues facts picture clues_after givens_after facts_after picture_after old parts kept more cells answer count c e same is known =
     let part : KeptPart = record { cells = cells; answer = answer } in
     let n = c.count_is in
-    subst (λ (xs : List KeptPart). CarriesFirst clues facts picture clues_after givens_after facts_after picture_after old parts xs (count + 1)) (sym e) (record {
+    subst (λ (xs : List KeptPart). CarriesFirst (board clues facts picture) (board clues_after facts_after picture_after) givens_after old parts xs (count + 1)) (sym e) (record {
       count_is = (let m = length_push kept part in omega arith);
       cells = each_more (λ i x. x.cells ≡ part_at parts i) kept part count n c.cells same;
-      carries = each_more (λ i x. IsCarried clues facts picture clues_after facts_after picture_after old x.cells x.answer) kept part count n c.carries is;
+      carries = each_more (λ i x. IsCarried (board clues facts picture) (board clues_after facts_after picture_after) old x.cells x.answer) kept part count n c.carries is;
       true_answers = each_more (λ i x. IsTrueOf clues_after givens_after picture_after x.cells x.answer) kept part count n c.true_answers known;
     })
 

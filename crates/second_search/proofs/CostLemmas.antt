@@ -34,7 +34,7 @@ use Rattle.second_search.specs.declared.keeper.Answer.TheVariants.{Filling, Noth
 use Rattle.second_search.specs.declared.keeper.KeptPart.{KeptPart}
 use Rattle.second_search.specs.Costs.{CostsAreThere, CostsDecide, IsDear}
 use Rattle.second_search.specs.JudgedParts.{EndsBy, Passes, answer_at, cells_at}
-use Rattle.second_search.specs.Parts.{IsScene}
+use Rattle.second_search.specs.Parts.{IsScene, board}
 use Rattle.second_search.proofs.AloneLemmas.{own_power}
 use Rattle.second_search.proofs.KnownLaws.{costs_are_unique, only_is_closed}
 use Rattle.trail.specs.Trail.{place}
@@ -280,20 +280,20 @@ cheap : CostsAreUnique → (clues : Clues) (known : Rows) (facts : Masks) (most 
 cheap unique clues known facts most cost n found s le h l = let e = unique clues known facts cost n h (found, s) in absurd (omega arith)
 
 part_is_cheap : CostsAreUnique → (clues : Clues) (facts : Masks) (picture : Rows) (most cost searched splits : ℕ) (cells : List ℕ) (answer : Answer) → answer ≡ Unknown
-    → EndsBy clues facts picture (Some most) cells answer ending.Nothing searched splits → HasCost clues picture (alone cells facts picture) cost → most < cost → ⊥
+    → EndsBy (board clues facts picture) (Some most) cells answer ending.Nothing searched splits → HasCost clues picture (alone cells facts picture) cost → most < cost → ⊥
 part_is_cheap unique clues facts picture most cost searched splits cells answer e ends h l =
-    let known : EndsBy clues facts picture (Some most) cells Unknown ending.Nothing searched splits =
-    subst (λ (x : Answer). EndsBy clues facts picture (Some most) cells x ending.Nothing searched splits) e ends in
+    let known : EndsBy (board clues facts picture) (Some most) cells Unknown ending.Nothing searched splits =
+    subst (λ (x : Answer). EndsBy (board clues facts picture) (Some most) cells x ending.Nothing searched splits) e ends in
     cheap unique clues picture (alone cells facts picture) most cost splits None known.1.0 known.1.1 h l
 
 found_is_cheap : CostsAreUnique → (clues : Clues) (facts : Masks) (picture other : Rows) (most cost searched splits : ℕ) (cells : List ℕ) (answer : Answer) → answer ≡ Unknown
-    → EndsBy clues facts picture (Some most) cells answer (ending.Found other) searched splits → HasCost clues picture (alone cells facts picture) cost → most < cost → ⊥
+    → EndsBy (board clues facts picture) (Some most) cells answer (ending.Found other) searched splits → HasCost clues picture (alone cells facts picture) cost → most < cost → ⊥
 found_is_cheap unique clues facts picture other most cost searched splits cells answer e ends h l =
-    let known : EndsBy clues facts picture (Some most) cells Unknown (ending.Found other) searched splits = rw e at ends in
+    let known : EndsBy (board clues facts picture) (Some most) cells Unknown (ending.Found other) searched splits = rw e at ends in
     cheap unique clues picture (alone cells facts picture) most cost splits (Some other) known.1.0 known.1.1 h l
 
 passed_are_cheap : CostsAreUnique → (clues : Clues) (facts : Masks) (picture : Rows) (most : ℕ) (kept : List KeptPart) (n searched splits : ℕ)
-    → Passes clues facts picture (Some most) kept n searched splits → (i : ℕ) → i < n → IsDear clues facts picture most kept i → ⊥
+    → Passes (board clues facts picture) (Some most) kept n searched splits → (i : ℕ) → i < n → IsDear clues facts picture most kept i → ⊥
 passed_are_cheap unique clues facts picture most kept zero searched splits p i l d = absurd (omega arith)
 passed_are_cheap unique clues facts picture most kept (suc n) searched splits p i l d = elim (cases_eq i n) [
   | inr other ↦ passed_are_cheap unique clues facts picture most kept n p.0 p.1.0 p.1.1.1.1.0 i (omega arith) d
@@ -305,7 +305,7 @@ passed_are_cheap unique clues facts picture most kept (suc n) searched splits p 
 -- ---- the part at which a search was broken off
 
 stopped_is_dear : CostsAreUnique → (clues : Clues) (facts : Masks) (picture : Rows) (most searched splits : ℕ) (cells : List ℕ) (answer : Answer) → IsFacts (alone cells facts picture)
-    → EndsBy clues facts picture (Some most) cells answer ending.BrokenOff searched splits
+    → EndsBy (board clues facts picture) (Some most) cells answer ending.BrokenOff searched splits
     → (answer ≡ Unknown) × ((cost : ℕ) × (HasCost clues picture (alone cells facts picture) cost × (most < cost)))
 stopped_is_dear unique clues facts picture most searched splits cells Unknown is ends =
     let cost = cost_is_there clues picture (alone cells facts picture) is in

@@ -11,7 +11,7 @@ use Rattle.clues.specs.ClueBook.{Clues}
 use Rattle.clues.specs.Laws.{BooksAreTheirClues, CluesAreOfLines, IsOnLine}
 use Rattle.line_facts.proofs.SolutionLaws.{solved_shape}
 use Rattle.second_search.specs.Laws.{FillingsStay}
-use Rattle.second_search.specs.Parts.{GoesThrough, HasTwoColours, IsChained, IsOpenCell, IsOtherFilling, IsPart, IsScene, KeepsLines, ShareLine, begins, goes_on, picked}
+use Rattle.second_search.specs.Parts.{Board, GoesThrough, HasTwoColours, IsChained, IsOpenCell, IsOtherFilling, IsPart, IsScene, KeepsLines, ShareLine, begins, goes_on, picked, board}
 use Rattle.second_search.proofs.PartLemmas.{part_open, picked_picture, through_or_not}
 use Rattle.second_search.proofs.PickLemmas.{cells_along, clue_known, off_part, on_part, same_along, same_clues, same_count, shape_of_picked}
 use Rattle.trail.proofs.GridLemmas.{same_grid}
@@ -28,34 +28,40 @@ in_column cells row col h = record { row = row; col = col; has = h; on_line = re
 -- ---- the part
 
 module _ (clues clues_after : Clues) (facts : Masks) (picture : Rows) (facts_after : Masks) (picture_after : Rows) (cells : List ℕ) where
-  left_same : KeepsLines clues facts picture clues_after facts_after picture_after cells → (line : LineId) (row col : ℕ) → GoesThrough line cells → IsOnLine line row col
+  abbrev board_before : Board
+  board_before = board clues facts picture
+
+  abbrev board_after : Board
+  board_after = board clues_after facts_after picture_after
+
+  left_same : KeepsLines board_before board_after cells → (line : LineId) (row col : ℕ) → GoesThrough line cells → IsOnLine line row col
       → cell_at facts row col ≡ cell_at facts_after row col
   left_same k line row col t on = cells_along facts facts_after line.axis line.at row col (k line t).left on
 
-  shown_same : KeepsLines clues facts picture clues_after facts_after picture_after cells → (line : LineId) (row col : ℕ) → GoesThrough line cells → IsOnLine line row col
+  shown_same : KeepsLines board_before board_after cells → (line : LineId) (row col : ℕ) → GoesThrough line cells → IsOnLine line row col
       → cell_at picture row col ≡ cell_at picture_after row col
   shown_same k line row col t on = cells_along picture picture_after line.axis line.at row col (k line t).shown on
 
-  open_after : KeepsLines clues facts picture clues_after facts_after picture_after cells → (row col : ℕ) → HasCell cells row col → IsOpenCell facts row col → IsOpenCell facts_after row col
+  open_after : KeepsLines board_before board_after cells → (row col : ℕ) → HasCell cells row col → IsOpenCell facts row col → IsOpenCell facts_after row col
   open_after k row col h o = subst HasTwoColours (left_same k (across row) row col (in_row cells row col h) refl) o
 
-  open_before : KeepsLines clues facts picture clues_after facts_after picture_after cells → (r c s d : ℕ) → HasCell cells r c → ShareLine r c s d → IsOpenCell facts_after s d → IsOpenCell facts s d
+  open_before : KeepsLines board_before board_after cells → (r c s d : ℕ) → HasCell cells r c → ShareLine r c s d → IsOpenCell facts_after s d → IsOpenCell facts s d
   open_before k r c s d h (inl e) o = subst HasTwoColours (sym (left_same k (across r) s d (in_row cells r c h) (sym e))) o
   open_before k r c s d h (inr e) o = subst HasTwoColours (sym (left_same k (down c) s d (in_column cells r c h) (sym e))) o
 
-  chain_after : KeepsLines clues facts picture clues_after facts_after picture_after cells → (row col : ℕ) → ((r c : ℕ) → IsChained facts row col r c → HasCell cells r c) → (r c : ℕ)
+  chain_after : KeepsLines board_before board_after cells → (row col : ℕ) → ((r c : ℕ) → IsChained facts row col r c → HasCell cells r c) → (r c : ℕ)
       → IsChained facts row col r c → IsChained facts_after row col r c
   chain_after k row col all _ _ (begins o) = begins (open_after k row col (all row col (begins o)) o)
   chain_after k row col all _ _ (goes_on r c s d chain share o) = goes_on r c s d (chain_after k row col all r c chain) share (open_after k s d (all s d (goes_on r c s d chain share o)) o)
 
-  chain_before : KeepsLines clues facts picture clues_after facts_after picture_after cells → (row col : ℕ) → IsOpenCell facts row col → ((r c : ℕ) → IsChained facts row col r c → HasCell cells r c)
+  chain_before : KeepsLines board_before board_after cells → (row col : ℕ) → IsOpenCell facts row col → ((r c : ℕ) → IsChained facts row col r c → HasCell cells r c)
       → (r c : ℕ) → IsChained facts_after row col r c → IsChained facts row col r c
   chain_before k row col first all _ _ (begins o) = begins first
   chain_before k row col first all _ _ (goes_on r c s d chain share o) =
       let before = chain_before k row col first all r c chain in
       goes_on r c s d before share (open_before k r c s d (all r c before) share o)
 
-  pub part_after : KeepsLines clues facts picture clues_after facts_after picture_after cells → IsPart facts cells → IsPart facts_after cells
+  pub part_after : KeepsLines board_before board_after cells → IsPart facts cells → IsPart facts_after cells
   part_after k p = record {
     row = p.row;
     col = p.col;
@@ -70,7 +76,7 @@ module _ (clues clues_after : Clues) (facts : Masks) (picture : Rows) (facts_aft
     };
   }
 
-  pub keeps_back : KeepsLines clues facts picture clues_after facts_after picture_after cells → KeepsLines clues_after facts_after picture_after clues facts picture cells
+  pub keeps_back : KeepsLines board_before board_after cells → KeepsLines board_after board_before cells
   keeps_back k line t = let same = k line t in record { before = same.after; after = same.before; clue = sym same.clue; left = sym same.left; shown = sym same.shown }
 
 -- ---- its other fillings
@@ -78,7 +84,7 @@ module _ (clues clues_after : Clues) (facts : Masks) (picture : Rows) (facts_aft
 module _ (of_lines : CluesAreOfLines) (books : BooksAreTheirClues) (members : CellsAreMembers) where
   pub carried_filling : (clues clues_after : Clues) (givens givens_after : List ℕ) (facts : Masks) (picture : Rows) (facts_after : Masks) (picture_after other : Rows) (cells : List ℕ)
       → IsScene clues givens facts picture → IsScene clues_after givens_after facts_after picture_after
-      → KeepsLines clues facts picture clues_after facts_after picture_after cells → IsPart facts cells → IsOtherFilling clues givens picture cells other
+      → KeepsLines (board clues facts picture) (board clues_after facts_after picture_after) cells → IsPart facts cells → IsOtherFilling clues givens picture cells other
       → IsOtherFilling clues_after givens_after picture_after cells (picked cells other picture_after)
   carried_filling clues clues_after givens givens_after facts picture facts_after picture_after other cells s t k p f =
       let new = picked cells other picture_after in

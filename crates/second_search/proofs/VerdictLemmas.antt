@@ -11,7 +11,7 @@ use Rattle.second_search.specs.declared.keeper.KeptPart.{KeptPart}
 use Rattle.second_search.specs.declared.counting.Ending.{Ending}
 use Rattle.second_search.specs.declared.counting.Ending.TheVariants as ending
 use Rattle.second_search.specs.Verdict.{Verdict, Other, Undecided, Unique}
-use Rattle.second_search.specs.Parts.{AreParts, IsPart, part_at}
+use Rattle.second_search.specs.Parts.{AreParts, IsPart, part_at, board}
 use Rattle.second_search.specs.JudgedParts.{Changes, FirstFilling, HasFilling, HasNoFilling, IsFilling, IsPlace, IsToldBy, IsTrueOf, Judges, Notes, Starts, StartsWith, Stops, answer_at, cells_at}
 use Rattle.second_search.specs.JudgedParts.{kept_at, parts_of, AddsUp, Done, DoneBy, EndsBy, EndsPart, Passes, StopsAt}
 use Rattle.second_search.proofs.LookLemmas.{below_next}
@@ -116,13 +116,13 @@ pub one_kept : (kept : List KeptPart) (other : Rows) → FirstFilling kept other
 one_kept kept other f = (f.at, answered kept f.at other f.place f.is)
 
 module _ (clues : Clues) (facts : Masks) (picture : Rows) (allowance : Option ℕ) where
-  pub stops_place : (kept : List KeptPart) (i : ℕ) (found : Ending) (m n : ℕ) → Stops clues facts picture allowance kept i found m n → IsPlace kept i found
+  pub stops_place : (kept : List KeptPart) (i : ℕ) (found : Ending) (m n : ℕ) → Stops (board clues facts picture) allowance kept i found m n → IsPlace kept i found
   stops_place kept i ending.Nothing m n s = let e = s.0 in omega arith
   stops_place kept i (ending.Found other) m n s = s.place
   stops_place kept i ending.BrokenOff m n s = let l = s.place in omega arith
 
-  pub judges_as : (old new : List KeptPart) (i : ℕ) (found : Ending) (is_decided : Bool) (m n : ℕ) → HasNoFilling old (length old) → Stops clues facts picture allowance old i found m n
-      → Notes old new i found is_decided → Judges clues facts picture allowance old new (verdict_of found) m n
+  pub judges_as : (old new : List KeptPart) (i : ℕ) (found : Ending) (is_decided : Bool) (m n : ℕ) → HasNoFilling old (length old) → Stops (board clues facts picture) allowance old i found m n
+      → Notes old new i found is_decided → Judges (board clues facts picture) allowance old new (verdict_of found) m n
   judges_as old new i ending.Nothing is_decided m n none s noted =
       record { none_kept = none; passes = s.1; noted = subst (Changes old new) s.0 noted.1 }
   judges_as old new i (ending.Found other) is_decided m n none s noted =
@@ -131,11 +131,11 @@ module _ (clues : Clues) (facts : Masks) (picture : Rows) (allowance : Option �
       record { none_kept = none; at = i; stops = s; noted = noted.1 }
 
   -- what is kept already
-  pub keeps_other : (kept : List KeptPart) (other : Rows) → FirstFilling kept other → Judges clues facts picture allowance kept kept Other 0 0
+  pub keeps_other : (kept : List KeptPart) (other : Rows) → FirstFilling kept other → Judges (board clues facts picture) allowance kept kept Other 0 0
   keeps_other kept other f = inl (record { at = f.at; is = answered kept f.at other f.place f.is; same = refl; searched_none = refl; splits_none = refl })
 
 pub same_kept : (clues : Clues) (facts : Masks) (picture : Rows) (allowance : Option ℕ) (old new : List KeptPart) (verdict : Verdict) (m n : ℕ)
-    → Judges clues facts picture allowance old new verdict m n → parts_of new ≡ parts_of old
+    → Judges (board clues facts picture) allowance old new verdict m n → parts_of new ≡ parts_of old
 same_kept clues facts picture allowance old new Unique m n j = kept_cells old new j.noted.count j.noted.cells
 same_kept clues facts picture allowance old new Other m n (inl j) = ap parts_of j.same
 same_kept clues facts picture allowance old new Other m n (inr j) = kept_cells old new j.noted.count j.noted.cells
@@ -215,17 +215,17 @@ spent_added spent start end p q Is d e t =
     record { evaluations = e; trials = t; calls = omega arith }
 
 module _ (clues : Clues) (facts : Masks) (picture : Rows) (allowance : Option ℕ) (kept : List KeptPart) where
-  pub passes_more : (i : ℕ) (m n x y : ℕ) → Passes clues facts picture allowance kept i m n → EndsPart clues facts picture allowance (kept_at kept i) ending.Nothing x y
-      → Passes clues facts picture allowance kept (suc i) (m + x) (n + y)
+  pub passes_more : (i : ℕ) (m n x y : ℕ) → Passes (board clues facts picture) allowance kept i m n → EndsPart (board clues facts picture) allowance (kept_at kept i) ending.Nothing x y
+      → Passes (board clues facts picture) allowance kept (suc i) (m + x) (n + y)
   passes_more i m n x y p e = (m, (n, (x, (y, (p, (e, (refl, refl)))))))
 
-  pub stops_here : (i : ℕ) (found : Ending) (m n x y : ℕ) → i < length kept → Passes clues facts picture allowance kept i m n → EndsPart clues facts picture allowance (kept_at kept i) found x y
-      → StopsAt clues facts picture allowance kept i found (m + x) (n + y)
+  pub stops_here : (i : ℕ) (found : Ending) (m n x y : ℕ) → i < length kept → Passes (board clues facts picture) allowance kept i m n
+      → EndsPart (board clues facts picture) allowance (kept_at kept i) found x y → StopsAt (board clues facts picture) allowance kept i found (m + x) (n + y)
   stops_here i found m n x y l p e = record { place = l; searched_before = m; splits_before = n; searched_here = x; splits_here = y; before = p; here = e; searched_is = refl; splits_is = refl }
 
 -- where going along stopped before the end
 pub stops_found : (clues : Clues) (facts : Masks) (picture : Rows) (allowance : Option ℕ) (kept : List KeptPart) (i : ℕ) (found : Ending) (m n : ℕ) → (found ≡ ending.Nothing → ⊥)
-    → StopsAt clues facts picture allowance kept i found m n → Stops clues facts picture allowance kept i found m n
+    → StopsAt (board clues facts picture) allowance kept i found m n → Stops (board clues facts picture) allowance kept i found m n
 stops_found clues facts picture allowance kept i ending.Nothing m n d s = absurd (d refl)
 stops_found clues facts picture allowance kept i (ending.Found other) m n d s = s
 stops_found clues facts picture allowance kept i ending.BrokenOff m n d s = s
@@ -240,10 +240,10 @@ answer_is items kept i part e l p = ap (λ (x : KeptPart). x.answer) (sym (part_
 
 -- a part of which something is known is passed
 pub known_before : (clues : Clues) (facts : Masks) (picture : Rows) (allowance : Option ℕ) (kept : List KeptPart) (i : ℕ) (part : KeptPart) → part ≡ kept_at kept i → (part.answer ≡ Unknown → ⊥)
-    → EndsPart clues facts picture allowance (kept_at kept i) ending.Nothing 0 0
+    → EndsPart (board clues facts picture) allowance (kept_at kept i) ending.Nothing 0 0
 known_before clues facts picture allowance kept i part e d = rw e at (by part.answer d)
   where
-    by : (answer : Answer) → (answer ≡ Unknown → ⊥) → EndsBy clues facts picture allowance part.cells answer ending.Nothing 0 0
+    by : (answer : Answer) → (answer ≡ Unknown → ⊥) → EndsBy (board clues facts picture) allowance part.cells answer ending.Nothing 0 0
     by Unknown d = absurd (d refl)
     by Nothing d = (refl, (refl, refl))
     by (Filling other) d = (refl, (refl, refl))
@@ -251,9 +251,9 @@ known_before clues facts picture allowance kept i part e d = rw e at (by part.an
 -- a part of which nothing was known was searched, which took an evaluation at least
 pub searched_once : (clues : Clues) (facts : Masks) (picture : Rows) (allowance : Option ℕ) (kept : List KeptPart) (i : ℕ) (part : KeptPart) (found : Ending) (splits p q e : ℕ) → part ≡ kept_at kept i
     → part.answer ≡ Unknown → (n : ℕ) × ((splits ≡ raised 0 n) × EndsWithin clues picture (alone part.cells facts picture) allowance found n) → p ≤ q → IsCalled p q → q < 2 ^ 64 → e ≡ max (q - p) 1
-    → DoneBy (record { searched = 1; splits = splits; evaluations = e }) p q (EndsPart clues facts picture allowance (kept_at kept i) found)
+    → DoneBy (record { searched = 1; splits = splits; evaluations = e }) p q (EndsPart (board clues facts picture) allowance (kept_at kept i) found)
 searched_once clues facts picture allowance kept i part found splits p q e here unknown ends l called fits is =
-    let P : KeptPart → Type 0 = λ x. EndsPart clues facts picture allowance x found 1 ends.0 in
+    let P : KeptPart → Type 0 = λ x. EndsPart (board clues facts picture) allowance x found 1 ends.0 in
     record {
       searched = 1;
       splits = ends.0;
@@ -273,7 +273,7 @@ searched_once clues facts picture allowance kept i part found splits p q e here 
 -- ---- where an allowance is set
 
 stopped : (clues : Clues) (facts : Masks) (picture : Rows) (allowance : Option ℕ) (cells : List ℕ) (answer : Answer) (searched splits : ℕ)
-    → EndsBy clues facts picture allowance cells answer ending.BrokenOff searched splits → (most : ℕ) × (allowance ≡ Some most)
+    → EndsBy (board clues facts picture) allowance cells answer ending.BrokenOff searched splits → (most : ℕ) × (allowance ≡ Some most)
 stopped clues facts picture (Some most) cells Unknown searched splits h = (most, refl)
 stopped clues facts picture None cells Unknown searched splits h = elim h.1 [
   | inl e ↦ absurd (e.1 refl)

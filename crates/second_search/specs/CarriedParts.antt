@@ -1,20 +1,18 @@
--- What is known of the parts of one scene, in another one.
+-- What is known of the parts of one board, on another one.
 use Rattle.std.specs.Prelude.{◌≡◌, ℕ, ◌<◌, ◌⊎◌, ◌↔◌, List, [], length, slice_index_or}
-use Rattle.line_facts.specs.Masks.{Masks}
 use Rattle.picture.specs.declared.line_id.Axis.{Axis}
 use Rattle.picture.specs.declared.line_id.LineId.{LineId}
 use Rattle.picture.specs.CellSet.{HasCell}
 use Rattle.picture.specs.LineSet.{Lines, HasName}
 use Rattle.picture.specs.Rows.{width_of, cell_at, HasLine, Rows}
-use Rattle.clues.specs.ClueBook.{Clues}
 use Rattle.line_facts.specs.FactSets.{SameShape}
 use Rattle.second_search.specs.declared.keeper.Answer.{Answer}
 use Rattle.second_search.specs.declared.keeper.Answer.TheVariants.{Unknown, Nothing, Filling}
 use Rattle.second_search.specs.declared.keeper.KeptPart.{KeptPart}
 use Rattle.second_search.specs.JudgedParts.{IsTrueOf, answer_at, cells_at}
-use Rattle.second_search.specs.Parts.{GoesThrough, IsSameLine, KeepsLines, picked}
+use Rattle.second_search.specs.Parts.{Board, GoesThrough, IsSameLine, KeepsLines, picked}
 
--- what is known of a part, said of a scene with another picture: of
+-- what is known of a part, said of a board with another picture: of
 -- another filling its colours on the part, with that picture elsewhere
 abbrev pub carried : List ℕ → Rows → Answer → Answer
 carried cells picture Unknown = Unknown
@@ -32,37 +30,32 @@ pub record IsKept (kept : List KeptPart) (cells : List ℕ) (answer : Answer) : 
 abbrev pub KnowsNothing : List KeptPart → ℕ → Type 0
 KnowsNothing kept count = (i : ℕ) → i < count → answer_at kept i ≡ Unknown
 
--- where each line through a part is the same in both scenes, what was known of it is carried; else nothing is known
-pub record IsCarried (clues : Clues) (facts : Masks) (picture : Rows) (clues_after : Clues) (facts_after : Masks)
-    (picture_after : Rows) (old : List KeptPart) (cells : List ℕ) (answer : Answer) : Type 0 where
-  pub keeps : KeepsLines clues facts picture clues_after facts_after picture_after cells
-      → (known : Answer) × (IsKept old cells known × (answer ≡ carried cells picture_after known))
-  pub drops : (KeepsLines clues facts picture clues_after facts_after picture_after cells → ⊥) → answer ≡ Unknown
+-- where each line through a part is the same on both boards, what was known of it is carried; else nothing is known
+pub record IsCarried (before after : Board) (old : List KeptPart) (cells : List ℕ) (answer : Answer) : Type 0 where
+  pub keeps : KeepsLines before after cells
+      → (known : Answer) × (IsKept old cells known × (answer ≡ carried cells after.picture known))
+  pub drops : (KeepsLines before after cells → ⊥) → answer ≡ Unknown
 
-abbrev pub Carries : Clues → Masks → Rows → Clues → Masks → Rows → List KeptPart → List KeptPart → Type 0
-Carries clues facts picture clues_after facts_after picture_after old new =
-    (i : ℕ) → i < length new
-    → IsCarried clues facts picture clues_after facts_after picture_after old (cells_at new i) (answer_at new i)
+abbrev pub Carries : Board → Board → List KeptPart → List KeptPart → Type 0
+Carries before after old new =
+    (i : ℕ) → i < length new → IsCarried before after old (cells_at new i) (answer_at new i)
 
 -- ---- the lines that are the same
 
-abbrev pub AreSameLines : Clues → Masks → Rows → Clues → Masks → Rows → Lines → Type 0
-AreSameLines clues facts picture clues_after facts_after picture_after lines =
-    (line : LineId) → HasLine picture_after line
-    → HasName lines line ↔ IsSameLine clues facts picture clues_after facts_after picture_after line
+abbrev pub AreSameLines : Board → Board → Lines → Type 0
+AreSameLines before after lines =
+    (line : LineId) → HasLine after.picture line → HasName lines line ↔ IsSameLine before after line
 
--- a line is one of the first along an axis, and the same in both scenes
-pub record IsSameAlong (clues : Clues) (facts : Masks) (picture : Rows) (clues_after : Clues) (facts_after : Masks)
-    (picture_after : Rows) (axis : Axis) (count : ℕ) (line : LineId) : Type 0 where
+-- a line is one of the first along an axis, and the same on both boards
+pub record IsSameAlong (before after : Board) (axis : Axis) (count : ℕ) (line : LineId) : Type 0 where
   pub along : line.axis ≡ axis
   pub near : line.at < count
-  pub same : IsSameLine clues facts picture clues_after facts_after picture_after line
+  pub same : IsSameLine before after line
 
 -- the names of these lines are put into a set
-abbrev pub PutsSame : Clues → Masks → Rows → Clues → Masks → Rows → Axis → ℕ → Lines → Lines → Type 0
-PutsSame clues facts picture clues_after facts_after picture_after axis count old new =
-    (line : LineId) → HasName new line
-    ↔ (HasName old line ⊎ IsSameAlong clues facts picture clues_after facts_after picture_after axis count line)
+abbrev pub PutsSame : Board → Board → Axis → ℕ → Lines → Lines → Type 0
+PutsSame before after axis count old new =
+    (line : LineId) → HasName new line ↔ (HasName old line ⊎ IsSameAlong before after axis count line)
 
 -- ---- lines through some cells
 
@@ -82,14 +75,14 @@ NamesAlong lines cells axis count = (at : ℕ) → at < count → GoesThrough (r
 -- ---- the colours of one picture put on cells of another
 
 -- in the first cells of a row the colours of a picture are put on some cells
-pub record PutsRowOn (cells : List ℕ) (other : Rows) (old new : List (List ℕ)) (row width : ℕ) : Type 0 where
+pub record PutsRowOn (cells : List ℕ) (other : Rows) (old new : Rows) (row width : ℕ) : Type 0 where
   pub same_shape : SameShape old new
   pub kept : (col : ℕ) → (HasCell cells row col → ⊥) → cell_at new row col ≡ cell_at old row col
   pub put : (col : ℕ) → col < width → HasCell cells row col → cell_at new row col ≡ cell_at other row col
   pub elsewhere : (r col : ℕ) → (r ≡ row → ⊥) → cell_at new r col ≡ cell_at old r col
 
 -- in the first rows the colours of a picture are put on some cells
-pub record PutsOn (cells : List ℕ) (other : Rows) (old new : List (List ℕ)) (rows : ℕ) : Type 0 where
+pub record PutsOn (cells : List ℕ) (other : Rows) (old new : Rows) (rows : ℕ) : Type 0 where
   pub same_shape : SameShape old new
   pub kept : (row col : ℕ) → (HasCell cells row col → ⊥) → cell_at new row col ≡ cell_at old row col
   pub put : (row col : ℕ) → row < rows → col < width_of old → HasCell cells row col
@@ -102,12 +95,10 @@ HoldsCells cells Nothing = Unit {0}
 HoldsCells cells (Filling other) = LieInside cells other
 
 -- the first of some parts are kept, with what is carried, which is true
-pub record CarriesFirst (clues : Clues) (facts : Masks) (picture : Rows) (clues_after : Clues) (givens_after : List ℕ)
-    (facts_after : Masks) (picture_after : Rows) (old : List KeptPart) (parts : List (List ℕ)) (new : List KeptPart)
-    (count : ℕ) : Type 0 where
+pub record CarriesFirst (before after : Board) (givens_after : List ℕ) (old : List KeptPart) (parts : List (List ℕ))
+    (new : List KeptPart) (count : ℕ) : Type 0 where
   pub count_is : length new ≡ count
   pub cells : (i : ℕ) → i < count → cells_at new i ≡ slice_index_or parts i []
-  pub carries : (i : ℕ) → i < count
-      → IsCarried clues facts picture clues_after facts_after picture_after old (cells_at new i) (answer_at new i)
+  pub carries : (i : ℕ) → i < count → IsCarried before after old (cells_at new i) (answer_at new i)
   pub true_answers : (i : ℕ) → i < count
-      → IsTrueOf clues_after givens_after picture_after (cells_at new i) (answer_at new i)
+      → IsTrueOf after.clues givens_after after.picture (cells_at new i) (answer_at new i)

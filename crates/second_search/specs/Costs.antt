@@ -9,7 +9,7 @@ use Rattle.second_search.specs.declared.counting.Ending.TheVariants as ending
 use Rattle.second_search.specs.declared.keeper.Answer.TheVariants.{Unknown}
 use Rattle.second_search.specs.declared.keeper.KeptPart.{KeptPart}
 use Rattle.second_search.specs.JudgedParts.{BreaksOff, FindsOne, Judges, answer_at, cells_at}
-use Rattle.second_search.specs.Parts.{IsScene}
+use Rattle.second_search.specs.Parts.{IsScene, board}
 use Rattle.second_search.specs.FixedOrder.{EndsAs, HasCost, alone}
 use Rattle.second_search.specs.Verdict.{Unique}
 
@@ -40,13 +40,13 @@ pub record CostsDecide : Type 0 where
   pub undecided : (clues : Clues) (givens : List ℕ) (facts : Masks) (picture : Rows) (most : ℕ)
       (old new : List KeptPart) (searched splits : ℕ)
       → IsScene clues givens facts picture → IsFacts facts
-      → (broken : BreaksOff clues facts picture (Some most) old new searched splits)
+      → (broken : BreaksOff (board clues facts picture) (Some most) old new searched splits)
       → IsFirstDear clues facts picture most old broken.at
   pub unique :
       (clues : Clues) (facts : Masks) (picture : Rows) (most : ℕ) (old new : List KeptPart) (searched splits : ℕ)
-      → Judges clues facts picture (Some most) old new Unique searched splits → (i : ℕ) → i < length old
+      → Judges (board clues facts picture) (Some most) old new Unique searched splits → (i : ℕ) → i < length old
       → IsDear clues facts picture most old i → ⊥
   pub other :
       (clues : Clues) (facts : Masks) (picture : Rows) (most : ℕ) (old new : List KeptPart) (searched splits : ℕ)
-      (found : FindsOne clues facts picture (Some most) old new searched splits) → (i : ℕ) → i < found.at + 1
+      (found : FindsOne (board clues facts picture) (Some most) old new searched splits) → (i : ℕ) → i < found.at + 1
       → IsDear clues facts picture most old i → ⊥

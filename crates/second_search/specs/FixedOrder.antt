@@ -48,7 +48,7 @@ SplitsBut facts (Splits settled cell) changed = KeepsOtherLines facts settled ch
 -- The search through the facts that wait, the first of them first, for another picture than a known one: what it finds,
 -- and how often it splits. Facts that come to a first open cell are split: those with this cell held to each colour
 -- left, in ascending order, wait in their place.
-pub data Searches (clues : Clues) (known : Rows) : List (List (List ℕ)) → Option (List (List ℕ)) → ℕ → Type 0 where
+pub data Searches (clues : Clues) (known : Rows) : List Masks → Option Rows → ℕ → Type 0 where
   none_waits : Searches clues known [] None 0
   is_dead : (facts : Masks) (others : List Masks) (found : Option Rows) (n : ℕ) → Comes clues facts Dies
       → Searches clues known others found n → Searches clues known (facts ∷ others) found n
@@ -62,7 +62,7 @@ pub data Searches (clues : Clues) (known : Rows) : List (List (List ℕ)) → Op
       → Searches clues known (facts ∷ others) found (suc n)
 
 -- The search through the facts that wait splits n times, and comes then to a first open cell once more.
-pub data SplitsPast (clues : Clues) (known : Rows) : List (List (List ℕ)) → ℕ → Type 0 where
+pub data SplitsPast (clues : Clues) (known : Rows) : List Masks → ℕ → Type 0 where
   once_more : (facts : Masks) (others : List Masks) (settled : Masks) (cell : Cell)
       → Comes clues facts (Splits settled cell) → SplitsPast clues known (facts ∷ others) 0
   past_dead : (facts : Masks) (others : List Masks) (n : ℕ) → Comes clues facts Dies → SplitsPast clues known others n

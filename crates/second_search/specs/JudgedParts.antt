@@ -14,7 +14,7 @@ use Rattle.second_search.specs.declared.keeper.Judged.{Judged}
 use Rattle.second_search.specs.declared.keeper.Judged.TheVariants as judged
 use Rattle.second_search.specs.declared.keeper.KeptPart.{KeptPart}
 use Rattle.second_search.specs.declared.keeper.Spent.{Spent}
-use Rattle.second_search.specs.Parts.{AreParts, IsOtherFilling}
+use Rattle.second_search.specs.Parts.{AreParts, Board, IsOtherFilling}
 use Rattle.second_search.specs.FixedOrder.{EndsWithin, alone, raised}
 use Rattle.second_search.specs.Verdict.{Verdict, Unique, Other, Undecided}
 
@@ -65,48 +65,48 @@ pub record FirstFilling (kept : List KeptPart) (other : Rows) : Type 0 where
 
 -- How a part is dealt with, and how many searches and splits that takes: where nothing is known of
 -- it, it is searched, and this is how the search ends; where something is, the next part follows.
-abbrev pub EndsBy : Clues → Masks → Rows → Option ℕ → List ℕ → Answer → Ending → ℕ → ℕ → Type 0
-EndsBy clues facts picture allowance cells Unknown found searched splits =
-    (searched ≡ 1) × EndsWithin clues picture (alone cells facts picture) allowance found splits
-EndsBy clues facts picture allowance cells Nothing found searched splits =
+abbrev pub EndsBy : Board → Option ℕ → List ℕ → Answer → Ending → ℕ → ℕ → Type 0
+EndsBy board allowance cells Unknown found searched splits =
+    (searched ≡ 1) × EndsWithin board.clues board.picture (alone cells board.facts board.picture) allowance found splits
+EndsBy board allowance cells Nothing found searched splits =
     (found ≡ ending.Nothing) × ((searched ≡ 0) × (splits ≡ 0))
-EndsBy clues facts picture allowance cells (Filling other) found searched splits =
+EndsBy board allowance cells (Filling other) found searched splits =
     (found ≡ ending.Nothing) × ((searched ≡ 0) × (splits ≡ 0))
 
-abbrev pub EndsPart : Clues → Masks → Rows → Option ℕ → KeptPart → Ending → ℕ → ℕ → Type 0
-EndsPart clues facts picture allowance part found searched splits =
-    EndsBy clues facts picture allowance part.cells part.answer found searched splits
+abbrev pub EndsPart : Board → Option ℕ → KeptPart → Ending → ℕ → ℕ → Type 0
+EndsPart board allowance part found searched splits =
+    EndsBy board allowance part.cells part.answer found searched splits
 
 -- none of the first parts has another filling, and each that was searched took as many splits as are allowed at most
-abbrev pub Passes : Clues → Masks → Rows → Option ℕ → List KeptPart → ℕ → ℕ → ℕ → Type 0
-Passes clues facts picture allowance kept zero searched splits = (searched ≡ 0) × (splits ≡ 0)
-Passes clues facts picture allowance kept (suc i) searched splits =
+abbrev pub Passes : Board → Option ℕ → List KeptPart → ℕ → ℕ → ℕ → Type 0
+Passes board allowance kept zero searched splits = (searched ≡ 0) × (splits ≡ 0)
+Passes board allowance kept (suc i) searched splits =
     (searched_before : ℕ) × ((splits_before : ℕ) × ((searched_here : ℕ)
-    × ((splits_here : ℕ) × (Passes clues facts picture allowance kept i searched_before splits_before
-    × (EndsPart clues facts picture allowance (kept_at kept i) ending.Nothing searched_here splits_here
+    × ((splits_here : ℕ) × (Passes board allowance kept i searched_before splits_before
+    × (EndsPart board allowance (kept_at kept i) ending.Nothing searched_here splits_here
     × ((searched ≡ searched_before + searched_here) × (splits ≡ splits_before + splits_here)))))))
 
 -- the first parts are passed, and the next one ends it
-pub record StopsAt (clues : Clues) (facts : Masks) (picture : Rows) (allowance : Option ℕ) (kept : List KeptPart)
+pub record StopsAt (board : Board) (allowance : Option ℕ) (kept : List KeptPart)
     (i : ℕ) (found : Ending) (searched splits : ℕ) : Type 0 where
   pub place : i < length kept
   pub searched_before : ℕ
   pub splits_before : ℕ
   pub searched_here : ℕ
   pub splits_here : ℕ
-  pub before : Passes clues facts picture allowance kept i searched_before splits_before
-  pub here : EndsPart clues facts picture allowance (kept_at kept i) found searched_here splits_here
+  pub before : Passes board allowance kept i searched_before splits_before
+  pub here : EndsPart board allowance (kept_at kept i) found searched_here splits_here
   pub searched_is : searched ≡ searched_before + searched_here
   pub splits_is : splits ≡ splits_before + splits_here
 
 -- all parts are passed, or the next one ends it
-abbrev pub Stops : Clues → Masks → Rows → Option ℕ → List KeptPart → ℕ → Ending → ℕ → ℕ → Type 0
-Stops clues facts picture allowance kept i ending.Nothing searched splits =
-    (i ≡ length kept) × Passes clues facts picture allowance kept (length kept) searched splits
-Stops clues facts picture allowance kept i (ending.Found other) searched splits =
-    StopsAt clues facts picture allowance kept i (ending.Found other) searched splits
-Stops clues facts picture allowance kept i ending.BrokenOff searched splits =
-    StopsAt clues facts picture allowance kept i ending.BrokenOff searched splits
+abbrev pub Stops : Board → Option ℕ → List KeptPart → ℕ → Ending → ℕ → ℕ → Type 0
+Stops board allowance kept i ending.Nothing searched splits =
+    (i ≡ length kept) × Passes board allowance kept (length kept) searched splits
+Stops board allowance kept i (ending.Found other) searched splits =
+    StopsAt board allowance kept i (ending.Found other) searched splits
+Stops board allowance kept i ending.BrokenOff searched splits =
+    StopsAt board allowance kept i ending.BrokenOff searched splits
 
 -- ---- the counts
 
@@ -186,37 +186,35 @@ pub record KeepsOther (old new : List KeptPart) (searched splits : ℕ) : Type 0
   pub splits_none : splits ≡ 0
 
 -- no other filling is kept, and each part of which nothing was known was searched to its end and has none
-pub record PassesAll (clues : Clues) (facts : Masks) (picture : Rows) (allowance : Option ℕ) (old new : List KeptPart)
+pub record PassesAll (board : Board) (allowance : Option ℕ) (old new : List KeptPart)
     (searched splits : ℕ) : Type 0 where
   pub none_kept : HasNoFilling old (length old)
-  pub passes : Passes clues facts picture allowance old (length old) searched splits
+  pub passes : Passes board allowance old (length old) searched splits
   pub noted : Changes old new (length old)
 
 -- no other filling is kept, and the first part that does not pass has another filling
-pub record FindsOne (clues : Clues) (facts : Masks) (picture : Rows) (allowance : Option ℕ) (old new : List KeptPart)
+pub record FindsOne (board : Board) (allowance : Option ℕ) (old new : List KeptPart)
     (searched splits : ℕ) : Type 0 where
   pub none_kept : HasNoFilling old (length old)
   pub at : ℕ
   pub other : Rows
-  pub stops : StopsAt clues facts picture allowance old at (ending.Found other) searched splits
+  pub stops : StopsAt board allowance old at (ending.Found other) searched splits
   pub noted : Finds old new at other
 
 -- no other filling is kept, and the first part that does not pass costs more than is allowed
-pub record BreaksOff (clues : Clues) (facts : Masks) (picture : Rows) (allowance : Option ℕ) (old new : List KeptPart)
+pub record BreaksOff (board : Board) (allowance : Option ℕ) (old new : List KeptPart)
     (searched splits : ℕ) : Type 0 where
   pub none_kept : HasNoFilling old (length old)
   pub at : ℕ
-  pub stops : StopsAt clues facts picture allowance old at ending.BrokenOff searched splits
+  pub stops : StopsAt board allowance old at ending.BrokenOff searched splits
   pub noted : Changes old new at
 
 -- how a picture is judged, by so many searches and splits, and what is known of the parts then
-abbrev pub Judges : Clues → Masks → Rows → Option ℕ → List KeptPart → List KeptPart → Verdict → ℕ → ℕ → Type 0
-Judges clues facts picture allowance old new Unique searched splits =
-    PassesAll clues facts picture allowance old new searched splits
-Judges clues facts picture allowance old new Other searched splits =
-    KeepsOther old new searched splits ⊎ FindsOne clues facts picture allowance old new searched splits
-Judges clues facts picture allowance old new Undecided searched splits =
-    BreaksOff clues facts picture allowance old new searched splits
+abbrev pub Judges : Board → Option ℕ → List KeptPart → List KeptPart → Verdict → ℕ → ℕ → Type 0
+Judges board allowance old new Unique searched splits = PassesAll board allowance old new searched splits
+Judges board allowance old new Other searched splits =
+    KeepsOther old new searched splits ⊎ FindsOne board allowance old new searched splits
+Judges board allowance old new Undecided searched splits = BreaksOff board allowance old new searched splits
 
 -- ---- what is true of a scene
 

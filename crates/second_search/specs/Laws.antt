@@ -20,6 +20,7 @@ use Rattle.second_search.specs.Other.{AreSound}
 use Rattle.second_search.specs.FixedOrder.{EndsPast, alone}
 use Rattle.second_search.specs.Trees.{Decides}
 use Rattle.second_search.specs.Parts.{AreParts, GoesThrough, IsOpenCell, IsOtherFilling, IsPart, IsScene, KeepsLines}
+use Rattle.second_search.specs.Parts.{board}
 use Rattle.second_search.specs.Parts.{part_at, picked}
 use Rattle.second_search.specs.Verdict.{Undecided}
 
@@ -84,21 +85,21 @@ FillingsAreOfFacts = (clues : Clues) (givens : List ℕ) (facts : Masks) (pictur
 -- exactly where it has one in the other: its colours on the part, with the other scene's picture elsewhere.
 pub record FillingsStay : Type 0 where
   pub part : (clues clues_after : Clues) (facts : Masks) (picture : Rows) (facts_after : Masks) (picture_after : Rows)
-      (cells : List ℕ) → KeepsLines clues facts picture clues_after facts_after picture_after cells → IsPart facts cells
-      → IsPart facts_after cells
+      (cells : List ℕ) → KeepsLines (board clues facts picture) (board clues_after facts_after picture_after) cells
+      → IsPart facts cells → IsPart facts_after cells
   pub carried : (clues clues_after : Clues) (givens givens_after : List ℕ) (facts : Masks) (picture : Rows)
       (facts_after : Masks) (picture_after other : Rows) (cells : List ℕ) → IsScene clues givens facts picture
       → IsScene clues_after givens_after facts_after picture_after
-      → KeepsLines clues facts picture clues_after facts_after picture_after cells → IsPart facts cells
+      → KeepsLines (board clues facts picture) (board clues_after facts_after picture_after) cells → IsPart facts cells
       → IsOtherFilling clues givens picture cells other
       → IsOtherFilling clues_after givens_after picture_after cells (picked cells other picture_after)
   pub back : (clues clues_after : Clues) (facts : Masks) (picture : Rows) (facts_after : Masks) (picture_after : Rows)
-      (cells : List ℕ) → KeepsLines clues facts picture clues_after facts_after picture_after cells
-      → KeepsLines clues_after facts_after picture_after clues facts picture cells
+      (cells : List ℕ) → KeepsLines (board clues facts picture) (board clues_after facts_after picture_after) cells
+      → KeepsLines (board clues_after facts_after picture_after) (board clues facts picture) cells
   pub none : (clues clues_after : Clues) (givens givens_after : List ℕ) (facts : Masks) (picture : Rows)
       (facts_after : Masks) (picture_after : Rows) (cells : List ℕ) → IsScene clues givens facts picture
       → IsScene clues_after givens_after facts_after picture_after
-      → KeepsLines clues facts picture clues_after facts_after picture_after cells → IsPart facts cells
+      → KeepsLines (board clues facts picture) (board clues_after facts_after picture_after) cells → IsPart facts cells
       → ((other : Rows) → IsOtherFilling clues givens picture cells other → ⊥) → (other : Rows)
       → IsOtherFilling clues_after givens_after picture_after cells other → ⊥
 
@@ -108,7 +109,8 @@ pub record FillingsStay : Type 0 where
 abbrev pub AllowancesBreakOff : Type 0
 AllowancesBreakOff = (clues : Clues) (facts : Masks) (picture : Rows) (allowance : Option ℕ) (old new : List KeptPart)
     (searched splits : ℕ)
-    → Judges clues facts picture allowance old new Undecided searched splits → (most : ℕ) × (allowance ≡ Some most)
+    → Judges (board clues facts picture) allowance old new Undecided searched splits
+    → (most : ℕ) × (allowance ≡ Some most)
 
 -- ---- what is answered is true
 

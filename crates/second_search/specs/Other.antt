@@ -17,7 +17,7 @@ pub record AreSound (clues : Clues) (givens : List ℕ) (picture : Rows) (facts 
   pub leave : (other : Rows) → Solves clues (HasCell givens) picture other → LeavesPicture other facts
 
 -- another picture was found, or there is none
-abbrev pub FindsOther : Clues → List ℕ → Rows → Option (List (List ℕ)) → Type 0
+abbrev pub FindsOther : Clues → List ℕ → Rows → Option Rows → Type 0
 FindsOther clues givens picture None = (other : Rows) → IsOther clues (HasCell givens) picture other → ⊥
 FindsOther clues givens picture (Some other) = IsOther clues (HasCell givens) picture other
 
@@ -27,6 +27,6 @@ pub record HasClues (clues : Clues) (picture : Rows) : Type 0 where
   pub has_clues : clues_of picture ≡ clues
 
 -- a picture with these clues was found, or there is none
-abbrev pub FindsFirst : Clues → Option (List (List ℕ)) → Type 0
+abbrev pub FindsFirst : Clues → Option Rows → Type 0
 FindsFirst clues None = (picture : Rows) → HasClues clues picture → ⊥
 FindsFirst clues (Some picture) = HasClues clues picture

@@ -75,15 +75,15 @@ abbrev pub is_in : List ℕ → ℕ → ℕ → Bool
 is_in cells row col = not (bit_and (slice_index cells row) (2 ^ col) == 0)
 
 -- the cell of one grid on a part, of the other elsewhere
-abbrev pub picked_cell : List ℕ → List (List ℕ) → Rows → ℕ → ℕ → ℕ
+abbrev pub picked_cell : List ℕ → Rows → Rows → ℕ → ℕ → ℕ
 picked_cell cells one other row col = if is_in cells row col then cell_at one row col else cell_at other row col
 
-abbrev pub picked_row : List ℕ → List (List ℕ) → Rows → ℕ → List ℕ
+abbrev pub picked_row : List ℕ → Rows → Rows → ℕ → List ℕ
 picked_row cells one other row =
     map (λ (col : ℕ). picked_cell cells one other row col) (range_with_len 0 (width_of other))
 
 -- one grid on a part, and the other, of its size, elsewhere: of two pictures a picture, of two fact sets a fact set
-unfoldable pub picked : List ℕ → List (List ℕ) → Rows → List (List ℕ)
+unfoldable pub picked : List ℕ → Rows → Rows → Rows
 picked cells one other = map (λ (row : ℕ). picked_row cells one other row) (range_with_len 0 (length other))
 
 -- ---- other fillings
@@ -102,20 +102,27 @@ pub record IsScene (clues : Clues) (givens : List ℕ) (facts : Masks) (picture 
   pub has_clues : clues_of picture ≡ clues
   pub sound : AreSound clues givens picture facts
 
--- a line has, under the same name, the same clue, colours left
--- and cells of the picture in two scenes, and so the same length
-pub record IsSameLine (clues : Clues) (facts : Masks) (picture : Rows) (clues_after : Clues) (facts_after : Masks)
-    (picture_after : Rows) (line : LineId) : Type 0 where
-  pub before : HasLine picture line
-  pub after : HasLine picture_after line
-  pub clue : clue_at clues line ≡ clue_at clues_after line
-  pub left : line_of facts line ≡ line_of facts_after line
-  pub shown : line_of picture line ≡ line_of picture_after line
+-- clues, facts and a picture
+pub record Board : Type 0 where
+  pub clues : Clues
+  pub facts : Masks
+  pub picture : Rows
 
--- each line through a part is the same in two scenes
-abbrev pub KeepsLines : Clues → Masks → Rows → Clues → Masks → Rows → List ℕ → Type 0
-KeepsLines clues facts picture clues_after facts_after picture_after cells =
-    (line : LineId) → GoesThrough line cells → IsSameLine clues facts picture clues_after facts_after picture_after line
+abbrev pub board : Clues → Masks → Rows → Board
+board clues facts picture = record { clues = clues; facts = facts; picture = picture }
+
+-- a line has, under the same name, the same clue, colours left
+-- and cells of the picture on two boards, and so the same length
+pub record IsSameLine (old new : Board) (line : LineId) : Type 0 where
+  pub before : HasLine old.picture line
+  pub after : HasLine new.picture line
+  pub clue : clue_at old.clues line ≡ clue_at new.clues line
+  pub left : line_of old.facts line ≡ line_of new.facts line
+  pub shown : line_of old.picture line ≡ line_of new.picture line
+
+-- each line through a part is the same on two boards
+abbrev pub KeepsLines : Board → Board → List ℕ → Type 0
+KeepsLines old new cells = (line : LineId) → GoesThrough line cells → IsSameLine old new line
 
 -- ---- worked by hand
 

@@ -1,11 +1,15 @@
 -- Scenes that can be searched.
 use Rattle.std.specs.Prelude.{ℕ, ◌≤◌, length}
 use Rattle.second_search.specs.declared.scene.Scene.{Scene}
-use Rattle.second_search.specs.Parts.{IsScene}
+use Rattle.second_search.specs.Parts.{Board, IsScene, board}
 
 -- a scene that a search for another picture may start from
 abbrev pub IsWhole : Scene → Type 0
 IsWhole scene = IsScene scene.clues.now scene.givens.now scene.facts.now scene.picture.now
+
+-- its clues, facts and picture
+abbrev pub board_of : Scene → Board
+board_of scene = board scene.clues.now scene.facts.now scene.picture.now
 
 -- such a scene, and no line of it is longer than an engine takes
 pub record CanSearch (scene : Scene) (longest : ℕ) : Type 0 where

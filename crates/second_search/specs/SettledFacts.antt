@@ -46,17 +46,17 @@ pub record Shows (facts : Masks) (picture : Rows) : Type 0 where
       → IsOnly (cell_at facts row col) (cell_at picture row col)
 
 -- one row of a picture shows the facts, and the other rows are as they were
-pub record ShowsRow (facts : Masks) (old new : List (List ℕ)) (row : ℕ) : Type 0 where
+pub record ShowsRow (facts : Masks) (old new : Rows) (row : ℕ) : Type 0 where
   pub same_shape : SameShape new facts
   pub only : (col : ℕ) → col < width_of facts → IsOnly (cell_at facts row col) (cell_at new row col)
   pub elsewhere : (r col : ℕ) → (r ≡ row → ⊥) → cell_at new r col ≡ cell_at old r col
 
 -- a picture fills some of the facts that wait
-abbrev pub FillsSome : Clues → List (List (List ℕ)) → Rows → Type 0
+abbrev pub FillsSome : Clues → List Masks → Rows → Type 0
 FillsSome clues [] picture = ⊥
 FillsSome clues (facts ∷ others) picture = Fills clues facts picture ⊎ FillsSome clues others picture
 
 -- a picture fills the facts and is not the known one, or none does
-abbrev pub FindsFilling : Clues → Masks → Rows → Option (List (List ℕ)) → Type 0
+abbrev pub FindsFilling : Clues → Masks → Rows → Option Rows → Type 0
 FindsFilling clues facts known None = (picture : Rows) → Fills clues facts picture → (picture ≡ known → ⊥) → ⊥
 FindsFilling clues facts known (Some picture) = Fills clues facts picture × (picture ≡ known → ⊥)

@@ -28,14 +28,14 @@ PutsThrough cells facts lines rows = (row col : ℕ) → row < rows → col < wi
     → NamesBoth lines row col
 
 -- in the first cells of a row a picture's colours alone are left outside of some cells
-pub record LeavesRowAlone (cells : List ℕ) (picture : Rows) (old new : List (List ℕ)) (row width : ℕ) : Type 0 where
+pub record LeavesRowAlone (cells : List ℕ) (picture : Rows) (old new : Masks) (row width : ℕ) : Type 0 where
   pub same_shape : SameShape old new
   pub kept : (col : ℕ) → HasCell cells row col → cell_at new row col ≡ cell_at old row col
   pub left : (col : ℕ) → col < width → (HasCell cells row col → ⊥) → cell_at new row col ≡ 2 ^ cell_at picture row col
   pub elsewhere : (r col : ℕ) → (r ≡ row → ⊥) → cell_at new r col ≡ cell_at old r col
 
 -- in the first rows a picture's colours alone are left outside of some cells
-pub record LeavesAlone (cells : List ℕ) (picture : Rows) (old new : List (List ℕ)) (rows : ℕ) : Type 0 where
+pub record LeavesAlone (cells : List ℕ) (picture : Rows) (old new : Masks) (rows : ℕ) : Type 0 where
   pub same_shape : SameShape old new
   pub kept : (row col : ℕ) → HasCell cells row col → cell_at new row col ≡ cell_at old row col
   pub left : (row col : ℕ) → row < rows → col < width_of old → (HasCell cells row col → ⊥)

@@ -5,7 +5,7 @@ ghost use Rattle.picture.specs.CellSet.{HasCell};
 ghost use Rattle.picture.specs.Rows.{lines_along, line_of, width_of, HasLine};
 ghost use Rattle.second_search.specs.CarriedParts.{AreSameLines, HoldsCells, LieInside, NamesAlong, NamesThrough, PutsRowOn, PutsSame, carried};
 ghost use Rattle.second_search.specs.Parts.{GoesThrough, IsSameLine, picked};
-ghost use Rattle.second_search.specs.Scene.{IsWhole};
+ghost use Rattle.second_search.specs.Scene.{IsWhole, board_of};
 
 use crate::keeper::Answer;
 use crate::scene::Scene;
@@ -45,7 +45,7 @@ fn put_on(cells: &CellSet, other: &Picture, picture: &mut Picture)
     }
 }
 
-// The same in one row.
+// Puts the colours of a picture on the cells of one row of another.
 fn put_row_on(cells: &CellSet, other: &Picture, picture: &mut Picture, row: u8)
     requires inside { LieInside cells.now other.now }
     requires in_rows { row < length picture.old }
@@ -68,7 +68,7 @@ pub(crate) fn are_named(names: &LineSet, cells: &CellSet, facts: &Facts) -> bool
         && are_named_along(names, cells, facts, Axis::Down)
 }
 
-// The same of the lines along an axis.
+// Whether each line along an axis that goes through some cells is among some names.
 fn are_named_along(names: &LineSet, cells: &CellSet, facts: &Facts, axis: Axis) -> bool
     requires { LieInside cells.now facts.now }
     ensures { IsTrue result ↔ NamesAlong names.now cells.now axis (lines_along axis facts.now) }
@@ -139,8 +139,7 @@ fn first_in_row(cells: &CellSet, facts: &Facts, row: u8) -> Option<Cell>
 pub(crate) fn same_lines(before: &Scene, after: &Scene) -> LineSet
     requires before { IsWhole before.now }
     requires after { IsWhole after.now }
-    ensures { AreSameLines before.now.clues.now before.now.facts.now before.now.picture.now
-        after.now.clues.now after.now.facts.now after.now.picture.now result }
+    ensures { AreSameLines (board_of before.now) (board_of after.now) result }
 {
     let mut lines = LineSet::empty();
     put_same(before, after, Axis::Across, &mut lines);
@@ -153,8 +152,7 @@ pub(crate) fn same_lines(before: &Scene, after: &Scene) -> LineSet
 fn put_same(before: &Scene, after: &Scene, axis: Axis, lines: &mut LineSet)
     requires before { IsWhole before.now }
     requires after { IsWhole after.now }
-    ensures { PutsSame before.now.clues.now before.now.facts.now before.now.picture.now
-        after.now.clues.now after.now.facts.now after.now.picture.now axis
+    ensures { PutsSame (board_of before.now) (board_of after.now) axis
         (lines_along axis after.now.picture.now) lines.old lines.new }
 {
     for at in 0..after.picture.line_count(axis) {
@@ -171,8 +169,7 @@ fn is_same_line(before: &Scene, after: &Scene, line: LineId) -> bool
     requires before { IsWhole before.now }
     requires after { IsWhole after.now }
     requires has { HasLine after.now.picture.now line }
-    ensures { IsTrue result ↔ IsSameLine before.now.clues.now before.now.facts.now
-        before.now.picture.now after.now.clues.now after.now.facts.now after.now.picture.now line }
+    ensures { IsTrue result ↔ IsSameLine (board_of before.now) (board_of after.now) line }
 {
     if line.at >= before.picture.line_count(line.axis) {
         return false;

@@ -50,7 +50,7 @@ pub(crate) struct Budget {
 }
 
 impl Budget {
-    // The same after one split more. None where no split is left.
+    // What is left after one split more. None where no split is left.
     fn spend(self) -> Option<Budget>
         ensures { Spends self result }
     {

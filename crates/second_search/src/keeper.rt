@@ -28,7 +28,7 @@ ghost use Rattle.second_search.specs.JudgedParts.{
   kept_at,
   parts_of,
 };
-ghost use Rattle.second_search.specs.Scene.{CanSearch, IsWhole};
+ghost use Rattle.second_search.specs.Scene.{CanSearch, IsWhole, board_of};
 ghost use Rattle.second_search.specs.Evaluations.{AreFew};
 
 use crate::carrying::{answer_for, are_named, first_cell, same_lines};
@@ -148,8 +148,7 @@ impl Keeper {
         ensures true_answers { IfOk result
             (AreTrue after.now.clues.now after.now.givens.now after.now.picture.now) }
         ensures carries { IfOk result
-            (Carries before.now.clues.now before.now.facts.now before.now.picture.now
-            after.now.clues.now after.now.facts.now after.now.picture.now self.now) }
+            (Carries (board_of before.now) (board_of after.now) self.now) }
     {
         let alloc = *self.kept.allocator();
         if self.knows_nothing() {
@@ -192,13 +191,10 @@ impl Keeper {
         requires parts { AreParts before.now.facts.now (parts_of self.now) }
         requires true_answers { AreTrue before.now.clues.now before.now.givens.now
             before.now.picture.now self.now }
-        requires same { AreSameLines before.now.clues.now before.now.facts.now
-            before.now.picture.now after.now.clues.now after.now.facts.now after.now.picture.now
-            same.now }
+        requires same { AreSameLines (board_of before.now) (board_of after.now) same.now }
         requires part { IsPart after.now.facts.now cells.now }
         ensures carried { IfOk result
-            (IsCarried before.now.clues.now before.now.facts.now before.now.picture.now
-            after.now.clues.now after.now.facts.now after.now.picture.now self.now cells.now) }
+            (IsCarried (board_of before.now) (board_of after.now) self.now cells.now) }
         ensures true_answer { IfOk result
             (IsTrueOf after.now.clues.now after.now.givens.now after.now.picture.now cells.now) }
     {
@@ -276,8 +272,7 @@ impl Keeper {
             (λ judged. (verdict : Verdict) × (AnswersAs last judged verdict
             × Done searched.old searched.new splits.old splits.new meter.old meter.new
             (E.calls engine.old) (E.calls engine.new)
-            (Judges scene.now.clues.now scene.now.facts.now scene.now.picture.now allowance
-            self.old last verdict)))
+            (Judges (board_of scene.now) allowance self.old last verdict)))
             (λ _. last ≡ self.old))) }
         ensures answer { IfOk result
             (IsAnswer scene.now.clues.now scene.now.givens.now scene.now.picture.now) }
@@ -331,8 +326,8 @@ impl Keeper {
             scene.now.picture.now self.old }
         ensures judges { IfOk result (λ decided. (verdict : Verdict)
             × (IsToldBy decided.0 self.new verdict
-            × DoneBy decided.1 (E.calls engine.old) (E.calls engine.new) (Judges scene.now.clues.now
-            scene.now.facts.now scene.now.picture.now allowance self.old self.new verdict))) }
+            × DoneBy decided.1 (E.calls engine.old) (E.calls engine.new)
+            (Judges (board_of scene.now) allowance self.old self.new verdict))) }
         ensures spent { IfOk result (λ decided.
             AreFew allowance scene.now.facts.now (length self.old) decided.1.evaluations) }
         ensures few { AreFew allowance scene.now.facts.now (length self.old)
@@ -381,8 +376,7 @@ impl Keeper {
         requires parts { (i : ℕ) → i < length self.now
             → IsPart scene.now.facts.now (cells_at self.now i) }
         ensures stops { IfOk result (λ gone. DoneBy gone.2 (E.calls engine.old)
-            (E.calls engine.new) (Stops scene.now.clues.now scene.now.facts.now
-            scene.now.picture.now allowance self.now gone.0 gone.1)) }
+            (E.calls engine.new) (Stops (board_of scene.now) allowance self.now gone.0 gone.1)) }
         ensures spent { IfOk result (λ gone.
             AreFew allowance scene.now.facts.now (length self.now) gone.2.evaluations) }
         ensures few { AreFew allowance scene.now.facts.now (length self.now)
@@ -414,8 +408,8 @@ impl Keeper {
         requires can { CanSearch scene.now (E.longest engine.old) }
         requires part { IsPart scene.now.facts.now (cells_at self.now i) }
         ensures ends { IfOk result (λ ended. DoneBy ended.1 (E.calls engine.old)
-            (E.calls engine.new) (EndsPart scene.now.clues.now scene.now.facts.now
-            scene.now.picture.now allowance (kept_at self.now i) ended.0)) }
+            (E.calls engine.new)
+            (EndsPart (board_of scene.now) allowance (kept_at self.now i) ended.0)) }
         ensures spent { IfOk result (λ ended.
             AreFew allowance scene.now.facts.now 1 ended.1.evaluations) }
         ensures few { AreFew allowance scene.now.facts.now 1

@@ -60,7 +60,7 @@ pub(crate) fn shown_picture(alloc: Global, facts: &Facts) -> Result<Picture, All
     Ok(shown_on(blank, facts, &all_lines(facts)))
 }
 
-// The same, made of a picture that they show in the rows that are not named.
+// The picture that settled facts show, made of one that they show in the rows that are not named.
 pub(crate) fn shown_on(picture: Picture, facts: &Facts, rows: &LineSet) -> Picture
     requires settled { AreSettled facts.now }
     requires same_shape { SameShape picture facts.now }

@@ -83,7 +83,7 @@ pub(crate) fn facts_on(scene: &Scene, cells: &CellSet) -> Result<Facts, AllocErr
     Ok(facts)
 }
 
-// The same in one row.
+// Leaves the picture's colours alone in one row, outside of some cells.
 fn leave_row_alone(facts: &mut Facts, picture: &Picture, cells: &CellSet, row: u8)
     requires same_shape { SameShape picture.now facts.old }
     requires in_rows { row < length facts.old }

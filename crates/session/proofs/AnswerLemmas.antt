@@ -31,7 +31,7 @@ use Rattle.session.specs.declared.answer.Answer.TheVariants.{Silence, Done, Text
 use Rattle.session.specs.Answer.{GivesNon, IsAsked, answer_text, stroke_said, text_said}
 use Rattle.report_text.specs.ClueText.{clues_text}
 use Rattle.session.specs.Refusal.{edit_line, memory_line, refusal_line}
-use Rattle.session.specs.Session.{Judges, Replies, SaysStroke, report_on}
+use Rattle.session.specs.Session.{JudgesAs, Replies, SaysStroke, report_on}
 use Rattle.session.specs.Texts.{certified_text, content, done_text, verdict_text, verdict_word, why_text}
 use Rattle.report_text.specs.Report.{ending_text, front_text}
 use Rattle.report_text.specs.Shown.{map_text}
@@ -57,7 +57,7 @@ replies_clues s clues (Err e) is audited same = (inr (refl, refl), same_count s.
 pub replies_map : {E : Type 0} (s : Seen) (facts : Masks) (outcome : Result (Vec ℕ Global) E) → facts ≡ s.book.facts → IsAudited s → IfOk outcome (λ text. text.items ≡ map_text facts)
     → Replies command.Map s (answer_text (text_said outcome)) s
 unfolding Replies
-replies_map s facts (Ok text) is audited same = (inl (audited, (same ∙ ap (λ (f : List (List ℕ)). map_text f) is, refl)), same_count s.calls)
+replies_map s facts (Ok text) is audited same = (inl (audited, (same ∙ ap (λ (f : Masks). map_text f) is, refl)), same_count s.calls)
 replies_map s facts (Err e) is audited same = (inr (refl, refl), same_count s.calls)
 
 pub replies_ppm : {E : Type 0} (s : Seen) (d : Document) (outcome : Result (Vec ℕ Global) E) → design_of d ≡ s.history.document → IfOk outcome (λ text. text.items ≡ ppm_text (content_of d))
@@ -130,7 +130,7 @@ allowed (Some splits) few = omega (arith, few)
 
 pub judged_now : {E : Type 0} (old last : Seen) (outcome : Result Verdict E) (verdict : Verdict) → outcome ≡ Ok verdict
     → IsAudited last × ((old.calls ≤ last.calls) × MatchResult outcome (Tells old last) (λ _. IsAsBefore old last))
-    → IsVerdictOn old.history.document old.allowance verdict → Judges old last verdict
+    → IsVerdictOn old.history.document old.allowance verdict → JudgesAs old last verdict
 judged_now {E} old last outcome verdict is told right =
     (subst (λ (x : Result Verdict E). MatchResult x (Tells old last) (λ _. IsAsBefore old last)) is told.1.1, (told.0, right))
 
@@ -140,7 +140,7 @@ unjudged_now {E} old last outcome e is told =
     (told.1.0, subst (λ (x : Result Verdict E). MatchResult x (Tells old last) (λ _. IsAsBefore old last)) is told.1.1)
 
 -- nothing that a report shows changes where its verdict is asked for
-pub reported : (old new : Seen) (word front text : List ℕ) (past future : ℕ) → (asked : (verdict : Verdict) × (Judges old new verdict × (word ≡ verdict_word verdict)))
+pub reported : (old new : Seen) (word front text : List ℕ) (past future : ℕ) → (asked : (verdict : Verdict) × (JudgesAs old new verdict × (word ≡ verdict_word verdict)))
     → front ≡ front_text old.history.document old.clues old.book.facts → text ≡ front ++ ending_text word past future
     → past ≡ length new.history.past → future ≡ length new.history.future → text ≡ report_on old asked.0
 reported old new word front text past future asked begun is back forth =

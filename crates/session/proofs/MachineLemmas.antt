@@ -15,7 +15,7 @@ use Rattle.command_text.specs.Lines.{request_of}
 use Rattle.session.specs.Refusal.{edit_line, memory_line}
 use Rattle.session.specs.Session.{IsShort, LacksMemory, Replies, Says, SaysStroke, SaysTo, SaysToAll}
 use Rattle.session.specs.Texts.{done_text}
-use Rattle.command_text.specs.Words.{is_word}
+use Rattle.command_text.specs.Words.{Texts, is_word}
 
 -- the machine that a state shows
 abbrev pub machine_of : Seen → Machine
@@ -147,7 +147,7 @@ called_at (request.Command c) old new text h = h.1
 
 -- ---- lines one after the other
 
-follows : (lines : List (List ℕ)) (old new : Seen) (text : List ℕ) → IsAudited old → SaysToAll lines old text new → Follows lines old text new
+follows : (lines : Texts) (old new : Seen) (text : List ℕ) → IsAudited old → SaysToAll lines old text new → Follows lines old text new
 follows [] old new text a h = record {
   texts = [];
   text_is = h.0;

@@ -9,6 +9,7 @@ use Rattle.command_text.specs.declared.lines.Lines.{Lines}
 use Rattle.command_text.specs.declared.request.Request.{Request}
 use Rattle.command_text.specs.declared.session_fault.SessionFault.TheVariants as fault
 use Rattle.command_text.specs.Lines.{BreaksOff, CutsNone, CutsOne, Hands, MayCome, ended_lines_of, lines_of, nothing_has_no_lines, request_of}
+use Rattle.command_text.specs.Words.{Texts}
 use Rattle.session.specs.Run.{HasRun}
 use Rattle.session.specs.Session.{BrokenOff, Runs, Says, SaysToAll}
 
@@ -22,7 +23,7 @@ pub cuts_no_more : {E : Type 0} (had have : Option (List ℕ)) (old new : Lines)
 cuts_no_more {E} had have old new found r was is h = let P : Result (Option Request) E → Type 0 = λ o. Hands had have old new o in subst P (was ∙ ap Ok is) h
 
 -- one line more
-pub says_next : (front : List (List ℕ)) (line said text : List ℕ) (old mid new : Seen) → SaysToAll front old said mid → Says mid (request_of line) text new
+pub says_next : (front : Texts) (line said text : List ℕ) (old mid new : Seen) → SaysToAll front old said mid → Says mid (request_of line) text new
     → SaysToAll (front ++ line ∷ []) old (said ++ text) new
 says_next [] line said text old mid new all next =
     (new, (text, ([], (ap (λ (xs : List ℕ). xs ++ text) all.0 ∙ sym (append-nil text), (subst (λ (s : Seen). Says s (request_of line) text new) all.1 next, (refl, refl))))))
@@ -66,10 +67,10 @@ run_goes_on had mid have held wrote holds first old new l next asked text run cu
       read = Consumes-trans had mid have run.came c.came run.read c.read;
       lines = λ rest may.
           ap lines_of (append_assoc run.came c.came rest) ∙ run.lines (c.came ++ rest) (may_more l next c.came rest c.behind may)
-          ∙ ap (λ (xs : List (List ℕ)). run.front ++ xs) (c.lines rest may) ∙ sym (append_assoc run.front (cut.line ∷ []) (lines_of (next.inbox ++ rest)));
+          ∙ ap (λ (xs : Texts). run.front ++ xs) (c.lines rest may) ∙ sym (append_assoc run.front (cut.line ∷ []) (lines_of (next.inbox ++ rest)));
       ended = λ on rest.
           ap ended_lines_of (append_assoc run.came c.came rest) ∙ run.ended (still_on l next c.came c.behind on) (c.came ++ rest)
-          ∙ ap (λ (xs : List (List ℕ)). run.front ++ xs) (c.ended on rest) ∙ sym (append_assoc run.front (cut.line ∷ []) (ended_lines_of (next.inbox ++ rest)));
+          ∙ ap (λ (xs : Texts). run.front ++ xs) (c.ended on rest) ∙ sym (append_assoc run.front (cut.line ∷ []) (ended_lines_of (next.inbox ++ rest)));
       end = c.end run.end;
       said = run.said ++ text;
       answered = says_next run.front cut.line run.said text first old new run.answered (subst (λ (r : Request). Says old r text new) cut.asks says);
@@ -85,7 +86,7 @@ run_ends had mid have held holds first old l next run none =
     let read = run.came ++ c.came in
     let all : lines_of read ≡ run.front =
     ap (λ (xs : List ℕ). lines_of (run.came ++ xs)) (sym (append-nil c.came)) ∙ run.lines (c.came ++ []) (may_more l next c.came [] c.behind (λ met. refl))
-    ∙ ap (λ (xs : List (List ℕ)). run.front ++ xs) (c.lines [] (λ met. refl) ∙ ap (λ (xs : List ℕ). lines_of (xs ++ [])) none.waiting ∙ nothing_has_no_lines) ∙ append-nil run.front in
+    ∙ ap (λ (xs : Texts). run.front ++ xs) (c.lines [] (λ met. refl) ∙ ap (λ (xs : List ℕ). lines_of (xs ++ [])) none.waiting ∙ nothing_has_no_lines) ∙ append-nil run.front in
     (read, (Consumes-trans had mid have run.came c.came run.read c.read, (c.end run.end none.met, (run.said, (subst (λ lines. SaysToAll lines first run.said old) (sym all) run.answered, run.wrote)))))
 
 -- a read failed
@@ -95,11 +96,11 @@ unfolding Runs
 run_is_cut had mid have held holds first old l run b =
     let read = run.came ++ b.came in
     let all : ended_lines_of read ≡ run.front =
-    run.ended b.unended b.came ∙ ap (λ (xs : List (List ℕ)). run.front ++ xs) b.unfinished ∙ append-nil run.front in
+    run.ended b.unended b.came ∙ ap (λ (xs : Texts). run.front ++ xs) b.unfinished ∙ append-nil run.front in
     (read, (Consumes-trans had mid have run.came b.came run.read b.read, (run.said, (subst (λ lines. SaysToAll lines first run.said old) (sym all) run.answered, run.wrote))))
 
 -- what went out of a line that was being answered, after the lines in front of it
-broken_off : (lines : List (List ℕ)) (held wrote holds : Option (List ℕ)) (first old new : Seen) (front behind : List (List ℕ)) (line said text : List ℕ) → lines ≡ front ++ line ∷ behind
+broken_off : (lines : Texts) (held wrote holds : Option (List ℕ)) (first old new : Seen) (front behind : Texts) (line said text : List ℕ) → lines ≡ front ++ line ∷ behind
     → SaysToAll front first said old → Appends held wrote said → Says old (request_of line) text new → AppendsFront wrote holds text → BrokenOff lines held holds first new
 broken_off lines held wrote holds first old new front behind line said text cut answered wrote_said says sent = record {
   before = front;
@@ -126,11 +127,11 @@ run_breaks had mid have held wrote holds first old new l next asked text run cut
     let spoken = subst (λ (r : Request). Says old r text new) cut.asks says in
     let all : MayCome next [] → lines_of read ≡ run.front ++ cut.line ∷ lines_of (next.inbox ++ []) = λ may.
     ap (λ (xs : List ℕ). lines_of (run.came ++ xs)) (sym (append-nil c.came)) ∙ run.lines (c.came ++ []) (may_more l next c.came [] c.behind may)
-    ∙ ap (λ (xs : List (List ℕ)). run.front ++ xs) (c.lines [] may) in
+    ∙ ap (λ (xs : Texts). run.front ++ xs) (c.lines [] may) in
     let whole : next.ended ≡ false → ended_lines_of read ≡ run.front ++ cut.line ∷ ended_lines_of (next.inbox ++ []) = λ on.
     ap (λ (xs : List ℕ). ended_lines_of (run.came ++ xs)) (sym (append-nil c.came)) ∙ run.ended (still_on l next c.came c.behind on) (c.came ++ [])
-    ∙ ap (λ (xs : List (List ℕ)). run.front ++ xs) (c.ended on []) in
-    let broken = λ (lines : List (List ℕ)) (behind : List (List ℕ)) (is : lines ≡ run.front ++ cut.line ∷ behind).
+    ∙ ap (λ (xs : Texts). run.front ++ xs) (c.ended on []) in
+    let broken = λ (lines : Texts) (behind : Texts) (is : lines ≡ run.front ++ cut.line ∷ behind).
     broken_off lines held wrote holds first old new run.front behind cut.line run.said text is run.answered run.wrote spoken sent in (
       read,
       (

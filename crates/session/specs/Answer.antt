@@ -8,7 +8,7 @@ use Rattle.non_text.specs.Written.{non_text_of}
 use Rattle.live_audit.specs.declared.verdict.Verdict.{Verdict}
 use Rattle.live_audit.specs.Bench.{Seen}
 use Rattle.live_audit.specs.Calls.{IsAsBefore}
-use Rattle.session.specs.Session.{Judges}
+use Rattle.session.specs.Session.{JudgesAs}
 use Rattle.edits.specs.declared.fault.EditFault.{EditFault}
 use Rattle.session.specs.declared.answer.Answer.{Answer}
 use Rattle.session.specs.declared.answer.Answer.TheVariants.{Silence, Done, Text, Refused}
@@ -45,5 +45,5 @@ GivesNon rows (Refused fault) =
 -- either, nothing changes but the engine's calls, which do not fall.
 abbrev pub IsAsked : {E : Type 0} → (Verdict → List ℕ) → Seen → Seen → Result (Vec ℕ Global) E → Type 0
 IsAsked shown old new (Ok text) =
-    (old.calls ≤ new.calls) × ((verdict : Verdict) × (Judges old new verdict × (text.items ≡ shown verdict)))
+    (old.calls ≤ new.calls) × ((verdict : Verdict) × (JudgesAs old new verdict × (text.items ≡ shown verdict)))
 IsAsked shown old new (Err e) = (old.calls ≤ new.calls) × IsAsBefore old new

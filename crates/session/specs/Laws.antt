@@ -14,7 +14,7 @@ use Rattle.session.specs.Refusal.{memory_line}
 use Rattle.command_text.specs.declared.session_fault.SessionFault.{SessionFault}
 use Rattle.session.specs.Session.{Runs, Says, SaysToAll}
 use Rattle.session.specs.Truth.{TellsTruth}
-use Rattle.command_text.specs.Words.{is_word}
+use Rattle.command_text.specs.Words.{Texts, is_word}
 
 -- ---- the machine
 
@@ -51,7 +51,7 @@ after_request m (request.Command c) = after_command m c
 abbrev pub after_answer : Machine → Request → List ℕ → Machine
 after_answer m asked text = if is_word text memory_line then m else after_request m asked
 
-abbrev pub after_lines : Machine → List (List ℕ) → List (List ℕ) → Machine
+abbrev pub after_lines : Machine → Texts → Texts → Machine
 after_lines m [] texts = m
 after_lines m (line ∷ lines) [] = m
 after_lines m (line ∷ lines) (text ∷ texts) = after_lines (after_answer m (request_of line) text) lines texts
@@ -72,7 +72,7 @@ pub record IsAnswer (m next : Machine) (line text : List ℕ) : Type 0 where
   pub after : IsAt next new
 
 -- so it is for each line, one after the other
-abbrev pub AreAnswers : Machine → List (List ℕ) → List (List ℕ) → Type 0
+abbrev pub AreAnswers : Machine → Texts → Texts → Type 0
 AreAnswers m [] [] = Unit {0}
 AreAnswers m [] (text ∷ texts) = ⊥
 AreAnswers m (line ∷ lines) [] = ⊥
@@ -83,8 +83,8 @@ AreAnswers m (line ∷ lines) (text ∷ texts) =
 -- What lines come to: there is one text for each line, and it is the one that the definitions give. After them the
 -- bench is audited, its history and allowance are the machine's over the lines whose text is not `refused: Memory`, and
 -- the engine's calls did not fall.
-pub record Follows (lines : List (List ℕ)) (old : Seen) (text : List ℕ) (new : Seen) : Type 0 where
-  pub texts : List (List ℕ)
+pub record Follows (lines : Texts) (old : Seen) (text : List ℕ) (new : Seen) : Type 0 where
+  pub texts : Texts
   pub text_is : text ≡ concat texts
   pub answers : AreAnswers (machine old.history old.allowance) lines texts
   pub last : IsAt (after_lines (machine old.history old.allowance) lines texts) new
@@ -92,7 +92,7 @@ pub record Follows (lines : List (List ℕ)) (old : Seen) (text : List ℕ) (new
 
 -- from an audited bench, after whatever lines
 abbrev pub SessionsStayAudited : Type 0
-SessionsStayAudited = (lines : List (List ℕ)) (old new : Seen) (text : List ℕ) → IsAudited old
+SessionsStayAudited = (lines : Texts) (old new : Seen) (text : List ℕ) → IsAudited old
     → SaysToAll lines old text new → Follows lines old text new
 
 -- A session that runs on an audited bench tells the truth of its history and its allowance.

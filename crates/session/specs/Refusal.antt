@@ -2,7 +2,6 @@
 use Rattle.std.specs.Prelude.{ℕ, List, [], ◌∷◌, ◌++◌, codes}
 use Rattle.edits.specs.declared.fault.EditFault.{EditFault}
 use Rattle.edits.specs.Fault.{fault_name}
-use Rattle.command_text.specs.declared.fault.CommandFault.{CommandFault}
 use Rattle.session.specs.declared.refusal.Refusal.{Refusal}
 use Rattle.session.specs.declared.refusal.Refusal.TheVariants.{Line, Edit, TwoColoursOnly, Memory}
 use Rattle.command_text.specs.Faults.{name_of}
@@ -11,21 +10,15 @@ use Rattle.command_text.specs.Faults.{name_of}
 abbrev pub refused : List ℕ → List ℕ
 refused name = codes "refused: " ++ (name ++ 10 ∷ [])
 
-abbrev pub line_line : CommandFault → List ℕ
-line_line fault = refused (name_of fault)
-
 abbrev pub edit_line : EditFault → List ℕ
 edit_line fault = refused (fault_name fault)
-
-abbrev pub two_colours_line : List ℕ
-two_colours_line = refused (codes "TwoColoursOnly")
 
 abbrev pub memory_line : List ℕ
 memory_line = refused (codes "Memory")
 
 -- within the crate: the line of a refusal
 abbrev pub refusal_line : Refusal → List ℕ
-refusal_line (Line fault) = line_line fault
+refusal_line (Line fault) = refused (name_of fault)
 refusal_line (Edit fault) = edit_line fault
-refusal_line TwoColoursOnly = two_colours_line
+refusal_line TwoColoursOnly = refused (codes "TwoColoursOnly")
 refusal_line Memory = memory_line

@@ -4,11 +4,12 @@ use Rattle.std.specs.Io.KnownBytes.{Appends, Consumes, IsAtEnd}
 use Rattle.live_audit.specs.Bench.{Seen}
 use Rattle.command_text.specs.declared.lines.Lines.{Lines}
 use Rattle.command_text.specs.Lines.{MayCome, ended_lines_of, lines_of}
+use Rattle.command_text.specs.Words.{Texts}
 use Rattle.session.specs.Session.{SaysToAll}
 
 -- The lines in front are answered, and the others are those of the bytes that wait and what comes.
 pub record HasRun (had have held holds : Option (List ℕ)) (old new : Seen) (l : Lines) : Type 0 where
-  pub front : List (List ℕ)
+  pub front : Texts
   pub came : List ℕ
   pub read : Consumes had have came
   pub lines : (rest : List ℕ) → MayCome l rest → lines_of (came ++ rest) ≡ front ++ lines_of (l.inbox ++ rest)

@@ -1,7 +1,7 @@
 -- What a session says: a relation of the state of the bench, a line's request, the text that is written, and the state
 -- after it. The text is fixed by the request and the state, but for the other picture that is shown, the premises of a
 -- reason, and a refusal since memory ran out.
-use Rattle.std.specs.Prelude.{◌≡◌, ◌≤◌, ◌⊎◌, ℕ, true, false, List, [], ◌∷◌, ◌++◌, length, take, Option}
+use Rattle.std.specs.Prelude.{◌≡◌, ◌≤◌, ◌⊎◌, ℕ, true, false, List, [], ◌∷◌, ◌++◌, length, take, codes, Option}
 use Rattle.std.specs.Prelude.{Result, Ok, Err}
 use Rattle.std.specs.Io.KnownBytes.{Appends, Consumes, IsAtEnd}
 use Rattle.ppm_text.specs.Text.{ppm_text}
@@ -26,8 +26,10 @@ use Rattle.command_text.specs.declared.session_fault.SessionFault.{SessionFault}
 use Rattle.command_text.specs.declared.session_fault.SessionFault.TheVariants as fault
 use Rattle.command_text.specs.declared.request.Request.TheVariants as request
 use Rattle.report_text.specs.ClueText.{clues_text}
+use Rattle.command_text.specs.Faults.{name_of}
 use Rattle.command_text.specs.Lines.{ended_lines_of, lines_of, request_of}
-use Rattle.session.specs.Refusal.{edit_line, line_line, memory_line, two_colours_line}
+use Rattle.command_text.specs.Words.{Texts}
+use Rattle.session.specs.Refusal.{edit_line, memory_line, refused}
 use Rattle.session.specs.Texts.{certified_text, content, done_text, verdict_text, verdict_word, why_text}
 use Rattle.report_text.specs.Report.{report_text}
 use Rattle.report_text.specs.Shown.{map_text}
@@ -52,16 +54,16 @@ SaysStroke stroke old text new =
     ⊎ ((fault : EditFault) × ((text ≡ edit_line fault) × Refuses stroke fault old new))
 
 -- what leaves the state shows a text of it
-abbrev pub Shows : List ℕ → Seen → List ℕ → Seen → Type 0
-Shows shown old text new = (text ≡ shown) × (new ≡ old)
+abbrev pub ShowsText : List ℕ → Seen → List ℕ → Seen → Type 0
+ShowsText shown old text new = (text ≡ shown) × (new ≡ old)
 
 -- and where the text is of what follows from the picture, it follows from the present one
 abbrev pub ShowsAudit : List ℕ → Seen → List ℕ → Seen → Type 0
-ShowsAudit shown old text new = IsAudited old × Shows shown old text new
+ShowsAudit shown old text new = IsAudited old × ShowsText shown old text new
 
 -- the verdict is the bench's, and true of the document
-abbrev pub Judges : Seen → Seen → Verdict → Type 0
-Judges old new verdict =
+abbrev pub JudgesAs : Seen → Seen → Verdict → Type 0
+JudgesAs old new verdict =
     Tells old new verdict × (IsAudited new × IsVerdictOn old.history.document old.allowance verdict)
 
 -- Memory ran out, and the state is as before.
@@ -92,16 +94,16 @@ SaysTo old command.Undo text new = SaysStroke Undoes old text new
 SaysTo old command.Redo text new = SaysStroke Redoes old text new
 SaysTo old command.Clues text new = ShowsAudit (clues_text old.clues) old text new
 SaysTo old command.Map text new = ShowsAudit (map_text old.book.facts) old text new
-SaysTo old command.Verdict text new = (verdict : Verdict) × (Judges old new verdict × (text ≡ verdict_text verdict))
+SaysTo old command.Verdict text new = (verdict : Verdict) × (JudgesAs old new verdict × (text ≡ verdict_text verdict))
 SaysTo old (command.Why row col colour) text new =
-    ((has_cell old.history.document.rows row col ≡ false) × Shows (edit_line Place) old text new)
+    ((has_cell old.history.document.rows row col ≡ false) × ShowsText (edit_line Place) old text new)
     ⊎ ((has_cell old.history.document.rows row col ≡ true)
     × ((why : Why) × (Explains old row col colour why × ShowsAudit (why_text why) old text new)))
-SaysTo old command.WritePpm text new = Shows (ppm_text (content old.history.document)) old text new
+SaysTo old command.WritePpm text new = ShowsText (ppm_text (content old.history.document)) old text new
 SaysTo old command.WriteNon text new =
-    ((is_two_colour old.history.document.rows ≡ true) × Shows (non_text_of old.history.document.rows) old text new)
-    ⊎ ((is_two_colour old.history.document.rows ≡ false) × Shows two_colours_line old text new)
-SaysTo old command.Report text new = (verdict : Verdict) × (Judges old new verdict × (text ≡ report_on old verdict))
+    ((is_two_colour old.history.document.rows ≡ true) × ShowsText (non_text_of old.history.document.rows) old text new)
+    ⊎ ((is_two_colour old.history.document.rows ≡ false) × ShowsText (refused (codes "TwoColoursOnly")) old text new)
+SaysTo old command.Report text new = (verdict : Verdict) × (JudgesAs old new verdict × (text ≡ report_on old verdict))
 SaysTo old command.Certify text new =
     (found : Option Certificate)
     × (Certifies old.history.document found × ((text ≡ certified_text found) × (Learns old new × IsAudited new)))
@@ -114,29 +116,29 @@ Replies c old text new = (SaysTo old c text new ⊎ IsShort c old text new) × (
 -- A line's request: a blank line is answered with nothing, and a line that is not a command with the name of its first
 -- error.
 unfoldable pub Says : Seen → Request → List ℕ → Seen → Type 0
-Says old request.Nothing text new = Shows [] old text new
-Says old (request.Refused fault) text new = Shows (line_line fault) old text new
+Says old request.Nothing text new = ShowsText [] old text new
+Says old (request.Refused fault) text new = ShowsText (refused (name_of fault)) old text new
 Says old (request.Command c) text new = Replies c old text new
 
 -- ---- lines one after the other
 
 -- All lines are answered, and the texts follow one another.
-abbrev pub SaysToAll : List (List ℕ) → Seen → List ℕ → Seen → Type 0
+abbrev pub SaysToAll : Texts → Seen → List ℕ → Seen → Type 0
 SaysToAll [] old text new = (text ≡ []) × (new ≡ old)
 SaysToAll (line ∷ lines) old text new =
     (between : Seen) × ((first : List ℕ) × ((rest : List ℕ) × ((text ≡ first ++ rest)
     × (Says old (request_of line) first between × SaysToAll lines between rest new))))
 
 -- exactly that text went out
-abbrev pub Answered : List (List ℕ) → Option (List ℕ) → Option (List ℕ) → Seen → Seen → Type 0
+abbrev pub Answered : Texts → Option (List ℕ) → Option (List ℕ) → Seen → Seen → Type 0
 Answered lines had has old new = (text : List ℕ) × (SaysToAll lines old text new × Appends had has text)
 
 -- The first lines are answered completely. Of the text for the next one a prefix went out, and the state is the one
 -- after that line.
-pub record BrokenOff (lines : List (List ℕ)) (had has : Option (List ℕ)) (old new : Seen) : Type 0 where
-  pub before : List (List ℕ)
+pub record BrokenOff (lines : Texts) (had has : Option (List ℕ)) (old new : Seen) : Type 0 where
+  pub before : Texts
   pub line : List ℕ
-  pub behind : List (List ℕ)
+  pub behind : Texts
   pub cut : lines ≡ before ++ line ∷ behind
   pub between : Seen
   pub said : List ℕ

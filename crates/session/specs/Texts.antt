@@ -1,6 +1,6 @@
 -- The texts of answers, by what they tell.
-use Rattle.std.specs.Prelude.{ℕ, List, [], ◌∷◌, ◌++◌, codes, decimal, Option, Some, None}
-use Rattle.picture.specs.Rows.{Rows}
+use Rattle.std.specs.Prelude.{ℕ, List, [], ◌++◌, codes, Option, Some, None}
+use Rattle.picture.specs.Writers.{number_text}
 use Rattle.picture.specs.Document.{Content}
 use Rattle.cert_text.specs.Cert.{Certificate}
 use Rattle.cert_text.specs.WrittenCert.{cert_text}
@@ -15,16 +15,10 @@ use Rattle.report_text.specs.Shown.{picture_text}
 abbrev pub done_text : List ℕ
 done_text = codes "ok\n"
 
-abbrev pub undecided_text : ℕ → List ℕ
-undecided_text splits = codes "undecided " ++ (decimal splits ++ 10 ∷ [])
-
-abbrev pub other_text : Rows → List ℕ
-other_text rows = codes "ambiguous\n" ++ picture_text rows
-
 abbrev pub verdict_text : Verdict → List ℕ
 verdict_text Unique = codes "unique\n"
-verdict_text (Ambiguous other) = other_text other.now
-verdict_text (Undecided splits) = undecided_text splits
+verdict_text (Ambiguous other) = codes "ambiguous\n" ++ picture_text other.now
+verdict_text (Undecided splits) = codes "undecided " ++ number_text splits 10
 
 -- the verdict's word in a report
 abbrev pub verdict_word : Verdict → List ℕ

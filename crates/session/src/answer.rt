@@ -1,7 +1,8 @@
 //! What a session answers to a line: all that takes memory comes before the first byte goes out.
 
-ghost use Rattle.std.specs.Prelude.{◌≡◌, ◌+◌, ◌++◌, ◌<◌, ◌≤◌, [], vec_capacity, vec_len, Option, IfOk, OnErr, OnOk};
+ghost use Rattle.std.specs.Prelude.{◌≡◌, ◌+◌, ◌++◌, ◌<◌, ◌≤◌, [], codes, vec_capacity, vec_len, Option, IfOk, OnErr, OnOk};
 ghost use Rattle.picture.specs.Content.{content_of};
+ghost use Rattle.picture.specs.Writers.{number_text};
 ghost use Rattle.ppm_text.specs.Text.{ppm_text};
 ghost use Rattle.edits.specs.Fault.{has_cell};
 ghost use Rattle.cert_text.specs.Cert.{Certificate};
@@ -9,14 +10,14 @@ ghost use Rattle.command_text.specs.Parse.{IsBounded};
 ghost use Rattle.command_text.specs.declared.command.Command.TheVariants as command;
 ghost use Rattle.command_text.specs.Lines.{AsksBounded};
 ghost use Rattle.report_text.specs.Room.{TakesRoom, picture_room};
-ghost use Rattle.report_text.specs.Shown.{map_text};
+ghost use Rattle.report_text.specs.Shown.{map_text, picture_text};
 ghost use Rattle.live_audit.specs.Certify.{Certifies};
 ghost use Rattle.live_audit.specs.Calls.{IsAsBefore, Learns};
 ghost use Rattle.live_audit.specs.Bench.{IsAudited};
 ghost use Rattle.session.specs.Answer.{GivesNon, IsAsked, answer_text, stroke_said, text_said};
 ghost use Rattle.session.specs.Room.{verdict_room};
 ghost use Rattle.session.specs.Session.{Replies, Says, report_on};
-ghost use Rattle.session.specs.Texts.{certified_text, other_text, undecided_text, verdict_text, verdict_word, why_text};
+ghost use Rattle.session.specs.Texts.{certified_text, verdict_text, verdict_word, why_text};
 
 use crate::refusal::Refusal;
 use certificate::{Cert, write_cert};
@@ -171,7 +172,8 @@ fn push_verdict(text: &mut Vec<u8>, verdict: &Verdict<'_>) -> Result<(), AllocEr
 
 #[tactic(auto, using(std::proofs::lemmas::List::append_assoc))]
 fn push_other(text: &mut Vec<u8>, other: &Picture) -> Result<(), AllocError>
-    ensures items { OnOk result (text.new.items ≡ text.old.items ++ other_text other.now) }
+    ensures items { OnOk result (text.new.items
+        ≡ text.old.items ++ (codes "ambiguous\n" ++ picture_text other.now)) }
     ensures room { TakesRoom text.old text.new (10 + picture_room other.now) result }
 {
     text.extend_from_slice(b"ambiguous\n")?;
@@ -180,7 +182,8 @@ fn push_other(text: &mut Vec<u8>, other: &Picture) -> Result<(), AllocError>
 
 #[tactic(auto, using(crate::proofs::RoomLemmas::numbers))]
 fn push_undecided(text: &mut Vec<u8>, splits: u32) -> Result<(), AllocError>
-    ensures items { OnOk result (text.new.items ≡ text.old.items ++ undecided_text splits) }
+    ensures items { OnOk result (text.new.items
+        ≡ text.old.items ++ (codes "undecided " ++ number_text splits 10)) }
     ensures room { TakesRoom text.old text.new 21 result }
 {
     text.extend_from_slice(b"undecided ")?;

@@ -36,7 +36,7 @@ pub fn run_session<R: Read, W: Write, E: LineEngine + Drop, A: Agenda + Drop>(
     answer_lines(alloc, reader, writer, bench)
 }
 
-// The same as what is said of the bench's state, with what is kept of it and counted.
+// Answers the lines, told of the bench's whole state: with what is kept and counted.
 fn answer_lines<R: Read, W: Write, E: LineEngine + Drop, A: Agenda + Drop>(
     alloc: Global,
     reader: &mut R,

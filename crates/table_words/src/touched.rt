@@ -24,7 +24,7 @@ pub fn push_touched(
     push_along(text, change, Axis::Down, width)
 }
 
-// The same along an axis.
+// The touched lines along an axis.
 fn push_along(text: &mut String, change: &Change, axis: Axis, count: u8) -> Result<(), AllocError>
     requires { count ≡ lines_after axis change.now.moves }
 {

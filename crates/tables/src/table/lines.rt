@@ -105,7 +105,7 @@ fn leave_out_text(alloc: Global, clue: &str, masks: &str, among: &str) -> Result
     left_out_text(alloc, &clue, &left, &among)
 }
 
-// The same of masks.
+// What a line forces of some colours, given as masks, and what is needed for that.
 fn left_out_text(alloc: Global, clue: &Clue, left: &[u16], among: &[u16]) -> Result<String> {
     let mut engine = MaskEngine::make(alloc, 120)?;
     let (drawn, kept) = drawing::draw_and_leave_out(&mut engine, clue, left, among)?;

@@ -33,7 +33,7 @@ pub fn draw_and_leave_out<E: LineEngine>(
     Ok((drawn, kept))
 }
 
-// The same with buffers.
+// What is drawn and what is kept, into buffers of the length of the line.
 fn draw<E: LineEngine>(
     engine: &mut E,
     clue: &Clue,

@@ -4,6 +4,7 @@ use Rattle.std.proofs.lemmas.Bool.{false≢true}
 use Rattle.second_search.specs.declared.keeper.Answer.{Answer}
 use Rattle.second_search.specs.CarriedParts.{IsCarried, carried}
 use Rattle.second_search.specs.JudgedParts.{IsTrueOf, answer_at, cells_at}
+use Rattle.second_search.specs.Parts.{board}
 use Rattle.second_search.proofs.CarryLemmas.{answer_carried, carried_true, holds_known, named_keeps, nothing_carried, part_before}
 use Rattle.second_search.proofs.VerdictLemmas.{answer_is}
 use Rattle.second_search.proofs.KnownLaws.{fillings_stay}
@@ -56,7 +57,7 @@ returns c =
     let P : Answer → Answer → Type 0 = λ known x. known ≡ carried cells a.picture.now x in
     let Is : Answer → Type 0 = λ known. known ≡ carried cells a.picture.now c.index.result.now.answer in
     record {
-      carried = IfOk-weaker c.answer_for.result Is (IsCarried b.clues.now b.facts.now b.picture.now a.clues.now a.facts.now a.picture.now kept cells)
+      carried = IfOk-weaker c.answer_for.result Is (IsCarried (board b.clues.now b.facts.now b.picture.now) (board a.clues.now a.facts.now a.picture.now) kept cells)
           (λ known e. answer_carried b.clues.now b.facts.now b.picture.now a.clues.now a.givens.now a.facts.now a.picture.now kept at cells known keeps c.place_of-at.ensures.place
           c.place_of-at.ensures.cells (subst (P known) (sym same) e)) c.answer_for.ensures;
       true_answer = IfOk-weaker c.answer_for.result Is (IsTrueOf a.clues.now a.givens.now a.picture.now cells)

@@ -1,6 +1,6 @@
 use Rattle.std.proofs.Common.{◌∙◌, List, ℕ, ap, arith, length, refl, sym}
 use Rattle.std.proofs.lemmas.Result.{IfOk-weaker}
-use Rattle.second_search.specs.Parts.{AreParts, part_at}
+use Rattle.second_search.specs.Parts.{AreParts, part_at, board}
 use Rattle.second_search.specs.CarriedParts.{Carries}
 use Rattle.second_search.specs.JudgedParts.{AreTrue, Starts, parts_of}
 use Rattle.second_search.specs.declared.keeper.KeptPart.{KeptPart}
@@ -36,6 +36,6 @@ pub returns-then-knows_nothing-clause-carries : goal.returns-then-knows_nothing-
 returns-then-knows_nothing-clause-carries c =
     let b = c.args.before.now in
     let a = c.args.after.now in
-    IfOk-weaker c.start.result (Starts a.facts.now) (Carries b.clues.now b.facts.now b.picture.now a.clues.now a.facts.now a.picture.now c.args.self.now)
+    IfOk-weaker c.start.result (Starts a.facts.now) (Carries (board b.clues.now b.facts.now b.picture.now) (board a.clues.now a.facts.now a.picture.now) c.args.self.now)
     (λ kept starts. nothing_known fillings_stay same_cells_are_equal b.clues.now b.facts.now b.picture.now a.clues.now a.givens.now a.facts.now a.picture.now c.args.self.now kept c.requires.parts
     (c.if-knows_nothing.ensures.0 refl) starts) c.start.ensures

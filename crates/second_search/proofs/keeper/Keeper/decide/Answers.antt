@@ -1,6 +1,6 @@
 use Rattle.std.proofs.Common.{arith, refl, rules, subst, sym}
 use Rattle.second_search.specs.JudgedParts.{Judges, Stops}
-use Rattle.second_search.specs.Parts.{AreParts}
+use Rattle.second_search.specs.Parts.{AreParts, board}
 use Rattle.second_search.specs.Verdict.{Other}
 use Rattle.second_search.proofs.VerdictLemmas.{done_as, done_none, each_is_part, judges_as, keeps_other, one_kept, same_kept, stops_place, told_by, verdict_of}
 use Rattle.second_search.proofs.TruthLemmas.{judged_true}
@@ -35,7 +35,8 @@ returns-in_ok-at-in-None g c =
     let turn = judges_as s.clues.now s.facts.now s.picture.now c.args.allowance old new at.at at.ending is_decided in
     let j = turn d.searched d.splits c.in-None.ensures d.is noted in
     let place = stops_place s.clues.now s.facts.now s.picture.now c.args.allowance old at.at at.ending d.searched d.splits d.is in
-    let done = done_as _ _ _ (Stops s.clues.now s.facts.now s.picture.now c.args.allowance old at.at at.ending) (Judges s.clues.now s.facts.now s.picture.now c.args.allowance old new verdict) d
+    let done = done_as _ _ _ (Stops (board s.clues.now s.facts.now s.picture.now) c.args.allowance old at.at at.ending)
+    (Judges (board s.clues.now s.facts.now s.picture.now) c.args.allowance old new verdict) d
     (λ m n h. turn m n c.in-None.ensures h noted) in
     record {
       judges = (verdict, (told_by old new at.at at.ending is_decided c.in-None.ensures place noted, done));

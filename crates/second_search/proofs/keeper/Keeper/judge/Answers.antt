@@ -1,5 +1,6 @@
 use Rattle.std.proofs.Common.{◌≤◌, arith, refl}
 use Rattle.second_search.specs.JudgedParts.{Judges}
+use Rattle.second_search.specs.Parts.{board}
 use Rattle.second_search.proofs.KnownLaws.{books_are_their_clues, closing_keeps_fillings, clues_are_of_lines, fillings_are_of_facts, only_is_closed, parts_decide}
 use Rattle.second_search.proofs.TruthLemmas.{answer_true}
 use Rattle.second_search.proofs.VerdictLemmas.{done_added, spent_added}
@@ -16,7 +17,7 @@ returns g c =
     let answers = c.judged.ensures v told in
     let rises : (c.args.searched.now ≤ c.saturating_add.result) × (c.args.splits.now ≤ c.saturating_add-2.result) = (omega arith, omega arith) in
     let done = done_added c.args.searched.now _ c.args.splits.now _ c.in-Ok.decided.1 c.args.meter.now _ _ _
-    (Judges s.clues.now s.facts.now s.picture.now c.args.allowance c.args.self.now new v) d.judges.1.1 (omega arith) (omega arith) (omega arith) (omega arith) in (
+    (Judges (board s.clues.now s.facts.now s.picture.now) c.args.allowance c.args.self.now new v) d.judges.1.1 (omega arith) (omega arith) (omega arith) (omega arith) in (
       (refl, λ b. tt, (all.parts, all.true_answers, (v, (answers, done)))),
       record {
         keeps = tt;
