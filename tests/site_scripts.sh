@@ -58,6 +58,7 @@ chmod +x find/find
 
 pair good accepted
 ln -s site link
+mkdir lonely && cp "$examples"/diagonal.{ppm,cert} lonely
 same 'a site' 0 '' "$examples/check-site" site
 mkdir empty
 same 'a folder without a certificate' 123 '3 empty/' "$examples/check-site" empty
@@ -79,8 +80,14 @@ mkdir $'site/good\n.'
 pair $'good\n./good' cut
 same 'a name with a line feed' 1 '' "$examples/make-packs" site folded
 echo good.cert >unpacked/names
-printf '#!/bin/sh\nkill -9 $$\n' >unpacked/nonobench
+printf '#!/bin/sh\n[ "$1" = --version ] || kill -9 $$\n' >unpacked/nonobench
 same 'a program that is killed' 1 'good.cert 137 ' unpacked/answer_pack
+printf '#!/bin/sh\nexit 1\n' >unpacked/nonobench
+same 'a program that does not run' 1 '' unpacked/answer_pack
+# A command that needs the file beside it, as that of the package for npm does.
+mkdir beside && echo 'echo nonobench 0' >beside/part
+printf '#!/bin/sh\n. "$(dirname "$0")/part"\n' >beside/nonobench && chmod +x beside/nonobench
+same 'a program that does not run elsewhere' 1 '' env PATH="$work/beside:$PATH" "$examples/make-packs" lonely packs-of-it
 
 # Proofs by lemmas, as in tests/cases/lemmas.case: of a black and a red cell on the diagonal; of two black ones, which another picture has
 # too, with a cell given, with all cells given, and without any.
