@@ -163,6 +163,18 @@ export async function severalPoint(hands, { page, trial, own }) {
     assert.deepEqual(await trial.picture(), TWO_WAYS);
 }
 
+/** A folder that the browser does not read, as Chromium for a page from a file, is said; the picture stays. */
+export async function folderUnread({ browser, url, folder }) {
+    const { page, trial } = await fresh(browser, url, folder, 'unread');
+    await trial.open(ppmOf(ONE_WAY), 'little');
+    filesIn(folder, [['two.ppm', ppmOf(TWO_WAYS)]]);
+    const data = { items: [], files: [join(folder, 'in')], dragOperationsMask: 1 };
+    for (const type of ['dragEnter', 'dragOver', 'drop']) await page.send('Input.dispatchDragEvent', { type, x: 400, y: 300, data });
+    await page.until(() => /does not read folders/.test(document.getElementById('said').textContent), 5000 * SLACK);
+    assert.deepEqual(await trial.picture(), ONE_WAY);
+    await page.close();
+}
+
 const TYPES = { '.html': 'text/html', '.js': 'text/javascript', '.svg': 'image/svg+xml', '.webmanifest': 'application/manifest+json' };
 
 /** Serves the site's folder, and a page with a frame: its address, what was asked for, and an end. */

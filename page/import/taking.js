@@ -166,7 +166,10 @@ export function hearFiles() {
     event.preventDefault(); // else the browser would leave the page for the file
     const folders = items.map((item) => item.webkitGetAsEntry?.() ?? null);
     const files = items.map((item) => item.getAsFile());
-    if (folders.some((entry) => entry?.isDirectory)) return takeSeveral(await filesIn(folders, files), imageDocs);
+    if (folders.some((entry) => entry?.isDirectory)) {
+      const held = await filesIn(folders, files).catch(() => null);
+      return held ? takeSeveral(held, imageDocs) : say(phrase('import.folderNotRead'), 'alarm');
+    }
     const late = new Promise((go) => setTimeout(go, 1000, null)); // the file itself is at hand already
     const handle = await Promise.race([late, items[0].getAsFileSystemHandle?.().catch(() => null)]);
     takeDropped(files, handle?.kind === 'file' ? handle : null);

@@ -691,6 +691,7 @@ export const DE = /** @type {const} */ ({
   'import.opening': '{name} wird geöffnet',
   'import.searchingPictureTheseClues': 'Ein Bild mit diesen Hinweisen wird gesucht.',
   'import.stop': 'Abbrechen',
+  'import.folderNotRead': 'Dieser Browser liest für eine Seite, die aus einer Datei geöffnet wurde, keine Ordner. Wählen Sie die Dateien in dem Ordner aus, und ziehen Sie diese auf die Seite.',
   'import.whatPastedCouldNot': 'Das Eingefügte ließ sich nicht öffnen: {why}.',
   'import.pictureNoPixels': 'das Bild hat keine Pixel',
   'import.picturePixelsMostAll': 'das Bild hat {width} × {height} Pixel; gelesen werden insgesamt höchstens {most}',

@@ -691,6 +691,7 @@ export const EN = /** @type {const} */ ({
   'import.opening': 'Opening {name}',
   'import.searchingPictureTheseClues': 'Searching for a picture with these clues.',
   'import.stop': 'Stop',
+  'import.folderNotRead': 'This browser does not read folders for a page that was opened from a file. Select the files in the folder, and drop these.',
   'import.whatPastedCouldNot': 'What was pasted could not be opened: {why}.',
   'import.pictureNoPixels': 'the picture has no pixels',
   'import.picturePixelsMostAll': 'the picture is {width} by {height} pixels; the page reads at most {most} in all',
