@@ -5,6 +5,7 @@ ghost use Rattle.clues.specs.ClueBook.{HasClue};
 
 use crate::atom::bit;
 use crate::automaton::Automaton;
+use crate::marks::Marks;
 use clues::ClueBook;
 use line_facts::{LineEngine, Outcome};
 use picture::{Axis, CellSet, LineId, MAX_SIDE, Picture};
@@ -38,6 +39,18 @@ impl<'a> Board<'a> {
             rows: automata(alloc, clues, Axis::Across)?,
             columns: automata(alloc, clues, Axis::Down)?,
         })
+    }
+
+    /// The facts before any line is looked at.
+    pub(crate) fn marks(&self, alloc: Global) -> Result<Marks, AllocError> {
+        let mut marks = Marks::new(alloc, self.height())?;
+        for row in 0..self.height() {
+            for col in 0..self.width() {
+                let cell = Cell { row, col };
+                marks.set_left(cell, self.base(cell));
+            }
+        }
+        Ok(marks)
     }
 
     pub(crate) fn height(&self) -> u8 {

@@ -1,24 +1,26 @@
-//! Why a line excludes colours: one sweep from its first cell, which drops each exclusion that the line can do without.
+//! Why a line or a lemma excludes colours. A line is swept once from its first cell, and each exclusion that it can do without is dropped.
 
-use crate::atom::{Atom, bit, has};
+use crate::atom::{Atom, Literal, bit, has};
 use crate::automaton::{Automaton, START};
-use crate::marks::{Marks, NEVER};
-use picture::{LineId, MAX_COLOURS};
+use crate::board::Board;
+use crate::marks::{Marks, NEVER, Reason};
+use crate::store::Store;
+use picture::{Axis, LineId, MAX_COLOURS};
 use std::alloc::AllocError;
 use trail::Cell;
 
 // How many cells a line can have.
 const MOST_CELLS: u8 = 127;
 
-/// What is asked of a line: why colours do not fit at a place, or, where none is named, why no colours fit at all. What counts is what
-/// the events before a given one excluded.
+// What is asked of a line: why colours do not fit at a place, or, where none is named, why no colours fit at all.
 #[derive(Clone, Copy)]
-pub(crate) struct Question {
-    pub line: LineId,
-    pub cells: u8,
-    pub place: Option<u8>,
-    pub colours: u16,
-    pub before: u32,
+struct Question {
+    line: LineId,
+    cells: u8,
+    place: Option<u8>,
+    colours: u16,
+    before: u32,
+    root: u32,
 }
 
 // A cell in a question: the colours that may be there, and those whose exclusion may be needed.
@@ -31,7 +33,7 @@ struct Seen {
 const UNSEEN: Seen = Seen { open: 0, gone: 0 };
 
 impl Question {
-    // A cell as the question sees it. What is excluded at the root is needed by nobody.
+    // A cell as the question sees it.
     fn see(self, marks: &Marks, place: u8, most: u8) -> Seen {
         if self.place == Some(place) {
             return Seen {
@@ -47,7 +49,7 @@ impl Question {
         };
         for colour in 0..most {
             let when = marks.when(Atom { cell, colour });
-            if has(left, colour) || when == NEVER || when < marks.root_events() {
+            if has(left, colour) || when == NEVER || when < self.root {
                 continue;
             }
             if when < self.before {
@@ -60,8 +62,77 @@ impl Question {
     }
 }
 
-/// Adds the exclusions that answer a question to the premises.
+/// What is asked: why a reason excludes colours of a cell, or, where none is named, why it leaves nothing. What counts is what the
+/// events before a given one excluded; what the first events excluded needs no reason.
+#[derive(Clone, Copy)]
+pub(crate) struct Why {
+    pub reason: Reason,
+    pub of: Option<Literal>,
+    pub before: u32,
+    pub root: u32,
+}
+
+/// Adds the exclusions that answer a question to the premises. A decision needs none.
 pub(crate) fn explain(
+    board: &Board,
+    store: &Store,
+    marks: &Marks,
+    why: Why,
+    premises: &mut Vec<Atom>,
+) -> Result<(), AllocError> {
+    match why.reason {
+        Reason::Line(line) => {
+            let question = Question {
+                line,
+                cells: board.cells(line.axis),
+                place: why.of.map(|gone| place_on(line, gone.cell)),
+                colours: why.of.map_or(0, |gone| gone.colours),
+                before: why.before,
+                root: why.root,
+            };
+            match board.automaton(line) {
+                Some(automaton) => sweep(automaton, marks, question, premises),
+                None => Ok(()),
+            }
+        }
+        Reason::Lemma(number) => explain_lemma(store.lemma(number), marks, why, premises),
+        Reason::Decision => Ok(()),
+    }
+}
+
+// Why the literals of a lemma are false, but for the one of the cell that is asked about.
+fn explain_lemma(
+    lemma: &[Literal],
+    marks: &Marks,
+    why: Why,
+    premises: &mut Vec<Atom>,
+) -> Result<(), AllocError> {
+    let but = why.of.map(|gone| gone.cell);
+    for literal in lemma {
+        if but == Some(literal.cell) {
+            continue;
+        }
+        for colour in 0..MAX_COLOURS {
+            let atom = literal.atom(colour);
+            let when = marks.when(atom);
+            if has(literal.colours, colour) && when != NEVER && when >= why.root {
+                premises.push(atom)?;
+            }
+        }
+    }
+    Ok(())
+}
+
+// The place of a cell along a line.
+fn place_on(line: LineId, cell: Cell) -> u8 {
+    match line.axis {
+        Axis::Across => cell.col,
+        Axis::Down => cell.row,
+    }
+}
+
+// Adds the exclusions that answer a question about a line to the premises.
+fn sweep(
     automaton: &Automaton,
     marks: &Marks,
     question: Question,

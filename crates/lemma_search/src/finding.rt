@@ -4,10 +4,10 @@ ghost use Rattle.std.specs.Prelude.{◌≡◌, ◌≤◌};
 
 use crate::board::Board;
 use crate::plan::Plan;
-use crate::rehearsal::Rehearsal;
 use crate::running::{Effort, Ended};
 use crate::search::Search;
 use crate::telling::Teller;
+use crate::trace::Trace;
 use crate::writing::write_lines;
 use clues::ClueBook;
 use lemma_text::LemmaLine;
@@ -53,13 +53,8 @@ fn tell<E: LineEngine>(alloc: Global, engine: &mut E, search: &Search) -> Result
     ensures calls { E.calls engine.old ≤ E.calls engine.new }
     ensures same_longest { E.longest engine.new ≡ E.longest engine.old }
 {
-    let mut plan = Plan::new(alloc, &search.log, &search.store)?;
-    let mut facts = Rehearsal::new(alloc, search.board)?;
-    if !plan.rehearse(engine, &mut facts)? {
-        return Ok(Found::Nothing);
-    }
-    plan.choose();
-    let facts = Rehearsal::new(alloc, search.board)?;
+    let plan = Plan::new(alloc, &search.log, &search.store)?;
+    let facts = Trace::new(alloc, search.board, &search.store)?;
     let mut teller = Teller::new(alloc, plan, facts);
     if !teller.tell(engine)? {
         return Ok(Found::Nothing);

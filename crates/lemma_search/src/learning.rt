@@ -1,25 +1,26 @@
 //! A lemma learnt from a conflict, at its first unique implication point.
 
 use crate::atom::{Atom, Literal, bit, has};
-use crate::explaining::{Question, explain};
+use crate::explaining::{Why, explain};
 use crate::marks::{Event, NEVER, Reason};
 use crate::search::Search;
-use picture::{Axis, LineId, MAX_COLOURS};
+use picture::MAX_COLOURS;
 use std::alloc::AllocError;
-use trail::Cell;
 
 impl<'a> Search<'a> {
     /// Learns a lemma from a conflict, goes back to where it holds a cell, and holds it. False where nothing was decided, so that there
     /// is nothing to go back to.
     pub(crate) fn learn(&mut self, conflict: Reason) -> Result<bool, AllocError> {
-        let Some(event) = self.resolve(conflict)? else {
+        let Some(at) = self.resolve(conflict)? else {
             return Ok(false);
         };
-        let level = self.collect(event)?;
+        self.shorten(at)?;
+        let level = self.collect(at)?;
         let second = self.learning.literals.get(1).copied();
         let last = second.map(|literal| self.last_gone(literal));
         self.back_to(level)?;
-        let number = self.store.add(&self.learning.literals)?;
+        let depth = self.count_levels();
+        let number = self.store.add(&self.learning.literals, depth)?;
         self.log_lemma(number)?;
         let Some(first) = self.learning.literals.first().copied() else {
             return Ok(false);
@@ -34,70 +35,31 @@ impl<'a> Search<'a> {
         Ok(true)
     }
 
-    // Why a line excludes colours of a cell, or is dead.
-    fn explain_line(&mut self, mut question: Question) -> Result<(), AllocError> {
-        question.cells = self.board.cells(question.line.axis);
-        if let Some(automaton) = self.board.automaton(question.line) {
-            explain(
-                automaton,
-                &self.marks,
-                question,
-                &mut self.learning.premises,
-            )?;
-        }
-        Ok(())
-    }
-
-    // Why a lemma holds a cell, or is broken: its other literals are false.
-    fn explain_lemma(&mut self, number: u32, but: Option<Cell>) -> Result<(), AllocError> {
+    // Finds why there is a conflict, or why the colours of an event that are needed were excluded.
+    fn explain(
+        &mut self,
+        reason: Reason,
+        of: Option<Literal>,
+        before: u32,
+    ) -> Result<(), AllocError> {
         let root = self.marks.root_events();
-        for literal in self.store.lemma(number) {
-            if but == Some(literal.cell) {
-                continue;
-            }
-            for colour in 0..MAX_COLOURS {
-                let atom = literal.atom(colour);
-                let when = self.marks.when(atom);
-                if has(literal.colours, colour) && when != NEVER && when >= root {
-                    self.learning.premises.push(atom)?;
-                }
-            }
-        }
-        Ok(())
+        let premises = &mut self.learning.premises;
+        premises.clear();
+        let why = Why {
+            reason,
+            of,
+            before,
+            root,
+        };
+        explain(self.board, &self.store, &self.marks, why, premises)
     }
 
-    // Why there is a conflict.
-    fn explain_conflict(&mut self, conflict: Reason) -> Result<(), AllocError> {
-        self.learning.premises.clear();
-        let before = self.marks.count();
-        match conflict {
-            Reason::Line(line) => self.explain_line(Question {
-                line,
-                cells: 0,
-                place: None,
-                colours: 0,
-                before,
-            }),
-            Reason::Lemma(number) => self.explain_lemma(number, None),
-            Reason::Decision => Ok(()),
-        }
-    }
-
-    // Why the colours of an event that are needed were excluded.
     fn explain_event(&mut self, event: Event) -> Result<(), AllocError> {
-        self.learning.premises.clear();
-        let cell = event.gone.cell;
-        match event.reason {
-            Reason::Line(line) => self.explain_line(Question {
-                line,
-                cells: 0,
-                place: Some(place_on(line, cell)),
-                colours: event.needed,
-                before: event.since,
-            }),
-            Reason::Lemma(number) => self.explain_lemma(number, Some(cell)),
-            Reason::Decision => Ok(()),
-        }
+        let gone = Literal {
+            colours: event.needed,
+            ..event.gone
+        };
+        self.explain(event.reason, Some(gone), event.since)
     }
 
     // Marks the events of the premises as needed, and answers how many of a level were not before.
@@ -134,12 +96,12 @@ impl<'a> Search<'a> {
     }
 
     // Explains a conflict back to the first event of its level that alone leads to it. None where no decision does.
-    fn resolve(&mut self, conflict: Reason) -> Result<Option<Event>, AllocError> {
+    fn resolve(&mut self, conflict: Reason) -> Result<Option<u32>, AllocError> {
         self.learning.touched.clear();
         self.learning.used.clear();
         let count = self.marks.count();
         self.learning.used.push((count, conflict))?;
-        self.explain_conflict(conflict)?;
+        self.explain(conflict, None, count)?;
         let level = self.top_level();
         if level == 0 {
             return Ok(None);
@@ -154,7 +116,7 @@ impl<'a> Search<'a> {
                 continue;
             }
             if open <= 1 {
-                return Ok(Some(event));
+                return Ok(Some(at));
             }
             self.use_reason(at, event)?;
             self.explain_event(event)?;
@@ -166,22 +128,85 @@ impl<'a> Search<'a> {
         Ok(None)
     }
 
-    // Notes the reason of an event, with the time at which it is used.
+    // Notes the reason of an event, with the time at which it is used, the latest first.
     fn use_reason(&mut self, at: u32, event: Event) -> Result<(), AllocError> {
         let time = match event.reason {
             Reason::Line(_) => event.since,
             _ => at,
         };
-        let used = (time, event.reason);
-        if self.learning.used.last().copied() != Some(used) {
-            self.learning.used.push(used)?;
+        let later = self
+            .learning
+            .used
+            .iter()
+            .take_while(|used| used.0 >= time)
+            .count();
+        let place = later.min(self.learning.used.len());
+        if place > 0 && self.learning.used.get(place - 1).copied() == Some((time, event.reason)) {
+            return Ok(());
+        }
+        self.learning.used.insert(place, (time, event.reason))?;
+        Ok(())
+    }
+
+    // Whether all premises are among what is needed.
+    fn are_needed(&self) -> bool {
+        for atom in &self.learning.premises {
+            let event = self.marks.event(self.marks.when(*atom));
+            if !event.is_some_and(|event| has(event.needed, atom.colour)) {
+                return false;
+            }
+        }
+        true
+    }
+
+    // Leaves out what follows from the rest of the lemma by one reason. What a given event excluded stays.
+    fn shorten(&mut self, first: u32) -> Result<(), AllocError> {
+        self.learning.spare.clear();
+        for i in 0..self.learning.touched.len() {
+            let Some(at) = self.learning.touched.get(i).copied() else {
+                break;
+            };
+            let Some(event) = self.marks.event(at) else {
+                continue;
+            };
+            if at == first || event.needed == 0 || event.reason == Reason::Decision {
+                continue;
+            }
+            self.explain_event(event)?;
+            if self.are_needed() {
+                self.use_reason(at, event)?;
+                self.learning.spare.push(at)?;
+            }
+        }
+        for i in 0..self.learning.spare.len() {
+            if let Some(at) = self.learning.spare.get(i).copied() {
+                self.marks.set_needed(at, 0);
+            }
         }
         Ok(())
     }
 
+    // How many levels the literals of the lemma come from.
+    fn count_levels(&mut self) -> u32 {
+        self.learning.levels.sort_unstable();
+        let mut count = 0u32;
+        let mut last = None;
+        for level in &self.learning.levels {
+            if last != Some(*level) {
+                count = count.saturating_add(1);
+            }
+            last = Some(*level);
+        }
+        count
+    }
+
     // Collects the literals of the lemma, that of an event first, and then one of the highest level of the others. Answers that level.
-    fn collect(&mut self, event: Event) -> Result<u32, AllocError> {
+    fn collect(&mut self, first: u32) -> Result<u32, AllocError> {
         self.learning.literals.clear();
+        self.learning.levels.clear();
+        let Some(event) = self.marks.event(first) else {
+            return Ok(0);
+        };
         self.learning.literals.push(Literal {
             colours: 0,
             ..event.gone
@@ -202,6 +227,7 @@ impl<'a> Search<'a> {
             if literal.colours == 0 {
                 continue;
             }
+            self.learning.levels.push(event.level)?;
             let place = self.add_literal(literal)?;
             if place != 0 && event.level > highest {
                 highest = event.level;
@@ -254,13 +280,5 @@ impl<'a> Search<'a> {
             self.log.hints.push(*reason)?;
         }
         self.log.add_lemma(number, start)
-    }
-}
-
-// The place of a cell along a line.
-fn place_on(line: LineId, cell: Cell) -> u8 {
-    match line.axis {
-        Axis::Across => cell.col,
-        Axis::Down => cell.row,
     }
 }

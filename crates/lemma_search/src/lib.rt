@@ -13,13 +13,13 @@ mod marks;
 mod order;
 mod plan;
 mod propagating;
-mod rehearsal;
 mod restarts;
 mod running;
 mod search;
 mod showing;
 mod store;
 mod telling;
+mod trace;
 mod writing;
 
 pub use finding::{Found, learn};

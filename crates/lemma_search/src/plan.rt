@@ -1,13 +1,9 @@
 //! Which lemmas a proof needs, how often, and how each is told.
 
-ghost use Rattle.std.specs.Prelude.{◌≡◌, ◌≤◌};
-
-use crate::atom::{Literal, small};
+use crate::atom::small;
 use crate::log::{Log, Step};
 use crate::marks::Reason;
-use crate::rehearsal::{Gained, Rehearsal, Said};
 use crate::store::{Span, Store};
-use line_facts::LineEngine;
 use std::alloc::{AllocError, Global};
 
 /// How a lemma is told: not at all; once, and kept; or each time inside the branch that uses it.
@@ -46,7 +42,7 @@ const LITERAL: usize = 11;
 const LEMMA: usize = 18;
 
 impl<'a> Plan<'a> {
-    /// The plan before anything is left out.
+    /// The plan of what a search found.
     pub(crate) fn new(
         alloc: Global,
         log: &'a Log,
@@ -62,12 +58,14 @@ impl<'a> Plan<'a> {
                 })?;
             }
         }
-        Ok(Plan {
+        let mut plan = Plan {
             steps: log.steps.as_slice(),
             store,
             hints: Vec::from_slice(alloc, &log.hints)?,
             lemmas,
-        })
+        };
+        plan.choose();
+        Ok(plan)
     }
 
     /// What is known of a lemma.
@@ -122,94 +120,8 @@ impl<'a> Plan<'a> {
         }
     }
 
-    /// Leaves out the hints that give nothing. False where a lemma that is needed isn't refuted by its hints.
-    pub(crate) fn rehearse<E: LineEngine>(
-        &mut self,
-        engine: &mut E,
-        facts: &mut Rehearsal,
-    ) -> Result<bool, AllocError>
-        ensures calls { E.calls engine.old ≤ E.calls engine.new }
-        ensures same_longest { E.longest engine.new ≡ E.longest engine.old }
-    {
-        self.count_uses();
-        let steps = self.steps;
-        for step in steps {
-            match *step {
-                Step::Root(reason) => {
-                    self.apply(engine, facts, reason)?;
-                    facts.keep();
-                }
-                Step::Lemma(number, _) if self.lemma(number).uses != 0 => {
-                    if !self.rehearse_lemma(engine, facts, number)? {
-                        return Ok(false);
-                    }
-                }
-                _ => {}
-            }
-        }
-        Ok(true)
-    }
-
-    // Applies a reason to the facts.
-    fn apply<E: LineEngine>(
-        &self,
-        engine: &mut E,
-        facts: &mut Rehearsal,
-        reason: Reason,
-    ) -> Result<Gained, AllocError>
-        ensures calls { E.calls engine.old ≤ E.calls engine.new }
-        ensures same_longest { E.longest engine.new ≡ E.longest engine.old }
-    {
-        match reason {
-            Reason::Line(line) => facts.force(engine, line),
-            Reason::Lemma(number) => match facts.say(self.store.lemma(number)) {
-                Said::Nothing => Ok(Gained::Nothing),
-                Said::Broken => Ok(Gained::Dead),
-                Said::Holds(literal) => {
-                    let colours = facts.left(literal.cell) & literal.colours;
-                    facts.hold(Literal { colours, ..literal })?;
-                    Ok(Gained::Something)
-                }
-            },
-            Reason::Decision => Ok(Gained::Nothing),
-        }
-    }
-
-    // Leaves out the hints of a lemma that give nothing. False where they don't refute its denial.
-    fn rehearse_lemma<E: LineEngine>(
-        &mut self,
-        engine: &mut E,
-        facts: &mut Rehearsal,
-        number: u32,
-    ) -> Result<bool, AllocError>
-        ensures calls { E.calls engine.old ≤ E.calls engine.new }
-        ensures same_longest { E.longest engine.new ≡ E.longest engine.old }
-    {
-        let old = self.lemma(number).hints;
-        let start = self.hints.len();
-        let mut gained = facts.deny(self.store.lemma(number))?;
-        for at in old.start..old.end {
-            let Some(reason) = self.hint(at) else {
-                break;
-            };
-            if gained == Gained::Dead {
-                break;
-            }
-            gained = self.apply(engine, facts, reason)?;
-            if gained != Gained::Nothing {
-                self.hints.push(reason)?;
-            }
-        }
-        facts.take_back(0);
-        let end = self.hints.len();
-        if let Some(known) = self.lemmas.get_mut(number as usize) {
-            known.hints = Span { start, end };
-        }
-        Ok(gained == Gained::Dead)
-    }
-
-    /// Chooses how each lemma is told: inside where it is used once, or where that is shorter.
-    pub(crate) fn choose(&mut self) {
+    // Chooses how each lemma is told: inside where it is used once, or where that is shorter.
+    fn choose(&mut self) {
         self.count_uses();
         for number in 0..small(self.lemmas.len()) {
             let literals = self.store.lemma(number).len();

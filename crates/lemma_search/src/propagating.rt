@@ -39,10 +39,11 @@ impl<'a> Search<'a> {
 
     // Takes the first line that is due.
     fn next_due(&mut self) -> Option<LineId> {
-        for axis in [Axis::Across, Axis::Down] {
+        for axis in [self.axis, self.axis.crossing()] {
             if let Some(at) = self.due.first_from(axis, 0) {
                 let line = LineId { axis, at };
                 self.due.take_out(line);
+                self.axis = axis;
                 return Some(line);
             }
         }

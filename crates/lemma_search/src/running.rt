@@ -73,6 +73,7 @@ impl<'a> Search<'a> {
             }
             if restarts.is_due() {
                 self.back_to(0)?;
+                self.store.forget_some();
                 continue;
             }
             if let Some(picture) = self.other(alloc)? {

@@ -20,6 +20,8 @@ pub(crate) struct Search<'a> {
     pub log: Log,
     // The lines that wait to be evaluated.
     pub due: LineSet,
+    // The axis whose lines are evaluated first.
+    pub axis: Axis,
     // How many events the lemmas have been looked at for.
     pub seen: u32,
     // The colours that were left in each cell before the first decision.
@@ -40,26 +42,22 @@ pub(crate) struct Learning {
     pub touched: Vec<u32>,
     pub used: Vec<(u32, Reason)>,
     pub literals: Vec<Literal>,
+    pub spare: Vec<u32>,
+    pub levels: Vec<u32>,
 }
 
 impl<'a> Search<'a> {
     pub(crate) fn new(alloc: Global, board: &'a Board<'a>) -> Result<Search<'a>, AllocError> {
         let height = board.height();
         let atoms = usize::from(height) * STRIDE * usize::from(MAX_COLOURS);
-        let mut marks = Marks::new(alloc, height)?;
-        for row in 0..height {
-            for col in 0..board.width() {
-                let cell = Cell { row, col };
-                marks.set_left(cell, board.base(cell));
-            }
-        }
         Ok(Search {
             board,
-            marks,
+            marks: board.marks(alloc)?,
             store: Store::new(alloc, height)?,
             order: Order::new(alloc, height)?,
             log: Log::new(alloc),
             due: LineSet::empty(),
+            axis: Axis::Across,
             seen: 0,
             first: Vec::new(alloc),
             prefers: vec![in alloc; false; atoms]?,
@@ -70,6 +68,8 @@ impl<'a> Search<'a> {
                 touched: Vec::new(alloc),
                 used: Vec::new(alloc),
                 literals: Vec::new(alloc),
+                spare: Vec::new(alloc),
+                levels: Vec::new(alloc),
             },
         })
     }

@@ -19,6 +19,11 @@ pub(crate) struct Store {
     alloc: Global,
     literals: Vec<Literal>,
     lemmas: Vec<Span>,
+    // How deep each lemma is: from how many levels its literals come. It is 0 once the lemma is forgotten.
+    depths: Vec<u32>,
+    // How many lemmas are to come before some are forgotten, and after how many in all.
+    room: usize,
+    full: usize,
     watching: Vec<Vec<u32>>,
 }
 
@@ -32,6 +37,17 @@ pub(crate) enum Watched {
     Broken,
 }
 
+// Depths from this one on count as one less.
+const DEPTHS: usize = 128;
+
+// Lemmas up to this depth are never forgotten.
+const SHALLOW: u32 = 2;
+
+// After how many lemmas half are forgotten for the first time, and how many more come between each two times.
+const ROOM: usize = 2000;
+
+const MORE_ROOM: usize = 300;
+
 impl Store {
     /// No lemma yet, of a picture of so many rows.
     pub(crate) fn new(alloc: Global, height: u8) -> Result<Store, AllocError> {
@@ -44,6 +60,9 @@ impl Store {
             alloc,
             literals: Vec::new(alloc),
             lemmas: Vec::new(alloc),
+            depths: Vec::new(alloc),
+            room: ROOM,
+            full: ROOM,
             watching,
         })
     }
@@ -67,13 +86,67 @@ impl Store {
     }
 
     /// Keeps a lemma, and answers its number.
-    pub(crate) fn add(&mut self, literals: &[Literal]) -> Result<u32, AllocError> {
+    pub(crate) fn add(&mut self, literals: &[Literal], depth: u32) -> Result<u32, AllocError> {
         let number = small(self.lemmas.len());
         let start = self.literals.len();
         self.literals.extend_from_slice(literals)?;
         let end = self.literals.len();
         self.lemmas.push(Span { start, end })?;
+        self.depths.push(depth.min(DEPTHS as u32 - 1))?;
         Ok(number)
+    }
+
+    /// Forgets half of the lemmas that are deep, where enough new ones came: the deepest, and of equals the oldest. What is forgotten is
+    /// looked at no more; its literals stay for the proof.
+    pub(crate) fn forget_some(&mut self) {
+        if self.len() < self.full {
+            return;
+        }
+        self.forget_half();
+        self.room = self.room.saturating_add(MORE_ROOM);
+        self.full = self.len().saturating_add(self.room);
+    }
+
+    // From which depth on half of the deep lemmas are, and how many more of the next depth make the half.
+    fn half(&self) -> (usize, u32) {
+        let mut counts = [0u32; DEPTHS];
+        let mut rest = 0u32;
+        for depth in &self.depths {
+            if *depth > SHALLOW
+                && let Some(count) = counts.get_mut(*depth as usize)
+            {
+                *count = count.saturating_add(1);
+                rest = rest.saturating_add(1);
+            }
+        }
+        rest /= 2;
+        let mut limit = DEPTHS;
+        for at in (0..DEPTHS).rev() {
+            let count = counts.get(at).copied().unwrap_or(0);
+            if count > rest {
+                break;
+            }
+            rest = rest.saturating_sub(count);
+            limit = at;
+        }
+        (limit, rest)
+    }
+
+    fn forget_half(&mut self) {
+        let (limit, mut rest) = self.half();
+        for depth in self.depths.iter_mut() {
+            let at = *depth as usize;
+            if *depth <= SHALLOW || at.saturating_add(1) < limit {
+                continue;
+            }
+            if at < limit {
+                if rest == 0 {
+                    continue;
+                }
+                rest -= 1;
+            }
+            *depth = 0;
+        }
     }
 
     /// Has a lemma looked at when an atom is excluded.
@@ -120,6 +193,9 @@ impl Store {
         let Some(Span { start, end }) = self.lemmas.get(number as usize).copied() else {
             return Ok(Watched::Moved);
         };
+        if self.depths.get(number as usize).copied() == Some(0) {
+            return Ok(Watched::Moved);
+        }
         let after = start.saturating_add(1);
         let (Some(first), Some(second)) = (self.literal(start), self.literal(after)) else {
             return Ok(Watched::Moved);

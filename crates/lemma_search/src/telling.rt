@@ -2,12 +2,12 @@
 
 ghost use Rattle.std.specs.Prelude.{◌≡◌, ◌≤◌};
 
-use crate::atom::Literal;
+use crate::atom::{Literal, small};
 use crate::log::Step;
 use crate::marks::Reason;
 use crate::plan::{Plan, Way};
-use crate::rehearsal::{Gained, Rehearsal, Said};
 use crate::store::Span;
+use crate::trace::{Gained, Said, Trace};
 use line_facts::LineEngine;
 use picture::{Axis, LineId};
 use std::alloc::{AllocError, Global};
@@ -23,13 +23,13 @@ pub(crate) enum Told {
     Part(Literal),
 }
 
-// A branch that is told: the hints that are still to come, how many changes of the facts came before it, and the
-// colours of a cell that are left after it.
+// A branch that is told: the hints that are still to come, how many events came before it, and the line of the proof that began it with
+// the colours to which a cell is held after it.
 #[derive(Clone, Copy)]
 struct Branch {
     hints: Span,
-    changes: usize,
-    behind: Option<Literal>,
+    start: u32,
+    behind: Option<(u32, Literal)>,
 }
 
 /// The proof as far as it is told, and for each step of the search the lines that tell it.
@@ -37,14 +37,14 @@ struct Branch {
 pub(crate) struct Teller<'a> {
     alloc: Global,
     pub plan: Plan<'a>,
-    facts: Rehearsal<'a>,
+    facts: Trace<'a>,
     pub lines: Vec<Told>,
     pub spans: Vec<Span>,
 }
 
 impl<'a> Teller<'a> {
     /// Nothing told yet, of a plan and the facts that a proof begins with.
-    pub(crate) fn new(alloc: Global, plan: Plan<'a>, facts: Rehearsal<'a>) -> Teller<'a> {
+    pub(crate) fn new(alloc: Global, plan: Plan<'a>, facts: Trace<'a>) -> Teller<'a> {
         Teller {
             alloc,
             plan,
@@ -54,7 +54,7 @@ impl<'a> Teller<'a> {
         }
     }
 
-    /// Tells all steps. False where one does not give what it did in the search.
+    /// Tells all steps, and leaves out the lines that are not needed. False where a step does not give what it did in the search.
     pub(crate) fn tell<E: LineEngine>(&mut self, engine: &mut E) -> Result<bool, AllocError>
         ensures calls { E.calls engine.old ≤ E.calls engine.new }
         ensures same_longest { E.longest engine.new ≡ E.longest engine.old }
@@ -69,26 +69,50 @@ impl<'a> Teller<'a> {
                 return Ok(false);
             }
         }
+        self.facts.end()?;
+        self.leave_out();
         Ok(true)
+    }
+
+    // Leaves out the lines that are not needed.
+    fn leave_out(&mut self) {
+        let mut end = 0usize;
+        for span in self.spans.iter_mut() {
+            let start = end;
+            for at in span.start..span.end {
+                if self.facts.is_needed(at)
+                    && let Some(told) = self.lines.get(at).copied()
+                    && let Some(slot) = self.lines.get_mut(end)
+                {
+                    *slot = told;
+                    end = end.saturating_add(1);
+                }
+            }
+            *span = Span { start, end };
+        }
+        self.lines.truncate(end);
     }
 
     fn tell_step<E: LineEngine>(&mut self, engine: &mut E, step: Step) -> Result<bool, AllocError>
         ensures calls { E.calls engine.old ≤ E.calls engine.new }
         ensures same_longest { E.longest engine.new ≡ E.longest engine.old }
     {
+        self.facts.begin();
         match step {
-            Step::Root(reason) => {
-                let gained = self.tell_reason(engine, reason)?;
-                self.facts.keep();
-                Ok(gained != Gained::Dead)
-            }
+            Step::Root(reason) => Ok(self.tell_reason(engine, reason)? != Gained::Dead),
             Step::End(reason) => Ok(self.tell_reason(engine, reason)? == Gained::Dead),
             Step::Done => {
-                self.lines.push(Told::Done)?;
+                self.add(Told::Done, true)?;
                 Ok(true)
             }
             Step::Lemma(number, _) => self.tell_lemma(engine, number),
         }
+    }
+
+    // Adds a line, which is needed in any case or where something that it excludes is.
+    fn add(&mut self, told: Told, is_needed: bool) -> Result<(), AllocError> {
+        self.lines.push(told)?;
+        self.facts.add(is_needed)
     }
 
     // Tells a reason at the root.
@@ -115,27 +139,27 @@ impl<'a> Teller<'a> {
         if known.way != Way::Kept {
             return Ok(true);
         }
-        let mut gained = self.facts.deny(self.plan.store.lemma(number))?;
-        if gained == Gained::Dead {
-            self.tell_empty(number)?;
-        } else {
-            gained = self.tell_hints(engine, known.hints)?;
+        self.facts.begin_lemma()?;
+        for literal in self.plan.store.lemma(number) {
+            self.facts.deny(*literal)?;
         }
-        self.facts.take_back(0);
-        Ok(gained == Gained::Dead)
+        let is_told = self.tell_empty(number)?
+            || self.tell_hints(engine, known.hints)? == Gained::Dead;
+        self.facts.end_lemma();
+        Ok(is_told)
     }
 
     // Tells that the row of a cell of a lemma is dead, where no colour is left in the cell.
-    fn tell_empty(&mut self, number: u32) -> Result<(), AllocError> {
+    fn tell_empty(&mut self, number: u32) -> Result<bool, AllocError> {
         for literal in self.plan.store.lemma(number) {
             if self.facts.left(literal.cell) == 0 {
                 let at = literal.cell.row;
                 let axis = Axis::Across;
-                self.lines.push(Told::Dead(LineId { axis, at }))?;
-                return Ok(());
+                self.add(Told::Dead(LineId { axis, at }), true)?;
+                return Ok(true);
             }
         }
-        Ok(())
+        Ok(false)
     }
 
     // Tells hints up to the end of the branch, or of the hints.
@@ -147,10 +171,11 @@ impl<'a> Teller<'a> {
         ensures calls { E.calls engine.old ≤ E.calls engine.new }
         ensures same_longest { E.longest engine.new ≡ E.longest engine.old }
     {
+        let start = self.facts.root();
         let mut branches = vec![in self.alloc;
             Branch {
                 hints,
-                changes: 0,
+                start,
                 behind: None
             },
         ]?;
@@ -167,21 +192,22 @@ impl<'a> Teller<'a> {
                 break;
             };
             if self.tell_hint(engine, &mut branches, reason)? == Gained::Dead {
-                self.end_branch(&mut branches)?;
+                self.end_branch(&mut branches, reason)?;
             }
         }
         Ok(Gained::Something)
     }
 
-    // Ends the branch at hand, and goes on with what is left after it.
-    fn end_branch(&mut self, branches: &mut Vec<Branch>) -> Result<(), AllocError> {
-        if let Some(branch) = branches.pop() {
-            self.facts.take_back(branch.changes);
-            if let Some(literal) = branch.behind {
-                self.facts.hold(literal)?;
-            }
+    // Ends the branch at hand, where a reason leaves nothing, and goes on with what is left after it.
+    fn end_branch(&mut self, branches: &mut Vec<Branch>, dead: Reason) -> Result<(), AllocError> {
+        let Some(branch) = branches.pop() else {
+            return Ok(());
+        };
+        let uses = self.facts.end_branch(branch.start, dead)?;
+        match branch.behind {
+            Some((part, literal)) => self.facts.hold_after(literal, part, uses),
+            None => Ok(()),
         }
-        Ok(())
     }
 
     // Tells a hint.
@@ -215,8 +241,8 @@ impl<'a> Teller<'a> {
         let gained = self.facts.force(engine, line)?;
         match gained {
             Gained::Nothing => {}
-            Gained::Something => self.lines.push(Told::Line(line))?,
-            Gained::Dead => self.lines.push(Told::Dead(line))?,
+            Gained::Something => self.add(Told::Line(line), false)?,
+            Gained::Dead => self.add(Told::Dead(line), true)?,
         }
         Ok(gained)
     }
@@ -225,13 +251,12 @@ impl<'a> Teller<'a> {
         match self.facts.say(self.plan.store.lemma(number)) {
             Said::Nothing => Ok(Gained::Nothing),
             Said::Broken => {
-                self.lines.push(Told::Broken(number))?;
+                self.add(Told::Broken(number), true)?;
                 Ok(Gained::Dead)
             }
             Said::Holds(literal) => {
-                self.lines.push(Told::Use(number))?;
-                let colours = self.facts.left(literal.cell) & literal.colours;
-                self.facts.hold(Literal { colours, ..literal })?;
+                self.facts.hold(literal, number)?;
+                self.add(Told::Use(number), false)?;
                 Ok(Gained::Something)
             }
         }
@@ -254,21 +279,14 @@ impl<'a> Teller<'a> {
                 Ok(Gained::Nothing)
             }
             Said::Holds(literal) => {
-                self.lines.push(Told::Part(literal))?;
-                let left = self.facts.left(literal.cell);
-                let changes = self.facts.changes();
-                let behind = Literal {
-                    colours: left & literal.colours,
-                    ..literal
-                };
-                self.facts.hold(Literal {
-                    colours: left & !literal.colours,
-                    ..literal
-                })?;
+                let part = small(self.lines.len());
+                self.add(Told::Part(literal), true)?;
+                let start = self.facts.count();
+                self.facts.deny(literal)?;
                 branches.push(Branch {
                     hints,
-                    changes,
-                    behind: Some(behind),
+                    start,
+                    behind: Some((part, literal)),
                 })?;
                 Ok(Gained::Something)
             }
