@@ -1,6 +1,7 @@
 //! The makers of certificates of uniqueness and of proofs by lemmas, and beside them what reads, writes and checks them.
 #![tactic(auto)]
 
+mod branches;
 pub mod laws;
 mod making;
 mod proving;

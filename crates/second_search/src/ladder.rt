@@ -72,8 +72,9 @@ pub fn climb<E: LineEngine>(
     }
 }
 
-// Writes a tree by each way in turn, each within a bound of evaluations. One is passed over for each bound that is spent.
-pub(crate) fn take_turn<E: LineEngine>(
+/// Writes a tree by each way in turn, each within a bound of evaluations, as `climb` does. One is passed over for each bound that is
+/// spent. None where both were broken off.
+pub fn take_turn<E: LineEngine>(
     alloc: Global,
     engine: &mut E,
     scene: &Scene,

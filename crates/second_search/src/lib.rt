@@ -26,7 +26,7 @@ pub use bounds::{BOUNDS, Bounds, TURNS, Turns};
 pub use counting::{Ending, Searched};
 pub use finding::{find_first, find_first_within, find_other};
 pub use keeper::{Answer, Judged, Keeper, KeptPart};
-pub use ladder::{Decided, Ladder, climb};
+pub use ladder::{Decided, Ladder, climb, take_turn};
 pub use near::find_near_other;
 pub use part_decision::decide_within;
 pub use parts::Parts;
