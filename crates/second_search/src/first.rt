@@ -18,7 +18,8 @@ use line_facts::LineEngine;
 use picture::{CellSet, Picture};
 use std::alloc::{AllocError, Global};
 
-// Finds a picture as `find_filling` does: by trees and by lemmas in turn, within bounds that grow, and after some rounds by trees alone. Searches with lemmas prefer background, and then other colours than those of the scene's picture, which is blank.
+// Finds a picture as `find_filling` does: by trees and by lemmas in turn, within bounds that grow, and after some rounds by trees
+// alone. Searches with lemmas prefer background first, and then other colours than those of the scene's picture, which is blank.
 pub(crate) fn find_in_turns<E: LineEngine>(
     alloc: Global,
     engine: &mut E,
