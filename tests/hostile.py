@@ -14,6 +14,7 @@ MEBIBYTE = 1 << 20
 MOST_BYTES = 16 * MEBIBYTE  # the longest input that the program takes
 COUNTED = (1 << 16, 1 << 17, 1 << 18)  # sizes at which instructions are counted
 MOST_OVER = 64 * MEBIBYTE
+MOST_PROVING = 256 * MEBIBYTE  # what waits and the lemmas of a proof are kept besides its lines
 PIECE = 1 << 14
 TIME = '/usr/bin/time'
 SIDE = 20
@@ -63,6 +64,9 @@ def noise(row, col):
 NOISE = picture(noise)
 BLANK = picture(lambda row, col: False)
 PIXEL = lines('P3', '1 1', '255', '0 0 0')
+SMALL = lines('P3', '2 2', '255', '0 0 0', '255 255 255', '255 255 255', '0 0 255')
+# The small picture is shown, and then no list fits the root.
+DEAD_ROOT = lines('part 1 1 .bcdefghijklmno', 'line r 1', 'line c 1', 'line r 2', 'done', 'line r 1', 'line c 2')
 PUZZLE = lines('width 1', 'height 1', 'rows', '1', 'columns', '1')
 
 
@@ -101,7 +105,7 @@ class Kind:
         while True:
             piece = b''.join(islice(said, 16))
             if len(piece) >= room or not piece:
-                yield piece[:piece.rfind(b'\n', 0, room) + 1 if b'\n' in piece and self.words[:1] == ('check',) else room]
+                yield piece[:piece.rfind(b'\n', 0, room) + 1 if b'\n' in piece and self.words[:1] in (('check',), ('verify',)) else room]
                 return
             yield piece
             room -= len(piece)
@@ -115,6 +119,11 @@ def ppm(head, body, tail=b'', fault=None):
 def cert(body, fault, beside=NOISE, version=1):
     """A certificate for a picture, which it does not prove."""
     return Kind(('check', 'beside', 'text'), lines(f'nonocert {version}'), body, beside=beside, fault='certificate ' + fault)
+
+
+def proof(head, body, fault):
+    """A proof by lemmas for the small picture, which it does not prove."""
+    return Kind(('verify', 'beside', 'text'), b'nonolemma 1\n' + head, body, beside=SMALL, fault='certificate ' + fault)
 
 
 def non(head, body, tail=b'', fault=None):
@@ -149,6 +158,10 @@ KINDS = {
     'certificate: givens': cert(givens, 'Place at line 2', version=2),
     'certificate: one long line': cert(b'0', 'BadLine at line 2'),
     'certificate: blank lines': cert(b'\n', 'BadLine at line 2'),
+    'proof: deep branches': proof(b'', b'part 1 1 a\n', ENDED),
+    'proof: lemmas without literals': proof(DEAD_ROOT, b'lemma\ndead r 1\n', ENDED),
+    'proof: one long lemma': proof(b'lemma\n', b'deny 1 1 a\n', 'Full at line 65539'),
+    'proof: lines that nothing follows from': proof(b'', b'line r 1\n', ENDED),
     '.non: a million keyword lines': non(PUZZLE, b'title\n'),
     '.non: a million sections': non(PUZZLE, b'rows\n', fault='Repeated'),
     '.non: a million lines of a section': non(PUZZLE, b'1\n', fault='BadCount'),
@@ -224,7 +237,7 @@ def row_of(machine, name, kind):
     many, peak, seconds, status, signal, said = machine.measure(kind, MOST_BYTES)
     over = max(0, peak - many if kind.is_kept else peak)
     is_right = not signal and kind.is_answer(status, said)
-    good = over < MOST_OVER and is_linear(fast / few, seconds / many, 0.1 / many, 2)
+    good = over < (MOST_PROVING if kind.words[:1] == ('verify',) else MOST_OVER) and is_linear(fast / few, seconds / many, 0.1 / many, 2)
     good = good and (kind.is_kept or peak < low + MEBIBYTE)
     counted = ''
     if shutil.which('valgrind'):

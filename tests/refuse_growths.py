@@ -16,6 +16,7 @@ LONG = b'x' * 201  # a line whose answer ends each answer of a dialogue
 END = b'refused: LongLine\n'
 LOOKS = (b'clues', b'map', b'write ppm')  # what is asked behind a refusal: these change nothing
 MOST = 100_000
+UNSETTLED = ('certificate_without_allowance', 'past_the_fixed_order')  # sessions' pictures that take branches
 
 # Each kind of edit on the picture of examples/diagonal.ppm, and what is asked after it.
 DAY = b'''colour add 0 0 255
@@ -280,13 +281,25 @@ def checks(program, folder):
             yield f'check {path.stem}', ['check', str(path), str(kept), *words]
 
 
+def proofs(program, folder):
+    """Proofs by lemmas that are made, and checks of them: names and words. Lines alone settle the examples, but not the last two."""
+    for path in (*sorted(EXAMPLES.glob('*.ppm')), *(TESTS / f'{name}.ppm' for name in UNSETTLED)):
+        words = [str(path), *background_of(path)]
+        yield f'prove {path.stem}', ['prove', *words]
+        (_, proof, _), _ = program.run(0, ['prove', *words])
+        if proof.startswith(b'nonolemma'):
+            kept = folder / f'{path.stem}.proof'
+            kept.write_bytes(proof)
+            yield f'verify {path.stem}', ['verify', str(path), str(kept), *background_of(path)]
+
+
 def runs(program, folder):
     """All runs: names, and what refuses a growth of each."""
     for path in sorted(EXAMPLES.glob('*.ppm')):
         yield f'clues {path.stem}', Run(program, [], path.read_bytes())
     for words in ('--help', 'work --help', '--version', 'check', 'work F --history 0', 'work F --background 1', 'jump'):
         yield f'words {words}', Run(program, words.split())
-    for name, words in checks(program, folder):
+    for name, words in (*checks(program, folder), *proofs(program, folder)):
         yield name, Run(program, words)
     for name, words, lines in sessions(folder):
         yield name, Session(program, words, lines)

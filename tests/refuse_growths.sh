@@ -1,6 +1,6 @@
 #!/usr/bin/env bash
 # Makes each allocation of the built program fail in turn: the clues of each picture in examples/, arguments that are refused
-# or ask for help, checks of certificates, and sessions on pictures and puzzles.
+# or ask for help, checks of certificates, proofs by lemmas and checks of them, and sessions on pictures and puzzles.
 # A run that answers once must end with status 1, the line `nonobench: memory` and nothing of an answer; so must a session whose
 # file is not open yet. A command of a session must be answered
 # by `refused: Memory` alone, after which clues, map and picture are as before, and after `certify` the verdict; and the command is

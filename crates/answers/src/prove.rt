@@ -4,7 +4,8 @@ ghost use Rattle.std.specs.Prelude.{◌≡◌, [], IfOk, OnOk};
 ghost use Rattle.answers.specs.Check.{Answers, WritesBy};
 ghost use Rattle.answers.specs.Prove.{IsProofShown, IsProveOf, IsShownFor, Proves};
 
-use lemma_proof::{Made, make_proof};
+use certificate::find_proof;
+use lemma_proof::Made;
 use lemma_text::{LemmaProof, write_proof};
 use line_settle::MaskEngine;
 use picture::{CellSet, MAX_SIDE, Picture, Rgb, send};
@@ -49,7 +50,7 @@ fn made_text(alloc: Global, picture: &Picture) -> Result<Vec<u8>, AllocError>
     let _ = picture.height();
     let mut engine = MaskEngine::make(alloc, MAX_SIDE)?;
     let givens = CellSet::empty();
-    let made = make_proof(alloc, &mut engine, picture, &givens)?;
+    let made = find_proof(alloc, &mut engine, picture, &givens)?;
     let mut text = Vec::new(alloc);
     push_made(&mut text, &made)?;
     Ok(text)

@@ -1,9 +1,12 @@
-//! The maker of certificates of uniqueness, and beside it what reads, writes and checks them.
+//! The makers of certificates of uniqueness and of proofs by lemmas, and beside them what reads, writes and checks them.
 #![tactic(auto)]
 
+mod branches;
 pub mod laws;
 mod making;
+mod proving;
 
 pub use cert_check::check_cert;
 pub use cert_text::{CellNumber, Cert, CertFault, CertLine, LineNumber, read_cert, write_cert};
 pub use making::{make_cert, make_cert_within};
+pub use proving::find_proof;

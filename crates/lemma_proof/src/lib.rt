@@ -5,5 +5,5 @@ mod making;
 mod naming;
 
 pub use lemma_search::Effort;
-pub use making::{Made, make_proof, make_proof_within};
+pub use making::{Made, check_made, make_proof, make_proof_within};
 pub use naming::given_cells;

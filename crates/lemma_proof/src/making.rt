@@ -71,7 +71,7 @@ pub fn make_proof_within<E: LineEngine>(
     match learn(alloc, engine, &clues, givens, picture, effort)? {
         Found::Proof(lines) => {
             let cells = given_cells(alloc, picture, givens)?;
-            checked(
+            check_made(
                 alloc,
                 engine,
                 picture,
@@ -84,8 +84,9 @@ pub fn make_proof_within<E: LineEngine>(
     }
 }
 
-// A proof, where the checker accepts it.
-fn checked<E: LineEngine>(
+/// A proof with exactly these givens, where the checker accepts it, and else nothing. No line of the picture may be longer than the
+/// engine takes. The engine's calls do not fall.
+pub fn check_made<E: LineEngine>(
     alloc: Global,
     engine: &mut E,
     picture: &Picture,

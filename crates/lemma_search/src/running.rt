@@ -68,7 +68,7 @@ impl<'a> Search<'a> {
                 restarts.count_conflict();
                 continue;
             }
-            if self.marks.is_at_root() && self.is_settled() {
+            if self.marks.is_at_root() && self.differing == 0 && self.is_settled() {
                 return self.end(Step::Done);
             }
             if restarts.is_due() {

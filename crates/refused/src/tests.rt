@@ -10,6 +10,7 @@ mod of_benches;
 mod of_books;
 mod of_certificates;
 mod of_edits;
+mod of_lemmas;
 mod of_searches;
 mod of_steps;
 mod shown;

@@ -1,7 +1,7 @@
 //! Puzzles that are settled and searched.
 //!
 //! `settle ENGINE AGENDA PUZZLE` prints the evaluations and the facts, or `dead`. `first PUZZLE` prints a picture with the
-//! clues. `parts FACTS` prints the cells of each part. `judge PICTURE [ALLOWANCE]` judges a picture by its parts, and once more
+//! clues, and `turns EVALUATIONS CONFLICTS ROUNDS PUZZLE` one that is found within these bounds. `parts FACTS` prints the cells of each part. `judge PICTURE [ALLOWANCE]` judges a picture by its parts, and once more
 //! under no allowance; `cost` does, and tells the evaluations. `within SPLITS AGAIN WINDOW CONFLICTS FIRST PICTURE` decides each
 //! part by so many splits of the fixed order, so many when it is begun anew, windows of so many splits, lemmas from so many conflicts,
 //! and trees of so many evaluations at first; and it makes a certificate within the same bounds.
@@ -17,7 +17,7 @@ use clues::ClueBook;
 use line_facts::{Facts, LineEngine};
 use line_settle::MaskEngine;
 use picture::{CellSet, Document, MAX_SIDE};
-use second_search::{Bounds, Keeper, Parts, Scene, find_first};
+use second_search::{Bounds, Keeper, Parts, Scene, TURNS, Turns, find_first_within};
 use std::alloc::Global;
 use table_words::{document_in, facts_in, push_facts, push_picture};
 
@@ -32,7 +32,10 @@ pub fn tell(rt: &(impl AllocGlobal + Print), words: &[&str]) -> Result<()> {
 fn told_of(alloc: Global, words: &[&str]) -> Result<String> {
     match words {
         ["settle", engine, agenda, puzzle] => settle_text(alloc, engine, agenda, puzzle),
-        ["first", puzzle] => first(alloc, &puzzle_in(alloc, puzzle)?),
+        ["first", puzzle] => first_text(alloc, TURNS, puzzle),
+        ["turns", evaluations, conflicts, rounds, puzzle] => {
+            first_text(alloc, turns_in(evaluations, conflicts, rounds)?, puzzle)
+        }
         ["parts", facts] => parts(alloc, &facts_in(alloc, facts)?),
         ["judge", picture] => judge_text(alloc, picture, None, false),
         ["judge", picture, most] => judge_text(alloc, picture, Some(splits_in(most)?), false),
@@ -41,7 +44,7 @@ fn told_of(alloc: Global, words: &[&str]) -> Result<String> {
             let bounds = bounds_in(splits, again, window, conflicts, first)?;
             within_text(alloc, bounds, picture)
         }
-        _ => bail!("settle, first, parts, judge, cost or within"),
+        _ => bail!("settle, first, turns, parts, judge, cost or within"),
     }
 }
 
@@ -63,6 +66,18 @@ fn bounds_in(
         conflicts: conflicts.parse().context("the conflicts")?,
         first_bound: first.parse().context("the first bound")?,
     })
+}
+
+fn turns_in(evaluations: &str, conflicts: &str, rounds: &str) -> Result<Turns> {
+    Ok(Turns {
+        evaluations: evaluations.parse().context("the evaluations")?,
+        conflicts: conflicts.parse().context("the conflicts")?,
+        rounds: rounds.parse().context("the rounds")?,
+    })
+}
+
+fn first_text(alloc: Global, turns: Turns, puzzle: &str) -> Result<String> {
+    first(alloc, turns, &puzzle_in(alloc, puzzle)?)
 }
 
 fn within_text(alloc: Global, bounds: Bounds, picture: &str) -> Result<String> {
@@ -104,13 +119,13 @@ fn settle(alloc: Global, engine: &str, agenda: &str, puzzle: &Puzzle) -> Result<
 }
 
 // A picture with the clues.
-fn first(alloc: Global, puzzle: &Puzzle) -> Result<String> {
+fn first(alloc: Global, turns: Turns, puzzle: &Puzzle) -> Result<String> {
     let mut engine = MaskEngine::make(alloc, MAX_SIDE)?;
     let clues = &puzzle.clues;
     ensure!(clues.height() <= engine.longest(), "too many rows");
     ensure!(clues.width() <= engine.longest(), "too many columns");
     let mut text = String::new(alloc);
-    match find_first(alloc, &mut engine, clues)? {
+    match find_first_within(alloc, &mut engine, clues, turns)? {
         Some(picture) => push_picture(&mut text, &picture)?,
         None => text.push_str("none")?,
     }

@@ -23,3 +23,19 @@ pub const BOUNDS: Bounds = Bounds {
 
 // How many times as many lines a tree may evaluate at first in a part, or where judging took long: few small trees close there.
 pub(crate) const LONGER: u64 = 16;
+
+/// How far a search from clues alone goes in its first round: how many lines a tree may evaluate, and from how many conflicts a search
+/// with lemmas learns. From round to round the first grows fourfold, the second eightfold. After so many rounds trees go on alone.
+#[derive(Clone, Copy)]
+pub struct Turns {
+    pub evaluations: u64,
+    pub conflicts: u32,
+    pub rounds: u32,
+}
+
+/// Those of the program.
+pub const TURNS: Turns = Turns {
+    evaluations: 10_000,
+    conflicts: 2_000,
+    rounds: 3,
+};

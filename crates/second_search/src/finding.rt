@@ -1,13 +1,15 @@
 //! A picture with given clues, or another one than a known picture.
 
-ghost use Rattle.std.specs.Prelude.{◌≡◌, ◌≤◌, ℕ, List, length, IfOk};
+ghost use Rattle.std.specs.Prelude.{◌≡◌, ◌≤◌, ℕ, List, false, length, IfOk};
 ghost use Rattle.clues.specs.ClueBook.{clues_of};
 ghost use Rattle.line_facts.specs.FactSets.{SameShape};
 ghost use Rattle.fixpoint.specs.ClosedFacts.{AreClosable};
 ghost use Rattle.second_search.specs.Other.{AreSound, FindsFirst, FindsOther};
 ghost use Rattle.second_search.specs.SettledFacts.{FindsFilling};
+ghost use Rattle.second_search.specs.Trees.{Decides};
 
-use crate::bounds::BOUNDS;
+use crate::bounds::{BOUNDS, TURNS, Turns};
+use crate::first::find_in_turns;
 use crate::ladder::{Decided, Ladder, climb};
 use crate::near::find_near_other;
 use crate::scene::Scene;
@@ -28,6 +30,21 @@ pub fn find_first<E: LineEngine>(
     ensures finds { IfOk result (FindsFirst book.now) }
     ensures same_longest { E.longest engine.new ≡ E.longest engine.old }
 {
+    find_first_within(alloc, engine, book, TURNS)
+}
+
+/// A picture with these clues as `find_first` finds it, within other bounds. What is answered is true whatever these are.
+pub fn find_first_within<E: LineEngine>(
+    alloc: Global,
+    engine: &mut E,
+    book: &ClueBook,
+    turns: Turns,
+) -> Result<Option<Picture>, AllocError>
+    requires tall { length book.now.rows ≤ E.longest engine.old }
+    requires wide { length book.now.columns ≤ E.longest engine.old }
+    ensures finds { IfOk result (FindsFirst book.now) }
+    ensures same_longest { E.longest engine.new ≡ E.longest engine.old }
+{
     let blank = Picture::blank(alloc, book.height(), book.width())?;
     let _ = blank.height();
     if book.has_clues(&blank) {
@@ -41,7 +58,7 @@ pub fn find_first<E: LineEngine>(
         facts: &facts,
         picture: &blank,
     };
-    find_filling(alloc, engine, &scene, false, BOUNDS.first_bound)
+    find_in_turns(alloc, engine, &scene, turns)
 }
 
 /// Another picture with these clues, which has the picture's colours in the givens. There is none exactly where the answer
@@ -100,8 +117,18 @@ pub(crate) fn find_filling<E: LineEngine>(
         keeps: false,
     };
     let decided = climb(alloc, engine, scene, ladder)?;
+    Ok(filling_of(scene, decided))
+}
+
+// The picture that was found, where a scene was decided, or none where there is a tree.
+pub(crate) fn filling_of(scene: &Scene, decided: Decided) -> Option<Picture>
+    requires same_shape { SameShape scene.now.picture.now scene.now.facts.now }
+    requires decides { Decides scene.now.clues.now scene.now.picture.now scene.now.facts.now false
+        decided }
+    ensures { FindsFilling scene.now.clues.now scene.now.facts.now scene.now.picture.now result }
+{
     match decided {
-        Decided::Tree(_) => Ok(None),
-        Decided::OtherPicture(picture) => Ok(Some(picture)),
+        Decided::Tree(_) => None,
+        Decided::OtherPicture(picture) => Some(picture),
     }
 }

@@ -1,6 +1,6 @@
 //! The ladder: two ways to choose the cell in turn, each broken off at a bound that grows.
 
-ghost use Rattle.std.specs.Prelude.{◌≡◌, ◌≤◌, IfOk};
+ghost use Rattle.std.specs.Prelude.{◌≡◌, ◌≤◌, IfOk, IfSome};
 ghost use Rattle.fixpoint.specs.ClosedFacts.{AreClosable};
 ghost use Rattle.second_search.specs.Trees.{Decides};
 
@@ -60,16 +60,8 @@ pub fn climb<E: LineEngine>(
         spent = 0;
     }
     for _ in 0..MOST_ROUNDS {
-        for choice in [Choice::Look, Choice::First].iter() {
-            if spent > bound {
-                spent -= bound;
-                continue;
-            }
-            let until = engine.calls().saturating_add(bound);
-            let way = way_of(ladder, *choice, Some(until));
-            if let Some(decided) = write_tree(alloc, engine, scene, way, ladder.keeps)? {
-                return Ok(decided);
-            }
+        if let Some(decided) = take_turn(alloc, engine, scene, ladder, bound, &mut spent)? {
+            return Ok(decided);
         }
         bound = bound.saturating_mul(4);
     }
@@ -78,6 +70,38 @@ pub fn climb<E: LineEngine>(
         Some(decided) => Ok(decided),
         None => unreachable!(),
     }
+}
+
+/// Writes a tree by each way in turn, each within a bound of evaluations, as `climb` does. One is passed over for each bound that is
+/// spent. None where both were broken off.
+pub fn take_turn<E: LineEngine>(
+    alloc: Global,
+    engine: &mut E,
+    scene: &Scene,
+    ladder: Ladder,
+    bound: u64,
+    spent: &mut u64,
+) -> Result<Option<Decided>, AllocError>
+    requires { AreClosable scene.now.clues.now (E.longest engine.old) scene.now.facts.now }
+    ensures decides { IfOk result (λ found. IfSome found
+        (Decides scene.now.clues.now scene.now.picture.now scene.now.facts.now ladder.keeps)) }
+    ensures calls { E.calls engine.old ≤ E.calls engine.new }
+    ensures same_longest { E.longest engine.new ≡ E.longest engine.old }
+{
+    let _ = engine.calls();
+    for choice in [Choice::Look, Choice::First].iter() {
+        if *spent > bound {
+            *spent -= bound;
+            continue;
+        }
+        let until = engine.calls().saturating_add(bound);
+        let way = way_of(ladder, *choice, Some(until));
+        let found = write_tree(alloc, engine, scene, way, ladder.keeps)?;
+        if found.is_some() {
+            return Ok(found);
+        }
+    }
+    Ok(None)
 }
 
 // The way to write a tree, to be broken off at so many calls of the engine, if at all.

@@ -14,7 +14,7 @@ use picture::{CellSet, MAX_SIDE, Picture};
 use std::alloc::{AllocError, Global};
 
 // How many literals the lemmas of a search have together at most.
-const LITERALS: usize = 10_000_000;
+pub(crate) const LITERALS: usize = 10_000_000;
 
 // Decides a part by a proof by lemmas that the checker accepts, or by another picture. None where that search learnt from as many
 // conflicts as are allowed, or where none are.

@@ -132,7 +132,7 @@ fn other_in(
 }
 
 // Whether a picture fills facts and is not the known one.
-fn is_other_in(scene: &Scene, facts: &Facts, picture: &Picture) -> bool
+pub(crate) fn is_other_in(scene: &Scene, facts: &Facts, picture: &Picture) -> bool
     ensures { IsTrue result → IsOtherIn scene.now.clues.now
         scene.now.picture.now facts.now picture.now }
 {

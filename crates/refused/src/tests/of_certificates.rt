@@ -9,8 +9,8 @@ use picture::{CellSet, Picture};
 use std::alloc::{AllocError, Global};
 use std::process::Abort;
 
-// `aa...`, `...a.`, `a...a`, `ab..a`, `...a.` in white, black and red.
-const PUZZLE: &[u8] = b"P3 5 5 1
+/// `aa...`, `...a.`, `a...a`, `ab..a`, `...a.` in white, black and red.
+pub const PUZZLE: &[u8] = b"P3 5 5 1
 0 0 0 0 0 0 1 1 1 1 1 1 1 1 1
 1 1 1 1 1 1 1 1 1 0 0 0 1 1 1
 0 0 0 1 1 1 1 1 1 1 1 1 0 0 0

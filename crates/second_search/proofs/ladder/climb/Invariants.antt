@@ -6,9 +6,3 @@ invariant-loop g l = record {
   calls : g.E.LineEngine.calls l.fn.engine ≤ g.E.LineEngine.calls l.engine;
   same_longest : g.E.LineEngine.longest l.engine ≡ g.E.LineEngine.longest l.fn.engine;
 }
-
-abbrev pub invariant-loop-choice : goal.invariant-loop-choice
-invariant-loop-choice g l = record {
-  calls : g.E.LineEngine.calls l.fn.engine ≤ g.E.LineEngine.calls l.engine;
-  same_longest : g.E.LineEngine.longest l.engine ≡ g.E.LineEngine.longest l.fn.engine;
-}

@@ -1,5 +1,5 @@
 use Rattle.lemma_proof.proofs.MakingLemmas.{accepted}
-use Rattle.lemma_proof.proofs.making.checked.Goals as goal
+use Rattle.lemma_proof.proofs.making.check_made.Goals as goal
 
 pub returns-in-Ok-clause-makes : goal.returns-in-Ok-clause-makes
 returns-in-Ok-clause-makes g c = accepted c.args.picture.now c.args.givens.now c.args.proof c.requires.names c.in-Ok.ensures.proof c.in-Ok.ensures.unique

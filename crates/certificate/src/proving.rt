@@ -1,0 +1,167 @@
+//! The maker of proofs by lemmas that looks for near pictures first, and tries a small tree.
+
+ghost use Rattle.std.specs.Prelude.{◌≡◌, ◌≤◌, length, IfOk, IfSome};
+ghost use Rattle.picture.specs.CellSet.{HasCell};
+ghost use Rattle.picture.specs.Document.{AreInside};
+ghost use Rattle.picture.specs.Rows.{width_of};
+ghost use Rattle.line_facts.specs.FactSets.{SameShape};
+ghost use Rattle.clues.specs.ClueBook.{clues_of};
+ghost use Rattle.clues.specs.Solution.{IsOther};
+ghost use Rattle.cert_check.specs.Walk.{CanCheck};
+ghost use Rattle.lemma_proof.specs.Making.{Makes};
+ghost use Rattle.second_search.specs.Parts.{IsScene};
+
+use crate::branches::told_lines;
+use cert_check::set_givens;
+use cert_text::CertLine;
+use clues::ClueBook;
+use lemma_proof::{Made, check_made, given_cells, make_proof};
+use lemma_text::{LemmaProof, write_proof};
+use line_facts::{Facts, LineEngine};
+use picture::{CellSet, Picture};
+use second_search::{BOUNDS, Decided, Ladder, Lines, Scene, find_near_other, take_turn};
+use std::alloc::{AllocError, Global};
+
+// The facts at the root: in each given the picture's colour alone.
+fn base_facts(alloc: Global, picture: &Picture, givens: &CellSet) -> Result<Facts, AllocError>
+    requires inside { AreInside givens.now picture.now }
+    ensures { IfOk result (λ facts.
+        IsScene (clues_of picture.now) givens.now facts picture.now) }
+{
+    let cells = given_cells(alloc, picture, givens)?;
+    let mut facts = Facts::none(alloc, picture.height(), picture.width())?;
+    match set_givens(picture, &mut facts, &cells) {
+        Ok(()) => Ok(facts),
+        Err(_) => Err(AllocError),
+    }
+}
+
+// Another picture that differs in one window alone. There may be others where the answer is None.
+fn near_other<E: LineEngine>(
+    alloc: Global,
+    engine: &mut E,
+    picture: &Picture,
+    givens: &CellSet,
+) -> Result<Option<Picture>, AllocError>
+    requires inside { AreInside givens.now picture.now }
+    requires wide { width_of picture.now ≤ E.longest engine.old }
+    requires tall { length picture.now ≤ E.longest engine.old }
+    ensures other { IfOk result (λ found. IfSome found
+        (IsOther (clues_of picture.now) (HasCell givens.now) picture.now)) }
+    ensures calls { E.calls engine.old ≤ E.calls engine.new }
+    ensures same_longest { E.longest engine.new ≡ E.longest engine.old }
+{
+    let _ = engine.calls();
+    let clues = ClueBook::of(alloc, picture)?;
+    let facts = base_facts(alloc, picture, givens)?;
+    let scene = Scene {
+        clues: &clues,
+        givens,
+        facts: &facts,
+        picture,
+    };
+    find_near_other(alloc, engine, &scene, BOUNDS.window_splits)
+}
+
+// The lines of a tree that evaluates few lines, where there is one. The known picture is held on to.
+fn small_tree<E: LineEngine>(
+    alloc: Global,
+    engine: &mut E,
+    scene: &Scene,
+) -> Result<Option<Vec<CertLine>>, AllocError>
+    requires can { CanCheck scene.now.picture.now scene.now.clues.now (E.longest engine.old) }
+    requires same_shape { SameShape scene.now.picture.now scene.now.facts.now }
+    ensures calls { E.calls engine.old ≤ E.calls engine.new }
+    ensures same_longest { E.longest engine.new ≡ E.longest engine.old }
+{
+    let ladder = Ladder {
+        first_bound: BOUNDS.first_bound,
+        judging: 0,
+        holds: true,
+        keeps: true,
+    };
+    match take_turn(alloc, engine, scene, ladder, ladder.first_bound, &mut 0)? {
+        Some(Decided::Tree(Lines::Kept(lines))) => Ok(Some(lines)),
+        _ => Ok(None),
+    }
+}
+
+// A proof that tells a small tree, where there is one whose splits are between two colours each.
+fn tree_proof<E: LineEngine>(
+    alloc: Global,
+    engine: &mut E,
+    picture: &Picture,
+    givens: &CellSet,
+) -> Result<Made, AllocError>
+    requires inside { AreInside givens.now picture.now }
+    requires wide { width_of picture.now ≤ E.longest engine.old }
+    requires tall { length picture.now ≤ E.longest engine.old }
+    ensures makes { IfOk result (Makes picture.now givens.now) }
+    ensures calls { E.calls engine.old ≤ E.calls engine.new }
+    ensures same_longest { E.longest engine.new ≡ E.longest engine.old }
+{
+    let _ = (engine.calls(), picture.height());
+    let clues = ClueBook::of(alloc, picture)?;
+    let facts = base_facts(alloc, picture, givens)?;
+    let scene = Scene {
+        clues: &clues,
+        givens,
+        facts: &facts,
+        picture,
+    };
+    let Some(tree) = small_tree(alloc, engine, &scene)? else {
+        return Ok(Made::Undecided);
+    };
+    let Some(lines) = told_lines(alloc, &clues, &tree)? else {
+        return Ok(Made::Undecided);
+    };
+    let cells = given_cells(alloc, picture, givens)?;
+    check_made(
+        alloc,
+        engine,
+        picture,
+        givens,
+        LemmaProof::new(cells, lines),
+    )
+}
+
+// How long the text of a proof is. What is none is longer than any.
+fn text_length(alloc: Global, made: &Made) -> Result<usize, AllocError> {
+    let Made::Proof(proof) = made else {
+        return Ok(usize::MAX);
+    };
+    if !proof.is_writable() {
+        return Ok(usize::MAX);
+    }
+    let mut text = Vec::new(alloc);
+    write_proof(proof, &mut text).map_err(|_| AllocError)?;
+    Ok(text.len())
+}
+
+/// Makes a proof by lemmas with exactly these givens, or finds another picture, as `make_proof` does. Near pictures are looked for
+/// first; and where a small tree proves the picture by a shorter text than the lemmas that were learnt, its lines are the proof. No line
+/// of the picture may be longer than the engine takes. The engine's calls do not fall.
+pub fn find_proof<E: LineEngine>(
+    alloc: Global,
+    engine: &mut E,
+    picture: &Picture,
+    givens: &CellSet,
+) -> Result<Made, AllocError>
+    requires inside { AreInside givens.now picture.now }
+    requires wide { width_of picture.now ≤ E.longest engine.old }
+    requires tall { length picture.now ≤ E.longest engine.old }
+    ensures makes { IfOk result (Makes picture.now givens.now) }
+    ensures calls { E.calls engine.old ≤ E.calls engine.new }
+    ensures same_longest { E.longest engine.new ≡ E.longest engine.old }
+{
+    if let Some(other) = near_other(alloc, engine, picture, givens)? {
+        return Ok(Made::Other(other));
+    }
+    let told = tree_proof(alloc, engine, picture, givens)?;
+    let learnt = make_proof(alloc, engine, picture, givens)?;
+    if text_length(alloc, &told)? < text_length(alloc, &learnt)? {
+        Ok(told)
+    } else {
+        Ok(learnt)
+    }
+}

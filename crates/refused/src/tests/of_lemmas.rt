@@ -1,0 +1,131 @@
+//! Proofs by lemmas: read, written, checked and made.
+
+use super::made::{SQUARE, document_of, engine_of};
+use super::of_certificates::PUZZLE;
+use super::{Memory, equal, first_of};
+use cert_text::CertFault;
+use lemma_check::check_proof;
+use lemma_proof::{Made, make_proof};
+use lemma_text::{LemmaProof, read_proof, write_proof};
+use line_facts::LineEngine;
+use line_settle::MaskEngine;
+use picture::{CellSet, Picture};
+use std::alloc::{AllocError, Global};
+use std::process::Abort;
+
+// A proof of the square, with two lemmas, two branches in the first, and the first no longer kept at the end.
+const TEXT: &[u8] = b"nonolemma 1
+lemma
+deny 1 1 a
+part 2 1 a
+line r 1
+dead c 2
+line r 1
+dead c 2
+lemma
+deny 2 2 b
+use 1
+line r 1
+line c 1
+line r 2
+dead c 2
+use 2
+use 1
+drop 1
+line r 1
+line c 1
+done
+";
+
+fn read(rt: &impl Abort, alloc: Global, memory: Memory) -> LemmaProof {
+    let first = read_proof(alloc, TEXT);
+    first_of(
+        rt,
+        memory,
+        CertFault::Memory,
+        first,
+        read_proof(alloc, TEXT),
+    )
+}
+
+// Writes it into memory that is there, so that none is taken.
+fn writes(rt: &impl Abort, alloc: Global, memory: Memory, proof: &LemmaProof) {
+    let room = Vec::with_capacity(alloc, TEXT.len());
+    let again = Vec::with_capacity(alloc, TEXT.len());
+    let mut text: Vec<u8> = first_of(rt, memory, AllocError, room, again);
+    assert!(rt; proof.is_writable());
+    assert!(rt; write_proof(proof, &mut text).is_ok());
+    assert!(rt; text.as_slice() == TEXT);
+}
+
+fn checked(
+    rt: &impl Abort,
+    alloc: Global,
+    engine: &mut MaskEngine,
+    picture: &Picture,
+    proof: &LemmaProof,
+) -> Result<(), CertFault> {
+    assert!(rt; picture.width() <= engine.longest() && picture.height() <= engine.longest());
+    check_proof(alloc, engine, picture, proof)
+}
+
+fn checks(
+    rt: &impl Abort,
+    alloc: Global,
+    memory: Memory,
+    engine: &mut MaskEngine,
+    picture: &Picture,
+    proof: &LemmaProof,
+) {
+    let first = checked(rt, alloc, engine, picture, proof);
+    let second = checked(rt, alloc, engine, picture, proof);
+    first_of(rt, memory, CertFault::Memory, first, second);
+}
+
+// Makes one with the red cell as its given.
+fn made(
+    rt: &impl Abort,
+    alloc: Global,
+    engine: &mut MaskEngine,
+    picture: &Picture,
+) -> Result<Made, AllocError> {
+    assert!(rt; picture.width() <= engine.longest() && picture.height() <= engine.longest());
+    assert!(rt; picture.width() > 1 && picture.height() > 3);
+    let mut givens = CellSet::empty();
+    givens.put(3, 1);
+    make_proof(alloc, engine, picture, &givens)
+}
+
+// Makes a proof of a puzzle that lines alone do not settle, and checks it.
+fn makes(rt: &impl Abort, alloc: Global, memory: Memory, engine: &mut MaskEngine) {
+    let puzzle = document_of(rt, alloc, memory, PUZZLE);
+    let first = made(rt, alloc, engine, &puzzle.picture);
+    let second = made(rt, alloc, engine, &puzzle.picture);
+    match first_of(rt, memory, AllocError, first, second) {
+        Made::Proof(proof) => {
+            equal(rt, "givens", proof.givens().len(), 1);
+            checks(rt, alloc, memory, engine, &puzzle.picture, &proof);
+        }
+        _ => panic!(rt; "a proof"),
+    }
+}
+
+// Reads, writes, checks and makes a proof.
+fn goes_on(rt: &impl Abort, alloc: Global, memory: Memory) {
+    let square = document_of(rt, alloc, memory, SQUARE);
+    let mut engine = engine_of(rt, alloc, memory);
+    let proof = read(rt, alloc, memory);
+    writes(rt, alloc, memory, &proof);
+    checks(rt, alloc, memory, &mut engine, &square.picture, &proof);
+    makes(rt, alloc, memory, &mut engine);
+}
+
+#[test]
+fn a_refused_growth_changes_nothing(rt: HostRuntime) {
+    goes_on(&rt, rt.alloc(), Memory::Refused);
+}
+
+#[test]
+fn ample_memory_is_enough(rt: HostRuntime) {
+    goes_on(&rt, rt.alloc(), Memory::Ample);
+}

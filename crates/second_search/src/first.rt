@@ -1,0 +1,123 @@
+//! The first picture with given clues: trees and searches with lemmas in turn.
+
+ghost use Rattle.std.specs.Prelude.{◌≡◌, ◌≤◌, IfOk, IfSome};
+ghost use Rattle.line_facts.specs.FactSets.{SameShape};
+ghost use Rattle.fixpoint.specs.ClosedFacts.{AreClosable};
+ghost use Rattle.second_search.specs.SettledFacts.{FindsFilling};
+ghost use Rattle.second_search.specs.Trees.{IsOtherIn};
+
+use crate::bounds::Turns;
+use crate::finding::{filling_of, find_filling};
+use crate::ladder::{Ladder, take_turn};
+use crate::learning::LITERALS;
+use crate::scene::Scene;
+use crate::tree_step::is_other_in;
+use lemma_proof::Effort;
+use lemma_search::{Found, learn};
+use line_facts::LineEngine;
+use picture::{CellSet, Picture};
+use std::alloc::{AllocError, Global};
+
+// Finds a picture as `find_filling` does: by trees and by lemmas in turn, within bounds that grow, and after some rounds by trees
+// alone. Searches with lemmas prefer background first, and then other colours than those of the scene's picture, which is blank.
+pub(crate) fn find_in_turns<E: LineEngine>(
+    alloc: Global,
+    engine: &mut E,
+    scene: &Scene,
+    turns: Turns,
+) -> Result<Option<Picture>, AllocError>
+    requires closable { AreClosable scene.now.clues.now (E.longest engine.old) scene.now.facts.now }
+    requires same_shape { SameShape scene.now.picture.now scene.now.facts.now }
+    ensures finds { IfOk result
+        (FindsFilling scene.now.clues.now scene.now.facts.now scene.now.picture.now) }
+    ensures calls { E.calls engine.old ≤ E.calls engine.new }
+    ensures same_longest { E.longest engine.new ≡ E.longest engine.old }
+{
+    let _ = engine.calls();
+    let full = full_like(scene.picture)?;
+    let Turns {
+        mut evaluations,
+        mut conflicts,
+        rounds,
+    } = turns;
+    for _ in 0..rounds {
+        let ladder = Ladder {
+            first_bound: evaluations,
+            judging: 0,
+            holds: false,
+            keeps: false,
+        };
+        if let Some(decided) = take_turn(alloc, engine, scene, ladder, evaluations, &mut 0)? {
+            return Ok(filling_of(scene, decided));
+        }
+        if let Some(picture) = learn_both(alloc, engine, scene, &full, conflicts)? {
+            return Ok(Some(picture));
+        }
+        evaluations = evaluations.saturating_mul(4);
+        conflicts = conflicts.saturating_mul(8);
+    }
+    find_filling(alloc, engine, scene, false, evaluations)
+}
+
+// Looks for such a picture by lemmas, from so many conflicts each time: first with the colours of a full picture as those to avoid,
+// and then with those of the scene's.
+fn learn_both<E: LineEngine>(
+    alloc: Global,
+    engine: &mut E,
+    scene: &Scene,
+    full: &Picture,
+    conflicts: u32,
+) -> Result<Option<Picture>, AllocError>
+    ensures other { IfOk result (λ found. IfSome found
+        (IsOtherIn scene.now.clues.now scene.now.picture.now scene.now.facts.now)) }
+    ensures calls { E.calls engine.old ≤ E.calls engine.new }
+    ensures same_longest { E.longest engine.new ≡ E.longest engine.old }
+{
+    let found = learn_first(alloc, engine, scene, full, conflicts)?;
+    if found.is_some() {
+        return Ok(found);
+    }
+    learn_first(alloc, engine, scene, scene.picture, conflicts)
+}
+
+// The same, with the colours of a picture as those to avoid. Nothing is promised of what a search finds, so it is compared.
+fn learn_first<E: LineEngine>(
+    alloc: Global,
+    engine: &mut E,
+    scene: &Scene,
+    avoided: &Picture,
+    conflicts: u32,
+) -> Result<Option<Picture>, AllocError>
+    ensures other { IfOk result (λ found. IfSome found
+        (IsOtherIn scene.now.clues.now scene.now.picture.now scene.now.facts.now)) }
+    ensures calls { E.calls engine.old ≤ E.calls engine.new }
+    ensures same_longest { E.longest engine.new ≡ E.longest engine.old }
+{
+    let effort = Effort {
+        conflicts,
+        literals: LITERALS,
+    };
+    let givens = CellSet::empty();
+    let found = learn(alloc, engine, scene.clues, &givens, avoided, effort)?;
+    let Found::Other(picture) = found else {
+        return Ok(None);
+    };
+    if is_other_in(scene, scene.facts, &picture) {
+        Ok(Some(picture))
+    } else {
+        Ok(None)
+    }
+}
+
+// A picture of a picture's size that is all of colour 1.
+fn full_like(picture: &Picture) -> Result<Picture, AllocError> {
+    let mut full = picture.copy()?;
+    for row in 0..picture.height() {
+        for col in 0..picture.width() {
+            if row < full.height() && col < full.width() {
+                full.set(row, col, 1);
+            }
+        }
+    }
+    Ok(full)
+}
