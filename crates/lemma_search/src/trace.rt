@@ -60,6 +60,9 @@ pub(crate) struct Trace<'a> {
 // How many lines a picture has at most.
 const LINES: usize = 256;
 
+// From how many exclusions at the root on no line there is left out.
+const MOST_TRIMMED: u32 = 2500;
+
 fn line_place(line: LineId) -> usize {
     match line.axis {
         Axis::Across => usize::from(line.at),
@@ -391,8 +394,12 @@ impl<'a> Trace<'a> {
         Ok(())
     }
 
-    /// Marks the lines at the root that are needed, where all that they exclude is.
+    /// Marks the lines at the root that are needed, where all that they exclude is. On a large picture that takes too long: all are.
     pub(crate) fn end(&mut self) -> Result<(), AllocError> {
+        if self.count() > MOST_TRIMMED {
+            self.need_root();
+            return Ok(());
+        }
         self.begin_trim();
         let mut last = self.told();
         for at in (0..self.count()).rev() {
@@ -418,6 +425,15 @@ impl<'a> Trace<'a> {
             }
         }
         Ok(())
+    }
+
+    // Marks all lines at the root as needed.
+    fn need_root(&mut self) {
+        for at in 0..self.noted.len() {
+            if let Some(noted) = self.noted.get(at).copied() {
+                self.need(noted.told);
+            }
+        }
     }
 
     // Where the first of the lemmas after a line of the proof begins, or where it ends.
