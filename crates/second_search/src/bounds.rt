@@ -36,6 +36,6 @@ pub struct Turns {
 /// Those of the program.
 pub const TURNS: Turns = Turns {
     evaluations: 10_000,
-    conflicts: 2_000,
+    conflicts: 4_000,
     rounds: 3,
 };
