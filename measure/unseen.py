@@ -97,8 +97,13 @@ def draw(folder, seed):
                 picture.unlink()
 
 
-if len(sys.argv) != 3:
-    sys.exit(__doc__)
-PICTURES = Path(sys.argv[1], 'pictures')
-PICTURES.mkdir(parents=True, exist_ok=True)
-draw(PICTURES, sys.argv[2])
+def main():
+    if len(sys.argv) != 3:
+        sys.exit(__doc__)
+    pictures = Path(sys.argv[1], 'pictures')
+    pictures.mkdir(parents=True, exist_ok=True)
+    draw(pictures, sys.argv[2])
+
+
+if __name__ == '__main__':
+    main()
