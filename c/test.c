@@ -277,6 +277,9 @@ static void test_proofs(void) {
     expect(nonobench_prove_picture("P4", 2, NULL, &found, &text) == NONOBENCH_REFUSED && !found.certificate, "no picture", said);
     expect(strcmp(said, "ppm NotP3 at byte 0") == 0, "it is said", said);
     expect(nonobench_prove_picture(picture, size, "0,0", &found, &text) == NONOBENCH_OPTIONS, "no background", said);
+    /* Another picture has its clues on white, and none on black. */
+    picture_of("..a/.a.", 7, picture);
+    size = strlen(picture);
     expect(nonobench_prove_picture(picture, size, "0,0,0", &found, NULL) == NONOBENCH_DONE && found.certificate, "a background", "");
     expect(nonobench_verify_pair(picture, size, found.certificate, found.certificate_size, NULL, &text) == NONOBENCH_REFUSED, "white again", said);
     free(found.certificate);
