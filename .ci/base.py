@@ -30,13 +30,13 @@ CLAIMS = {
 }
 # The most lines that a claim may need: a larger number needs its reason in docs/DECISIONS.md.
 MOST = {
-    'The verdict is true': 70,
-    'A certificate proves uniqueness': 299,
-    'A check answers exactly': 210,
-    'A refused edit changes nothing': 185,
-    'It stays true': 1132,
-    "A session's answers are right": 932,
-    'Published pairs are accepted': 1595,
+    'The verdict is true': 60,
+    'A certificate proves uniqueness': 268,
+    'A check answers exactly': 206,
+    'A refused edit changes nothing': 162,
+    'It stays true': 1099,
+    "A session's answers are right": 899,
+    'Published pairs are accepted': 1541,
 }
 # The most columns of a line: definitions are read by whoever audits a claim, proofs by whoever mends them.
 WIDTHS = {'specs': 120, 'proofs': 200}

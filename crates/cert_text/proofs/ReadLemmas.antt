@@ -1,6 +1,7 @@
 -- Lines read one by one: what is read so far, and what is left to read.
 use Rattle.std.proofs.Common.{◌≡◌, ℕ, ◌+◌, ◌<◌, ◌≤◌, Bool, true, false, cond, List, [], ◌∷◌, ◌++◌, Option, None, Some, Result, Ok, Err, append_assoc, refl, sym, ap, subst, ◌∙◌, arith, inl, inr}
 use Rattle.std.proofs.Common.{nat_le}
+use Rattle.std.specs.Option.{ok_or}
 use Rattle.std.proofs.lemmas.Bool.{le-leb}
 use Rattle.std.proofs.lemmas.Bool.Decides.{leb_tells}
 use Rattle.std.proofs.lemmas.List.{append-nil}
@@ -10,7 +11,7 @@ use Rattle.cert_text.specs.declared.fault.CertFault.TheVariants.{BadLine}
 use Rattle.cert_text.specs.declared.tree_line.CellNumber.{CellNumber}
 use Rattle.cert_text.specs.declared.tree_line.CertLine.{CertLine}
 use Rattle.cert_text.specs.Cert.{AreOrdered, AreWritable, IsShort, IsWritable, rank}
-use Rattle.cert_text.specs.Text.{cert_line, given_line, given_lines, or_bad, take_given, tree_lines, with_given_before}
+use Rattle.cert_text.specs.Text.{cert_line, given_line, given_lines, take_given, tree_lines}
 
 -- ---- the lines
 
@@ -42,7 +43,7 @@ lines_more front new line text n lines rest whole e l w p left =
     subst P (sym p) (record {
       is =
           behind_more front line (tree_lines (n + 1) rest)
-          ∙ (ap (λ (o : Option CertLine). lines_behind front (or_bad n o >>= λ first. (tree_lines (n + 1) rest >>= λ read. Ok (first ∷ read)))) l
+          ∙ (ap (λ (o : Option CertLine). lines_behind front (ok_or o (BadLine n) >>= λ first. (tree_lines (n + 1) rest >>= λ read. Ok (first ∷ read)))) l
           ∙ (ap (λ (ls : List (List ℕ)). lines_behind front (tree_lines n ls)) (sym e) ∙ left.is));
       writable = λ more m. subst AreWritable (sym (append_assoc front (line ∷ []) more)) (left.writable (line ∷ more) (w, m));
     })
@@ -53,7 +54,7 @@ unfolding tree_lines
 lines_stop front text n lines rest whole e l left =
     sym left.is
     ∙ (ap (λ (ls : List (List ℕ)). lines_behind front (tree_lines n ls)) e
-    ∙ ap (λ (o : Option CertLine). lines_behind front (or_bad n o >>= λ first. (tree_lines (n + 1) rest >>= λ read. Ok (first ∷ read)))) (sym l))
+    ∙ ap (λ (o : Option CertLine). lines_behind front (ok_or o (BadLine n) >>= λ first. (tree_lines (n + 1) rest >>= λ read. Ok (first ∷ read)))) (sym l))
 
 pub lines_end : (front : List CertLine) (n : ℕ) (lines : List (List ℕ)) (whole : Result (List CertLine) CertFault) → lines ≡ [] → LinesLeft front n lines whole → whole ≡ Ok front
 unfolding tree_lines
@@ -70,7 +71,7 @@ Read = Result (List CellNumber × List (List ℕ)) CertFault
 abbrev givens_behind : List CellNumber → Read → Read
 givens_behind front read = read >>= λ r. Ok (front ++ r.0, r.1)
 
-given_more : (front : List CellNumber) (cell : CellNumber) (read : Read) → givens_behind (front ++ (cell ∷ [])) read ≡ givens_behind front (read >>= λ r. Ok (with_given_before cell r))
+given_more : (front : List CellNumber) (cell : CellNumber) (read : Read) → givens_behind (front ++ (cell ∷ [])) read ≡ givens_behind front (read >>= λ r. Ok (cell ∷ r.0, r.1))
 given_more front cell (Ok r) = ap (λ (cells : List CellNumber). Ok (cells, r.1)) (append_assoc front (cell ∷ []) r.0)
 given_more front cell (Err e) = refl
 
@@ -105,7 +106,7 @@ givens_more front new cell text n m least lines rest whole e g short l p q left 
     subst P (sym p) (subst Q (sym q) (record {
       is =
           given_more front cell (given_lines (n + 1) (rank cell + 1) rest)
-          ∙ (ap (λ (b : Bool). givens_behind front (cond b (given_lines (n + 1) (rank cell + 1) rest >>= λ read. Ok (with_given_before cell read)) (Err (BadLine n)))) (sym yes_test)
+          ∙ (ap (λ (b : Bool). givens_behind front (cond b (given_lines (n + 1) (rank cell + 1) rest >>= λ read. Ok (cell ∷ read.0, read.1)) (Err (BadLine n)))) (sym yes_test)
           ∙ by_first front text n least lines rest whole (Some cell) e g left);
       ordered = λ more o. subst (AreOrdered 0) (sym (append_assoc front (cell ∷ []) more)) (left.ordered (cell ∷ more) (short.0, short.1, (let k : least < rank cell + 1 = omega arith in k), o));
     }))
@@ -115,7 +116,7 @@ pub givens_stop : (front : List CellNumber) (cell : CellNumber) (text : List ℕ
 givens_stop front cell text n least lines rest whole e g l left =
     let no_test : nat_le least (rank cell) ≡ false = not_below least (rank cell) l in
     sym (by_first front text n least lines rest whole (Some cell) e g left)
-    ∙ ap (λ (b : Bool). givens_behind front (cond b (given_lines (n + 1) (rank cell + 1) rest >>= λ read. Ok (with_given_before cell read)) (Err (BadLine n)))) no_test
+    ∙ ap (λ (b : Bool). givens_behind front (cond b (given_lines (n + 1) (rank cell + 1) rest >>= λ read. Ok (cell ∷ read.0, read.1)) (Err (BadLine n)))) no_test
 
 pub givens_end : (front : List CellNumber) (text : List ℕ) (n least : ℕ) (lines rest : List (List ℕ)) (whole : Read) → lines ≡ text ∷ rest → None ≡ given_line text
     → GivensLeft front n least lines whole → whole ≡ Ok (front, lines)

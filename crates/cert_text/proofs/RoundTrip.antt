@@ -1,6 +1,7 @@
 -- The text that is written for a certificate is read as the same certificate.
 use Rattle.std.proofs.Common.{◌≡◌, ℕ, ◌+◌, ◌^◌, ◌<◌, Bool, true, false, cond, not, eqb, List, [], ◌∷◌, ◌++◌, length, get_or, append_assoc, Option, None, Some, Result, Ok, Err, refl, sym, ap, ◌∙◌}
 use Rattle.std.proofs.Common.{subst, arith, inl, inr, codes, decimal, nat_le, option_map}
+use Rattle.std.specs.Option.{ok_or, option_and_then}
 use Rattle.std.proofs.lemmas.Bool.{and_from, cases_lt, le-leb, ne_eqb}
 use Rattle.std.proofs.lemmas.Fmt.{decimal_digit, first_decimal, length-decimal-le}
 use Rattle.std.proofs.lemmas.List.Folds.{list_all-append}
@@ -18,8 +19,8 @@ use Rattle.cert_text.specs.declared.tree_line.CertLine.{CertLine}
 use Rattle.cert_text.specs.declared.tree_line.CertLine.TheVariants.{Line, Split, Dead, Done}
 use Rattle.cert_text.specs.declared.tree_line.LineNumber.{LineNumber}
 use Rattle.cert_text.specs.Cert.{Certificate, certificate, AreOrdered, AreWritable, IsCert, IsShort, IsWritable, rank}
-use Rattle.cert_text.specs.Text.{below_givens, cell_named, cell_number, cell_with, cert_line, cert_of_lines, given_line, given_lines, given_of_three, has_leading_zero, line_named, line_number}
-use Rattle.cert_text.specs.Text.{line_of_three, line_with, lines_of, number_of, or_bad, take_given, three_of, tree_lines, with_given_before, words_of}
+use Rattle.cert_text.specs.Text.{below_givens, cell_named, cell_number, cert_line, cert_of_lines, given_line, given_lines, has_leading_zero, is_word, line_by, line_named, line_number}
+use Rattle.cert_text.specs.Text.{lines_of, number_of, take_given, three_of, tree_lines, words_of}
 use Rattle.cert_text.specs.WrittenCert.{IsReadAgain, axis_text, given_text, givens_text, line_text, lines_text, named_text}
 use Rattle.cert_text.proofs.WordLemmas.{lines_more, lines_none}
 
@@ -67,11 +68,13 @@ axis_text_is Across = refl
 axis_text_is Down = refl
 
 pub axis_named : (axis : Axis) (n : ℕ) → IsShort n → line_named (axis_word axis) (decimal n) ≡ Some (line_number axis n)
-axis_named Across n l = ap (line_with (Some Across)) (number_again n l)
-axis_named Down n l = ap (line_with (Some Down)) (number_again n l)
+axis_named Across n l = ap (option_map (line_number Across)) (number_again n l)
+axis_named Down n l = ap (option_map (line_number Down)) (number_again n l)
 
 pub cell_named_again : (row col : ℕ) → IsShort row → IsShort col → cell_named (decimal row) (decimal col) ≡ Some (cell_number row col)
-cell_named_again row col l m = ap (λ (o : Option ℕ). cell_with o (number_of (decimal col))) (number_again row l) ∙ ap (cell_with (Some row)) (number_again col m)
+cell_named_again row col l m =
+    ap (option_and_then (λ (row : ℕ). option_map (cell_number row) (number_of (decimal col)))) (number_again row l)
+    ∙ ap (option_map (cell_number row)) (number_again col m)
 
 -- ---- lines
 
@@ -108,6 +111,10 @@ named_first word line is l rest =
     ap (λ (axis : List ℕ). lines_of (((word ++ 32 ∷ []) ++ (axis ++ number_text line.number 10)) ++ rest)) (axis_text_is line.axis)
     ∙ spaced_first word (axis_word line.axis) (decimal line.number) is (axis_is line.axis) (number_is line.number l) rest
 
+-- what three words give
+abbrev pub given_of_three : Option (List ℕ × List ℕ × List ℕ) → Option CellNumber
+given_of_three words = option_and_then (λ (t : List ℕ × List ℕ × List ℕ). cond (is_word t.0 (codes "given")) (cell_named t.1 t.2) None) words
+
 -- what a line written comes to
 record Again (line : CertLine) (text : List ℕ) : Type 0 where
   first : (rest : List ℕ) → lines_of (line_text line ++ rest) ≡ text ∷ lines_of rest
@@ -127,7 +134,7 @@ again (Line line) w =
     let words = spaced_words (codes "line") (axis_word line.axis) (decimal line.number) is (axis_is line.axis) (number_is line.number w) in
     record {
       first = named_first (codes "line") line is w;
-      reads = ap line_of_three words ∙ ap (option_map Line) (axis_named line.axis line.number w);
+      reads = ap (option_and_then line_by) words ∙ ap (option_map Line) (axis_named line.axis line.number w);
       no_given = ap given_of_three words;
     }
 again (Dead line) w =
@@ -135,7 +142,7 @@ again (Dead line) w =
     let words = spaced_words (codes "dead") (axis_word line.axis) (decimal line.number) is (axis_is line.axis) (number_is line.number w) in
     record {
       first = named_first (codes "dead") line is w;
-      reads = ap line_of_three words ∙ ap (option_map Dead) (axis_named line.axis line.number w);
+      reads = ap (option_and_then line_by) words ∙ ap (option_map Dead) (axis_named line.axis line.number w);
       no_given = ap given_of_three words;
     }
 again (Split cell) w =
@@ -143,7 +150,7 @@ again (Split cell) w =
     let words = spaced_words (codes "split") (decimal cell.row) (decimal cell.col) is (number_is cell.row w.0) (number_is cell.col w.1) in
     record {
       first = spaced_first (codes "split") (decimal cell.row) (decimal cell.col) is (number_is cell.row w.0) (number_is cell.col w.1);
-      reads = ap line_of_three words ∙ ap (option_map Split) (cell_named_again cell.row cell.col w.0 w.1);
+      reads = ap (option_and_then line_by) words ∙ ap (option_map Split) (cell_named_again cell.row cell.col w.0 w.1);
       no_given = ap given_of_three words;
     }
 again Done w = record { first = λ rest. first_line_is (codes "done") rest refl; reads = refl; no_given = refl }
@@ -156,16 +163,16 @@ tree_again [] n w = ap (tree_lines n) lines_none
 tree_again (line ∷ lines) n w =
     let a = again line w.0 in
     ap (tree_lines n) (a.first (lines_text lines))
-    ∙ (ap (λ (o : Option CertLine). or_bad n o >>= λ first. (tree_lines (n + 1) (lines_of (lines_text lines)) >>= λ rest. Ok (first ∷ rest))) a.reads
+    ∙ (ap (λ (o : Option CertLine). ok_or o (BadLine n) >>= λ first. (tree_lines (n + 1) (lines_of (lines_text lines)) >>= λ rest. Ok (first ∷ rest))) a.reads
     ∙ ap (λ (r : Result (List CertLine) CertFault). r >>= λ rest. Ok (line ∷ rest)) (tree_again lines (n + 1) w.1))
 
 given_again : (cell : CellNumber) → IsShort cell.row → IsShort cell.col → given_line (spaced (codes "given") (decimal cell.row) (decimal cell.col)) ≡ Some cell
 unfolding given_line
 given_again cell l m =
-    ap given_of_three (spaced_words (codes "given") (decimal cell.row) (decimal cell.col) is_word (number_is cell.row l) (number_is cell.col m)) ∙ cell_named_again cell.row cell.col l m
+    ap given_of_three (spaced_words (codes "given") (decimal cell.row) (decimal cell.col) is_given (number_is cell.row l) (number_is cell.col m)) ∙ cell_named_again cell.row cell.col l m
   where
-    is_word : IsWord (codes "given")
-    is_word = record { no_space = refl; no_feed = refl }
+    is_given : IsWord (codes "given")
+    is_given = record { no_space = refl; no_feed = refl }
 
 -- no line that gives a cell stands first in a text
 pub record HasNoGiven (text : List ℕ) : Type 0 where
@@ -202,8 +209,8 @@ givens_again (cell ∷ cells) below n least o w =
     ap (given_lines n least) (ap lines_of (append_assoc (given_text cell) (givens_text cells) below) ∙ spaced_first (codes "given") (decimal cell.row) (decimal cell.col)
     (record { no_space = refl; no_feed = refl }) (number_is cell.row o.0) (number_is cell.col o.1) (givens_text cells ++ below))
     ∙ (ap (λ (c : Option CellNumber). take_given n least (text ∷ rest) c further) (given_again cell o.0 o.1)
-    ∙ (ap (λ (t : Bool). cond t (further (rank cell + 1) >>= λ read. Ok (with_given_before cell read)) (Err (BadLine n))) passes
-    ∙ ap (λ (r : Result (List CellNumber × List (List ℕ)) CertFault). r >>= λ read. Ok (with_given_before cell read)) (givens_again cells below (n + 1) (rank cell + 1) o.3 w)))
+    ∙ (ap (λ (t : Bool). cond t (further (rank cell + 1) >>= λ read. Ok (cell ∷ read.0, read.1)) (Err (BadLine n))) passes
+    ∙ ap (λ (r : Result (List CellNumber × List (List ℕ)) CertFault). r >>= λ read. Ok (cell ∷ read.0, read.1)) (givens_again cells below (n + 1) (rank cell + 1) o.3 w)))
 
 -- ---- the whole text
 

@@ -2,7 +2,8 @@
 use Rattle.std.proofs.Common.{◌≡◌, ℕ, ◌<◌, cond, eqb, List, [], ◌∷◌, length, None, refl, sym, ap, ◌∙◌, arith}
 use Rattle.std.specs.List.{slice_split}
 use Rattle.std.proofs.lemmas.List.Splits.{length-slice_split}
-use Rattle.cert_text.specs.Text.{is_empty, lines_of, lines_of_pieces, three_of, words_of}
+use Rattle.picture.specs.Numbers.{has_byte}
+use Rattle.cert_text.specs.Text.{lines_of, lines_of_pieces, three_of, words_of}
 
 -- ---- the first line
 
@@ -27,7 +28,7 @@ pub lines_last : (text : List ℕ) (piece : List ℕ) → slice_split (λ b. eqb
 unfolding lines_of
 lines_last text piece e some = ap lines_of_pieces e ∙ last_line piece some
   where
-    last_line : (line : List ℕ) → 0 < length line → cond (is_empty line) [] (line ∷ []) ≡ line ∷ []
+    last_line : (line : List ℕ) → 0 < length line → cond (has_byte line) (line ∷ []) [] ≡ line ∷ []
     last_line [] some = absurd (omega (arith, some))
     last_line (b ∷ line) some = refl
 
@@ -35,7 +36,7 @@ pub lines_empty : (text : List ℕ) (piece : List ℕ) → slice_split (λ b. eq
 unfolding lines_of
 lines_empty text piece e none = ap lines_of_pieces e ∙ last_line piece none
   where
-    last_line : (line : List ℕ) → length line ≡ 0 → cond (is_empty line) [] (line ∷ []) ≡ []
+    last_line : (line : List ℕ) → length line ≡ 0 → cond (has_byte line) (line ∷ []) [] ≡ []
     last_line [] none = refl
     last_line (b ∷ line) none = absurd (omega (arith, none))
 

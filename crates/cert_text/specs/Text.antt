@@ -1,11 +1,12 @@
 -- A certificate read from the lines of a text.
-use Rattle.std.specs.Prelude.{◌≡◌, ℕ, ◌+◌, ◌<◌, Bool, true, false, List, [], ◌∷◌, length, codes, Option, None, Some}
-use Rattle.std.specs.Prelude.{Result, Ok, Err, option_map, ◌==◌, nat_eq, nat_le, if◌then◌else◌, refl}
+use Rattle.std.specs.Prelude.{◌≡◌, ℕ, ◌+◌, ◌<◌, Bool, false, List, [], ◌∷◌, length, codes, Option, None, Some}
+use Rattle.std.specs.Prelude.{Result, Ok, Err, ok_or, option_and_then, option_map, ◌==◌, nat_eq, nat_le, if◌then◌else◌}
+use Rattle.std.specs.Prelude.{refl}
 use Rattle.std.proofs.Common.{Vec, Global}
 use Rattle.std.specs.Borrow.{Bor}
 use Rattle.std.specs.Cmp.Lexicographic.{pointwise}
 use Rattle.std.specs.List.{slice_split}
-use Rattle.picture.specs.Numbers.{number_spelled, short_number, value_after}
+use Rattle.picture.specs.Numbers.{has_byte, number_spelled, short_number, value_after}
 use Rattle.picture.specs.Readers.{◌>>=◌}
 use Rattle.picture.specs.declared.line_id.Axis.{Axis}
 use Rattle.picture.specs.declared.line_id.Axis.TheVariants.{Across, Down}
@@ -19,14 +20,10 @@ use Rattle.cert_text.specs.Cert.{Certificate, certificate, rank}
 
 -- ---- lines and words
 
-abbrev pub is_empty : List ℕ → Bool
-is_empty [] = true
-is_empty (b ∷ bytes) = false
-
 -- the pieces between line feeds are the lines: the last one where it has a byte
 abbrev pub lines_of_pieces : List (List ℕ) → List (List ℕ)
 lines_of_pieces [] = []
-lines_of_pieces (piece ∷ []) = if is_empty piece then [] else piece ∷ []
+lines_of_pieces (piece ∷ []) = if has_byte piece then piece ∷ [] else []
 lines_of_pieces (piece ∷ next ∷ pieces) = piece ∷ lines_of_pieces (next ∷ pieces)
 
 unfoldable pub lines_of : List ℕ → List (List ℕ)
@@ -66,68 +63,46 @@ abbrev pub cell_number : ℕ → ℕ → CellNumber
 cell_number row col = record { row = row; col = col }
 
 -- the line that two words name, as `r 3`
-abbrev pub line_with : Option Axis → Option ℕ → Option LineNumber
-line_with None number = None
-line_with (Some axis) number = option_map (line_number axis) number
-
 abbrev pub line_named : List ℕ → List ℕ → Option LineNumber
-line_named first second = line_with (axis_of first) (number_of second)
+line_named first second = option_and_then (λ axis. option_map (line_number axis) (number_of second)) (axis_of first)
 
 -- the cell that two words name, as `3 4`
-abbrev pub cell_with : Option ℕ → Option ℕ → Option CellNumber
-cell_with None col = None
-cell_with (Some row) col = option_map (cell_number row) col
-
 abbrev pub cell_named : List ℕ → List ℕ → Option CellNumber
-cell_named first second = cell_with (number_of first) (number_of second)
+cell_named first second = option_and_then (λ row. option_map (cell_number row) (number_of second)) (number_of first)
 
 -- ---- the lines of a certificate
 
-abbrev pub line_by : List ℕ → List ℕ → List ℕ → Option CertLine
-line_by word first second =
-    if is_word word (codes "line") then option_map Line (line_named first second)
-    else if is_word word (codes "dead") then option_map Dead (line_named first second)
-    else if is_word word (codes "split") then option_map Split (cell_named first second)
+-- what a word and the two that name a line or a cell say
+abbrev pub line_by : List ℕ × List ℕ × List ℕ → Option CertLine
+line_by t =
+    if is_word t.0 (codes "line") then option_map Line (line_named t.1 t.2)
+    else if is_word t.0 (codes "dead") then option_map Dead (line_named t.1 t.2)
+    else if is_word t.0 (codes "split") then option_map Split (cell_named t.1 t.2)
     else None
-
-abbrev pub line_of_three : Option (List ℕ × List ℕ × List ℕ) → Option CertLine
-line_of_three None = None
-line_of_three (Some t) = line_by t.0 t.1 t.2
 
 -- a line below the givens
 unfoldable pub cert_line : List ℕ → Option CertLine
-cert_line line = if is_word line (codes "done") then Some Done else line_of_three (three_of (words_of line))
-
-abbrev pub given_of_three : Option (List ℕ × List ℕ × List ℕ) → Option CellNumber
-given_of_three None = None
-given_of_three (Some t) = if is_word t.0 (codes "given") then cell_named t.1 t.2 else None
+cert_line line = if is_word line (codes "done") then Some Done else option_and_then line_by (three_of (words_of line))
 
 -- a line that gives a cell
 unfoldable pub given_line : List ℕ → Option CellNumber
-given_line line = given_of_three (three_of (words_of line))
+given_line line =
+    option_and_then (λ t. if is_word t.0 (codes "given") then cell_named t.1 t.2 else None) (three_of (words_of line))
 
 -- ---- the certificate
-
-abbrev pub or_bad : {X : Type 0} → ℕ → Option X → Result X CertFault
-or_bad n None = Err (BadLine n)
-or_bad n (Some x) = Ok x
 
 -- lines below the givens, of which the first has number n
 unfoldable pub tree_lines : ℕ → List (List ℕ) → Result (List CertLine) CertFault
 tree_lines n [] = Ok []
 tree_lines n (line ∷ lines) =
-    or_bad n (cert_line line) >>= λ first. (tree_lines (n + 1) lines >>= λ rest. Ok (first ∷ rest))
-
--- what stands before a list of givens
-abbrev pub with_given_before : CellNumber → List CellNumber × List (List ℕ) → List CellNumber × List (List ℕ)
-with_given_before cell read = (cell ∷ read.0, read.1)
+    ok_or (cert_line line) (BadLine n) >>= λ first. (tree_lines (n + 1) lines >>= λ rest. Ok (first ∷ rest))
 
 -- the givens from a line on, by what that line gives: nothing, or a cell that has to follow those before it
 abbrev pub take_given : ℕ → ℕ → List (List ℕ) → Option CellNumber
     → (ℕ → Result (List CellNumber × List (List ℕ)) CertFault) → Result (List CellNumber × List (List ℕ)) CertFault
 take_given n least lines None rest = Ok ([], lines)
 take_given n least lines (Some cell) rest =
-    if nat_le least (rank cell) then (rest (rank cell + 1) >>= λ read. Ok (with_given_before cell read))
+    if nat_le least (rank cell) then (rest (rank cell + 1) >>= λ read. Ok (cell ∷ read.0, read.1))
     else Err (BadLine n)
 
 -- The givens that stand first, of which the first line has number n,
@@ -140,16 +115,12 @@ given_lines n least (line ∷ lines) =
 abbrev pub below_givens : List CellNumber × List (List ℕ) → Result Certificate CertFault
 below_givens read = tree_lines (2 + length read.0) read.1 >>= λ lines. Ok (certificate 2 read.0 lines)
 
--- a certificate of version 2, by the lines below its first
-abbrev pub second_of_lines : List (List ℕ) → Result Certificate CertFault
-second_of_lines lines = given_lines 2 0 lines >>= below_givens
-
 -- the certificate of lines: the first says the version, and only version 2 has givens
 abbrev pub cert_of_lines : List (List ℕ) → Result Certificate CertFault
 cert_of_lines [] = Err (NotCert 1)
 cert_of_lines (first ∷ lines) =
     if is_word first (codes "nonocert 1") then (tree_lines 2 lines >>= λ read. Ok (certificate 1 [] read))
-    else if is_word first (codes "nonocert 2") then second_of_lines lines
+    else if is_word first (codes "nonocert 2") then (given_lines 2 0 lines >>= below_givens)
     else Err (NotCert 1)
 
 -- the certificate of a text, or the first error

@@ -12,7 +12,7 @@ use Rattle.picture.specs.Rows.{HasLine, lines_along, Rows}
 use Rattle.clues.specs.declared.block.Block.{Block}
 use Rattle.clues.specs.declared.places.Places.{Places}
 use Rattle.clues.specs.declared.places.Places.TheVariants.{Kept, Inserted, Deleted, Swapped}
-use Rattle.clues.specs.ClueBook.{Clues, HasClue, clue_at, clues_along, clues_from, clues_of, first_clues}
+use Rattle.clues.specs.ClueBook.{Clues, HasClue, clue_at, clues_along, clues_from, clues_of}
 use Rattle.clues.specs.Change.{CanRefresh, Changes, CountsClues, EachAlong, IsNewClue, IsOldClue, IsTouched, KeepsClues, line_at, origin_of, places_along}
 use Rattle.picture.specs.CrossingLines.{crossing}
 use Rattle.clues.specs.Places.{old_place, IsNewAt, ChangesLength}
@@ -143,8 +143,8 @@ pub refreshed_book : (old : Clues) (picture : Rows) (change : Changes) (rows col
 refreshed_book old picture change rows columns can row_count column_count old_rows old_columns new_rows new_columns stand =
     let copied = keeps_clues change old rows columns old_rows old_columns in
     let counted = counts_clues change picture rows columns new_rows new_columns in
-    let across : rows ≡ first_clues Across picture (lines_along Across picture) = same_along Across old (clues_from rows columns) picture change can stand copied counted row_count in
-    let down : columns ≡ first_clues Down picture (lines_along Down picture) = same_along Down old (clues_from rows columns) picture change can stand copied counted column_count in
-    ap (λ r. clues_from r columns) across ∙ ap (λ c. clues_from (first_clues Across picture (lines_along Across picture)) c) down
+    let across : rows ≡ (clues_of picture).rows = same_along Across old (clues_from rows columns) picture change can stand copied counted row_count in
+    let down : columns ≡ (clues_of picture).columns = same_along Down old (clues_from rows columns) picture change can stand copied counted column_count in
+    ap (λ r. clues_from r columns) across ∙ ap (clues_from (clues_of picture).rows) down
 
 pub ruleset refreshing = (no_origin_touched, can_copy, is_old_clue, old_clues_none, old_clues_more, new_clues_none, new_clues_more, keeps_clues, counts_clues, both_sizes, refreshed_book)

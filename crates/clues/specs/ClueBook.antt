@@ -1,11 +1,11 @@
 -- The clues of all lines of a picture.
-use Rattle.std.specs.Prelude.{ℕ, ◌<◌, ◌≤◌, List, [], length, map, slice_index_or}
+use Rattle.std.specs.Prelude.{◌<◌, ◌≤◌, List, [], length, map, slice_index, slice_index_or}
 use Rattle.std.specs.List.{range_with_len}
 use Rattle.picture.specs.declared.line_id.Axis.{Axis}
 use Rattle.picture.specs.declared.line_id.Axis.TheVariants.{Across, Down}
 use Rattle.picture.specs.declared.line_id.LineId.{LineId}
 use Rattle.picture.specs.declared.picture.TheConstants.{MAX_SIDE}
-use Rattle.picture.specs.Rows.{line_along, lines_along, Rows}
+use Rattle.picture.specs.Rows.{width_of, Rows}
 use Rattle.clues.specs.declared.block.Block.{Block}
 use Rattle.clues.specs.Clue.{clue_of}
 
@@ -29,15 +29,13 @@ clue_at clues line = slice_index_or (clues_along line.axis clues) line.at []
 abbrev pub HasClue : Clues → LineId → Type 0
 HasClue clues line = line.at < length (clues_along line.axis clues)
 
--- the clues of the first n lines along an axis
-unfoldable pub first_clues : Axis → Rows → ℕ → List (List Block)
-first_clues axis picture n = map (λ at. clue_of (line_along axis at picture)) (range_with_len 0 n)
+-- the columns of a picture from the left, each from the top
+abbrev pub columns_of : Rows → Rows
+columns_of picture = map (λ j. map (λ row. slice_index row j) picture) (range_with_len 0 (width_of picture))
 
 -- the clues of a picture
 abbrev pub clues_of : Rows → Clues
-clues_of picture =
-    clues_from (first_clues Across picture (lines_along Across picture))
-    (first_clues Down picture (lines_along Down picture))
+clues_of picture = record { rows = map clue_of picture; columns = map clue_of (columns_of picture) }
 
 -- what the clues in a clue book are: of 1 to 120 rows and columns
 pub record IsBook (clues : Clues) : Type 0 where

@@ -5,7 +5,7 @@ ghost use Rattle.picture.specs.declared.line_id.Axis.{Axis};
 ghost use Rattle.picture.specs.Rows.{lines_along, HasLine};
 ghost use Rattle.clues.specs.Clue.{clue_of};
 ghost use Rattle.clues.specs.Change.{CanRefresh, CountsClues, EachAlong, Follows, IsNewClue, IsOldClue, KeepsClues};
-ghost use Rattle.clues.specs.ClueBook.{clue_at, clues_along, clues_from, clues_of, first_clues, HasClue, IsBook};
+ghost use Rattle.clues.specs.ClueBook.{clue_at, clues_along, clues_from, clues_of, HasClue, IsBook};
 
 use crate::counting::clue_of;
 use crate::matching::is_clue_of;
@@ -174,7 +174,7 @@ impl ClueBook {
 // The clues of all lines along an axis.
 fn clues_along(alloc: Global, picture: &Picture, axis: Axis) -> Result<Vec<Clue>, AllocError>
     ensures clues { IfOk result
-        (λ clues. clues.items ≡ first_clues axis picture.now (lines_along axis picture.now)) }
+        (λ clues. clues.items ≡ clues_along axis (clues_of picture.now)) }
     ensures fits { IfOk result
         (λ clues. (0 < length clues.items) × (length clues.items ≤ MAX_SIDE)) }
 {
@@ -200,8 +200,7 @@ fn copies(clues: &Vec<Clue>) -> Result<Vec<Clue>, AllocError>
 #[tactic(auto, using(crate::proofs::LineClues::counting))]
 // Whether these are the clues of all lines along an axis.
 fn are_clues(clues: &[Clue], picture: &Picture, axis: Axis) -> bool
-    ensures { IsTrue result ↔ (first_clues axis picture.now (lines_along axis picture.now)
-        ≡ clues.now) }
+    ensures { IsTrue result ↔ (clues_along axis (clues_of picture.now) ≡ clues.now) }
 {
     let count = picture.line_count(axis);
     if clues.len() != usize::from(count) {

@@ -13,7 +13,7 @@ use Rattle.edits.specs.declared.edit.Edit.{Edit}
 use Rattle.edits.specs.declared.edit.Edit.TheVariants.{Paint, Fill, Recolour, InsertLine, DeleteLine, SwapLines}
 use Rattle.edits.specs.Design.{Design, design, IsDesign}
 use Rattle.edits.specs.Edit.{colour_after, edited, painted}
-use Rattle.edits.specs.Fault.{lacks_colour}
+use Rattle.edits.specs.Conditions.{lacks_colour}
 use Rattle.edits.specs.Note.{Cell, IsCellIn, cells_kept, changed_cells, repainted, with_cells, rows_before, marks_before, colours_before}
 use Rattle.edits.proofs.CellLemmas.{all_has, changed_from, has_from_map, paints_cells}
 use Rattle.edits.proofs.GridLemmas.{grid_below}

@@ -1,5 +1,6 @@
 -- What a lawful edit meets, and when two documents are the same.
-use Rattle.std.proofs.Common.{◌≡◌, ◌≢◌, ℕ, Bool, true, false, cond, ◌&&◌, Option, Some, None, List, eqb, refl, sym, ap, ◌∙◌}
+use Rattle.std.proofs.Common.{◌≡◌, ◌≢◌, ℕ, Bool, true, false, cond, ◌&&◌, Option, Some, None, option_map, List, [], ◌∷◌, ◌++◌, eqb, refl, sym, ap, ◌∙◌}
+use Rattle.std.specs.List.{find}
 use Rattle.std.specs.Bool.{Decides}
 use Rattle.std.specs.Cmp.Lexicographic.{pointwise}
 use Rattle.std.proofs.lemmas.Bool.{false_from_ne_true}
@@ -12,7 +13,57 @@ use Rattle.edits.specs.declared.fault.EditFault.{EditFault}
 use Rattle.edits.specs.Design.{Design, IsDesign}
 use Rattle.edits.specs.Note.{Note, IsEntry, note_for}
 use Rattle.edits.specs.Edit.{edited}
-use Rattle.edits.specs.Fault.{edit_fault, same_design, is_outside, lacks_colour, has_no_room, deletes_last, is_over, is_full, is_there, sets_background}
+use Rattle.edits.specs.declared.edit.Edit.TheVariants.{Paint, Fill, Recolour, InsertLine, DeleteLine, SwapLines, AddColour, SetColour, Pin, Unpin}
+use Rattle.edits.specs.declared.fault.EditFault.TheVariants.{Place, Colour, TooLarge, LastLine, SampleOver, PaletteFull, DuplicateColour, Background, NoChange}
+use Rattle.edits.specs.Conditions.{is_outside, lacks_colour, has_no_room, deletes_last, is_over, is_full, is_there, sets_background}
+use Rattle.edits.specs.Fault.{edit_fault, faults_of, same_design}
+
+-- ---- the conditions, one after another
+
+abbrev Asked : Type 0
+Asked = Bool × EditFault
+
+-- the first error whose condition holds
+abbrev first_fault : List Asked → Option EditFault
+first_fault [] = None
+first_fault (f ∷ faults) = cond f.0 (Some f.1) (first_fault faults)
+
+first_found : (faults : List Asked) → option_map (λ (f : Asked). f.1) (find (λ (f : Asked). f.0) faults) ≡ first_fault faults
+first_found [] = refl
+first_found (f ∷ faults) = by_test f.0 (first_found faults)
+  where
+    by_test : (b : Bool) → option_map (λ (g : Asked). g.1) (find (λ (g : Asked). g.0) faults) ≡ first_fault faults
+        → option_map (λ (g : Asked). g.1) (cond b (Some f) (find (λ (g : Asked). g.0) faults)) ≡ cond b (Some f.1) (first_fault faults)
+    by_test true e = refl
+    by_test false e = e
+
+-- the conditions asked in turn, each over all edits
+abbrev pub in_turn : Design → Edit → Option EditFault
+in_turn d e =
+    cond (is_outside d.rows e) (Some Place)
+    (cond (lacks_colour d.colours e) (Some Colour)
+    (cond (has_no_room d.rows e) (Some TooLarge)
+    (cond (deletes_last d.rows e) (Some LastLine)
+    (cond (is_over d.colours e) (Some SampleOver)
+    (cond (is_full d.colours e) (Some PaletteFull)
+    (cond (is_there d.colours e) (Some DuplicateColour)
+    (cond (sets_background e) (Some Background)
+    (cond (same_design (edited d e) d) (Some NoChange) None))))))))
+
+abbrev all_faults : Design → Edit → List Asked
+all_faults d e = faults_of d e ++ (same_design (edited d e) d, NoChange) ∷ []
+
+pub asked_in_turn : (d : Design) (e : Edit) → edit_fault d e ≡ in_turn d e
+asked_in_turn d (Paint row col colour) = first_found (all_faults d (Paint row col colour))
+asked_in_turn d (Fill top left bottom right colour) = first_found (all_faults d (Fill top left bottom right colour))
+asked_in_turn d (Recolour source target) = first_found (all_faults d (Recolour source target))
+asked_in_turn d (InsertLine line) = first_found (all_faults d (InsertLine line))
+asked_in_turn d (DeleteLine line) = first_found (all_faults d (DeleteLine line))
+asked_in_turn d (SwapLines axis first second) = first_found (all_faults d (SwapLines axis first second))
+asked_in_turn d (AddColour rgb) = first_found (all_faults d (AddColour rgb))
+asked_in_turn d (SetColour colour rgb) = first_found (all_faults d (SetColour colour rgb))
+asked_in_turn d (Pin row col) = first_found (all_faults d (Pin row col))
+asked_in_turn d (Unpin row col) = first_found (all_faults d (Unpin row col))
 
 -- the conditions of errors, of which none holds
 pub record IsLawful (d : Design) (e : Edit) : Type 0 where
@@ -32,7 +83,7 @@ passes false f rest e = (refl, e)
 
 pub lawful : (d : Design) (e : Edit) → edit_fault d e ≡ None → IsLawful d e
 lawful d e none =
-    let a = passes _ _ _ none in
+    let a = passes _ _ _ (sym (asked_in_turn d e) ∙ none) in
     let b = passes _ _ _ a.1 in
     let c = passes _ _ _ b.1 in
     let g = passes _ _ _ c.1 in

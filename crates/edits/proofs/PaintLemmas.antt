@@ -5,7 +5,7 @@ use Rattle.picture.specs.Rows.{width_of, cell_at, Rows}
 use Rattle.edits.specs.declared.edit.Edit.{Edit}
 use Rattle.edits.specs.declared.edit.Edit.TheVariants.{Paint, Fill}
 use Rattle.edits.specs.Edit.{colour_after}
-use Rattle.edits.specs.Fault.{is_outside}
+use Rattle.edits.specs.Conditions.{is_outside}
 use Rattle.edits.specs.Note.{Cell, joined, changed_cell, changed_cells, changed_in_row}
 use Rattle.edits.specs.Areas.{IsArea, Leaves}
 use Rattle.edits.proofs.CellLemmas.{joined_none, joined_more, joined_gap, joined_has, changed_cell_is, unchanged_cell, Has}

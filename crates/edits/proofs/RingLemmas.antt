@@ -1,6 +1,7 @@
 -- The history that two rings of entries give, before a step and after it.
-use Rattle.std.proofs.Common.{◌≡◌, ℕ, ◌+◌, ◌-◌, ◌<◌, ◌⊎◌, inl, inr, Some, None, List, [], ◌∷◌, ◌++◌, length, take, drop, refl, sym, ap, subst, ◌∙◌, arith, slice_get, option_map}
+use Rattle.std.proofs.Common.{◌≡◌, ℕ, ◌+◌, ◌-◌, ◌<◌, ◌⊎◌, inl, inr, Option, Some, None, List, [], ◌∷◌, ◌++◌, length, take, drop, refl, sym, ap, subst, ◌∙◌, arith, slice_get, option_map}
 use Rattle.std.proofs.lemmas.List.{length-append, length-map, length-drop, length-take-le, map-append, drop-map, take_all}
+use Rattle.std.specs.Option.{unwrap_or}
 use Rattle.std.proofs.lemmas.Option.{slice_get_within, slice_get_cases}
 use Rattle.circular_buffer.specs.Buffer.{Buffer, buffer, keep_last, last_item}
 use Rattle.clues.specs.Change.{Changes}
@@ -13,7 +14,7 @@ use Rattle.edits.specs.Design.{Design, IsDesign}
 use Rattle.edits.specs.Edit.{edited}
 use Rattle.edits.specs.Note.{IsStep, note_for, note_of, reverted}
 use Rattle.edits.specs.Prepared.{advance_of}
-use Rattle.edits.specs.History.{Turn, turn, History, history, past_from, future_from, ArePast, AreFuture, last_turn, undone, undone_to, redone, fault_if_empty, undo_fault, redo_fault, or_memory}
+use Rattle.edits.specs.History.{Turn, turn, History, history, past_from, future_from, ArePast, AreFuture, after_undo, last_turn, undone, redone, fault_if_empty, undo_fault, redo_fault, or_memory}
 use Rattle.edits.specs.History.{IsPlanFor, Advance, ByEdit, ByUndo, ByRedo, Plan, plan, advanced, first_turn}
 use Rattle.edits.specs.Studio.{AreRings, notes_of, history_from, with_first, with_last, past_after, future_after}
 use Rattle.edits.proofs.HistoryLemmas.{split_last, take_front, last_of, length-future_from, length-past_from, step_entry, entry_step, past_from-last, past_from-push, past_from-drop, ArePast-push}
@@ -29,7 +30,7 @@ undo_at h ts t e =
     let last : last_turn h.past ≡ Some t = ap last_turn e ∙ last_of ts t in
     let front : take (length h.past - 1) h.past ≡ ts = ap (λ (p : List Turn). take (length p - 1) p) e ∙ take_front ts t in (
       ap (λ (p : List Turn). fault_if_empty p UndoEmpty) e ∙ not_empty ts t UndoEmpty,
-      ap (undone_to h) last ∙ ap (λ (p : List Turn). history t.document p (turn h.document t.edit ∷ h.future) h.depth) front,
+      ap (λ (o : Option Turn). unwrap_or (option_map (after_undo h) o) h) last ∙ ap (λ (p : List Turn). history t.document p (turn h.document t.edit ∷ h.future) h.depth) front,
     )
 
 pub redo_at : (h : History) (ts : List Turn) (t : Turn) → h.future ≡ t ∷ ts → (redo_fault h ≡ None) × (redone h ≡ history t.document (h.past ++ turn h.document t.edit ∷ []) ts h.depth)

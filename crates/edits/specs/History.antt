@@ -1,5 +1,6 @@
 -- The history of a document: a present document, those before it and those after it, each with the edit between.
 use Rattle.std.specs.Prelude.{◌≡◌, ℕ, ◌-◌, List, [], ◌∷◌, ◌++◌, length, take, drop, Option, Some, None, slice_get}
+use Rattle.std.specs.Prelude.{option_map, unwrap_or}
 use Rattle.picture.specs.Rows.{Rows}
 use Rattle.circular_buffer.specs.Buffer.{keep_last}
 use Rattle.clues.specs.Change.{Changes, Moves, AreMoves, IsChangeOf}
@@ -48,19 +49,11 @@ abbrev pub first_turn : List Turn → Option Turn
 first_turn turns = slice_get turns 0
 
 -- a step back and a step forth, where there is one
-abbrev pub undone_to : History → Option Turn → History
-undone_to h None = h
-undone_to h (Some t) = after_undo h t
-
 abbrev pub undone : History → History
-undone h = undone_to h (last_turn h.past)
-
-abbrev pub redone_to : History → Option Turn → History
-redone_to h None = h
-redone_to h (Some t) = after_redo h t
+undone h = unwrap_or (option_map (after_undo h) (last_turn h.past)) h
 
 abbrev pub redone : History → History
-redone h = redone_to h (first_turn h.future)
+redone h = unwrap_or (option_map (after_redo h) (first_turn h.future)) h
 
 -- why they are refused
 abbrev pub fault_if_empty : List Turn → EditFault → Option EditFault

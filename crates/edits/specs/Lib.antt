@@ -1,4 +1,5 @@
 pub mod Change
+pub mod Conditions
 pub mod Design
 pub mod Edit
 pub mod Fault

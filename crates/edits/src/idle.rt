@@ -4,7 +4,8 @@ ghost use Rattle.std.specs.Prelude.{◌≡◌, ◌<◌, ◌↔◌, false, length
 ghost use Rattle.picture.specs.Rows.{cell_at, lines_along, width_of};
 ghost use Rattle.edits.specs.Design.{design_of};
 ghost use Rattle.edits.specs.Edit.{edited};
-ghost use Rattle.edits.specs.Fault.{deletes_last, is_outside, lacks_colour, same_design};
+ghost use Rattle.edits.specs.Conditions.{deletes_last, is_outside, lacks_colour};
+ghost use Rattle.edits.specs.Fault.{same_design};
 ghost use Rattle.edits.specs.Note.{cells_along};
 ghost use Rattle.edits.specs.Areas.{AreAlike, AreAlikeAt};
 

@@ -3,7 +3,7 @@
 ghost use Rattle.std.specs.Prelude.{◌≡◌, ◌<◌, false, IfOk};
 ghost use Rattle.picture.specs.Rows.{lines_along};
 ghost use Rattle.edits.specs.Design.{design_of};
-ghost use Rattle.edits.specs.Fault.{is_outside, lacks_colour};
+ghost use Rattle.edits.specs.Conditions.{is_outside, lacks_colour};
 ghost use Rattle.edits.specs.Note.{cells_kept, cells_of_line, givens_kept, givens_of_line, triple_kept};
 
 use crate::cells::Cell;

@@ -2,7 +2,7 @@
 
 ghost use Rattle.std.specs.Prelude.{◌≡◌, ◌≢◌, [], false, IfOk, MatchBool};
 ghost use Rattle.edits.specs.Edit.{colour_after};
-ghost use Rattle.edits.specs.Fault.{is_outside};
+ghost use Rattle.edits.specs.Conditions.{is_outside};
 ghost use Rattle.edits.specs.Note.{changed_cells};
 ghost use Rattle.edits.specs.Areas.{IsArea};
 

@@ -2,13 +2,15 @@
 
 ghost use Rattle.std.specs.Prelude.{◌≡◌, false};
 ghost use Rattle.edits.specs.Design.{design_of};
-ghost use Rattle.edits.specs.Fault.{deletes_last, edit_fault, has_cell, has_no_room, is_full, is_outside, is_over, is_there, lacks_colour, sets_background};
+ghost use Rattle.edits.specs.Conditions.{deletes_last, has_no_room, is_full, is_outside, is_over, is_there, lacks_colour, sets_background};
+ghost use Rattle.edits.specs.Fault.{edit_fault, has_cell};
 
 use crate::edit::Edit;
 use crate::fault::EditFault;
 use crate::idle::changes_nothing;
 use picture::{Document, MAX_COLOURS, MAX_SIDE, Palette, Picture};
 
+#[tactic(auto, using(crate::proofs::FaultLemmas::asked_in_turn))]
 impl Edit {
     /// Why the edit of a document is refused, where it is: the first error in order whose condition holds. It takes no
     /// memory.

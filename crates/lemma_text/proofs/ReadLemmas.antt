@@ -1,11 +1,12 @@
 -- Lines read one by one: what is read so far, and what is left to read; and lines cut into words.
 use Rattle.std.proofs.Common.{◌≡◌, ℕ, ◌+◌, ◌<◌, eqb, List, [], ◌∷◌, ◌++◌, Option, None, Some, Result, Ok, Err, append_assoc, length, refl, sym, ap, subst, ◌∙◌, arith}
+use Rattle.std.specs.Option.{ok_or}
 use Rattle.std.proofs.lemmas.List.{append-nil}
 use Rattle.std.proofs.lemmas.List.Splits.{length-slice_split}
 use Rattle.picture.specs.Readers.{◌>>=◌}
 use Rattle.cert_text.specs.declared.fault.CertFault.{CertFault}
 use Rattle.cert_text.specs.declared.fault.CertFault.TheVariants.{BadLine}
-use Rattle.cert_text.specs.Text.{or_bad, words_of}
+use Rattle.cert_text.specs.Text.{words_of}
 use Rattle.lemma_text.specs.declared.lemma_line.LemmaLine.{LemmaLine}
 use Rattle.lemma_text.specs.Text.{by_words, four_words, lemma_line, lemma_lines, one_word, three_words, two_words}
 
@@ -38,7 +39,7 @@ lines_more front new line text n lines rest whole e l p left =
     subst P (sym p) (record {
       is =
           behind_more front line (lemma_lines (n + 1) rest)
-          ∙ (ap (λ (o : Option LemmaLine). lines_behind front (or_bad n o >>= λ first. (lemma_lines (n + 1) rest >>= λ read. Ok (first ∷ read)))) l
+          ∙ (ap (λ (o : Option LemmaLine). lines_behind front (ok_or o (BadLine n) >>= λ first. (lemma_lines (n + 1) rest >>= λ read. Ok (first ∷ read)))) l
           ∙ (ap (λ (ls : List (List ℕ)). lines_behind front (lemma_lines n ls)) (sym e) ∙ left.is));
     })
 
@@ -48,7 +49,7 @@ unfolding lemma_lines
 lines_stop front text n lines rest whole e l left =
     sym left.is
     ∙ (ap (λ (ls : List (List ℕ)). lines_behind front (lemma_lines n ls)) e
-    ∙ ap (λ (o : Option LemmaLine). lines_behind front (or_bad n o >>= λ first. (lemma_lines (n + 1) rest >>= λ read. Ok (first ∷ read)))) (sym l))
+    ∙ ap (λ (o : Option LemmaLine). lines_behind front (ok_or o (BadLine n) >>= λ first. (lemma_lines (n + 1) rest >>= λ read. Ok (first ∷ read)))) (sym l))
 
 pub lines_end : (front : List LemmaLine) (n : ℕ) (lines : List (List ℕ)) (whole : Result (List LemmaLine) CertFault) → lines ≡ [] → LinesLeft front n lines whole → whole ≡ Ok front
 unfolding lemma_lines

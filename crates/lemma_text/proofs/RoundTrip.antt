@@ -2,6 +2,7 @@
 use Rattle.std.proofs.Common.{◌≡◌, ℕ, ◌+◌, ◌*◌, ◌/◌, ◌%◌, ◌-◌, ◌^◌, ◌<◌, ◌≤◌, ◌==◌, ◌&&◌, ◌⊎◌, Bool, true, false, cond, not, eqb, bit_and, List, [], ◌∷◌, ◌++◌, length, append_assoc, Option, None}
 use Rattle.std.proofs.Common.{Some, Result, Ok, refl, sym, ap, ◌∙◌, arith, inl, inr, codes, decimal, nat_le, option_map, eq-eqb, subst, zero, suc}
 use Rattle.std.specs.List.{All, flat_map, range_with_len}
+use Rattle.std.specs.Option.{ok_or, option_and_then}
 use Rattle.std.proofs.lemmas.Bool.{and_from, cases_lt, le-leb, ne_eqb, not_from_false}
 use Rattle.std.proofs.lemmas.Fmt.{length-decimal-le}
 use Rattle.std.proofs.lemmas.Nat.{pow_pos, shr-shr, shr_split}
@@ -17,19 +18,20 @@ use Rattle.picture.specs.Writers.{number_text}
 use Rattle.picture.specs.declared.line_id.Axis.{Axis}
 use Rattle.picture.specs.declared.line_id.Axis.TheVariants.{Across, Down}
 use Rattle.cert_text.specs.declared.fault.CertFault.{CertFault}
+use Rattle.cert_text.specs.declared.fault.CertFault.TheVariants.{BadLine}
 use Rattle.cert_text.specs.declared.tree_line.CellNumber.{CellNumber}
 use Rattle.cert_text.specs.Cert.{IsShort}
-use Rattle.cert_text.specs.Text.{given_line, given_of_three, line_number, lines_of, or_bad, three_of, words_of}
+use Rattle.cert_text.specs.Text.{given_line, line_number, lines_of, three_of, words_of}
 use Rattle.cert_text.specs.WrittenCert.{axis_text, givens_text}
 use Rattle.cert_text.proofs.RoundTrip.{HasNoGiven, IsWord, axis_is, axis_named, axis_word, cell_named_again, decimal_is, first_line_is, givens_again, lacks_append, no_leading_zero, nothing_given}
-use Rattle.cert_text.proofs.RoundTrip.{number_is, other_line_first}
+use Rattle.cert_text.proofs.RoundTrip.{given_of_three, number_is, other_line_first}
 use Rattle.cert_text.proofs.WordLemmas.{lines_none}
 use Rattle.lemma_text.specs.declared.lemma_line.Literal.{Literal}
 use Rattle.lemma_text.specs.declared.lemma_line.LemmaLine.{LemmaLine}
 use Rattle.lemma_text.specs.declared.lemma_line.LemmaLine.TheVariants.{Line, Use, Dead, Broken, Done, Part, Lemma, Deny, Forget}
 use Rattle.lemma_text.specs.Letters.{colour_at, colours_behind, colours_named, letter, letter_where, letters_text, with_colour}
 use Rattle.lemma_text.specs.Proof.{ProofLines, proof_lines}
-use Rattle.lemma_text.specs.Text.{below_givens, by_words, if_small, lemma_line, lemma_lines, lemma_named, literal, literal_named, literal_with, proof_of_lines}
+use Rattle.lemma_text.specs.Text.{below_givens, by_words, if_small, lemma_line, lemma_lines, lemma_named, literal, literal_named, proof_of_lines}
 use Rattle.lemma_text.specs.Writable.{CanBeWritten, IsReadAgain, IsWritable, IsWritableLiteral}
 use Rattle.lemma_text.specs.Writing.{head_text, line_text, lines_text}
 
@@ -198,7 +200,7 @@ literal_parts a b c d = simp append_assoc
 
 literal_again : (l : Literal) → IsWritableLiteral l → literal_named (decimal l.cell.row) (decimal l.cell.col) (letters_text l.colours) ≡ Some l
 literal_again l w =
-    ap (λ (cell : Option CellNumber). literal_with cell (colours_named (letters_text l.colours))) (cell_named_again l.cell.row l.cell.col w.0 w.1)
+    ap (option_and_then (λ (cell : CellNumber). option_map (literal cell) (colours_named (letters_text l.colours)))) (cell_named_again l.cell.row l.cell.col w.0 w.1)
     ∙ ap (λ (colours : Option ℕ). option_map (literal l.cell) colours) (colours_again l.colours w.2 w.3)
 
 is_said : (word : List ℕ) → lacks 32 word ≡ true → lacks 10 word ≡ true → IsWord word
@@ -242,7 +244,7 @@ lines_again [] n w = ap (lemma_lines n) lines_none
 lines_again (line ∷ lines) n w =
     let a = again line (first_can line lines w) in
     ap (lemma_lines n) (a.first (lines_text lines))
-    ∙ (ap (λ (o : Option LemmaLine). or_bad n o >>= λ first. (lemma_lines (n + 1) (lines_of (lines_text lines)) >>= λ rest. Ok (first ∷ rest))) a.reads
+    ∙ (ap (λ (o : Option LemmaLine). ok_or o (BadLine n) >>= λ first. (lemma_lines (n + 1) (lines_of (lines_text lines)) >>= λ rest. Ok (first ∷ rest))) a.reads
     ∙ ap (λ (r : Result (List LemmaLine) CertFault). r >>= λ rest. Ok (line ∷ rest)) (lines_again lines (n + 1) (rest_can line lines w)))
 
 none_given : (lines : List LemmaLine) → All IsWritable lines → HasNoGiven (lines_text lines)

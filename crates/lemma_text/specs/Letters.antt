@@ -2,7 +2,7 @@
 use Rattle.std.specs.Prelude.{◌≡◌, ℕ, ◌+◌, ◌-◌, ◌^◌, ◌&&◌, bit_and, List, [], ◌∷◌, codes, Option, None, Some, nat_le}
 use Rattle.std.specs.Prelude.{◌==◌, if◌then◌else◌, refl}
 use Rattle.std.specs.List.{flat_map, range_with_len}
-use Rattle.cert_text.specs.Text.{is_empty}
+use Rattle.picture.specs.Numbers.{has_byte}
 
 -- `.` for the background, and `a` to `o` for 1 to 15
 abbrev pub colour_at : ℕ → Option ℕ
@@ -21,7 +21,7 @@ colours_behind colours least (b ∷ bytes) =
 
 -- the colours that a word names by their letters, which rise: at least one
 abbrev pub colours_named : List ℕ → Option ℕ
-colours_named word = if is_empty word then None else colours_behind 0 0 word
+colours_named word = if has_byte word then colours_behind 0 0 word else None
 
 abbrev pub letter : ℕ → ℕ
 letter k = if k == 0 then 46 else 96 + k

@@ -1,13 +1,12 @@
 -- A proof by lemmas read from the lines of a text.
 use Rattle.std.specs.Prelude.{◌≡◌, ℕ, ◌+◌, List, [], ◌∷◌, length, codes, Option, None, Some, Result, Ok, Err}
-use Rattle.std.specs.Prelude.{option_map, nat_le, if◌then◌else◌, refl}
+use Rattle.std.specs.Prelude.{ok_or, option_and_then, option_map, nat_le, if◌then◌else◌, refl}
 use Rattle.picture.specs.Numbers.{short_number, number_spelled, value_after}
 use Rattle.picture.specs.Readers.{◌>>=◌}
 use Rattle.cert_text.specs.declared.fault.CertFault.{CertFault}
-use Rattle.cert_text.specs.declared.fault.CertFault.TheVariants.{NotCert}
+use Rattle.cert_text.specs.declared.fault.CertFault.TheVariants.{NotCert, BadLine}
 use Rattle.cert_text.specs.declared.tree_line.CellNumber.{CellNumber}
-use Rattle.cert_text.specs.Text.{cell_named, given_lines, has_leading_zero, is_word, line_named, lines_of, or_bad}
-use Rattle.cert_text.specs.Text.{words_of}
+use Rattle.cert_text.specs.Text.{cell_named, given_lines, has_leading_zero, is_word, line_named, lines_of, words_of}
 use Rattle.lemma_text.specs.declared.lemma_line.Literal.{Literal}
 use Rattle.lemma_text.specs.declared.lemma_line.LemmaLine.{LemmaLine}
 use Rattle.lemma_text.specs.declared.lemma_line.LemmaLine.TheVariants.{Line, Use, Dead, Broken, Done, Part, Lemma, Deny}
@@ -30,12 +29,9 @@ abbrev pub literal : CellNumber → ℕ → Literal
 literal cell colours = record { cell = cell; colours = colours }
 
 -- the cell and the colours that three words name, as `3 4 .b`
-abbrev pub literal_with : Option CellNumber → Option ℕ → Option Literal
-literal_with None colours = None
-literal_with (Some cell) colours = option_map (literal cell) colours
-
 abbrev pub literal_named : List ℕ → List ℕ → List ℕ → Option Literal
-literal_named row col letters = literal_with (cell_named row col) (colours_named letters)
+literal_named row col letters =
+    option_and_then (λ cell. option_map (literal cell) (colours_named letters)) (cell_named row col)
 
 -- ---- the lines of a proof, by their words
 
@@ -83,7 +79,7 @@ lemma_line line = by_words (words_of line)
 unfoldable pub lemma_lines : ℕ → List (List ℕ) → Result (List LemmaLine) CertFault
 lemma_lines n [] = Ok []
 lemma_lines n (line ∷ lines) =
-    or_bad n (lemma_line line) >>= λ first. (lemma_lines (n + 1) lines >>= λ rest. Ok (first ∷ rest))
+    ok_or (lemma_line line) (BadLine n) >>= λ first. (lemma_lines (n + 1) lines >>= λ rest. Ok (first ∷ rest))
 
 abbrev pub below_givens : List CellNumber × List (List ℕ) → Result ProofLines CertFault
 below_givens read = lemma_lines (2 + length read.0) read.1 >>= λ lines. Ok (proof_lines read.0 lines)

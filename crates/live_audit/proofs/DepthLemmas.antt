@@ -1,11 +1,12 @@
 -- A history that goes on fits its depth.
-use Rattle.std.proofs.Common.{◌≡◌, ℕ, ◌-◌, ◌<◌, ◌≤◌, List, [], ◌∷◌, ◌++◌, length, Option, None, Some, sym, subst, arith, refl}
+use Rattle.std.proofs.Common.{◌≡◌, ℕ, ◌-◌, ◌<◌, ◌≤◌, List, [], ◌∷◌, ◌++◌, length, Option, None, Some, option_map, sym, subst, arith, refl}
+use Rattle.std.specs.Option.{unwrap_or}
 use Rattle.std.proofs.lemmas.List.{length-append, length-drop, length-take}
 use Rattle.circular_buffer.specs.Buffer.{keep_last}
 use Rattle.edits.specs.declared.edit.Edit.{Edit}
 use Rattle.edits.specs.Design.{Design}
 use Rattle.edits.specs.declared.studio.TheConstants.{MAX_DEPTH}
-use Rattle.edits.specs.History.{Advance, ByEdit, ByRedo, ByUndo, History, Turn, advanced, after_edit, first_turn, history, last_turn, redone_to, turn, undone_to}
+use Rattle.edits.specs.History.{Advance, ByEdit, ByRedo, ByUndo, History, Turn, advanced, after_edit, after_redo, after_undo, first_turn, history, last_turn, turn}
 use Rattle.live_audit.specs.Bench.{FitsDepth}
 
 kept_few : (depth : ℕ) (turns : List Turn) → length (keep_last depth turns) ≤ depth
@@ -26,7 +27,7 @@ some_first : (turns : List Turn) (t : Turn) → Some t ≡ first_turn turns → 
 some_first [] t e = absurd cc
 some_first (u ∷ turns) t e = omega arith
 
-undone_fits : (h : History) (last : Option Turn) → last ≡ last_turn h.past → FitsDepth h → FitsDepth (undone_to h last)
+undone_fits : (h : History) (last : Option Turn) → last ≡ last_turn h.past → FitsDepth h → FitsDepth (unwrap_or (option_map (after_undo h) last) h)
 undone_fits h None e f = f
 undone_fits h (Some t) e f =
     let s = some_last h.past t e in
@@ -34,7 +35,7 @@ undone_fits h (Some t) e f =
     let few = f.few in
     record { some = f.some; most = f.most; few = omega arith }
 
-redone_fits : (h : History) (first : Option Turn) → first ≡ first_turn h.future → FitsDepth h → FitsDepth (redone_to h first)
+redone_fits : (h : History) (first : Option Turn) → first ≡ first_turn h.future → FitsDepth h → FitsDepth (unwrap_or (option_map (after_redo h) first) h)
 redone_fits h None e f = f
 redone_fits h (Some t) e f =
     let s = some_first h.future t e in

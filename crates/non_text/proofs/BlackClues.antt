@@ -4,15 +4,13 @@ use Rattle.std.proofs.Common.{arith, inl, inr, codes}
 use Rattle.std.specs.Option.{ok_or}
 use Rattle.std.specs.List.{All, slice_split}
 use Rattle.std.proofs.lemmas.Bool.{eqb-true, cases_lt}
-use Rattle.std.proofs.lemmas.List.{get_or_past}
+use Rattle.std.proofs.lemmas.List.{get_or-map, get_or_past, length-map}
 use Rattle.std.proofs.lemmas.List.Elements.{All-cons, All-get_or, All-nil}
-use Rattle.picture.specs.declared.line_id.Axis.TheVariants.{Across}
 use Rattle.picture.specs.Readers.{◌>>=◌}
 use Rattle.picture.specs.Rows.{cell_at, row_at, Rows}
 use Rattle.clues.specs.declared.block.Block.{Block}
 use Rattle.clues.specs.Clue.{block, clue_of, longer}
-use Rattle.clues.proofs.BookLaws.{get_or-first_clues, length-first_clues}
-use Rattle.clues.specs.ClueBook.{Clues, clues_from, clues_of, first_clues}
+use Rattle.clues.specs.ClueBook.{Clues, clues_from, clues_of}
 use Rattle.non_text.specs.declared.non_puzzle.NonPuzzle.{NonPuzzle}
 use Rattle.non_text.specs.declared.fault.NonFault.{NonFault}
 use Rattle.non_text.specs.declared.fault.NonFault.TheVariants.{BadClue, ClueTooLong, MissingSize}
@@ -97,12 +95,11 @@ black_row (suc x ∷ y ∷ row) are j = by_test (eqb (suc x) y) refl (black_row 
     by_test false e later h zero = let is = h.0 in omega (arith, is)
     by_test false e later h (suc k) = later h.1 k
 
-black_picture : (rows : Rows) → All AreBlack (first_clues Across rows (length rows)) → (i j : ℕ) → cell_at rows i j ≤ 1
+black_picture : (rows : Rows) → All AreBlack (map clue_of rows) → (i j : ℕ) → cell_at rows i j ≤ 1
 black_picture rows are i j = elim (cases_lt i (length rows)) [
   | inl lt ↦
-      let clues = first_clues Across rows (length rows) in
-      let black = All-get_or AreBlack clues i [] (omega (arith, lt, length-first_clues Across rows (length rows))) are in
-      black_row (row_at rows i) (subst AreBlack (get_or-first_clues Across rows (length rows) i [] lt) black) j
+      let black = All-get_or AreBlack (map clue_of rows) i [] (omega (arith, lt, length-map rows clue_of)) are in
+      black_row (row_at rows i) (subst AreBlack (get_or-map clue_of rows i [] [] lt) black) j
   | inr past ↦
       let none : row_at rows i ≡ [] = get_or_past rows i [] past in
       subst (λ (row : List ℕ). get_or row j 0 ≤ 1) (sym none) (black_row [] tt j)
@@ -159,7 +156,7 @@ two_colours_on width height lines puzzle e =
     record {
       goal_fits = λ picture h. agrees.fits picture h ∙ sym agrees.are;
       two_colours = λ picture h i j.
-          let clues_are : rows.0 ≡ first_clues Across picture (length picture) = sym (ap (λ (c : Clues). c.rows) (h ∙ agrees.are)) in
+          let clues_are : rows.0 ≡ map clue_of picture = sym (ap (λ (c : Clues). c.rows) (h ∙ agrees.are)) in
           black_picture picture (subst (All AreBlack) clues_are are) i j;
     }
 

@@ -5,11 +5,9 @@ use Rattle.std.proofs.lemmas.Bool.{leb-true, and_from, and_parts, cond_both}
 use Rattle.std.proofs.lemmas.List.{length-append, length-map, map-append, get_or_past, take_at, drop_at}
 use Rattle.std.proofs.lemmas.List.Folds.{list_all-append}
 use Rattle.picture.proofs.SplitLaws.{lacks}
-use Rattle.picture.specs.Rows.{rows_of, row_at, line_along, Rows}
-use Rattle.picture.specs.declared.line_id.Axis.TheVariants.{Across, Down}
-use Rattle.clues.specs.declared.block.Block.{Block}
+use Rattle.picture.specs.Rows.{rows_of, row_at, width_of, Rows}
 use Rattle.clues.specs.Clue.{clue_of}
-use Rattle.clues.specs.ClueBook.{first_clues}
+use Rattle.clues.specs.ClueBook.{columns_of}
 use Rattle.non_text.specs.Goal.{is_cell_digit, cell_of}
 use Rattle.non_text.specs.WrittenNon.{is_two_colour_row, is_two_colour}
 use Rattle.non_text.specs.Written.{digit_of}
@@ -90,11 +88,6 @@ rows_again width (row ∷ rows) are =
 
 -- ---- lines
 
-row_is : (width : ℕ) (rows : Rows) (i : ℕ) → AreRows width rows → i < length rows → IsWritable width (clue_of (row_at rows i))
-row_is width [] i are lt = absurd (omega (arith, lt))
-row_is width (row ∷ rows) zero are lt = subst (λ n. IsWritable n (clue_of row)) are.0 (writable row are.1)
-row_is width (row ∷ rows) (suc i) are lt = row_is width rows i are.2 (omega (arith, lt))
-
 low_cell : (row : List ℕ) (j : ℕ) → IsTwoColour row → get_or row j 0 ≤ 1
 low_cell [] j two = omega (arith, get_or_past {X = ℕ} [] j 0 (omega arith))
 low_cell (cell ∷ row) zero two = two.0
@@ -109,14 +102,14 @@ column_is width rows j are =
     let column = map (λ (row : List ℕ). get_or row j 0) rows in
     subst (λ n. IsWritable n (clue_of column)) (length-map rows (λ (row : List ℕ). get_or row j 0)) (writable column (column_two_colour width rows j are))
 
-range_writable : (clue : ℕ → List Block) (cells a n : ℕ) → ((i : ℕ) → i < a + n → IsWritable cells (clue i)) → AreWritable cells (map clue (range_with_len a n))
-range_writable clue cells a zero each = tt
-range_writable clue cells a (suc n) each = (each a (omega arith), range_writable clue cells (a + 1) n (λ i lt. each i (omega (arith, lt))))
+pub rows_writable : (width : ℕ) (rows : Rows) → AreRows width rows → AreWritable width (map clue_of rows)
+rows_writable width [] are = tt
+rows_writable width (row ∷ rows) are = (subst (λ n. IsWritable n (clue_of row)) are.0 (writable row are.1), rows_writable width rows are.2)
 
-pub rows_writable : (width : ℕ) (rows : Rows) → AreRows width rows → AreWritable width (first_clues Across rows (length rows))
-unfolding first_clues
-rows_writable width rows are = range_writable (λ i. clue_of (line_along Across i rows)) width 0 (length rows) (λ i lt. row_is width rows i are (omega (arith, lt)))
+first_writable : (width a n : ℕ) (rows : Rows) → AreRows width rows
+    → AreWritable (length rows) (map clue_of (map (λ j. map (λ (row : List ℕ). get_or row j 0) rows) (range_with_len a n)))
+first_writable width a zero rows are = tt
+first_writable width a (suc n) rows are = (column_is width rows a are, first_writable width (a + 1) n rows are)
 
-pub columns_writable : (width n : ℕ) (rows : Rows) → AreRows width rows → AreWritable (length rows) (first_clues Down rows n)
-unfolding first_clues
-columns_writable width n rows are = range_writable (λ j. clue_of (line_along Down j rows)) (length rows) 0 n (λ j lt. column_is width rows j are)
+pub columns_writable : (width : ℕ) (rows : Rows) → AreRows width rows → AreWritable (length rows) (map clue_of (columns_of rows))
+columns_writable width rows are = first_writable width 0 (width_of rows) rows are

@@ -1,21 +1,22 @@
 -- What is written of a picture is read again.
-use Rattle.std.proofs.Common.{◌≡◌, ℕ, ◌^◌, ◌<◌, ◌≤◌, Bool, true, false, cond, leb, List, [], ◌∷◌, ◌++◌, length, map, sum, Some, None, Ok, refl, sym, ap, ◌∙◌, arith, ◌&&◌, codes, decimal, is_none}
-use Rattle.std.proofs.Common.{nat_eq}
+use Rattle.std.proofs.Common.{◌≡◌, ℕ, ◌^◌, ◌<◌, ◌≤◌, Bool, true, false, cond, leb, List, [], ◌∷◌, ◌++◌, length, get_or, map, sum, Some, None, Ok, refl, sym, ap, ◌∙◌, arith, ◌&&◌, codes, decimal}
+use Rattle.std.proofs.Common.{is_none, nat_eq}
 use Rattle.std.specs.Option.{option_and_then}
 use Rattle.std.specs.Cmp.Lexicographic.{pointwise}
 use Rattle.std.specs.Str.{all_ascii_digits}
 use Rattle.std.specs.Char.{is_ascii_digit}
 use Rattle.std.specs.List.{flat_map}
 use Rattle.std.proofs.lemmas.Bool.{le-leb, and_parts}
+use Rattle.std.proofs.lemmas.List.{length-map}
+use Rattle.std.proofs.lemmas.List.FromFn.{length-map-range_with_len}
 use Rattle.picture.proofs.SplitLaws.{split_at}
 use Rattle.picture.specs.declared.picture.TheConstants.{MAX_SIDE}
 use Rattle.picture.specs.Readers.{◌>>=◌}
 use Rattle.picture.specs.Rows.{width_of, Rows}
 use Rattle.picture.specs.Picture.{IsPicture}
 use Rattle.clues.specs.declared.block.Block.{Block}
-use Rattle.picture.specs.declared.line_id.Axis.TheVariants.{Across, Down}
-use Rattle.clues.proofs.BookLaws.{length-first_clues}
-use Rattle.clues.specs.ClueBook.{clues_from, clues_of}
+use Rattle.clues.specs.Clue.{clue_of}
+use Rattle.clues.specs.ClueBook.{clues_from, clues_of, columns_of}
 use Rattle.non_text.specs.declared.seen.Seen.{Seen}
 use Rattle.non_text.specs.declared.non_puzzle.NonPuzzle.{NonPuzzle}
 use Rattle.non_text.specs.declared.fault.NonFault.TheVariants.{BadSize}
@@ -265,9 +266,9 @@ parts_are rows picture are = record {
   high = picture.has_row;
   high_fits = picture.rows_fit;
   rows_are = rows_writable (width_of rows) rows are;
-  rows_count = length-first_clues Across rows (length rows);
-  columns_are = columns_writable (width_of rows) (width_of rows) rows are;
-  columns_count = length-first_clues Down rows (width_of rows);
+  rows_count = length-map rows clue_of;
+  columns_are = columns_writable (width_of rows) rows are;
+  columns_count = length-map (columns_of rows) clue_of ∙ length-map-range_with_len (λ j. map (λ (row : List ℕ). get_or row j 0) rows) 0 (width_of rows);
   goal_is = goal_keyword (34 ∷ (flat_map (map digit_of) rows ++ 34 ∷ []));
 }
 
@@ -278,7 +279,7 @@ lines_again rows picture are =
     let wide = picture.columns_fit in
     let high = picture.rows_fit in
     let last : AreShown (goal_text rows ∷ []) = (goal_shown rows, tt) in
-    let columns = clues_shown (length rows) clues.columns (goal_text rows ∷ []) high (columns_writable (width_of rows) (width_of rows) rows are) last in
+    let columns = clues_shown (length rows) clues.columns (goal_text rows ∷ []) high (columns_writable (width_of rows) rows are) last in
     let all_rows = clues_shown (width_of rows) clues.rows (lines_behind_rows clues.columns (goal_text rows)) wide (rows_writable (width_of rows) rows are) (columns_shown, columns) in
     lines_of-written (written_lines rows) (width_shown (width_of rows) (omega (arith, wide)), (height_shown (length rows) (omega (arith, high)), (rows_shown, all_rows)))
 

@@ -3,7 +3,7 @@ use Rattle.std.specs.Prelude.{◌≡◌, List, ℕ, [], ◌∷◌, ◌++◌, cod
 use Rattle.std.specs.Fmt.{digits}
 use Rattle.clues.specs.declared.block.Block.{Block}
 use Rattle.clues.specs.Clue.{block}
-use Rattle.clues.specs.ClueBook.{clues_from, first_clues}
+use Rattle.clues.specs.ClueBook.{clues_from}
 use Rattle.non_text.specs.declared.non_puzzle.NonPuzzle.{NonPuzzle}
 use Rattle.non_text.specs.declared.fault.NonFault.{NonFault}
 use Rattle.non_text.specs.declared.fault.NonFault.TheVariants.{MissingSize, BadSize, Repeated, BadClue, BadCount}
@@ -33,7 +33,7 @@ puzzles : (non_of (codes "height 1\n# a\nwidth 1\r\ntitle x\nrows\n 1 \ncolumns\
     ≡ puzzle (dot ++ [] ∷ []) (dot ++ [] ∷ []) None)
 unfolding is_blank past_blanks before_blanks first_word past_word value_after number_spelled all_lines is_blank_line
     is_comment lines_of keyword_of value_of at_keyword section_of clue_from clue_in clues_in leaves_blanks clues_behind
-    goal_digits goal_in size_in line_fault first_fault size_behind goal_behind same_clues agreeing puzzle_of first_clues
+    goal_digits goal_in size_in line_fault first_fault size_behind goal_behind same_clues agreeing puzzle_of
 puzzles = (refl, refl)
 
 faults : (non_of (codes "width 1\nwidth 1\n") ≡ Err Repeated) × (non_of (codes "width 121\nheight 1\n") ≡ Err BadSize)
@@ -44,10 +44,10 @@ faults : (non_of (codes "width 1\nwidth 1\n") ≡ Err Repeated) × (non_of (code
     × (non_of (codes "width 1\nheight 1\nrows\n1\ncolumns\n1\ngoal \"0\"\n") ≡ Err GoalDisagrees)
 unfolding is_blank past_blanks before_blanks first_word past_word value_after number_spelled all_lines is_blank_line
     is_comment lines_of keyword_of value_of at_keyword section_of clue_from clue_in clues_in leaves_blanks clues_behind
-    goal_digits goal_in size_in line_fault first_fault size_behind goal_behind same_clues agreeing puzzle_of first_clues
+    goal_digits goal_in size_in line_fault first_fault size_behind goal_behind same_clues agreeing puzzle_of
 faults = (refl, refl, refl, refl, refl, refl, refl, refl)
 
 written : non_text_of ((1 ∷ 1 ∷ []) ∷ (1 ∷ 0 ∷ []) ∷ [])
     ≡ codes "width 2\nheight 2\nrows\n2\n1\ncolumns\n2\n1\ngoal \"1110\"\n"
-unfolding non_text_of first_clues digits
+unfolding non_text_of digits
 written = refl

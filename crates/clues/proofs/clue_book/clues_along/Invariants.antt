@@ -1,5 +1,5 @@
 use Rattle.std.proofs.Common.{◌≡◌}
-use Rattle.clues.specs.ClueBook.{first_clues}
+use Rattle.clues.proofs.BookLaws.{first_clues}
 use Rattle.clues.proofs.clue_book.clues_along.Given as goal
 
 abbrev pub invariant-loop-at : goal.invariant-loop-at

@@ -2,7 +2,7 @@ use Rattle.std.proofs.Common.{[], rules}
 use Rattle.std.proofs.lemmas.Result.{err_from_is_err_and}
 use Rattle.cert_check.specs.FirstFault.{AnswersFirst}
 use Rattle.lemma_check.specs.FirstFault.{ProofFirstFault}
-use Rattle.lemma_check.proofs.Exactness.{answers_only, outside_first}
+use Rattle.lemma_check.proofs.Exactness.{answers_only, answers_unique, outside_first}
 use Rattle.lemma_check.proofs.checking.check_proof.Goals as goal
 
 pub returns-in_err-set_givens-clause-first : goal.returns-in_err-set_givens-clause-first
@@ -16,3 +16,8 @@ pub returns-clause-only : goal.returns-clause-only
 returns-clause-only g c =
     let first : AnswersFirst (ProofFirstFault c.args.picture.now c.args.proof.now) c.walk.result = search rules in
     answers_only c.args.picture.now c.args.proof.now c.walk.result first
+
+pub returns-clause-unique : goal.returns-clause-unique
+returns-clause-unique g c =
+    let first : AnswersFirst (ProofFirstFault c.args.picture.now c.args.proof.now) c.walk.result = search rules in
+    answers_unique c.args.picture.now c.args.proof.now c.walk.result c.height.ensures.picture first
