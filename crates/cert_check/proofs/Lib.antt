@@ -4,3 +4,4 @@ pub mod GivenLemmas
 pub mod ShowingLemmas
 pub mod Soundness
 pub mod WalkLemmas
+pub mod WritableLaws

@@ -28,15 +28,13 @@ joined texts text = concat-append texts (text ∷ []) ∙ ap (λ (xs : List ℕ)
 in_part : (lines : Texts) (had has : Option (List ℕ)) (m last : Machine) → AreToldInPart lines had has m last → AnswersFront lines had has m last
 in_part lines had has m last told =
     let texts = told.texts ++ told.text ∷ [] in
-    let count : ℕ = length told.first + 0 in
     let front : ℕ = length (concat told.texts) + told.front in
-    let first : take count lines ≡ told.first = ap (λ (xs : Texts). take count xs) told.cut ∙ take-append-add told.first told.behind 0 ∙ append-nil told.first in
     let out : take front (concat texts) ≡ concat told.texts ++ take told.front told.text =
     ap (λ (xs : List ℕ). take front xs) (joined told.texts told.text) ∙ take-append-add (concat told.texts) told.text told.front in
     record {
-      count = count;
+      count = told.answered;
       texts = texts;
-      replies = subst (λ (xs : Texts). AreReplies m xs texts last) (sym first) told.replies;
+      replies = told.replies;
       front = front;
       went_out = subst (Appends had has) (sym out) told.went_out;
     }

@@ -1,6 +1,7 @@
 -- What a session says is true of the history and the allowance, whatever is kept and counted.
 use Rattle.std.proofs.Common.{◌≡◌, ◌<◌, ◌⊎◌, ◌↔◌, ℕ, List, [], ◌∷◌, ◌++◌, length, take, Option, Some, None, Result, Ok, Err, inl, inr, append_assoc, refl, sym, ap, subst, ◌∙◌, arith}
 use Rattle.std.specs.List.{concat}
+use Rattle.std.proofs.Math.Seq.{take-append_seam}
 use Rattle.std.specs.Io.KnownBytes.{Appends}
 use Rattle.line_facts.specs.Masks.{IsOnly, Masks}
 use Rattle.picture.specs.Rows.{Rows, cell_at, line_of, row_at}
@@ -12,6 +13,7 @@ use Rattle.picture.specs.declared.line_id.LineId.{LineId}
 use Rattle.justify.specs.Book.{Account, IsAccount, IsKnownBefore}
 use Rattle.justify.specs.Exclusions.{CanHaveWithout, ForcesFrom}
 use Rattle.justify.specs.Premises.{Mentions, Says as SaysPremise, SaysBut}
+use Rattle.justify.specs.declared.premise.Premise.{Premise}
 use Rattle.justify.specs.Reasons.{Argues}
 use Rattle.justify.specs.Steps.{step_at}
 use Rattle.justify.specs.declared.reason.Reason.{Reason}
@@ -142,6 +144,10 @@ known_behind book n row col k is l (inr drawn) =
     let before = drawn.before in
     λ left. ((is.behind.leaves row col k).0 left).1 (record { which = drawn.which; before = omega arith; draws = drawn.draws })
 
+-- a premise that says something of a cell mentions it
+mentioned : (premises : List Premise) (i j : ℕ) → SaysPremise premises i j → Mentions premises i
+mentioned premises i j says = record { which = says.which; within = says.within; here = says.here }
+
 true_reason : (s : Seen) (row col k : ℕ) (reason : Reason) → IsAudited s → Argues s.clues s.book row col k reason
     → IsReason s.history.document s.book.facts row col k reason.line reason.premises
 true_reason s row col k reason a h =
@@ -156,7 +162,8 @@ true_reason s row col k reason a h =
     let clue : clue_at s.clues line ≡ clue_at (clues_of d.rows) line = ap (λ (c : Clues). clue_at c line) a.audit.clues_are in
     let cells : length (line_of s.book.base line) ≡ length (line_of d.rows line) = same_line_length d.rows s.book.base line a.audit.givens.same_shape in
     let Forces : List Block → ℕ → Type 0 = λ c n. ForcesFrom c n (SaysPremise premises) h.place k in
-    let Trims : List Block → ℕ → Type 0 = λ c n. (cell : ℕ) → Mentions premises cell → CanHaveWithout c n (SaysBut premises cell) h.place k in
+    let Trims : List Block → ℕ → Type 0 = λ c n. (i j : ℕ) → SaysPremise premises i j → CanHaveWithout c n (SaysBut premises i) h.place k in
+    let trimmed : Trims (clue_at s.clues line) (length (line_of s.book.base line)) = λ i j says. h.support.trimmed i (mentioned premises i j says) in
     record {
       place = h.place;
       in_row = h.in_row;
@@ -164,7 +171,7 @@ true_reason s row col k reason a h =
       are = h.support.are;
       known = λ i j says. known_behind s.book reason.step _ _ j is h.in_book (before i j (h.support.among i j says));
       forced = subst (λ (c : List Block). Forces c (length (line_of d.rows line))) clue (subst (Forces (clue_at s.clues line)) cells h.support.forced);
-      trimmed = subst (λ (c : List Block). Trims c (length (line_of d.rows line))) clue (subst (Trims (clue_at s.clues line)) cells h.support.trimmed);
+      trimmed = subst (λ (c : List Block). Trims c (length (line_of d.rows line))) clue (subst (Trims (clue_at s.clues line)) cells trimmed);
       apart = h.apart;
     }
 
@@ -189,7 +196,6 @@ certified d (Some cert) text h shown =
         record {
           version = version_of cert h.0.is_cert.version h.0.version;
           givens = h.0.givens;
-          writable = h.0.is_cert.lines;
           proof = h.0.proof;
           no_other = h.1;
         },
@@ -299,13 +305,15 @@ told_in_part : (lines : Texts) (had has : Option (List ℕ)) (old new : Seen) �
 told_in_part lines had has old new a b =
     let all = all_told b.before old b.between b.said a b.answered in
     let reply = replied (request_of b.line) b.between new b.text all.audited b.says in
+    let first : Texts = b.before ++ b.line ∷ [] in
+    let cut : lines ≡ first ++ b.behind = b.cut ∙ sym (append_assoc b.before (b.line ∷ []) b.behind) in
+    let taken : take (length first) lines ≡ first = ap (λ (xs : Texts). take (length first) xs) cut ∙ take-append_seam first b.behind in
+    let replies = one_more (machine_of old) (machine_of b.between) (machine_of new) b.before all.texts b.line b.text all.replies reply in
     record {
-      first = b.before ++ b.line ∷ [];
-      behind = b.behind;
-      cut = b.cut ∙ sym (append_assoc b.before (b.line ∷ []) b.behind);
+      answered = length first;
       texts = all.texts;
       text = b.text;
-      replies = one_more (machine_of old) (machine_of b.between) (machine_of new) b.before all.texts b.line b.text all.replies reply;
+      replies = subst (λ (xs : Texts). AreReplies (machine_of old) xs (all.texts ++ b.text ∷ []) (machine_of new)) (sym taken) replies;
       front = b.front;
       went_out = subst (λ (xs : List ℕ). Appends had has (xs ++ take b.front b.text)) all.text_is b.went_out;
     }

@@ -13,8 +13,8 @@ use Rattle.non_text.specs.WrittenNon.{is_two_colour}
 use Rattle.non_text.specs.Written.{non_text_of}
 use Rattle.line_facts.specs.FactSets.{Excludes, IsLeast, Leaves, SameShape, col_on, row_on}
 use Rattle.justify.specs.declared.premise.Premise.{Premise}
-use Rattle.justify.specs.Exclusions.{CanHaveWithout, ForcesFrom}
-use Rattle.justify.specs.Premises.{ArePremises, Mentions, Says, SaysBut}
+use Rattle.justify.specs.Exclusions.{CanHaveWithout}
+use Rattle.justify.specs.Premises.{ArePremises, Says, SaysBut}
 use Rattle.kept_audit.specs.Audit.{AreGivens}
 use Rattle.edits.specs.declared.fault.EditFault.{EditFault}
 use Rattle.edits.specs.declared.fault.EditFault.TheVariants.{Place}
@@ -23,7 +23,7 @@ use Rattle.edits.specs.Fault.{edit_fault, has_cell}
 use Rattle.edits.specs.History.{History, after_edit, or_memory, redo_fault, redone, undo_fault, undone}
 use Rattle.second_search.specs.Parts.{IsChained, IsOpenCell}
 use Rattle.second_search.specs.FixedOrder.{SplitsPast}
-use Rattle.cert_text.specs.Cert.{AreWritable, Certificate}
+use Rattle.cert_text.specs.Cert.{Certificate}
 use Rattle.cert_text.specs.WrittenCert.{cert_text}
 use Rattle.cert_check.specs.Tree.{IsProof}
 use Rattle.live_audit.specs.declared.verdict.Verdict.{Verdict}
@@ -83,9 +83,10 @@ pub record IsReason (d : Design) (map : Masks) (row col k : ℕ) (line : LineId)
   pub in_column : col ≡ col_on line.axis line.at place
   pub are : ArePremises premises
   pub known : (i j : ℕ) → Says premises i j → Excludes map (row_on line.axis line.at i) (col_on line.axis line.at i) j
-  pub forced : ForcesFrom (clue_at (clues_of d.rows) line) (length (line_of d.rows line)) (Says premises) place k
-  pub trimmed : (cell : ℕ) → Mentions premises cell → CanHaveWithout
-      (clue_at (clues_of d.rows) line) (length (line_of d.rows line)) (SaysBut premises cell) place k
+  pub forced : CanHaveWithout
+      (clue_at (clues_of d.rows) line) (length (line_of d.rows line)) (Says premises) place k → ⊥
+  pub trimmed : (i j : ℕ) → Says premises i j → CanHaveWithout
+      (clue_at (clues_of d.rows) line) (length (line_of d.rows line)) (SaysBut premises i) place k
   pub apart : Says premises place k → ⊥
 
 -- The colour is left; or the givens alone exclude it; or they do not, and the text is a reason.
@@ -101,7 +102,6 @@ TellsWhy d m row col k text =
 pub record IsCertificateOf (d : Design) (cert : Certificate) : Type 0 where
   pub version : ((cert.version ≡ 1) × (cert.givens ≡ [])) ⊎ ((cert.version ≡ 2) × (cert.givens ≡ [] → ⊥))
   pub givens : NamesMarks (ordered d) cert.givens
-  pub writable : AreWritable cert.lines
   pub proof : IsProof (ordered d).rows cert
   pub no_other : (other : Rows) → IsOtherFor d other → ⊥
 
@@ -176,12 +176,10 @@ pub record AreTold (lines : Texts) (had has : Option (List ℕ)) (m last : Machi
 
 -- The first lines are answered; of the last text a prefix went out.
 pub record AreToldInPart (lines : Texts) (had has : Option (List ℕ)) (m last : Machine) : Type 0 where
-  pub first : Texts
-  pub behind : Texts
-  pub cut : lines ≡ first ++ behind
+  pub answered : ℕ
   pub texts : Texts
   pub text : List ℕ
-  pub replies : AreReplies m first (texts ++ text ∷ []) last
+  pub replies : AreReplies m (take answered lines) (texts ++ text ∷ []) last
   pub front : ℕ
   pub went_out : Appends had has (concat texts ++ take front text)
 
