@@ -1,5 +1,5 @@
 -- The history that two rings of entries give, before a step and after it.
-use Rattle.std.proofs.Common.{◌≡◌, ℕ, ◌+◌, ◌-◌, ◌<◌, ◌⊎◌, inl, inr, Option, Some, None, List, [], ◌∷◌, ◌++◌, length, take, drop, refl, sym, ap, subst, ◌∙◌, arith, slice_get, option_map}
+use Rattle.std.proofs.Common.{◌≡◌, ℕ, ◌+◌, ◌-◌, ◌<◌, ◌⊎◌, inl, inr, Option, Some, None, List, [], ◌∷◌, ◌++◌, length, take, drop, refl, sym, ap, subst, ◌∙◌, arith, slice_get, option_map, ◌==◌, if◌then◌else◌}
 use Rattle.std.proofs.lemmas.List.{length-append, length-map, length-drop, length-take-le, map-append, drop-map, take_all}
 use Rattle.std.specs.Option.{unwrap_or}
 use Rattle.std.proofs.lemmas.Option.{slice_get_within, slice_get_cases}
@@ -14,14 +14,17 @@ use Rattle.edits.specs.Design.{Design, IsDesign}
 use Rattle.edits.specs.Edit.{edited}
 use Rattle.edits.specs.Note.{IsStep, note_for, note_of, reverted}
 use Rattle.edits.specs.Prepared.{advance_of}
-use Rattle.edits.specs.History.{Turn, turn, History, history, past_from, future_from, ArePast, AreFuture, after_undo, last_turn, undone, redone, fault_if_empty, undo_fault, redo_fault, or_memory}
+use Rattle.edits.specs.History.{Turn, turn, History, history, past_from, future_from, ArePast, AreFuture, after_undo, last_turn, undone, redone, undo_fault, redo_fault, or_memory}
 use Rattle.edits.specs.History.{IsPlanFor, Advance, ByEdit, ByUndo, ByRedo, Plan, plan, advanced, first_turn}
 use Rattle.edits.specs.Studio.{AreRings, notes_of, history_from, with_first, with_last, past_after, future_after}
 use Rattle.edits.proofs.HistoryLemmas.{split_last, take_front, last_of, length-future_from, length-past_from, step_entry, entry_step, past_from-last, past_from-push, past_from-drop, ArePast-push}
 use Rattle.edits.proofs.HistoryLemmas.{ArePast-drop, ArePast-pop}
 
 -- a step back and a step forth, where there is one
-not_empty : (ts : List Turn) (t : Turn) (fault : EditFault) → fault_if_empty (ts ++ t ∷ []) fault ≡ None
+abbrev fault_if_empty : EditFault → List Turn → Option EditFault
+fault_if_empty fault turns = if length turns == 0 then Some fault else None
+
+not_empty : (ts : List Turn) (t : Turn) (fault : EditFault) → fault_if_empty fault (ts ++ t ∷ []) ≡ None
 not_empty [] t fault = refl
 not_empty (u ∷ ts) t fault = refl
 
@@ -29,7 +32,7 @@ pub undo_at : (h : History) (ts : List Turn) (t : Turn) → h.past ≡ ts ++ t �
 undo_at h ts t e =
     let last : last_turn h.past ≡ Some t = ap last_turn e ∙ last_of ts t in
     let front : take (length h.past - 1) h.past ≡ ts = ap (λ (p : List Turn). take (length p - 1) p) e ∙ take_front ts t in (
-      ap (λ (p : List Turn). fault_if_empty p UndoEmpty) e ∙ not_empty ts t UndoEmpty,
+      ap (fault_if_empty UndoEmpty) e ∙ not_empty ts t UndoEmpty,
       ap (λ (o : Option Turn). unwrap_or (option_map (after_undo h) o) h) last ∙ ap (λ (p : List Turn). history t.document p (turn h.document t.edit ∷ h.future) h.depth) front,
     )
 
@@ -174,10 +177,10 @@ first_cases [] = inl refl
 first_cases (e ∷ es) = inr (e, refl)
 
 pub no_undo : (d : Design) (past future : Buffer Entry) → past.items ≡ [] → undo_fault (history_from d past future) ≡ Some UndoEmpty
-no_undo d past future e = ap (λ (es : List Entry). fault_if_empty (past_from d (notes_of es)) UndoEmpty) e
+no_undo d past future e = ap (λ (es : List Entry). fault_if_empty UndoEmpty (past_from d (notes_of es))) e
 
 pub no_redo : (d : Design) (past future : Buffer Entry) → future.items ≡ [] → redo_fault (history_from d past future) ≡ Some RedoEmpty
-no_redo d past future e = ap (λ (es : List Entry). fault_if_empty (future_from d (notes_of es)) RedoEmpty) e
+no_redo d past future e = ap (λ (es : List Entry). fault_if_empty RedoEmpty (future_from d (notes_of es))) e
 
 -- a history after a step that is ready
 pub record Comes (d d' : Design) (past future : Buffer Entry) (step : Step) : Type 0 where

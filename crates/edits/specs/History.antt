@@ -1,6 +1,6 @@
 -- The history of a document: a present document, those before it and those after it, each with the edit between.
 use Rattle.std.specs.Prelude.{◌≡◌, ℕ, ◌-◌, List, [], ◌∷◌, ◌++◌, length, take, drop, Option, Some, None, slice_get}
-use Rattle.std.specs.Prelude.{option_map, unwrap_or}
+use Rattle.std.specs.Prelude.{option_map, unwrap_or, ◌==◌, if◌then◌else◌}
 use Rattle.picture.specs.Rows.{Rows}
 use Rattle.circular_buffer.specs.Buffer.{keep_last}
 use Rattle.clues.specs.Change.{Changes, Moves, AreMoves, IsChangeOf}
@@ -56,15 +56,11 @@ abbrev pub redone : History → History
 redone h = unwrap_or (option_map (after_redo h) (first_turn h.future)) h
 
 -- why they are refused
-abbrev pub fault_if_empty : List Turn → EditFault → Option EditFault
-fault_if_empty [] fault = Some fault
-fault_if_empty (t ∷ turns) fault = None
-
 abbrev pub undo_fault : History → Option EditFault
-undo_fault h = fault_if_empty h.past UndoEmpty
+undo_fault h = if length h.past == 0 then Some UndoEmpty else None
 
 abbrev pub redo_fault : History → Option EditFault
-redo_fault h = fault_if_empty h.future RedoEmpty
+redo_fault h = if length h.future == 0 then Some RedoEmpty else None
 
 -- The error that is answered: out of memory only where there is no other.
 abbrev pub or_memory : Option EditFault → EditFault

@@ -4,9 +4,9 @@ use Rattle.std.proofs.lemmas.Option.{slice_get_cases}
 use Rattle.picture.specs.Rows.{Rows}
 use Rattle.clues.specs.Change.{Changes, Moves, back}
 use Rattle.edits.specs.declared.fault.EditFault.{EditFault}
-use Rattle.edits.specs.declared.fault.EditFault.TheVariants.{UndoEmpty, RedoEmpty, Memory}
+use Rattle.edits.specs.declared.fault.EditFault.TheVariants.{Memory}
 use Rattle.edits.specs.Change.{moves_of}
-use Rattle.edits.specs.History.{Advance, Turn, History, IsChangeBy, advanced, or_memory, first_turn, last_turn, fault_if_empty, redo_fault, undo_fault}
+use Rattle.edits.specs.History.{Advance, Turn, History, IsChangeBy, advanced, or_memory, first_turn, history, last_turn, redo_fault, undo_fault}
 use Rattle.live_audit.specs.Bench.{Seen}
 use Rattle.live_audit.specs.Calls.{Accepts, CarriesOn, IsAsBefore, Refuses}
 use Rattle.live_audit.specs.Stroke.{Stroke, after_stroke, moves_back, moves_forth, stroke_fault, stroke_moves}
@@ -30,7 +30,7 @@ pub back_by : (h : History) (rows : Rows) (change : Changes) (last : Option Turn
 back_by h rows change (Some t) e lawful is = is
 back_by h rows change None e lawful is =
     let none : h.past ≡ [] = no_last h.past (sym e) in
-    let refused = ap (λ turns. fault_if_empty turns UndoEmpty) none in
+    let refused = ap (λ (turns : List Turn). undo_fault (history h.document turns h.future h.depth)) none in
     absurd cc
 
 pub forth_by : (h : History) (rows : Rows) (change : Changes) (first : Option Turn) → first ≡ first_turn h.future → redo_fault h ≡ None
@@ -39,7 +39,7 @@ pub forth_by : (h : History) (rows : Rows) (change : Changes) (first : Option Tu
 forth_by h rows change (Some t) e lawful is = is
 forth_by h rows change None e lawful is =
     let none : h.future ≡ [] = no_first h.future (sym e) in
-    let refused = ap (λ turns. fault_if_empty turns RedoEmpty) none in
+    let refused = ap (λ (turns : List Turn). redo_fault (history h.document h.past turns h.depth)) none in
     absurd cc
 
 -- ---- strokes
