@@ -9,12 +9,12 @@ use Rattle.edits.specs.declared.entry.Entry.{Entry}
 use Rattle.edits.specs.declared.prepared.Step.{Step}
 use Rattle.edits.specs.declared.prepared.Step.TheVariants.{Edit, Undo, Redo}
 use Rattle.edits.specs.declared.fault.EditFault.{EditFault}
-use Rattle.edits.specs.declared.fault.EditFault.TheVariants.{UndoEmpty, RedoEmpty}
+use Rattle.edits.specs.declared.fault.EditFault.TheVariants.{UndoEmpty, RedoEmpty, Memory}
 use Rattle.edits.specs.Design.{Design, IsDesign}
 use Rattle.edits.specs.Edit.{edited}
 use Rattle.edits.specs.Note.{IsStep, note_for, note_of, reverted}
 use Rattle.edits.specs.Prepared.{advance_of}
-use Rattle.edits.specs.History.{Turn, turn, History, history, past_from, future_from, ArePast, AreFuture, after_undo, last_turn, undone, redone, undo_fault, redo_fault, or_memory}
+use Rattle.edits.specs.History.{Turn, turn, History, history, past_from, future_from, ArePast, AreFuture, after_undo, last_turn, undone, redone, undo_fault, redo_fault}
 use Rattle.edits.specs.History.{IsPlanFor, Advance, ByEdit, ByUndo, ByRedo, Plan, plan, advanced, first_turn}
 use Rattle.edits.specs.Studio.{AreRings, notes_of, history_from, with_first, with_last, past_after, future_after}
 use Rattle.edits.proofs.HistoryLemmas.{split_last, take_front, last_of, length-future_from, length-past_from, step_entry, entry_step, past_from-last, past_from-push, past_from-drop, ArePast-push}
@@ -233,17 +233,17 @@ last_note d es are =
     ]
 
 -- why a step back or forth is refused, by what the ring answers
-pub undo_refused : (d : Design) (past future : Buffer Entry) → last_item past.items ≡ None → or_memory (undo_fault (history_from d past future)) ≡ UndoEmpty
+pub undo_refused : (d : Design) (past future : Buffer Entry) → last_item past.items ≡ None → unwrap_or (undo_fault (history_from d past future)) Memory ≡ UndoEmpty
 undo_refused d past future e =
     elim (last_cases past.items) [
-      | inl none ↦ ap or_memory (no_undo d past future none)
+      | inl none ↦ ap (λ (fault : Option EditFault). unwrap_or fault Memory) (no_undo d past future none)
       | inr some ↦ absurd (let at : None ≡ Some some.0 = sym e ∙ some.1 in cc)
     ]
 
-pub redo_refused : (d : Design) (past future : Buffer Entry) → slice_get future.items 0 ≡ None → or_memory (redo_fault (history_from d past future)) ≡ RedoEmpty
+pub redo_refused : (d : Design) (past future : Buffer Entry) → slice_get future.items 0 ≡ None → unwrap_or (redo_fault (history_from d past future)) Memory ≡ RedoEmpty
 redo_refused d past future e =
     elim (first_cases future.items) [
-      | inl none ↦ ap or_memory (no_redo d past future none)
+      | inl none ↦ ap (λ (fault : Option EditFault). unwrap_or fault Memory) (no_redo d past future none)
       | inr some ↦ absurd (let at : None ≡ Some some.0 = sym e ∙ some.1 in cc)
     ]
 

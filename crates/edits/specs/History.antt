@@ -6,7 +6,7 @@ use Rattle.circular_buffer.specs.Buffer.{keep_last}
 use Rattle.clues.specs.Change.{Changes, Moves, AreMoves, IsChangeOf}
 use Rattle.edits.specs.declared.edit.Edit.{Edit}
 use Rattle.edits.specs.declared.fault.EditFault.{EditFault}
-use Rattle.edits.specs.declared.fault.EditFault.TheVariants.{UndoEmpty, RedoEmpty, Memory}
+use Rattle.edits.specs.declared.fault.EditFault.TheVariants.{UndoEmpty, RedoEmpty}
 use Rattle.edits.specs.Design.{Design}
 use Rattle.edits.specs.Edit.{edited}
 use Rattle.edits.specs.Fault.{edit_fault}
@@ -61,11 +61,6 @@ undo_fault h = if length h.past == 0 then Some UndoEmpty else None
 
 abbrev pub redo_fault : History → Option EditFault
 redo_fault h = if length h.future == 0 then Some RedoEmpty else None
-
--- The error that is answered: out of memory only where there is no other.
-abbrev pub or_memory : Option EditFault → EditFault
-or_memory None = Memory
-or_memory (Some fault) = fault
 
 -- how a history goes on: by an edit, with what is kept of it, or along the edits that it has
 pub data Advance : Type 0 where

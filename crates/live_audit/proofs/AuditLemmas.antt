@@ -1,12 +1,13 @@
 -- What the clauses of the calls below come to for a bench.
 use Rattle.std.proofs.Common.{◌≡◌, ◌-◌, List, [], ◌∷◌, length, Option, Some, None, IfSome, Result, Ok, Err, IfErr, OnOk, OnErr, inl, inr, refl, sym, ap, subst, ◌∙◌, arith}
+use Rattle.std.specs.Option.{unwrap_or}
 use Rattle.std.proofs.lemmas.Option.{slice_get_cases}
 use Rattle.picture.specs.Rows.{Rows}
 use Rattle.clues.specs.Change.{Changes, Moves, back}
 use Rattle.edits.specs.declared.fault.EditFault.{EditFault}
 use Rattle.edits.specs.declared.fault.EditFault.TheVariants.{Memory}
 use Rattle.edits.specs.Change.{moves_of}
-use Rattle.edits.specs.History.{Advance, Turn, History, IsChangeBy, advanced, or_memory, first_turn, history, last_turn, redo_fault, undo_fault}
+use Rattle.edits.specs.History.{Advance, Turn, History, IsChangeBy, advanced, first_turn, history, last_turn, redo_fault, undo_fault}
 use Rattle.live_audit.specs.Bench.{Seen}
 use Rattle.live_audit.specs.Calls.{Accepts, CarriesOn, IsAsBefore, Refuses}
 use Rattle.live_audit.specs.Stroke.{Stroke, after_stroke, moves_back, moves_forth, stroke_fault, stroke_moves}
@@ -61,7 +62,7 @@ refused (Ok x) stroke h old new e lawful memory same = tt
 refused (Err fault) stroke h old new e lawful memory same =
     let none : stroke_fault old.history stroke ≡ None = subst (λ (k : History). stroke_fault k stroke ≡ None) e lawful in
     record {
-      first = memory ∙ sym (ap or_memory none);
+      first = memory ∙ sym (ap (λ (found : Option EditFault). unwrap_or found Memory) none);
       as_before = same;
       uncalled = λ found some. let both = sym none ∙ some in absurd cc;
     }
