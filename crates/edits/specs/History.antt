@@ -2,7 +2,7 @@
 use Rattle.std.specs.Prelude.{◌≡◌, ℕ, ◌-◌, List, [], ◌∷◌, ◌++◌, length, take, drop, Option, Some, None, slice_get}
 use Rattle.std.specs.Prelude.{option_map, unwrap_or, ◌==◌, if◌then◌else◌}
 use Rattle.picture.specs.Rows.{Rows}
-use Rattle.circular_buffer.specs.Buffer.{keep_last}
+use Rattle.circular_buffer.specs.Buffer.{keep_last, last_item}
 use Rattle.clues.specs.Change.{Changes, Moves, AreMoves, IsChangeOf}
 use Rattle.edits.specs.declared.edit.Edit.{Edit}
 use Rattle.edits.specs.declared.fault.EditFault.{EditFault}
@@ -42,18 +42,12 @@ after_undo h t = history t.document (take (length h.past - 1) h.past) (turn h.do
 abbrev pub after_redo : History → Turn → History
 after_redo h t = history t.document (h.past ++ turn h.document t.edit ∷ []) (drop 1 h.future) h.depth
 
-abbrev pub last_turn : List Turn → Option Turn
-last_turn turns = slice_get turns (length turns - 1)
-
-abbrev pub first_turn : List Turn → Option Turn
-first_turn turns = slice_get turns 0
-
 -- a step back and a step forth, where there is one
 abbrev pub undone : History → History
-undone h = unwrap_or (option_map (after_undo h) (last_turn h.past)) h
+undone h = unwrap_or (option_map (after_undo h) (last_item h.past)) h
 
 abbrev pub redone : History → History
-redone h = unwrap_or (option_map (after_redo h) (first_turn h.future)) h
+redone h = unwrap_or (option_map (after_redo h) (slice_get h.future 0)) h
 
 -- why they are refused
 abbrev pub undo_fault : History → Option EditFault

@@ -7,7 +7,7 @@ ghost use Rattle.edits.specs.declared.fault.EditFault.TheVariants.{Memory};
 ghost use Rattle.edits.specs.Change.{moves_of};
 ghost use Rattle.edits.specs.Design.{design_of};
 ghost use Rattle.edits.specs.Fault.{edit_fault};
-ghost use Rattle.edits.specs.History.{IsChangeBy, IsPlanFor, advanced, after_edit, first_turn, history, last_turn, redo_fault, redone, undo_fault, undone};
+ghost use Rattle.edits.specs.History.{IsChangeBy, IsPlanFor, advanced, after_edit, history, redo_fault, redone, undo_fault, undone};
 ghost use Rattle.edits.specs.Note.{note_for, note_of};
 ghost use Rattle.edits.specs.Studio.{future_after, past_after, with_first, with_last, without_first, without_last};
 
@@ -83,7 +83,7 @@ impl Studio {
     /// What is kept of the last edit that can be undone.
     pub fn last_entry(&self) -> Option<&Entry>
         ensures { option_map note_of (option_copied result)
-            ≡ option_map (λ turn. note_for turn.document turn.edit) (last_turn self.now.past) }
+            ≡ option_map (λ turn. note_for turn.document turn.edit) (last_item self.now.past) }
     {
         self.past.back()
     }
@@ -110,7 +110,7 @@ impl Studio {
         ensures lawful { IfOk result (λ _. undo_fault self.now ≡ None) }
         ensures ready { IfOk result (λ p. IsPlanFor self.now p) }
         ensures next { IfOk result (λ p. advanced self.now p.advance ≡ undone self.now) }
-        ensures change { IfOk result (λ p. IfSome (last_turn self.now.past) (λ turn.
+        ensures change { IfOk result (λ p. IfSome (last_item self.now.past) (λ turn.
             IsChangeBy
             (back (moves_of turn.edit turn.document.rows)) self.now.document.rows
             p.document.rows p.change)) }
@@ -128,7 +128,7 @@ impl Studio {
         ensures lawful { IfOk result (λ _. redo_fault self.now ≡ None) }
         ensures ready { IfOk result (λ p. IsPlanFor self.now p) }
         ensures next { IfOk result (λ p. advanced self.now p.advance ≡ redone self.now) }
-        ensures change { IfOk result (λ p. IfSome (first_turn self.now.future) (λ turn.
+        ensures change { IfOk result (λ p. IfSome (slice_get self.now.future 0) (λ turn.
             IsChangeBy
             (moves_of turn.edit self.now.document.rows) self.now.document.rows p.document.rows
             p.change)) }
