@@ -2,7 +2,7 @@
 use Rattle.std.specs.Prelude.{◌≡◌, ℕ, ◌&&◌, Bool, nat_le, ◌==◌, [], ◌∷◌, length, if◌then◌else◌, refl}
 use Rattle.picture.specs.declared.line_id.Axis.TheVariants.{Across}
 use Rattle.picture.specs.Palette.{Colours, with_colour, with_triple}
-use Rattle.picture.specs.Rows.{width_of, cell_at, with_cell, line_inserted, line_deleted, lines_swapped, Rows}
+use Rattle.picture.specs.Rows.{width_of, cell_at, with_cell, with_line, without_line, lines_swapped, Rows}
 use Rattle.edits.specs.declared.edit.Edit.{Edit}
 use Rattle.edits.specs.declared.edit.Edit.TheVariants.{Paint, Fill, Recolour, InsertLine, DeleteLine, SwapLines}
 use Rattle.edits.specs.declared.edit.Edit.TheVariants.{AddColour, SetColour, Pin, Unpin}
@@ -27,15 +27,15 @@ abbrev pub rows_after : Edit → Rows → Rows
 rows_after (Paint row col colour) rows = painted (Paint row col colour) rows
 rows_after (Fill top left bottom right colour) rows = painted (Fill top left bottom right colour) rows
 rows_after (Recolour source target) rows = painted (Recolour source target) rows
-rows_after (InsertLine line) rows = line_inserted rows line
-rows_after (DeleteLine line) rows = line_deleted rows line
+rows_after (InsertLine line) rows = with_line line.axis line.at rows
+rows_after (DeleteLine line) rows = without_line line.axis line.at rows
 rows_after (SwapLines axis first second) rows = lines_swapped axis first second rows
 rows_after e rows = rows
 
 -- the givens move with the lines, and a new line has none
 abbrev pub marks_after : Edit → Marks → Marks
-marks_after (InsertLine line) marks = line_inserted marks line
-marks_after (DeleteLine line) marks = line_deleted marks line
+marks_after (InsertLine line) marks = with_line line.axis line.at marks
+marks_after (DeleteLine line) marks = without_line line.axis line.at marks
 marks_after (SwapLines axis first second) marks = lines_swapped axis first second marks
 marks_after (Pin row col) marks = with_cell marks row col 1
 marks_after (Unpin row col) marks = with_cell marks row col 0

@@ -6,7 +6,7 @@ use Rattle.picture.specs.declared.line_id.Axis.TheVariants.{Across, Down}
 use Rattle.picture.specs.declared.line_id.LineId.{LineId}
 use Rattle.picture.specs.declared.rgb.Rgb.{Rgb}
 use Rattle.picture.specs.Palette.{Colours, with_triple, without_last}
-use Rattle.picture.specs.Rows.{width_of, cell_at, with_cell, line_inserted, line_deleted, lines_swapped, Rows}
+use Rattle.picture.specs.Rows.{width_of, cell_at, with_cell, with_line, without_line, lines_swapped, Rows}
 use Rattle.edits.specs.declared.edit.Edit.{Edit}
 use Rattle.edits.specs.declared.edit.Edit.TheVariants.{Paint, Fill, Recolour, InsertLine, DeleteLine, SwapLines}
 use Rattle.edits.specs.declared.edit.Edit.TheVariants.{AddColour, SetColour, Pin, Unpin}
@@ -117,14 +117,14 @@ abbrev pub rows_before : Edit → List Cell → Rows → Rows
 rows_before (Paint row col colour) cells rows = with_cells rows cells
 rows_before (Fill top left bottom right colour) cells rows = with_cells rows cells
 rows_before (Recolour source target) cells rows = with_cells rows cells
-rows_before (InsertLine line) cells rows = line_deleted rows line
-rows_before (DeleteLine line) cells rows = with_cells (line_inserted rows line) cells
+rows_before (InsertLine line) cells rows = without_line line.axis line.at rows
+rows_before (DeleteLine line) cells rows = with_cells (with_line line.axis line.at rows) cells
 rows_before (SwapLines axis first second) cells rows = lines_swapped axis first second rows
 rows_before e cells rows = rows
 
 abbrev pub marks_before : Edit → List (ℕ × ℕ) → Marks → Marks
-marks_before (InsertLine line) givens marks = line_deleted marks line
-marks_before (DeleteLine line) givens marks = with_cells (line_inserted marks line) (map as_mark givens)
+marks_before (InsertLine line) givens marks = without_line line.axis line.at marks
+marks_before (DeleteLine line) givens marks = with_cells (with_line line.axis line.at marks) (map as_mark givens)
 marks_before (SwapLines axis first second) givens marks = lines_swapped axis first second marks
 marks_before (Pin row col) givens marks = with_cell marks row col 0
 marks_before (Unpin row col) givens marks = with_cell marks row col 1
