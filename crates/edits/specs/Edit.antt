@@ -1,7 +1,7 @@
 -- The document after an edit.
-use Rattle.std.specs.Prelude.{◌≡◌, ℕ, ◌&&◌, Bool, nat_le, ◌==◌, [], ◌∷◌, length, if◌then◌else◌, refl}
+use Rattle.std.specs.Prelude.{◌≡◌, ℕ, ◌&&◌, Bool, nat_le, ◌==◌, [], ◌∷◌, ◌++◌, length, slice_set, if◌then◌else◌, refl}
 use Rattle.picture.specs.declared.line_id.Axis.TheVariants.{Across}
-use Rattle.picture.specs.Palette.{Colours, with_colour, with_triple}
+use Rattle.picture.specs.Palette.{Colours}
 use Rattle.picture.specs.Rows.{width_of, cell_at, with_cell, with_line, without_line, lines_swapped, Rows}
 use Rattle.edits.specs.declared.edit.Edit.{Edit}
 use Rattle.edits.specs.declared.edit.Edit.TheVariants.{Paint, Fill, Recolour, InsertLine, DeleteLine, SwapLines}
@@ -42,8 +42,8 @@ marks_after (Unpin row col) marks = with_cell marks row col 0
 marks_after e marks = marks
 
 abbrev pub colours_after : Edit → Colours → Colours
-colours_after (AddColour rgb) colours = with_colour colours rgb
-colours_after (SetColour colour rgb) colours = with_triple colours colour rgb
+colours_after (AddColour rgb) colours = record colours { triples = colours.triples ++ rgb ∷ [] }
+colours_after (SetColour colour rgb) colours = record colours { triples = slice_set colours.triples colour rgb }
 colours_after e colours = colours
 
 abbrev pub edited : Design → Edit → Design
