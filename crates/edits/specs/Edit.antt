@@ -1,5 +1,5 @@
 -- The document after an edit.
-use Rattle.std.specs.Prelude.{◌≡◌, ℕ, ◌&&◌, Bool, nat_le, ◌==◌, [], ◌∷◌, ◌++◌, length, slice_set, if◌then◌else◌, refl}
+use Rattle.std.specs.Prelude.{◌≡◌, ℕ, ◌&&◌, nat_le, ◌==◌, [], ◌∷◌, ◌++◌, length, slice_set, if◌then◌else◌, refl}
 use Rattle.picture.specs.declared.line_id.Axis.TheVariants.{Across}
 use Rattle.picture.specs.Palette.{Colours}
 use Rattle.picture.specs.Rows.{width_of, cell_at, with_cell, with_line, without_line, lines_swapped, Rows}
@@ -8,14 +8,11 @@ use Rattle.edits.specs.declared.edit.Edit.TheVariants.{Paint, Fill, Recolour, In
 use Rattle.edits.specs.declared.edit.Edit.TheVariants.{AddColour, SetColour, Pin, Unpin}
 use Rattle.edits.specs.Design.{Design, design, grid, Marks}
 
--- the cell lies in the rectangle
-abbrev pub is_within : ℕ → ℕ → ℕ → ℕ → ℕ → ℕ → Bool
-is_within top left bottom right i j = (nat_le top i && nat_le i bottom) && (nat_le left j && nat_le j right)
-
 -- the colour that a cell of colour x, at row i and column j, has afterwards
 abbrev pub colour_after : Edit → ℕ → ℕ → ℕ → ℕ
 colour_after (Paint row col colour) i j x = if (i == row && j == col) then colour else x
-colour_after (Fill top left bottom right colour) i j x = if is_within top left bottom right i j then colour else x
+colour_after (Fill top left bottom right colour) i j x =
+    if (nat_le top i && nat_le i bottom) && (nat_le left j && nat_le j right) then colour else x
 colour_after (Recolour source target) i j x = if x == source then target else x
 colour_after e i j x = x
 
