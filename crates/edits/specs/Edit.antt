@@ -6,7 +6,7 @@ use Rattle.picture.specs.Rows.{width_of, cell_at, with_cell, with_line, without_
 use Rattle.edits.specs.declared.edit.Edit.{Edit}
 use Rattle.edits.specs.declared.edit.Edit.TheVariants.{Paint, Fill, Recolour, InsertLine, DeleteLine, SwapLines}
 use Rattle.edits.specs.declared.edit.Edit.TheVariants.{AddColour, SetColour, Pin, Unpin}
-use Rattle.edits.specs.Design.{Design, design, grid, Marks}
+use Rattle.edits.specs.Design.{Design, grid, Marks}
 
 -- the colour that a cell of colour x, at row i and column j, has afterwards
 abbrev pub colour_after : Edit → ℕ → ℕ → ℕ → ℕ
@@ -44,7 +44,7 @@ colours_after (SetColour colour rgb) colours = record colours { triples = slice_
 colours_after e colours = colours
 
 abbrev pub edited : Design → Edit → Design
-edited d e = design (colours_after e d.colours) (rows_after e d.rows) (marks_after e d.marks)
+edited d e = record { colours = colours_after e d.colours; rows = rows_after e d.rows; marks = marks_after e d.marks }
 
 -- `a.`: its second cell painted a, and a row inserted above
 paints : rows_after (Paint 0 1 1) ((1 ∷ 0 ∷ []) ∷ []) ≡ (1 ∷ 1 ∷ []) ∷ []
