@@ -8,16 +8,15 @@ use Rattle.certificate.specs.FirstFault.{CertFirstFault}
 use Rattle.certificate.specs.MadeCert.{EachExcludes}
 use Rattle.certificate.specs.Puzzle.{IsAmong, base_of, numbered}
 use Rattle.certificate.specs.Tree.{IsProof}
-use Rattle.edits.specs.Design.{Design, design}
+use Rattle.edits.specs.Design.{Design}
 use Rattle.live_audit.specs.Bench.{IsGiven}
 use Rattle.live_audit.specs.Verdict.{IsOtherFor}
 
 -- the document with its colours numbered as they appear
 abbrev pub ordered : Design → Design
 ordered d =
-    let triples = ordered_triples d.colours.triples d.rows in
-    design (record { maxval = d.colours.maxval; triples = triples })
-    (renumbered_rows triples d.colours.triples d.rows) d.marks
+    let order = ordered_triples d.colours.triples d.rows in
+    record d { colours = record d.colours { triples = order }; rows = renumbered_rows order d.colours.triples d.rows }
 
 -- exactly the givens of a document, by their numbers, in the order of rows
 pub record NamesMarks (d : Design) (cells : List CellNumber) : Type 0 where
