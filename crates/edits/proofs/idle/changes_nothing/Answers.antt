@@ -24,8 +24,8 @@ returns-in-SetColour c =
     let within : c.in-SetColour.colour < length c.args.document.now.palette.triples = grind (arith, nat_tests, coloured) in
     let d = design_of c.args.document.now in
     rw c.in-SetColour.is (
-      set_idle d c.in-SetColour.colour c.in-SetColour.rgb c.rgb.result c.eq.result within c.rgb.ensures.stands c.eq.ensures
-      ∙ own_rows d (with_triple d.colours c.in-SetColour.colour c.in-SetColour.rgb) d.marks c.know.ensures.is_picture
+    set_idle d c.in-SetColour.colour c.in-SetColour.rgb c.rgb.result c.eq.result within c.rgb.ensures.stands c.eq.ensures
+    ∙ own_rows d (with_triple d.colours c.in-SetColour.colour c.in-SetColour.rgb) d.marks c.know.ensures.is_picture
     )
 
 pub returns-in-Pin : goal.returns-in-Pin
@@ -33,8 +33,8 @@ returns-in-Pin c =
     let inside = not_in c.args.document.now.picture c.in-Pin.row c.in-Pin.col (rw c.in-Pin.is at c.requires.inside) in
     let d = design_of c.args.document.now in
     rw c.in-Pin.is (
-      pin_idle d c.in-Pin.row c.in-Pin.col c.is_given.result c.know.ensures inside.0 inside.1 c.is_given.ensures
-      ∙ own_rows d d.colours (with_cell d.marks c.in-Pin.row c.in-Pin.col 1) c.know.ensures.is_picture
+    pin_idle d c.in-Pin.row c.in-Pin.col c.is_given.result c.know.ensures inside.0 inside.1 c.is_given.ensures
+    ∙ own_rows d d.colours (with_cell d.marks c.in-Pin.row c.in-Pin.col 1) c.know.ensures.is_picture
     )
 
 pub returns-in-Unpin : goal.returns-in-Unpin
@@ -42,6 +42,6 @@ returns-in-Unpin c =
     let inside = not_in c.args.document.now.picture c.in-Unpin.row c.in-Unpin.col (rw c.in-Unpin.is at c.requires.inside) in
     let d = design_of c.args.document.now in
     rw c.in-Unpin.is (
-      unpin_idle d c.in-Unpin.row c.in-Unpin.col c.is_given-in-Unpin.result c.know.ensures inside.0 inside.1 c.is_given-in-Unpin.ensures
-      ∙ own_rows d d.colours (with_cell d.marks c.in-Unpin.row c.in-Unpin.col 0) c.know.ensures.is_picture
+    unpin_idle d c.in-Unpin.row c.in-Unpin.col c.is_given-in-Unpin.result c.know.ensures inside.0 inside.1 c.is_given-in-Unpin.ensures
+    ∙ own_rows d d.colours (with_cell d.marks c.in-Unpin.row c.in-Unpin.col 0) c.know.ensures.is_picture
     )
