@@ -1,8 +1,8 @@
 //! A refused edit leaves the bench as it was.
 
-ghost use Rattle.std.specs.Prelude.{◌≡◌, IfErr, OnErr, OnOk};
+ghost use Rattle.std.specs.Prelude.{◌≡◌, IfErr, OnErr, OnOk, unwrap_or};
 ghost use Rattle.claims.specs.Step.{stroke_of};
-ghost use Rattle.edits.specs.History.{or_memory};
+ghost use Rattle.edits.specs.declared.fault.EditFault.TheVariants.{Memory};
 ghost use Rattle.live_audit.specs.Stroke.{after_stroke, stroke_fault};
 
 use edits::{Edit, EditFault};
@@ -27,7 +27,7 @@ pub fn step_or_keep<E: LineEngine + Drop, A: Agenda + Drop>(
     ensures accepted { OnOk result
         (bench.new.history ≡ after_stroke bench.old.history (stroke_of step.now)) }
     ensures first { IfErr result
-        (λ fault. fault ≡ or_memory (stroke_fault bench.old.history (stroke_of step.now))) }
+        (λ fault. fault ≡ unwrap_or (stroke_fault bench.old.history (stroke_of step.now)) Memory) }
     ensures history { OnErr result (bench.new.history ≡ bench.old.history) }
     ensures clues { OnErr result (bench.new.clues ≡ bench.old.clues) }
     ensures map { OnErr result (bench.new.book.facts ≡ bench.old.book.facts) }

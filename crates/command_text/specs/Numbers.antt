@@ -1,12 +1,12 @@
 -- The words of a command that stand for numbers and colours.
 use Rattle.std.specs.Prelude.{◌≡◌, ℕ, ◌-◌, ◌&&◌, List, [], ◌∷◌, codes, Option, None, Some, option_and_then, nat_le}
-use Rattle.std.specs.Prelude.{◌==◌, if◌then◌else◌}
+use Rattle.std.specs.Prelude.{◌==◌, if◌then◌else◌, length}
 use Rattle.std.proofs.Common.{refl}
-use Rattle.picture.specs.Numbers.{number_spelled, short_number, value_after}
+use Rattle.picture.specs.Numbers.{number_spelled, value_after}
 
 -- a number of one to five digits
 unfoldable pub number_of : List ℕ → Option ℕ
-number_of word = short_number 5 word
+number_of word = if nat_le (length word) 5 then number_spelled word else None
 
 -- a number from 1 to 256, as a place from 0
 abbrev pub place_named : List ℕ → Option ℕ

@@ -1,5 +1,7 @@
 -- The history that two rings of entries give, before a step and after it.
 use Rattle.std.proofs.Common.{◌≡◌, ℕ, ◌+◌, ◌-◌, ◌<◌, ◌⊎◌, inl, inr, Option, Some, None, List, [], ◌∷◌, ◌++◌, length, take, drop, refl, sym, ap, subst, ◌∙◌, arith, slice_get, option_map}
+use Rattle.std.proofs.Common.{Bool, ◌==◌, if◌then◌else◌}
+use Rattle.std.proofs.lemmas.Bool.{ne_eqb}
 use Rattle.std.proofs.lemmas.List.{length-append, length-map, length-drop, length-take-le, map-append, drop-map, take_all}
 use Rattle.std.specs.Option.{unwrap_or}
 use Rattle.std.proofs.lemmas.Option.{slice_get_within, slice_get_cases}
@@ -9,32 +11,34 @@ use Rattle.edits.specs.declared.entry.Entry.{Entry}
 use Rattle.edits.specs.declared.prepared.Step.{Step}
 use Rattle.edits.specs.declared.prepared.Step.TheVariants.{Edit, Undo, Redo}
 use Rattle.edits.specs.declared.fault.EditFault.{EditFault}
-use Rattle.edits.specs.declared.fault.EditFault.TheVariants.{UndoEmpty, RedoEmpty}
+use Rattle.edits.specs.declared.fault.EditFault.TheVariants.{UndoEmpty, RedoEmpty, Memory}
 use Rattle.edits.specs.Design.{Design, IsDesign}
 use Rattle.edits.specs.Edit.{edited}
 use Rattle.edits.specs.Note.{IsStep, note_for, note_of, reverted}
 use Rattle.edits.specs.Prepared.{advance_of}
-use Rattle.edits.specs.History.{Turn, turn, History, history, past_from, future_from, ArePast, AreFuture, after_undo, last_turn, undone, redone, fault_if_empty, undo_fault, redo_fault, or_memory}
-use Rattle.edits.specs.History.{IsPlanFor, Advance, ByEdit, ByUndo, ByRedo, Plan, plan, advanced, first_turn}
+use Rattle.edits.specs.History.{Turn, turn, History, history, past_from, future_from, ArePast, AreFuture, after_undo, undone, redone, undo_fault, redo_fault}
+use Rattle.edits.specs.History.{IsPlanFor, Advance, ByEdit, ByUndo, ByRedo, Plan, plan, advanced}
 use Rattle.edits.specs.Studio.{AreRings, notes_of, history_from, with_first, with_last, past_after, future_after}
 use Rattle.edits.proofs.HistoryLemmas.{split_last, take_front, last_of, length-future_from, length-past_from, step_entry, entry_step, past_from-last, past_from-push, past_from-drop, ArePast-push}
 use Rattle.edits.proofs.HistoryLemmas.{ArePast-drop, ArePast-pop}
 
 -- a step back and a step forth, where there is one
-not_empty : (ts : List Turn) (t : Turn) (fault : EditFault) → fault_if_empty (ts ++ t ∷ []) fault ≡ None
-not_empty [] t fault = refl
-not_empty (u ∷ ts) t fault = refl
+abbrev fault_if_empty : EditFault → List Turn → Option EditFault
+fault_if_empty fault turns = if length turns == 0 then Some fault else None
+
+not_empty : (fault : EditFault) (turns : List Turn) → 0 < length turns → fault_if_empty fault turns ≡ None
+not_empty fault turns some = ap (λ (b : Bool). if b then Some fault else None) (ne_eqb (length turns) 0 (λ none. absurd (omega (arith, none, some))))
 
 pub undo_at : (h : History) (ts : List Turn) (t : Turn) → h.past ≡ ts ++ t ∷ [] → (undo_fault h ≡ None) × (undone h ≡ history t.document ts (turn h.document t.edit ∷ h.future) h.depth)
 undo_at h ts t e =
-    let last : last_turn h.past ≡ Some t = ap last_turn e ∙ last_of ts t in
+    let last : last_item h.past ≡ Some t = ap last_item e ∙ last_of ts t in
     let front : take (length h.past - 1) h.past ≡ ts = ap (λ (p : List Turn). take (length p - 1) p) e ∙ take_front ts t in (
-      ap (λ (p : List Turn). fault_if_empty p UndoEmpty) e ∙ not_empty ts t UndoEmpty,
+      ap (fault_if_empty UndoEmpty) e ∙ not_empty UndoEmpty (ts ++ t ∷ []) (omega (arith, length-append ts (t ∷ []))),
       ap (λ (o : Option Turn). unwrap_or (option_map (after_undo h) o) h) last ∙ ap (λ (p : List Turn). history t.document p (turn h.document t.edit ∷ h.future) h.depth) front,
     )
 
 pub redo_at : (h : History) (ts : List Turn) (t : Turn) → h.future ≡ t ∷ ts → (redo_fault h ≡ None) × (redone h ≡ history t.document (h.past ++ turn h.document t.edit ∷ []) ts h.depth)
-redo_at h ts t e = (rw e refl, rw e refl)
+redo_at h ts t e = (ap (fault_if_empty RedoEmpty) e ∙ not_empty RedoEmpty (t ∷ ts) (omega arith), rw e refl)
 
 -- the last entry of the past, and the first one of the future
 pub notes_split : (es : List Entry) (x : Entry) → last_item es ≡ Some x → notes_of es ≡ notes_of (take (length es - 1) es) ++ note_of x ∷ []
@@ -174,10 +178,10 @@ first_cases [] = inl refl
 first_cases (e ∷ es) = inr (e, refl)
 
 pub no_undo : (d : Design) (past future : Buffer Entry) → past.items ≡ [] → undo_fault (history_from d past future) ≡ Some UndoEmpty
-no_undo d past future e = ap (λ (es : List Entry). fault_if_empty (past_from d (notes_of es)) UndoEmpty) e
+no_undo d past future e = ap (λ (es : List Entry). fault_if_empty UndoEmpty (past_from d (notes_of es))) e
 
 pub no_redo : (d : Design) (past future : Buffer Entry) → future.items ≡ [] → redo_fault (history_from d past future) ≡ Some RedoEmpty
-no_redo d past future e = ap (λ (es : List Entry). fault_if_empty (future_from d (notes_of es)) RedoEmpty) e
+no_redo d past future e = ap (λ (es : List Entry). fault_if_empty RedoEmpty (future_from d (notes_of es))) e
 
 -- a history after a step that is ready
 pub record Comes (d d' : Design) (past future : Buffer Entry) (step : Step) : Type 0 where
@@ -207,11 +211,11 @@ comes d d' past future Redo k is are ready =
     ]
 
 -- the last pair of the past, and the first one of the future
-pub last_turn_is : (d : Design) (es : List Entry) (x : Entry) → last_item es ≡ Some x → last_turn (past_from d (notes_of es)) ≡ Some (turn (reverted d (note_of x)) x.edit)
-last_turn_is d es x last = ap last_turn (past_split d es x last) ∙ last_of (past_from (reverted d (note_of x)) (notes_of (take (length es - 1) es))) (turn (reverted d (note_of x)) x.edit)
+pub last_turn_is : (d : Design) (es : List Entry) (x : Entry) → last_item es ≡ Some x → last_item (past_from d (notes_of es)) ≡ Some (turn (reverted d (note_of x)) x.edit)
+last_turn_is d es x last = ap last_item (past_split d es x last) ∙ last_of (past_from (reverted d (note_of x)) (notes_of (take (length es - 1) es))) (turn (reverted d (note_of x)) x.edit)
 
-pub first_turn_is : (d : Design) (es : List Entry) (x : Entry) → slice_get es 0 ≡ Some x → first_turn (future_from d (notes_of es)) ≡ Some (turn (edited d x.edit) x.edit)
-first_turn_is d es x first = ap first_turn (future_split d es x first)
+pub first_turn_is : (d : Design) (es : List Entry) (x : Entry) → slice_get es 0 ≡ Some x → slice_get (future_from d (notes_of es)) 0 ≡ Some (turn (edited d x.edit) x.edit)
+first_turn_is d es x first = ap (λ (turns : List Turn). slice_get turns 0) (future_split d es x first)
 
 -- a plan from its parts
 pub plan_is : (p : Plan) (a : Advance) (d : Design) → p.advance ≡ a → p.document ≡ d → plan a d p.change ≡ p
@@ -219,7 +223,7 @@ plan_is p a d advances gives = sym (ap (λ (b : Advance). plan b p.document p.ch
 
 -- what is kept of the last edit
 pub last_note : (d : Design) (es : List Entry) → ArePast d (notes_of es)
-    → option_map note_of (last_item es) ≡ option_map (λ (t : Turn). note_for t.document t.edit) (last_turn (past_from d (notes_of es)))
+    → option_map note_of (last_item es) ≡ option_map (λ (t : Turn). note_for t.document t.edit) (last_item (past_from d (notes_of es)))
 last_note d es are =
     elim (last_cases es) [
       | inl none ↦ rw none refl
@@ -230,17 +234,17 @@ last_note d es are =
     ]
 
 -- why a step back or forth is refused, by what the ring answers
-pub undo_refused : (d : Design) (past future : Buffer Entry) → last_item past.items ≡ None → or_memory (undo_fault (history_from d past future)) ≡ UndoEmpty
+pub undo_refused : (d : Design) (past future : Buffer Entry) → last_item past.items ≡ None → unwrap_or (undo_fault (history_from d past future)) Memory ≡ UndoEmpty
 undo_refused d past future e =
     elim (last_cases past.items) [
-      | inl none ↦ ap or_memory (no_undo d past future none)
+      | inl none ↦ ap (λ (fault : Option EditFault). unwrap_or fault Memory) (no_undo d past future none)
       | inr some ↦ absurd (let at : None ≡ Some some.0 = sym e ∙ some.1 in cc)
     ]
 
-pub redo_refused : (d : Design) (past future : Buffer Entry) → slice_get future.items 0 ≡ None → or_memory (redo_fault (history_from d past future)) ≡ RedoEmpty
+pub redo_refused : (d : Design) (past future : Buffer Entry) → slice_get future.items 0 ≡ None → unwrap_or (redo_fault (history_from d past future)) Memory ≡ RedoEmpty
 redo_refused d past future e =
     elim (first_cases future.items) [
-      | inl none ↦ ap or_memory (no_redo d past future none)
+      | inl none ↦ ap (λ (fault : Option EditFault). unwrap_or fault Memory) (no_redo d past future none)
       | inr some ↦ absurd (let at : None ≡ Some some.0 = sym e ∙ some.1 in cc)
     ]
 

@@ -3,7 +3,7 @@ use Rattle.std.specs.Prelude.{◌≡◌, ◌≢◌, ℕ, ◌<◌, ◌≤◌, Lis
 use Rattle.picture.specs.declared.line_id.Axis.{Axis}
 use Rattle.picture.specs.declared.line_id.LineId.{LineId}
 use Rattle.picture.specs.declared.picture.TheConstants.{MAX_SIDE}
-use Rattle.picture.specs.Rows.{width_of, cell_at, lines_along, line_deleted, lines_swapped, Rows}
+use Rattle.picture.specs.Rows.{width_of, cell_at, lines_along, without_line, lines_swapped, Rows}
 use Rattle.clues.specs.declared.places.Places.TheVariants.{Inserted, Deleted, Swapped}
 use Rattle.clues.specs.Change.{AgreesOff, Moves, moved_along, still}
 use Rattle.picture.specs.CrossingLines.{crossing}
@@ -53,7 +53,7 @@ abbrev pub Leads : Edit → List Cell → Rows → Rows → Type 0
 Leads (InsertLine line) cells old new =
     (line.at ≤ lines_along line.axis old) × (lines_along line.axis old < MAX_SIDE) × AgreesOff line old new
 Leads (DeleteLine line) cells old new =
-    (line.at < lines_along line.axis old) × (1 < lines_along line.axis old) × (new ≡ line_deleted old line)
+    (line.at < lines_along line.axis old) × (1 < lines_along line.axis old) × (new ≡ without_line line.axis line.at old)
 Leads (SwapLines axis first second) cells old new =
     (first < lines_along axis old) × (second < lines_along axis old) × (new ≡ lines_swapped axis first second old)
 Leads e cells old new = DifferIn cells old new

@@ -1,10 +1,10 @@
 -- Why an edit is refused: the first error in order whose condition holds.
 use Rattle.std.specs.Prelude.{ℕ, Bool, ◌&&◌, ◌||◌, not, nat_le, nat_lt, ◌==◌, nat_eq, List, [], ◌∷◌, ◌++◌, length}
-use Rattle.std.specs.Prelude.{Option, option_map, codes}
+use Rattle.std.specs.Prelude.{Option, option_map, codes, remove}
 use Rattle.std.specs.List.{find, list_any}
 use Rattle.std.specs.Cmp.Lexicographic.{pointwise}
 use Rattle.picture.specs.declared.picture.TheConstants.{MAX_SIDE, MAX_COLOURS}
-use Rattle.picture.specs.Palette.{Colours, fits, rgb_eq, stands_elsewhere}
+use Rattle.picture.specs.Palette.{Colours, fits, rgb_eq}
 use Rattle.picture.specs.Rows.{width_of, lines_along, Rows}
 use Rattle.edits.specs.declared.edit.Edit.{Edit}
 use Rattle.edits.specs.declared.edit.Edit.TheVariants.{Paint, Fill, Recolour, InsertLine, DeleteLine, SwapLines}
@@ -57,7 +57,7 @@ faults_of d (AddColour rgb) =
     ∷ (list_any (rgb_eq rgb) d.colours.triples, DuplicateColour) ∷ []
 faults_of d (SetColour colour rgb) =
     (is_unknown d.colours colour, Colour) ∷ (not (fits d.colours.maxval rgb), SampleOver)
-    ∷ (stands_elsewhere d.colours.triples colour rgb, DuplicateColour) ∷ (colour == 0, Background) ∷ []
+    ∷ (list_any (rgb_eq rgb) (remove d.colours.triples colour), DuplicateColour) ∷ (colour == 0, Background) ∷ []
 faults_of d (Pin row col) = (not (has_cell d.rows row col), Place) ∷ []
 faults_of d (Unpin row col) = (not (has_cell d.rows row col), Place) ∷ []
 

@@ -1,12 +1,12 @@
 -- The history of a document: a present document, those before it and those after it, each with the edit between.
 use Rattle.std.specs.Prelude.{◌≡◌, ℕ, ◌-◌, List, [], ◌∷◌, ◌++◌, length, take, drop, Option, Some, None, slice_get}
-use Rattle.std.specs.Prelude.{option_map, unwrap_or}
+use Rattle.std.specs.Prelude.{option_map, unwrap_or, ◌==◌, if◌then◌else◌}
 use Rattle.picture.specs.Rows.{Rows}
-use Rattle.circular_buffer.specs.Buffer.{keep_last}
+use Rattle.circular_buffer.specs.Buffer.{keep_last, last_item}
 use Rattle.clues.specs.Change.{Changes, Moves, AreMoves, IsChangeOf}
 use Rattle.edits.specs.declared.edit.Edit.{Edit}
 use Rattle.edits.specs.declared.fault.EditFault.{EditFault}
-use Rattle.edits.specs.declared.fault.EditFault.TheVariants.{UndoEmpty, RedoEmpty, Memory}
+use Rattle.edits.specs.declared.fault.EditFault.TheVariants.{UndoEmpty, RedoEmpty}
 use Rattle.edits.specs.Design.{Design}
 use Rattle.edits.specs.Edit.{edited}
 use Rattle.edits.specs.Fault.{edit_fault}
@@ -42,34 +42,19 @@ after_undo h t = history t.document (take (length h.past - 1) h.past) (turn h.do
 abbrev pub after_redo : History → Turn → History
 after_redo h t = history t.document (h.past ++ turn h.document t.edit ∷ []) (drop 1 h.future) h.depth
 
-abbrev pub last_turn : List Turn → Option Turn
-last_turn turns = slice_get turns (length turns - 1)
-
-abbrev pub first_turn : List Turn → Option Turn
-first_turn turns = slice_get turns 0
-
 -- a step back and a step forth, where there is one
 abbrev pub undone : History → History
-undone h = unwrap_or (option_map (after_undo h) (last_turn h.past)) h
+undone h = unwrap_or (option_map (after_undo h) (last_item h.past)) h
 
 abbrev pub redone : History → History
-redone h = unwrap_or (option_map (after_redo h) (first_turn h.future)) h
+redone h = unwrap_or (option_map (after_redo h) (slice_get h.future 0)) h
 
 -- why they are refused
-abbrev pub fault_if_empty : List Turn → EditFault → Option EditFault
-fault_if_empty [] fault = Some fault
-fault_if_empty (t ∷ turns) fault = None
-
 abbrev pub undo_fault : History → Option EditFault
-undo_fault h = fault_if_empty h.past UndoEmpty
+undo_fault h = if length h.past == 0 then Some UndoEmpty else None
 
 abbrev pub redo_fault : History → Option EditFault
-redo_fault h = fault_if_empty h.future RedoEmpty
-
--- The error that is answered: out of memory only where there is no other.
-abbrev pub or_memory : Option EditFault → EditFault
-or_memory None = Memory
-or_memory (Some fault) = fault
+redo_fault h = if length h.future == 0 then Some RedoEmpty else None
 
 -- how a history goes on: by an edit, with what is kept of it, or along the edits that it has
 pub data Advance : Type 0 where

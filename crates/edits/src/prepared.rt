@@ -1,12 +1,13 @@
 //! A step of the history that is ready to be taken.
 
-ghost use Rattle.std.specs.Prelude.{◌≡◌, None, IfErr, IfOk};
+ghost use Rattle.std.specs.Prelude.{◌≡◌, None, IfErr, IfOk, unwrap_or};
 ghost use Rattle.clues.specs.Change.{back};
+ghost use Rattle.edits.specs.declared.fault.EditFault.TheVariants.{Memory};
 ghost use Rattle.edits.specs.Change.{moves_of};
 ghost use Rattle.edits.specs.Design.{Design, design_of};
 ghost use Rattle.edits.specs.Edit.{edited};
 ghost use Rattle.edits.specs.Fault.{edit_fault};
-ghost use Rattle.edits.specs.History.{ByEdit, ByRedo, ByUndo, IsMade, or_memory};
+ghost use Rattle.edits.specs.History.{ByEdit, ByRedo, ByUndo, IsMade};
 ghost use Rattle.edits.specs.Note.{IsEntry, IsStep, note_for, note_of};
 
 use crate::edit::Edit;
@@ -62,7 +63,7 @@ impl Prepared {
 /// An edit of a document, and what is kept of it.
 pub fn edit_of(alloc: Global, document: &Document, edit: &Edit) -> Result<Prepared, EditFault>
     ensures refused { IfErr result
-        (λ fault. fault ≡ or_memory (edit_fault (design_of document.now) edit.now)) }
+        (λ fault. fault ≡ unwrap_or (edit_fault (design_of document.now) edit.now) Memory) }
     ensures lawful { IfOk result (λ _. edit_fault (design_of document.now) edit.now ≡ None) }
     ensures made { IfOk result (λ p. IsMade (ByEdit (note_for (design_of document.now) edit.now))
         (moves_of edit.now document.now.picture)

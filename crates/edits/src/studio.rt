@@ -1,12 +1,13 @@
 //! A document with the history of its edits.
 
-ghost use Rattle.std.specs.Prelude.{◌≡◌, ◌<◌, ◌≤◌, [], None, IfErr, IfOk, IfSome, length, option_copied, option_map, slice_get};
+ghost use Rattle.std.specs.Prelude.{◌≡◌, ◌<◌, ◌≤◌, [], None, IfErr, IfOk, IfSome, length, option_copied, option_map, slice_get, unwrap_or};
 ghost use Rattle.circular_buffer.specs.Buffer.{last_item};
 ghost use Rattle.clues.specs.Change.{IsChangeOf, back};
+ghost use Rattle.edits.specs.declared.fault.EditFault.TheVariants.{Memory};
 ghost use Rattle.edits.specs.Change.{moves_of};
 ghost use Rattle.edits.specs.Design.{design_of};
 ghost use Rattle.edits.specs.Fault.{edit_fault};
-ghost use Rattle.edits.specs.History.{IsChangeBy, IsPlanFor, advanced, after_edit, first_turn, history, last_turn, or_memory, redo_fault, redone, undo_fault, undone};
+ghost use Rattle.edits.specs.History.{IsChangeBy, IsPlanFor, advanced, after_edit, history, redo_fault, redone, undo_fault, undone};
 ghost use Rattle.edits.specs.Note.{note_for, note_of};
 ghost use Rattle.edits.specs.Studio.{future_after, past_after, with_first, with_last, without_first, without_last};
 
@@ -82,7 +83,7 @@ impl Studio {
     /// What is kept of the last edit that can be undone.
     pub fn last_entry(&self) -> Option<&Entry>
         ensures { option_map note_of (option_copied result)
-            ≡ option_map (λ turn. note_for turn.document turn.edit) (last_turn self.now.past) }
+            ≡ option_map (λ turn. note_for turn.document turn.edit) (last_item self.now.past) }
     {
         self.past.back()
     }
@@ -90,7 +91,7 @@ impl Studio {
     /// What an edit comes to, or the first error that refuses it. The studio stays as it is.
     pub fn prepare(&self, alloc: Global, edit: &Edit) -> Result<Prepared, EditFault>
         ensures refused { IfErr result
-            (λ fault. fault ≡ or_memory (edit_fault self.now.document edit.now)) }
+            (λ fault. fault ≡ unwrap_or (edit_fault self.now.document edit.now) Memory) }
         ensures lawful { IfOk result (λ _. edit_fault self.now.document edit.now ≡ None) }
         ensures ready { IfOk result (λ p. IsPlanFor self.now p) }
         ensures next { IfOk result
@@ -105,11 +106,11 @@ impl Studio {
 
     /// What taking back the last edit comes to. `UndoEmpty` where there is none. The studio stays as it is.
     pub fn prepare_undo(&self) -> Result<Prepared, EditFault>
-        ensures refused { IfErr result (λ fault. fault ≡ or_memory (undo_fault self.now)) }
+        ensures refused { IfErr result (λ fault. fault ≡ unwrap_or (undo_fault self.now) Memory) }
         ensures lawful { IfOk result (λ _. undo_fault self.now ≡ None) }
         ensures ready { IfOk result (λ p. IsPlanFor self.now p) }
         ensures next { IfOk result (λ p. advanced self.now p.advance ≡ undone self.now) }
-        ensures change { IfOk result (λ p. IfSome (last_turn self.now.past) (λ turn.
+        ensures change { IfOk result (λ p. IfSome (last_item self.now.past) (λ turn.
             IsChangeBy
             (back (moves_of turn.edit turn.document.rows)) self.now.document.rows
             p.document.rows p.change)) }
@@ -123,11 +124,11 @@ impl Studio {
     /// What making the edit again that was undone last comes to. `RedoEmpty` where there is none. The studio stays as
     /// it is.
     pub fn prepare_redo(&self) -> Result<Prepared, EditFault>
-        ensures refused { IfErr result (λ fault. fault ≡ or_memory (redo_fault self.now)) }
+        ensures refused { IfErr result (λ fault. fault ≡ unwrap_or (redo_fault self.now) Memory) }
         ensures lawful { IfOk result (λ _. redo_fault self.now ≡ None) }
         ensures ready { IfOk result (λ p. IsPlanFor self.now p) }
         ensures next { IfOk result (λ p. advanced self.now p.advance ≡ redone self.now) }
-        ensures change { IfOk result (λ p. IfSome (first_turn self.now.future) (λ turn.
+        ensures change { IfOk result (λ p. IfSome (slice_get self.now.future 0) (λ turn.
             IsChangeBy
             (moves_of turn.edit self.now.document.rows) self.now.document.rows p.document.rows
             p.change)) }

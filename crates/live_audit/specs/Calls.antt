@@ -1,5 +1,5 @@
 -- What a stroke comes to on a bench, and lists of strokes.
-use Rattle.std.specs.Prelude.{◌≡◌, ◌≤◌, ℕ, List, [], ◌∷◌, Option, Some, None}
+use Rattle.std.specs.Prelude.{◌≡◌, ◌≤◌, ℕ, List, [], ◌∷◌, Option, Some, None, unwrap_or}
 use Rattle.cert_text.specs.Cert.{Certificate}
 use Rattle.clues.specs.Change.{Moves}
 use Rattle.kept_audit.specs.Audit.{GoesOn}
@@ -8,7 +8,8 @@ use Rattle.second_search.specs.Verdict.{Verdict as Judgement}
 use Rattle.second_search.specs.CarriedParts.{Carries}
 use Rattle.second_search.specs.JudgedParts.{HasFilling, Judges}
 use Rattle.edits.specs.declared.fault.EditFault.{EditFault}
-use Rattle.edits.specs.History.{History, or_memory}
+use Rattle.edits.specs.declared.fault.EditFault.TheVariants.{Memory}
+use Rattle.edits.specs.History.{History}
 use Rattle.live_audit.specs.declared.certifying.Finding.{Finding}
 use Rattle.live_audit.specs.declared.verdict.Verdict.{Verdict}
 use Rattle.live_audit.specs.Bench.{AreAnswersOf, Seen, IsAudited, board_seen, nothing_done}
@@ -67,7 +68,7 @@ pub record Accepts (stroke : Stroke) (old new : Seen) : Type 0 where
 -- A stroke is refused by the first error that holds, or since memory ran out where none does. Nothing changes. Where an
 -- error holds the engine was not called either.
 pub record Refuses (stroke : Stroke) (fault : EditFault) (old new : Seen) : Type 0 where
-  pub first : fault ≡ or_memory (stroke_fault old.history stroke)
+  pub first : fault ≡ unwrap_or (stroke_fault old.history stroke) Memory
   pub as_before : IsAsBefore old new
   pub uncalled : (found : EditFault) → stroke_fault old.history stroke ≡ Some found → new ≡ old
 
@@ -124,7 +125,7 @@ after_calls m (call ∷ calls) = after_calls (after_call m call) calls
 -- certificate fits that document.
 abbrev pub IsRight : Machine → Call → Type 0
 IsRight m (Strokes stroke None) = stroke_fault m.history stroke ≡ None
-IsRight m (Strokes stroke (Some fault)) = fault ≡ or_memory (stroke_fault m.history stroke)
+IsRight m (Strokes stroke (Some fault)) = fault ≡ unwrap_or (stroke_fault m.history stroke) Memory
 IsRight m (Asks None) = Unit {0}
 IsRight m (Asks (Some verdict)) = IsVerdictOn m.history.document m.allowance verdict
 IsRight m (Allows allowance) = Unit {0}

@@ -1,23 +1,27 @@
 -- Certificates of a document.
-use Rattle.std.specs.Prelude.{◌≡◌, ℕ, ◌↔◌, List, [], ◌∷◌, Option, None, Some}
+use Rattle.std.specs.Prelude.{◌≡◌, ℕ, ◌↔◌, List, [], ◌∷◌, map, Option, None, Some, unwrap_or}
+use Rattle.std.specs.List.{flat_map, position}
+use Rattle.picture.specs.declared.rgb.Rgb.{Rgb}
+use Rattle.picture.specs.Palette.{first_of, rgb_eq, triple_at}
 use Rattle.picture.specs.Rows.{Rows}
-use Rattle.picture.specs.Document.{ordered_triples, renumbered_rows}
+use Rattle.picture.specs.Document.{seen_after}
 use Rattle.cert_text.specs.declared.tree_line.CellNumber.{CellNumber}
 use Rattle.cert_text.specs.Cert.{AreOrdered, Certificate, IsCert}
 use Rattle.certificate.specs.FirstFault.{CertFirstFault}
 use Rattle.certificate.specs.MadeCert.{EachExcludes}
 use Rattle.certificate.specs.Puzzle.{IsAmong, base_of, numbered}
 use Rattle.certificate.specs.Tree.{IsProof}
-use Rattle.edits.specs.Design.{Design, design}
+use Rattle.edits.specs.Design.{Design}
 use Rattle.live_audit.specs.Bench.{IsGiven}
 use Rattle.live_audit.specs.Verdict.{IsOtherFor}
 
--- the document with its colours numbered as they appear
+-- the document with its colours numbered as they appear in row order after the background, and no others
 abbrev pub ordered : Design → Design
 ordered d =
-    let triples = ordered_triples d.colours.triples d.rows in
-    design (record { maxval = d.colours.maxval; triples = triples })
-    (renumbered_rows triples d.colours.triples d.rows) d.marks
+    let shown : ℕ → Rgb = triple_at d.colours.triples in
+    let order = seen_after (first_of d.colours.triples ∷ []) (flat_map (map shown) d.rows) in
+    let number : ℕ → ℕ = λ k. unwrap_or (position (rgb_eq (shown k)) order) 0 in
+    record d { colours = record d.colours { triples = order }; rows = map (map number) d.rows }
 
 -- exactly the givens of a document, by their numbers, in the order of rows
 pub record NamesMarks (d : Design) (cells : List CellNumber) : Type 0 where

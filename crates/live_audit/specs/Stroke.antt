@@ -1,13 +1,13 @@
 -- What a designer does to a document, and how its history goes on.
-use Rattle.std.specs.Prelude.{length, Option, Some, None}
+use Rattle.std.specs.Prelude.{length, slice_get, Option, Some, None}
+use Rattle.circular_buffer.specs.Buffer.{last_item}
 use Rattle.picture.specs.Rows.{width_of, Rows}
 use Rattle.clues.specs.Change.{Moves, back, still}
 use Rattle.edits.specs.declared.edit.Edit.{Edit}
 use Rattle.edits.specs.declared.fault.EditFault.{EditFault}
 use Rattle.edits.specs.Change.{moves_of}
 use Rattle.edits.specs.Fault.{edit_fault}
-use Rattle.edits.specs.History.{History, Turn, after_edit, first_turn, last_turn, redo_fault, redone, undo_fault}
-use Rattle.edits.specs.History.{undone}
+use Rattle.edits.specs.History.{History, Turn, after_edit, redo_fault, redone, undo_fault, undone}
 
 -- an edit, or a step back or forth along the edits that were made
 pub data Stroke : Type 0 where
@@ -38,5 +38,5 @@ moves_forth rows (Some t) = moves_of t.edit rows
 
 abbrev pub stroke_moves : History → Stroke → Moves
 stroke_moves h (Edits e) = moves_of e h.document.rows
-stroke_moves h Undoes = moves_back h.document.rows (last_turn h.past)
-stroke_moves h Redoes = moves_forth h.document.rows (first_turn h.future)
+stroke_moves h Undoes = moves_back h.document.rows (last_item h.past)
+stroke_moves h Redoes = moves_forth h.document.rows (slice_get h.future 0)

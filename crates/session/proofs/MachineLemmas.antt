@@ -1,7 +1,9 @@
 -- A session's lines over the machine of a history and an allowance.
 use Rattle.std.proofs.Common.{◌≡◌, ◌≤◌, ◌⊎◌, ℕ, Bool, true, false, List, [], ◌∷◌, ◌++◌, Option, Some, None, inl, inr, refl, sym, ap, subst, ◌∙◌, arith, if◌then◌else◌}
+use Rattle.std.specs.Option.{unwrap_or}
 use Rattle.edits.specs.declared.fault.EditFault.{EditFault}
-use Rattle.edits.specs.History.{History, or_memory}
+use Rattle.edits.specs.declared.fault.EditFault.TheVariants.{Memory}
+use Rattle.edits.specs.History.{History}
 use Rattle.live_audit.specs.Bench.{IsAudited, Seen}
 use Rattle.live_audit.specs.Calls.{Accepts, IsAsBefore, Machine, machine}
 use Rattle.live_audit.proofs.CallLemmas.{still_audited}
@@ -59,12 +61,12 @@ not_memory text m n e =
     subst P (sym e) done
 
 -- a stroke that is refused leaves the machine as it is: by an error, or for memory
-left : (m : Machine) (stroke : Stroke) (found : Option EditFault) (fault : EditFault) (text : List ℕ) → fault ≡ or_memory found → text ≡ edit_line fault
+left : (m : Machine) (stroke : Stroke) (found : Option EditFault) (fault : EditFault) (text : List ℕ) → fault ≡ unwrap_or found Memory → text ≡ edit_line fault
     → (if is_word text memory_line then m else after_lawful m stroke found) ≡ m
 left m stroke (Some f) fault text e t = either (is_word text memory_line) m
 left m stroke None fault text e t =
     let P : List ℕ → Type 0 = λ x. (if is_word x memory_line then m else after_lawful m stroke None) ≡ m in
-    let short : P (edit_line (or_memory None)) = refl in
+    let short : P (edit_line Memory) = refl in
     subst P (sym (t ∙ ap edit_line e)) short
 
 stroke_at : (stroke : Stroke) (old new : Seen) (text : List ℕ) → IsAudited old → SaysStroke stroke old text new

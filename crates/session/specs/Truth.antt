@@ -1,7 +1,7 @@
 -- What each line of a session is answered, told of the history and
 -- the allowance alone: nothing of how it is found, kept or counted.
 use Rattle.std.specs.Prelude.{◌≡◌, ◌<◌, ◌⊎◌, ℕ, true, false, List, [], ◌∷◌, ◌++◌, length, take, codes, Option}
-use Rattle.std.specs.Prelude.{None, Result, Ok, Err}
+use Rattle.std.specs.Prelude.{None, Result, Ok, Err, unwrap_or}
 use Rattle.std.specs.List.{concat}
 use Rattle.std.specs.Io.KnownBytes.{Appends, Consumes, IsAtEnd}
 use Rattle.line_facts.specs.Masks.{IsOnly, Masks}
@@ -17,10 +17,10 @@ use Rattle.justify.specs.Exclusions.{CanHaveWithout}
 use Rattle.justify.specs.Premises.{ArePremises, Says, SaysBut}
 use Rattle.kept_audit.specs.Audit.{AreGivens}
 use Rattle.edits.specs.declared.fault.EditFault.{EditFault}
-use Rattle.edits.specs.declared.fault.EditFault.TheVariants.{Place}
+use Rattle.edits.specs.declared.fault.EditFault.TheVariants.{Memory, Place}
 use Rattle.edits.specs.Design.{Design}
 use Rattle.edits.specs.Fault.{edit_fault, has_cell}
-use Rattle.edits.specs.History.{History, after_edit, or_memory, redo_fault, redone, undo_fault, undone}
+use Rattle.edits.specs.History.{History, after_edit, redo_fault, redone, undo_fault, undone}
 use Rattle.second_search.specs.Parts.{IsChained, IsOpenCell}
 use Rattle.second_search.specs.FixedOrder.{SplitsPast}
 use Rattle.cert_text.specs.Cert.{Certificate}
@@ -118,7 +118,7 @@ TellsProof d text =
 abbrev pub TellsStroke : Machine → Option EditFault → History → List ℕ → Machine → Type 0
 TellsStroke m fault after text next =
     ((fault ≡ None) × ((text ≡ done_text) × (next ≡ machine after m.allowance)))
-    ⊎ ((text ≡ edit_line (or_memory fault)) × (next ≡ m))
+    ⊎ ((text ≡ edit_line (unwrap_or fault Memory)) × (next ≡ m))
 
 -- what is right of the text, or that memory ran out
 abbrev pub OrMemory : List ℕ → Type 0 → Type 0
