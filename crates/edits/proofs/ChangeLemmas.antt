@@ -16,14 +16,14 @@ use Rattle.clues.specs.Laws.{IsAtPlace, IsOnLine}
 use Rattle.edits.specs.declared.edit.Edit.{Edit}
 use Rattle.edits.specs.declared.edit.Edit.TheVariants.{Paint, Fill, Recolour, InsertLine, DeleteLine, SwapLines, AddColour, SetColour, Pin, Unpin}
 use Rattle.edits.specs.Change.{CrossesApart, DifferIn, IsCrossed, Leads, moves_of, nth_cell, reversed_edit}
-use Rattle.edits.specs.Design.{Design, IsDesign, grid}
+use Rattle.edits.specs.Design.{Design, IsDesign}
 use Rattle.edits.specs.Edit.{colour_after, edited, painted}
 use Rattle.edits.specs.Fault.{edit_fault}
 use Rattle.edits.specs.Note.{Cell, IsStep, cells_along, cells_kept, changed_cells, note_for, place_on}
 use Rattle.edits.proofs.ApplyLemmas.{Paints, delete_fits, fill_paints, insert_fits, paint_paints, recolour_paints, swap_fits}
 use Rattle.edits.proofs.CellLemmas.{Has, all_has, changed_from, changed_has}
 use Rattle.edits.proofs.FaultLemmas.{lawful}
-use Rattle.edits.proofs.GridLemmas.{cell_at-grid, length-grid, own_grid, width_of-grid}
+use Rattle.edits.proofs.GridLemmas.{cell_at-grid, length-grid, width_of-grid}
 use Rattle.edits.proofs.ShiftLemmas.{swapped_sizes}
 use Rattle.edits.proofs.StepLemmas.{redelete_fits, reinsert_fits, reswap_fits, step_reverts}
 
@@ -179,9 +179,6 @@ module _ (b d : Design) (is : IsDesign b) where
     off_line = ap (λ (x : Design). x.rows) (step_reverts b (note_for b (InsertLine line)) d (step_from (InsertLine line) none gives));
   }
 
-  rows_stay : grid (length b.rows) (width_of b.rows) (λ i j. cell_at b.rows i j) ≡ d.rows → DifferIn [] b.rows d.rows
-  rows_stay gives = subst (DifferIn [] b.rows) (sym (own_grid b.rows is.is_picture) ∙ gives) (none_differ b.rows)
-
   pub leads : (e : Edit) → edit_fault b e ≡ None → edited b e ≡ d → Leads e (cells_kept b.rows e) b.rows d.rows
   leads (Paint row col colour) none gives = painted_differ b d (Paint row col colour) is (paint_paints row col colour) gives
   leads (Fill top left bottom right colour) none gives = painted_differ b d (Fill top left bottom right colour) is (fill_paints top left bottom right colour) gives
@@ -195,10 +192,10 @@ module _ (b d : Design) (is : IsDesign b) where
   leads (SwapLines axis first second) none gives =
       let fits = swap_fits b axis first second is (lawful b (SwapLines axis first second) none) in
       (fits.0, fits.1, ap (λ (x : Design). x.rows) (sym gives))
-  leads (AddColour rgb) none gives = rows_stay (ap (λ (x : Design). x.rows) gives)
-  leads (SetColour colour rgb) none gives = rows_stay (ap (λ (x : Design). x.rows) gives)
-  leads (Pin row col) none gives = rows_stay (ap (λ (x : Design). x.rows) gives)
-  leads (Unpin row col) none gives = rows_stay (ap (λ (x : Design). x.rows) gives)
+  leads (AddColour rgb) none gives = subst (λ (x : Design). DifferIn [] b.rows x.rows) gives (none_differ b.rows)
+  leads (SetColour colour rgb) none gives = subst (λ (x : Design). DifferIn [] b.rows x.rows) gives (none_differ b.rows)
+  leads (Pin row col) none gives = subst (λ (x : Design). DifferIn [] b.rows x.rows) gives (none_differ b.rows)
+  leads (Unpin row col) none gives = subst (λ (x : Design). DifferIn [] b.rows x.rows) gives (none_differ b.rows)
 
   pub leads_back : (e : Edit) → edit_fault b e ≡ None → edited b e ≡ d → Leads (reversed_edit e) (cells_kept b.rows e) d.rows b.rows
   leads_back (InsertLine line) none gives =

@@ -44,10 +44,6 @@ pub grid_same : (h w : ℕ) (value : ℕ → ℕ → ℕ) (rows : Rows) → IsGr
 grid_same h w value rows is same =
     same_grid h w (grid h w value) rows (grid_is_grid h w value) is (λ i j in_rows in_columns. cell_at-grid h w value i j in_rows in_columns ∙ same i j in_rows in_columns)
 
--- a picture is the grid of its own cells
-pub own_grid : (rows : Rows) → IsPicture rows → grid (length rows) (width_of rows) (λ i j. cell_at rows i j) ≡ rows
-own_grid rows is = grid_same (length rows) (width_of rows) (λ i j. cell_at rows i j) rows (picture_is_grid rows is) (λ i j in_rows in_columns. refl)
-
 -- outside a grid there is nothing
 pub cell_at-past_rows : (rows : Rows) (i j : ℕ) → length rows ≤ i → cell_at rows i j ≡ 0
 cell_at-past_rows rows i j past = ap (λ row. get_or row j 0) (get_or_past rows i [] past)

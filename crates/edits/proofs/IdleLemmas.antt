@@ -10,17 +10,17 @@ use Rattle.std.proofs.lemmas.Option.{get_or_from_slice_get}
 use Rattle.picture.specs.declared.line_id.Axis.{Axis}
 use Rattle.picture.specs.declared.line_id.Axis.TheVariants.{Across, Down}
 use Rattle.picture.specs.declared.rgb.Rgb.{Rgb}
-use Rattle.picture.specs.Palette.{Colours, place_of, rgb_eq, with_triple}
+use Rattle.picture.specs.Palette.{place_of, rgb_eq, with_triple}
 use Rattle.picture.specs.Picture.{IsPicture}
 use Rattle.picture.specs.Rows.{cell_at, width_of, with_cell, lines_along, lines_swapped, Rows}
 use Rattle.clues.proofs.EditedPictures.{swap-same}
 use Rattle.edits.specs.declared.edit.Edit.{Edit}
-use Rattle.edits.specs.Design.{Design, design, grid, IsGrid, IsDesign}
+use Rattle.edits.specs.Design.{Design, design, IsGrid, IsDesign}
 use Rattle.edits.specs.Edit.{painted}
 use Rattle.edits.specs.Fault.{same_design}
 use Rattle.edits.specs.Note.{changed_cells, cells_along, place_on}
 use Rattle.edits.specs.Areas.{AreAlike, SameAt}
-use Rattle.edits.proofs.GridLemmas.{own_grid, picture_is_grid, cell_at-with_same}
+use Rattle.edits.proofs.GridLemmas.{picture_is_grid, cell_at-with_same}
 use Rattle.edits.proofs.CellLemmas.{painted_unchanged, unchanged_painted}
 use Rattle.edits.proofs.LineLemmas.{size_along}
 use Rattle.edits.proofs.RevertLemmas.{with_cell_same, size_of_lines}
@@ -49,11 +49,6 @@ pub paint_idle : (d : Design) (e : Edit) (b : Bool) → IsPicture d.rows → Mat
     → not b ≡ same_design (design d.colours (painted e d.rows) d.marks) d
 paint_idle d e true is some = sym (other_when _ d (λ same. some (unchanged_painted e d.rows (ap (λ (x : Design). x.rows) same))))
 paint_idle d e false is none = sym (same_when _ d (ap (λ r. design d.colours r d.marks) (painted_unchanged e d.rows is none)))
-
--- a picture is the grid of its own cells
-pub own_rows : (d : Design) (colours : Colours) (marks : Rows) → IsPicture d.rows
-    → same_design (design colours d.rows marks) d ≡ same_design (design colours (grid (length d.rows) (width_of d.rows) (λ i j. cell_at d.rows i j)) marks) d
-own_rows d colours marks is = ap (λ rows. same_design (design colours rows marks) d) (sym (own_grid d.rows is))
 
 -- lines exchanged
 pub alike_swapped : (axis : Axis) (first second h w : ℕ) (rows : Rows) → IsGrid h w rows → 0 < h → first < size_along axis h w → second < size_along axis h w

@@ -11,11 +11,11 @@ use Rattle.picture.specs.Palette.{Colours, with_colour, with_triple, without_las
 use Rattle.picture.specs.Rows.{width_of, cell_at, with_cell, lines_along, Rows}
 use Rattle.edits.specs.declared.edit.Edit.{Edit}
 use Rattle.edits.specs.declared.edit.Edit.TheVariants.{Paint, Fill, Recolour, InsertLine, DeleteLine, SwapLines, AddColour, SetColour, Pin, Unpin}
-use Rattle.edits.specs.Design.{Design, design, grid, IsDesign, IsGrid}
+use Rattle.edits.specs.Design.{Design, design, IsDesign, IsGrid}
 use Rattle.edits.specs.Edit.{edited, rows_after, marks_after, colours_after}
 use Rattle.edits.specs.Fault.{edit_fault, has_cell}
 use Rattle.edits.specs.Note.{note_for, reverted, with_old}
-use Rattle.edits.proofs.GridLemmas.{own_grid, picture_is_grid}
+use Rattle.edits.proofs.GridLemmas.{picture_is_grid}
 use Rattle.edits.proofs.CellLemmas.{gives_cells_back}
 use Rattle.edits.proofs.LineLemmas.{size_along, delete_insert, swap_back, gives_line_back, gives_givens_back}
 use Rattle.edits.proofs.FaultLemmas.{IsLawful, lawful, same_parts, differs}
@@ -53,9 +53,6 @@ module _ (d : Design) (is : IsDesign d) where
   grid_of_rows : IsGrid (length d.rows) (width_of d.rows) d.rows
   grid_of_rows = picture_is_grid d.rows is.is_picture
 
-  own : grid (length d.rows) (width_of d.rows) (λ i j. cell_at d.rows i j) ≡ d.rows
-  own = own_grid d.rows is.is_picture
-
   unchanged : (e : Edit) → IsLawful d e → design (colours_after e d.colours) (rows_after e d.rows) (marks_after e d.marks) ≢ d
   unchanged e is_lawful = differs (edited d e) d is_lawful.changes
 
@@ -81,24 +78,24 @@ module _ (d : Design) (is : IsDesign d) where
       let second_in : second < size_along axis (length d.rows) (width_of d.rows) = rw (← size_of_lines axis d.rows) (grind (arith, nat_tests, is_lawful.inside)) in
       same_parts _ d refl (swap_back axis first second (length d.rows) (width_of d.rows) d.rows grid_of_rows first_in second_in)
       (swap_back axis first second (length d.rows) (width_of d.rows) d.marks is.marks_fit first_in second_in)
-  reverted-edited (AddColour rgb) none = same_parts _ d (pop_added d.colours rgb) own refl
+  reverted-edited (AddColour rgb) none = ap (λ c. design c d.rows d.marks) (pop_added d.colours rgb)
   reverted-edited (SetColour colour rgb) none =
       let is_lawful = lawful d (SetColour colour rgb) none in
       let within : colour < length d.colours.triples = grind (arith, nat_tests, is_lawful.coloured) in
-      same_parts _ d (old_set d.colours colour rgb (slice_get d.colours.triples colour) within refl) own refl
+      ap (λ c. design c d.rows d.marks) (old_set d.colours colour rgb (slice_get d.colours.triples colour) within refl)
   reverted-edited (Pin row col) none =
       let is_lawful = lawful d (Pin row col) none in
       let inside = not_in d.rows row col is_lawful.inside in
       let other : cell_at d.marks row col ≢ 1 =
-      λ one. unchanged (Pin row col) is_lawful (same_parts _ d refl own (ap (λ x. with_cell d.marks row col x) (sym one) ∙ with_cell_same d.marks row col)) in
+      λ one. unchanged (Pin row col) is_lawful (ap (λ m. design d.colours d.rows m) (ap (λ x. with_cell d.marks row col x) (sym one) ∙ with_cell_same d.marks row col)) in
       let none_here : cell_at d.marks row col ≡ 0 = omega (arith, is.are_marks row col, other) in
-      same_parts _ d refl own
+      ap (λ m. design d.colours d.rows m)
       (ap (λ x. with_cell (with_cell d.marks row col 1) row col x) (sym none_here) ∙ with_cell_back d.marks row col 1 (omega (arith, is.marks_fit.row_count, inside.0)))
   reverted-edited (Unpin row col) none =
       let is_lawful = lawful d (Unpin row col) none in
       let inside = not_in d.rows row col is_lawful.inside in
       let other : cell_at d.marks row col ≢ 0 =
-      λ zero_here. unchanged (Unpin row col) is_lawful (same_parts _ d refl own (ap (λ x. with_cell d.marks row col x) (sym zero_here) ∙ with_cell_same d.marks row col)) in
+      λ zero_here. unchanged (Unpin row col) is_lawful (ap (λ m. design d.colours d.rows m) (ap (λ x. with_cell d.marks row col x) (sym zero_here) ∙ with_cell_same d.marks row col)) in
       let one_here : cell_at d.marks row col ≡ 1 = omega (arith, is.are_marks row col, other) in
-      same_parts _ d refl own
+      ap (λ m. design d.colours d.rows m)
       (ap (λ x. with_cell (with_cell d.marks row col 0) row col x) (sym one_here) ∙ with_cell_back d.marks row col 0 (omega (arith, is.marks_fit.row_count, inside.0)))

@@ -20,12 +20,14 @@ colour_after e i j x = x
 abbrev pub painted : Edit → Rows → Rows
 painted e rows = grid (length rows) (width_of rows) (λ i j. colour_after e i j (cell_at rows i j))
 
--- an edit moves lines, or each cell has the colour that it has afterwards
 abbrev pub rows_after : Edit → Rows → Rows
+rows_after (Paint row col colour) rows = painted (Paint row col colour) rows
+rows_after (Fill top left bottom right colour) rows = painted (Fill top left bottom right colour) rows
+rows_after (Recolour source target) rows = painted (Recolour source target) rows
 rows_after (InsertLine line) rows = with_line line.axis line.at rows
 rows_after (DeleteLine line) rows = without_line line.axis line.at rows
 rows_after (SwapLines axis first second) rows = lines_swapped axis first second rows
-rows_after e rows = painted e rows
+rows_after e rows = rows
 
 -- the givens move with the lines, and a new line has none
 abbrev pub marks_after : Edit → Rows → Rows

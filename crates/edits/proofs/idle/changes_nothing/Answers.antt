@@ -1,10 +1,9 @@
 use Rattle.std.proofs.Common.{ap, sym, ◌∙◌, arith, ◌<◌, length}
 use Rattle.std.proofs.lemmas.Bool.Decides.{nat_tests}
-use Rattle.picture.specs.Palette.{with_triple}
-use Rattle.picture.specs.Rows.{lines_along, with_cell}
+use Rattle.picture.specs.Rows.{lines_along}
 use Rattle.edits.specs.Design.{design_of}
 use Rattle.edits.specs.Fault.{same_design}
-use Rattle.edits.proofs.IdleLemmas.{own_rows, paint_idle, swap_idle, set_idle, pin_idle, unpin_idle}
+use Rattle.edits.proofs.IdleLemmas.{paint_idle, swap_idle, set_idle, pin_idle, unpin_idle}
 use Rattle.edits.proofs.ApplyLemmas.{paints}
 use Rattle.edits.proofs.RevertLemmas.{not_in}
 use Rattle.edits.proofs.idle.changes_nothing.Goals as goal
@@ -22,26 +21,14 @@ pub returns-in-SetColour : goal.returns-in-SetColour
 returns-in-SetColour c =
     let coloured = rw c.in-SetColour.is at c.requires.coloured in
     let within : c.in-SetColour.colour < length c.args.document.now.palette.triples = grind (arith, nat_tests, coloured) in
-    let d = design_of c.args.document.now in
-    rw c.in-SetColour.is (
-    set_idle d c.in-SetColour.colour c.in-SetColour.rgb c.rgb.result c.eq.result within c.rgb.ensures.stands c.eq.ensures
-    ∙ own_rows d (with_triple d.colours c.in-SetColour.colour c.in-SetColour.rgb) d.marks c.know.ensures.is_picture
-    )
+    rw c.in-SetColour.is (set_idle (design_of c.args.document.now) c.in-SetColour.colour c.in-SetColour.rgb c.rgb.result c.eq.result within c.rgb.ensures.stands c.eq.ensures)
 
 pub returns-in-Pin : goal.returns-in-Pin
 returns-in-Pin c =
     let inside = not_in c.args.document.now.picture c.in-Pin.row c.in-Pin.col (rw c.in-Pin.is at c.requires.inside) in
-    let d = design_of c.args.document.now in
-    rw c.in-Pin.is (
-    pin_idle d c.in-Pin.row c.in-Pin.col c.is_given.result c.know.ensures inside.0 inside.1 c.is_given.ensures
-    ∙ own_rows d d.colours (with_cell d.marks c.in-Pin.row c.in-Pin.col 1) c.know.ensures.is_picture
-    )
+    rw c.in-Pin.is (pin_idle (design_of c.args.document.now) c.in-Pin.row c.in-Pin.col c.is_given.result c.know.ensures inside.0 inside.1 c.is_given.ensures)
 
 pub returns-in-Unpin : goal.returns-in-Unpin
 returns-in-Unpin c =
     let inside = not_in c.args.document.now.picture c.in-Unpin.row c.in-Unpin.col (rw c.in-Unpin.is at c.requires.inside) in
-    let d = design_of c.args.document.now in
-    rw c.in-Unpin.is (
-    unpin_idle d c.in-Unpin.row c.in-Unpin.col c.is_given-in-Unpin.result c.know.ensures inside.0 inside.1 c.is_given-in-Unpin.ensures
-    ∙ own_rows d d.colours (with_cell d.marks c.in-Unpin.row c.in-Unpin.col 0) c.know.ensures.is_picture
-    )
+    rw c.in-Unpin.is (unpin_idle (design_of c.args.document.now) c.in-Unpin.row c.in-Unpin.col c.is_given-in-Unpin.result c.know.ensures inside.0 inside.1 c.is_given-in-Unpin.ensures)

@@ -1,10 +1,7 @@
-use Rattle.std.proofs.Common.{◌≡◌, ap, subst, sym, ◌∙◌, map, List, IfOk}
-use Rattle.picture.specs.Palette.{with_colour, with_triple}
-use Rattle.picture.specs.Rows.{with_cell, Rows}
+use Rattle.std.proofs.Common.{◌≡◌, ap, subst, ◌∙◌, map, List, IfOk}
 use Rattle.edits.specs.Design.{Design, design, design_of}
 use Rattle.edits.specs.Note.{Cell, Note, repainted, with_cells}
 use Rattle.edits.proofs.CellLemmas.{paints_cells}
-use Rattle.edits.proofs.GridLemmas.{own_grid}
 use Rattle.edits.proofs.FaultLemmas.{lawful}
 use Rattle.edits.proofs.ApplyLemmas.{paints, painted_coloured, cells_fit, painted_gives, insert_fits, delete_fits, swap_fits}
 use Rattle.edits.proofs.entry.Entry.apply.Goals as goal
@@ -52,30 +49,3 @@ returns-in-Paint c =
     let same = c.deref.ensures.value ∙ ap (λ (n : Note). n.cells) c.requires.kept ∙ p.kept c.args.document.now.picture in
     let gives = ap (λ (cells : List Cell). design d.colours (with_cells d.rows (map (repainted e) cells)) d.marks) same ∙ painted_gives d e c.requires.is_design (lawful d e c.requires.lawful) p in
     subst (λ (x : Design). IfOk c.painted.result (λ y. design_of y ≡ x)) gives c.painted.ensures
-
-pub returns-in-AddColour : goal.returns-in-AddColour
-returns-in-AddColour c =
-    let d = design_of c.args.document.now in
-    let own = sym (own_grid d.rows c.requires.is_design.is_picture) in
-    rw c.in-AddColour.is (subst (λ (rows : Rows). IfOk c.added.result (λ x. design_of x ≡ design (with_colour d.colours c.in-AddColour.rgb) rows d.marks)) own c.added.ensures)
-
-pub returns-in-SetColour : goal.returns-in-SetColour
-returns-in-SetColour c =
-    let d = design_of c.args.document.now in
-    let own = sym (own_grid d.rows c.requires.is_design.is_picture) in
-    rw c.in-SetColour.is
-    (subst (λ (rows : Rows). IfOk c.recoloured.result (λ x. design_of x ≡ design (with_triple d.colours c.in-SetColour.colour c.in-SetColour.rgb) rows d.marks)) own c.recoloured.ensures)
-
-pub returns-in-Pin : goal.returns-in-Pin
-returns-in-Pin c =
-    let d = design_of c.args.document.now in
-    let own = sym (own_grid d.rows c.requires.is_design.is_picture) in
-    rw c.in-Pin.is
-    (subst (λ (rows : Rows). IfOk c.pinned.result (λ x. design_of x ≡ design d.colours rows (with_cell d.marks c.in-Pin.row c.in-Pin.col 1))) own c.pinned.ensures)
-
-pub returns-in-Unpin : goal.returns-in-Unpin
-returns-in-Unpin c =
-    let d = design_of c.args.document.now in
-    let own = sym (own_grid d.rows c.requires.is_design.is_picture) in
-    rw c.in-Unpin.is
-    (subst (λ (rows : Rows). IfOk c.unpinned.result (λ x. design_of x ≡ design d.colours rows (with_cell d.marks c.in-Unpin.row c.in-Unpin.col 0))) own c.unpinned.ensures)

@@ -60,9 +60,6 @@ swapped-requires c =
     (rw c.in-SwapLines.is at c.requires.1.gives) in
     record { picture = c.know.ensures.is_picture; first_in = fits.0; second_in = fits.1; coloured = rw c.in-SwapLines.is at (step_coloured c.requires.0 (note_of c.args.self.now) d c.requires.1) }
 
-pub without_last-requires-clause-coloured : goal.without_last-requires-clause-coloured
-without_last-requires-clause-coloured c = rw c.in-AddColour.is at (step_coloured c.requires.0 (note_of c.args.self.now) (design_of c.args.document.now) c.requires.1)
-
 pub returns-in-Paint : goal.returns-in-Paint
 returns-in-Paint c =
     let d = design_of c.args.document.now in
@@ -76,9 +73,6 @@ returns-in-InsertLine c = gives_before c.deleted.result _ _ (note_of c.args.self
 
 pub returns-in-SwapLines : goal.returns-in-SwapLines
 returns-in-SwapLines c = gives_before c.swapped.result _ _ (note_of c.args.self.now) (rw c.in-SwapLines.is refl) c.swapped.ensures
-
-pub returns-in-AddColour : goal.returns-in-AddColour
-returns-in-AddColour c = gives_before c.without_last.result _ _ (note_of c.args.self.now) (rw c.in-AddColour.is refl) c.without_last.ensures
 
 pub returns-in-Some : goal.returns-in-Some
 returns-in-Some c = gives_before c.recoloured.result _ _ (note_of c.args.self.now) (rw (c.in-SetColour.is, c.in-Some.is) refl) c.recoloured.ensures
