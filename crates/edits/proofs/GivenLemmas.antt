@@ -4,12 +4,12 @@ use Rattle.std.proofs.lemmas.List.{map-append, take_more}
 use Rattle.picture.specs.CellSet.{PutsCell}
 use Rattle.picture.specs.Document.{AreInside}
 use Rattle.picture.specs.Rows.{width_of, with_cell, Rows}
-use Rattle.edits.specs.Design.{marks_of}
+use Rattle.edits.specs.Design.{marks_of, Marks}
 use Rattle.edits.specs.Note.{IsPlaceIn, as_mark, with_cells}
 use Rattle.edits.proofs.CellLemmas.{with_cells-push}
 use Rattle.edits.proofs.DesignLemmas.{pinned_marks}
 
-pub mark_more : (marks : Rows) (now : Rows) (places : List (ℕ × ℕ)) (i : ℕ) (d : ℕ × ℕ) → i < length places → now ≡ with_cells marks (map as_mark (take i places))
+pub mark_more : (marks : Marks) (now : Rows) (places : List (ℕ × ℕ)) (i : ℕ) (d : ℕ × ℕ) → i < length places → now ≡ with_cells marks (map as_mark (take i places))
     → with_cell now (get_or places i d).0 (get_or places i d).1 1 ≡ with_cells marks (map as_mark (take (i + 1) places))
 mark_more marks now places i d within same =
     rw same

@@ -3,7 +3,7 @@ use Rattle.std.proofs.Common.{◌≡◌, ◌≢◌, ℕ, ◌+◌, ◌<◌, ◌==
 use Rattle.std.proofs.lemmas.Bool.{cond-true, cond-false, eq-eqb, ne_eqb}
 use Rattle.picture.specs.declared.line_id.LineId.{LineId}
 use Rattle.picture.specs.Rows.{cell_at, width_of, Rows}
-use Rattle.edits.specs.Design.{mark_at, marks_of}
+use Rattle.edits.specs.Design.{mark_at, marks_of, Marks}
 use Rattle.edits.specs.Note.{Cell, joined, cell_on, given_on, place_on, cells_along, cells_of_line, givens_of_line}
 use Rattle.edits.proofs.CellLemmas.{joined_none, joined_more}
 use Rattle.edits.proofs.GridLemmas.{grid_is_grid}
@@ -14,7 +14,7 @@ use Rattle.picture.specs.declared.line_id.Axis.TheVariants.{Across, Down}
 unfoldable pub line_cells : Rows → LineId → ℕ → List Cell
 line_cells rows line n = joined (λ k. cell_on rows (place_on line.axis line.at k) ∷ []) n
 
-unfoldable pub line_givens : Rows → LineId → ℕ → List (ℕ × ℕ)
+unfoldable pub line_givens : Marks → LineId → ℕ → List (ℕ × ℕ)
 line_givens marks line n = joined (λ k. given_on marks (place_on line.axis line.at k)) n
 
 pub no_cells_yet : (rows : Rows) (line : LineId) → [] ≡ line_cells rows line 0
@@ -30,11 +30,11 @@ pub all_cells : (rows : Rows) (line : LineId) (n : ℕ) (cells : List Cell) → 
 unfolding line_cells
 all_cells rows line n cells end same = same ∙ ap (joined (λ k. cell_on rows (place_on line.axis line.at k) ∷ [])) end
 
-pub no_givens_yet : (marks : Rows) (line : LineId) → [] ≡ line_givens marks line 0
+pub no_givens_yet : (marks : Marks) (line : LineId) → [] ≡ line_givens marks line 0
 unfolding line_givens
 no_givens_yet marks line = sym (joined_none (λ k. given_on marks (place_on line.axis line.at k)))
 
-pub one_given_more : (marks : Rows) (line : LineId) (n : ℕ) (givens : List (ℕ × ℕ)) (place : ℕ × ℕ) → givens ≡ line_givens marks line n → place ≡ place_on line.axis line.at n
+pub one_given_more : (marks : Marks) (line : LineId) (n : ℕ) (givens : List (ℕ × ℕ)) (place : ℕ × ℕ) → givens ≡ line_givens marks line n → place ≡ place_on line.axis line.at n
     → cell_at marks place.0 place.1 ≡ 1 → givens ++ (place.0, place.1) ∷ [] ≡ line_givens marks line (n + 1)
 unfolding line_givens
 one_given_more marks line n givens place same is one =
@@ -44,7 +44,7 @@ one_given_more marks line n givens place same is one =
     let there : f n ≡ place ∷ [] = ap (given_on marks) (sym is) ∙ here in
     sym (joined_more f n ∙ (ap (λ ys. joined f n ++ ys) there ∙ ap (λ xs. xs ++ place ∷ []) (sym same)))
 
-pub no_given_here : (marks : Rows) (line : LineId) (n : ℕ) (givens : List (ℕ × ℕ)) (place : ℕ × ℕ) → givens ≡ line_givens marks line n → place ≡ place_on line.axis line.at n
+pub no_given_here : (marks : Marks) (line : LineId) (n : ℕ) (givens : List (ℕ × ℕ)) (place : ℕ × ℕ) → givens ≡ line_givens marks line n → place ≡ place_on line.axis line.at n
     → cell_at marks place.0 place.1 < 2 → cell_at marks place.0 place.1 ≢ 1 → givens ≡ line_givens marks line (n + 1)
 unfolding line_givens
 no_given_here marks line n givens place same is small other =
@@ -53,7 +53,7 @@ no_given_here marks line n givens place same is small other =
     let there : f n ≡ [] = ap (given_on marks) (sym is) ∙ here in
     same ∙ sym (joined_more f n ∙ (ap (λ ys. joined f n ++ ys) there ∙ append-nil (joined f n)))
 
-pub all_givens : (marks : Rows) (line : LineId) (n : ℕ) (givens : List (ℕ × ℕ)) → n ≡ cells_along line.axis marks → givens ≡ line_givens marks line n → givens ≡ givens_of_line marks line
+pub all_givens : (marks : Marks) (line : LineId) (n : ℕ) (givens : List (ℕ × ℕ)) → n ≡ cells_along line.axis marks → givens ≡ line_givens marks line n → givens ≡ givens_of_line marks line
 unfolding line_givens
 all_givens marks line n givens end same = same ∙ ap (joined (λ k. given_on marks (place_on line.axis line.at k))) end
 

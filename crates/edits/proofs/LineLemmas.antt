@@ -12,7 +12,7 @@ use Rattle.clues.specs.Places.{exchanged}
 use Rattle.clues.proofs.EditedPictures.{exchanged-exchanged, get_or-swap}
 use Rattle.clues.proofs.LawLemmas.{remove-insert}
 use Rattle.picture.specs.CrossingLines.{crossing}
-use Rattle.edits.specs.Design.{IsGrid}
+use Rattle.edits.specs.Design.{IsGrid, Marks}
 use Rattle.edits.specs.Note.{Cell, with_cells, cells_of_line, givens_of_line, cells_along, cell_on, given_on, place_on, as_mark}
 use Rattle.edits.proofs.CellLemmas.{Has, has_from_map, has_map, has_unless, joined_from, joined_has, unless_has, with_cells_give}
 
@@ -158,7 +158,7 @@ gives_line_back axis at h w rows is some within more =
     ]))
 
 -- its givens given back
-pub given_of_line : (axis : Axis) (at h w : ℕ) (marks : Rows) → IsGrid h w marks → 0 < h → at < size_along axis h w → (p : ℕ × ℕ) → Has (givens_of_line marks (line_at axis at)) p
+pub given_of_line : (axis : Axis) (at h w : ℕ) (marks : Marks) → IsGrid h w marks → 0 < h → at < size_along axis h w → (p : ℕ × ℕ) → Has (givens_of_line marks (line_at axis at)) p
     → (p.0 < h) × (p.1 < w) × (cell_at marks p.0 p.1 ≢ 0)
 given_of_line axis at h w marks is some within = λ found has.
     let from = joined_from (λ k. given_on marks (place_on axis at k)) (cells_along axis marks) found has in
@@ -167,7 +167,7 @@ given_of_line axis at h w marks is some within = λ found has.
     let inside = place_on_line axis at h w from.0 within (omega (arith, from.1, cells_along_is axis h w marks is some)) in
     subst (λ (q : ℕ × ℕ). (q.0 < h) × (q.1 < w) × (cell_at marks q.0 q.1 ≢ 0)) given.1 (inside.0, inside.1, eqb-false (cell_at marks p.0 p.1) 0 given.0)
 
-pub gives_givens_back : (axis : Axis) (at h w : ℕ) (marks : Rows) → IsGrid h w marks → ((i j : ℕ) → cell_at marks i j < 2) → 0 < h → at < size_along axis h w → 1 < size_along axis h w
+pub gives_givens_back : (axis : Axis) (at h w : ℕ) (marks : Marks) → IsGrid h w marks → ((i j : ℕ) → cell_at marks i j < 2) → 0 < h → at < size_along axis h w → 1 < size_along axis h w
     → with_cells (with_line axis at (without_line axis at marks)) (map as_mark (givens_of_line marks (line_at axis at))) ≡ marks
 gives_givens_back axis at h w marks is are some within more =
     rw (insert_delete axis at h w marks is within more)

@@ -7,13 +7,17 @@ use Rattle.picture.specs.Picture.{IsPicture}
 use Rattle.picture.specs.Document.{AreColoured}
 use Rattle.picture.specs.Rows.{width_of, row_at, cell_at, Rows}
 
+-- a grid of marks: 1 in each cell that is a given, else 0
+abbrev pub Marks : Type 0
+Marks = List (List ℕ)
+
 -- the colours by number, the rows of cells, and rows of marks: 1 where a cell is a given, else 0
 pub record Design : Type 0 where
   pub colours : Colours
   pub rows : Rows
-  pub marks : Rows
+  pub marks : Marks
 
-abbrev pub design : Colours → Rows → Rows → Design
+abbrev pub design : Colours → Rows → Marks → Design
 design colours rows marks = record { colours = colours; rows = rows; marks = marks }
 
 -- the grid of this height and width with a value for each place
@@ -25,7 +29,7 @@ abbrev pub mark_at : List ℕ → ℕ → ℕ → ℕ
 mark_at masks i j = if bit_and (slice_index masks i) (2 ^ j) == 0 then 0 else 1
 
 -- the marks of a set of givens, in a picture of this height and width
-abbrev pub marks_of : ℕ → ℕ → List ℕ → Rows
+abbrev pub marks_of : ℕ → ℕ → List ℕ → Marks
 marks_of height width givens = grid height width (mark_at givens)
 
 abbrev pub design_of : Document → Design

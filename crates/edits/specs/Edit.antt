@@ -6,7 +6,7 @@ use Rattle.picture.specs.Rows.{width_of, cell_at, with_cell, with_line, without_
 use Rattle.edits.specs.declared.edit.Edit.{Edit}
 use Rattle.edits.specs.declared.edit.Edit.TheVariants.{Paint, Fill, Recolour, InsertLine, DeleteLine, SwapLines}
 use Rattle.edits.specs.declared.edit.Edit.TheVariants.{AddColour, SetColour, Pin, Unpin}
-use Rattle.edits.specs.Design.{Design, grid}
+use Rattle.edits.specs.Design.{Design, grid, Marks}
 
 -- the colour that a cell of colour x, at row i and column j, has afterwards
 abbrev pub colour_after : Edit → ℕ → ℕ → ℕ → ℕ
@@ -30,7 +30,7 @@ rows_after (SwapLines axis first second) rows = lines_swapped axis first second 
 rows_after e rows = rows
 
 -- the givens move with the lines, and a new line has none
-abbrev pub marks_after : Edit → Rows → Rows
+abbrev pub marks_after : Edit → Marks → Marks
 marks_after (InsertLine line) marks = with_line line.axis line.at marks
 marks_after (DeleteLine line) marks = without_line line.axis line.at marks
 marks_after (SwapLines axis first second) marks = lines_swapped axis first second marks

@@ -11,7 +11,7 @@ use Rattle.edits.specs.declared.edit.Edit.{Edit}
 use Rattle.edits.specs.declared.edit.Edit.TheVariants.{Paint, Fill, Recolour, InsertLine, DeleteLine, SwapLines}
 use Rattle.edits.specs.declared.edit.Edit.TheVariants.{AddColour, SetColour, Pin, Unpin}
 use Rattle.edits.specs.declared.entry.Entry.{Entry}
-use Rattle.edits.specs.Design.{Design, design, IsDesign}
+use Rattle.edits.specs.Design.{Design, design, IsDesign, Marks}
 use Rattle.edits.specs.Edit.{colour_after, edited}
 use Rattle.edits.specs.Fault.{edit_fault}
 
@@ -57,7 +57,7 @@ place_on Down at k = (k, at)
 abbrev pub cell_on : Rows → ℕ × ℕ → Cell
 cell_on rows place = (place.0, place.1, cell_at rows place.0 place.1)
 
-abbrev pub given_on : Rows → ℕ × ℕ → List (ℕ × ℕ)
+abbrev pub given_on : Marks → ℕ × ℕ → List (ℕ × ℕ)
 given_on marks place = if cell_at marks place.0 place.1 == 0 then [] else (place ∷ [])
 
 -- how many cells the lines of an axis have
@@ -70,7 +70,7 @@ abbrev pub cells_of_line : Rows → LineId → List Cell
 cells_of_line rows line = joined (λ k. cell_on rows (place_on line.axis line.at k) ∷ []) (cells_along line.axis rows)
 
 -- the givens of a line
-abbrev pub givens_of_line : Rows → LineId → List (ℕ × ℕ)
+abbrev pub givens_of_line : Marks → LineId → List (ℕ × ℕ)
 givens_of_line marks line = joined (λ k. given_on marks (place_on line.axis line.at k)) (cells_along line.axis marks)
 
 abbrev pub cells_kept : Rows → Edit → List Cell
@@ -84,7 +84,7 @@ abbrev pub triple_kept : Colours → Edit → Option Rgb
 triple_kept colours (SetColour colour rgb) = slice_get colours.triples colour
 triple_kept colours e = None
 
-abbrev pub givens_kept : Rows → Edit → List (ℕ × ℕ)
+abbrev pub givens_kept : Marks → Edit → List (ℕ × ℕ)
 givens_kept marks (DeleteLine line) = givens_of_line marks line
 givens_kept marks e = []
 
@@ -122,7 +122,7 @@ rows_before (DeleteLine line) cells rows = with_cells (with_line line.axis line.
 rows_before (SwapLines axis first second) cells rows = lines_swapped axis first second rows
 rows_before e cells rows = rows
 
-abbrev pub marks_before : Edit → List (ℕ × ℕ) → Rows → Rows
+abbrev pub marks_before : Edit → List (ℕ × ℕ) → Marks → Marks
 marks_before (InsertLine line) givens marks = without_line line.axis line.at marks
 marks_before (DeleteLine line) givens marks = with_cells (with_line line.axis line.at marks) (map as_mark givens)
 marks_before (SwapLines axis first second) givens marks = lines_swapped axis first second marks
