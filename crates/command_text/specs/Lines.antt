@@ -11,7 +11,7 @@ use Rattle.command_text.specs.declared.fault.CommandFault.TheVariants.{LongLine,
 use Rattle.command_text.specs.declared.request.Request.{Request}
 use Rattle.command_text.specs.declared.request.Request.TheVariants as request
 use Rattle.command_text.specs.declared.lines.Lines.{Lines}
-use Rattle.command_text.specs.Parse.{IsBounded, command_at}
+use Rattle.command_text.specs.Parse.{IsBounded, commands, read_by}
 use Rattle.command_text.specs.Words.{Texts, has_byte, words_of}
 
 -- ---- lines
@@ -49,10 +49,10 @@ abbrev pub request_by : Result Command CommandFault → Request
 request_by (Ok command) = request.Command command
 request_by (Err fault) = request.Refused fault
 
--- no word asks for nothing, and a first word for the command that it begins
+-- no word asks for nothing, and words for the command that the first one begins
 abbrev pub request_of_words : Texts → Request
 request_of_words [] = request.Nothing
-request_of_words (first ∷ words) = request_by (command_at first words)
+request_of_words (first ∷ words) = request_by (read_by commands (first ∷ words))
 
 -- a line has at most 200 bytes
 unfoldable pub request_of : List ℕ → Request
