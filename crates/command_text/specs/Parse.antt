@@ -103,9 +103,6 @@ unfoldable pub fill_at : Meaning Edit
 fill_at words = made (λ x. edit.Fill x.0.0.0 x.0.0.1 x.0.1.0 x.0.1.1 x.1)
     (exactly 5 (both (both row_and_column_at row_and_column_at) colour_at)) words
 
-unfoldable pub recolour_at : Meaning Edit
-recolour_at words = made (λ x. edit.Recolour x.0 x.1) (exactly 2 (both colour_at colour_at)) words
-
 unfoldable pub swap_at : Meaning Edit
 swap_at words =
     axis_at words >>= λ axis. made (λ x. edit.SwapLines axis.0 x.0 x.1) (exactly 2 (both place_at place_at)) axis.1
@@ -119,9 +116,6 @@ palette_at words = read_by ((codes "add", made edit.AddColour (exactly 3 rgb_at)
 -- a command without a value
 abbrev pub bare_at : Command → Meaning Command
 bare_at c words = counted 0 words >>= λ none. Ok c
-
-unfoldable pub allow_at : Meaning Command
-allow_at words = made command.Allow (exactly 1 (field_at allowance_of BadNumber)) words
 
 -- ---- the command
 
@@ -145,7 +139,7 @@ abbrev pub commands : List (List ℕ × Meaning Command)
 commands =
     (codes "paint", made (λ spot. command.Edit (edit.Paint spot.0.0 spot.0.1 spot.1)) spot_at)
     ∷ (codes "fill", made command.Edit fill_at)
-    ∷ (codes "recolour", made command.Edit recolour_at)
+    ∷ (codes "recolour", made (λ x. command.Edit (edit.Recolour x.0 x.1)) (exactly 2 (both colour_at colour_at)))
     ∷ (codes "insert", made (λ line. command.Edit (edit.InsertLine line)) line_at)
     ∷ (codes "delete", made (λ line. command.Edit (edit.DeleteLine line)) line_at)
     ∷ (codes "swap", made command.Edit swap_at)
@@ -161,7 +155,7 @@ commands =
     ∷ (codes "certify", bare_at command.Certify)
     ∷ (codes "write", read_by ((codes "ppm", bare_at command.WritePpm) ∷ (codes "non", bare_at command.WriteNon) ∷ []))
     ∷ (codes "report", bare_at command.Report)
-    ∷ (codes "allow", allow_at)
+    ∷ (codes "allow", made command.Allow (exactly 1 (field_at allowance_of BadNumber)))
     ∷ []
 
 -- ---- what functions that read words answer

@@ -2,8 +2,10 @@
 
 ghost use Rattle.std.specs.Prelude.{◌≡◌, [], ◌∷◌, codes, IfOk};
 ghost use Rattle.picture.specs.Readers.{Reads};
+ghost use Rattle.edits.specs.declared.edit.Edit.TheVariants as edit;
 ghost use Rattle.command_text.specs.declared.command.Command.TheVariants as command;
-ghost use Rattle.command_text.specs.Parse.{IsBounded, allow_at, bare_at, commands, fill_at, made, palette_at, read_by, recolour_at, spot_at, swap_at};
+ghost use Rattle.command_text.specs.declared.fault.CommandFault.TheVariants.{BadNumber};
+ghost use Rattle.command_text.specs.Parse.{IsBounded, allowance_of, bare_at, both, colour_at, commands, exactly, field_at, fill_at, made, palette_at, read_by, spot_at, swap_at};
 ghost use Rattle.command_text.specs.Words.{words_of};
 
 use crate::command::Command;
@@ -31,9 +33,9 @@ fn read_fill(rest: &[u8]) -> Result<Edit, CommandFault>
     })
 }
 
-#[tactic(auto, unfolding(crate::specs::Parse::recolour_at))]
 fn read_recolour(rest: &[u8]) -> Result<Edit, CommandFault>
-    ensures { Reads (λ e. e) result (recolour_at (words_of rest.now)) }
+    ensures { Reads (λ e. e) result (made (λ x. edit.Recolour x.0 x.1)
+        (exactly 2 (both colour_at colour_at)) (words_of rest.now)) }
 {
     let rest = counted(rest, 2)?;
     let (source, rest) = read_colour(rest)?;
@@ -95,9 +97,9 @@ fn read_write(rest: &[u8]) -> Result<Command, CommandFault>
     }
 }
 
-#[tactic(auto, unfolding(crate::specs::Parse::allow_at))]
 fn read_allow(rest: &[u8]) -> Result<Command, CommandFault>
-    ensures value { Reads (λ c. c) result (allow_at (words_of rest.now)) }
+    ensures value { Reads (λ c. c) result (made command.Allow
+        (exactly 1 (field_at allowance_of BadNumber)) (words_of rest.now)) }
     ensures bounded { IfOk result IsBounded }
 {
     let (word, _) = read_word(counted(rest, 1)?)?;
