@@ -9,5 +9,6 @@ use Rattle.ppm_text.proofs.writer.send_row.Given as goal
 abbrev pub invariant-loop-col : goal.invariant-loop-col
 invariant-loop-col g l = record {
   wide : l.col-end ≡ length (row_at l.document.picture l.row);
-  appended : Appends (g.W.Write.contents l.fn.writer) (g.W.Write.contents l.writer) (flat_map (λ cell. triple_text (triple_at l.document.palette.triples cell)) (take l.col (row_at l.document.picture l.row)));
+  appended : Appends (g.W.Write.contents l.fn.writer) (g.W.Write.contents l.writer)
+      (flat_map (λ cell. triple_text (triple_at l.document.palette.triples cell)) (take l.col (row_at l.document.picture l.row)));
 }
