@@ -1,6 +1,6 @@
 -- The lines of bytes, cut piece by piece.
-use Rattle.std.proofs.Common.{◌≡◌, ℕ, zero, suc, ◌+◌, ◌-◌, ◌<◌, ◌≤◌, Bool, true, false, cond, List, [], ◌∷◌, ◌++◌, length, get_or, length-take-le, min, take, drop, filter, map, slice_index, ◌==◌, nat_lt, Option}
-use Rattle.std.proofs.Common.{Some, None, is_some, unwrap_or, refl, sym, ap, ◌∙◌, append_assoc, append-nil, arith}
+use Rattle.std.proofs.Common.{◌≡◌, ℕ, zero, suc, ◌+◌, ◌-◌, ◌<◌, ◌≤◌, Bool, true, false, cond, List, [], ◌∷◌, ◌++◌, length, get_or, length-take-le, min, take, drop, slice_index, ◌==◌, nat_lt, Option}
+use Rattle.std.proofs.Common.{filter, map, Some, None, is_some, unwrap_or, refl, sym, ap, ◌∙◌, append_assoc, append-nil, arith}
 use Rattle.std.specs.Int.{from_bool}
 use Rattle.std.specs.List.{slice_split, position}
 use Rattle.std.specs.Str.Lines.{strip_carriage_return}
