@@ -155,8 +155,7 @@ commands =
     ∷ (codes "certify", bare_at command.Certify)
     ∷ (codes "write", read_by ((codes "ppm", bare_at command.WritePpm) ∷ (codes "non", bare_at command.WriteNon) ∷ []))
     ∷ (codes "report", bare_at command.Report)
-    ∷ (codes "allow", made command.Allow (exactly 1 (field_at allowance_of BadNumber)))
-    ∷ []
+    ∷ (codes "allow", made command.Allow (exactly 1 (field_at allowance_of BadNumber))) ∷ []
 
 -- ---- what functions that read words answer
 
