@@ -1,6 +1,6 @@
 -- The lines of bytes, cut piece by piece.
 use Rattle.std.proofs.Common.{◌≡◌, ℕ, zero, suc, ◌+◌, ◌-◌, ◌<◌, ◌≤◌, Bool, true, false, cond, List, [], ◌∷◌, ◌++◌, length, get_or, length-take-le, min, take, drop, slice_index, ◌==◌, nat_lt, Option}
-use Rattle.std.proofs.Common.{Some, None, is_some, unwrap_or, refl, sym, ap, ◌∙◌, append_assoc, append-nil, arith}
+use Rattle.std.proofs.Common.{filter, map, Some, None, is_some, unwrap_or, refl, sym, ap, ◌∙◌, append_assoc, append-nil, arith}
 use Rattle.std.specs.Int.{from_bool}
 use Rattle.std.specs.List.{slice_split, position}
 use Rattle.std.specs.Str.Lines.{strip_carriage_return}
@@ -16,11 +16,11 @@ use Rattle.picture.proofs.SplitLaws.{none_before, none_passes, whole_found}
 use Rattle.std.specs.Io.KnownBytes.{Keeps}
 use Rattle.std.proofs.KnownBytes.{Consumes-kept, Consumes-trans}
 use Rattle.command_text.specs.declared.lines.Lines.{Lines}
-use Rattle.command_text.specs.Lines.{BreaksOff, CutsOne, Drafts, NoFeed, TakesPiece, Waits, all_pieces, ended_lines_of, ended_pieces, is_feed, lines_of, nothing_has_no_lines, request_of}
+use Rattle.command_text.specs.Lines.{BreaksOff, CutsOne, Drafts, NoFeed, TakesPiece, Waits, ended_lines_of, is_feed, lines_of, nothing_has_no_lines, request_of}
 use Rattle.command_text.specs.Lines.{request_of_words, steps_left}
 use Rattle.command_text.specs.declared.fault.CommandFault.TheVariants.{LongLine}
 use Rattle.command_text.specs.declared.request.Request.TheVariants.{Refused}
-use Rattle.command_text.specs.Words.{Texts, words_of}
+use Rattle.command_text.specs.Words.{Texts, has_byte, words_of}
 
 -- ---- the place of a line feed
 
@@ -32,20 +32,29 @@ feed_found bytes end e = (
 
 -- ---- lines
 
+-- the lines that pieces make, but for the last piece, and with it where it has a byte
+abbrev ended_pieces : Texts → Texts
+ended_pieces pieces = map strip_carriage_return (take (length pieces - 1) pieces)
+
+abbrev all_pieces : Texts → Texts
+all_pieces pieces = ended_pieces pieces ++ map strip_carriage_return (filter has_byte (drop (length pieces - 1) pieces))
+
+one_fewer : (piece : List ℕ) (pieces : Texts) → 0 < length pieces → length (piece ∷ pieces) - 1 ≡ suc (length pieces - 1)
+one_fewer piece pieces some = omega (arith, some)
+
 two_pieces : (piece : List ℕ) (pieces : Texts) → 0 < length pieces → all_pieces (piece ∷ pieces) ≡ strip_carriage_return piece ∷ all_pieces pieces
-two_pieces piece [] some = absurd (omega (arith, some))
-two_pieces piece (next ∷ pieces) some = refl
+two_pieces piece pieces some =
+    ap (λ n. map strip_carriage_return (take n (piece ∷ pieces)) ++ map strip_carriage_return (filter has_byte (drop n (piece ∷ pieces)))) (one_fewer piece pieces some)
 
 two_ended : (piece : List ℕ) (pieces : Texts) → 0 < length pieces → ended_pieces (piece ∷ pieces) ≡ strip_carriage_return piece ∷ ended_pieces pieces
-two_ended piece [] some = absurd (omega (arith, some))
-two_ended piece (next ∷ pieces) some = refl
+two_ended piece pieces some = ap (λ n. map strip_carriage_return (take n (piece ∷ pieces))) (one_fewer piece pieces some)
 
 some_piece : (bytes : List ℕ) → 0 < length (slice_split is_feed bytes)
 some_piece bytes = omega (arith, length-slice_split is_feed bytes)
 
 -- a line that ends, and the lines after it
 pub lines_first : (raw rest : List ℕ) → NoFeed raw → lines_of (raw ++ 10 ∷ rest) ≡ strip_carriage_return raw ∷ lines_of rest
-unfolding lines_of
+unfolding lines_of ended_lines_of
 lines_first raw rest p = ap all_pieces (slice_split_at is_feed raw 10 rest p refl) ∙ two_pieces raw (slice_split is_feed rest) (some_piece rest)
 
 pub ended_first : (raw rest : List ℕ) → NoFeed raw → ended_lines_of (raw ++ 10 ∷ rest) ≡ strip_carriage_return raw ∷ ended_lines_of rest
@@ -58,7 +67,7 @@ unfolding ended_lines_of
 ended_none raw p = ap ended_pieces (slice_split_none is_feed raw p)
 
 pub lines_last : (raw : List ℕ) → NoFeed raw → 0 < length raw → lines_of raw ≡ strip_carriage_return raw ∷ []
-unfolding lines_of
+unfolding lines_of ended_lines_of
 lines_last raw p some = ap all_pieces (slice_split_none is_feed raw p) ∙ last raw some
   where
     last : (raw : List ℕ) → 0 < length raw → all_pieces (raw ∷ []) ≡ strip_carriage_return raw ∷ []

@@ -1,6 +1,6 @@
 -- The lines of a session's input, and what each asks for.
 use Rattle.std.specs.Prelude.{◌≡◌, ℕ, ◌+◌, ◌-◌, ◌*◌, ◌<◌, ◌≤◌, Bool, true, false, List, [], ◌∷◌, ◌++◌, length, take}
-use Rattle.std.specs.Prelude.{Option, None, Some, Result, Ok, Err, nat_lt, ◌==◌, if◌then◌else◌}
+use Rattle.std.specs.Prelude.{drop, Option, None, Some, Result, Ok, Err, filter, map, nat_lt, ◌==◌, if◌then◌else◌}
 use Rattle.std.proofs.Common.{refl}
 use Rattle.std.specs.List.{All, slice_split}
 use Rattle.std.specs.Str.Lines.{strip_carriage_return}
@@ -11,7 +11,7 @@ use Rattle.command_text.specs.declared.fault.CommandFault.TheVariants.{LongLine,
 use Rattle.command_text.specs.declared.request.Request.{Request}
 use Rattle.command_text.specs.declared.request.Request.TheVariants as request
 use Rattle.command_text.specs.declared.lines.Lines.{Lines}
-use Rattle.command_text.specs.Parse.{IsBounded, command_at}
+use Rattle.command_text.specs.Parse.{IsBounded, commands, read_by}
 use Rattle.command_text.specs.Words.{Texts, has_byte, words_of}
 
 -- ---- lines
@@ -19,25 +19,18 @@ use Rattle.command_text.specs.Words.{Texts, has_byte, words_of}
 abbrev pub is_feed : ℕ → Bool
 is_feed b = b == 10
 
--- the pieces after which a line feed stands, each without the carriage return at its end
-abbrev pub ended_pieces : Texts → Texts
-ended_pieces [] = []
-ended_pieces (piece ∷ []) = []
-ended_pieces (piece ∷ next ∷ pieces) = strip_carriage_return piece ∷ ended_pieces (next ∷ pieces)
+-- what stands between line feeds
+abbrev pub pieces_of : List ℕ → Texts
+pieces_of bytes = slice_split (λ b. b == 10) bytes
 
--- and the last piece too, where it has a byte
-abbrev pub all_pieces : Texts → Texts
-all_pieces [] = []
-all_pieces (piece ∷ []) = if has_byte piece then strip_carriage_return piece ∷ [] else []
-all_pieces (piece ∷ next ∷ pieces) = strip_carriage_return piece ∷ all_pieces (next ∷ pieces)
-
--- The lines of an input that was read to its end: what stands between line feeds, where the last line needs none.
-unfoldable pub lines_of : List ℕ → Texts
-lines_of bytes = all_pieces (slice_split is_feed bytes)
-
--- the lines of bytes whose line feed has come
+-- The lines of bytes whose line feed has come: all pieces but the last, each without the carriage return at its end.
 unfoldable pub ended_lines_of : List ℕ → Texts
-ended_lines_of bytes = ended_pieces (slice_split is_feed bytes)
+ended_lines_of bytes = map strip_carriage_return (take (length (pieces_of bytes) - 1) (pieces_of bytes))
+
+-- The lines of an input that was read to its end: with these the last piece too, where it has a byte.
+unfoldable pub lines_of : List ℕ → Texts
+lines_of bytes = ended_lines_of bytes
+    ++ map strip_carriage_return (filter has_byte (drop (length (pieces_of bytes) - 1) (pieces_of bytes)))
 
 -- none of the bytes is a line feed
 abbrev pub NoFeed : List ℕ → Type 0
@@ -49,10 +42,10 @@ abbrev pub request_by : Result Command CommandFault → Request
 request_by (Ok command) = request.Command command
 request_by (Err fault) = request.Refused fault
 
--- no word asks for nothing, and a first word for the command that it begins
+-- no word asks for nothing, and words for the command that the first one begins
 abbrev pub request_of_words : Texts → Request
 request_of_words [] = request.Nothing
-request_of_words (first ∷ words) = request_by (command_at first words)
+request_of_words (first ∷ words) = request_by (read_by commands (first ∷ words))
 
 -- a line has at most 200 bytes
 unfoldable pub request_of : List ℕ → Request
@@ -156,11 +149,11 @@ pub record Drafts (had have : Option (List ℕ)) (old now : Lines) (draft : List
 -- ---- worked inputs
 
 pub nothing_has_no_lines : lines_of [] ≡ []
-unfolding lines_of
+unfolding lines_of ended_lines_of
 nothing_has_no_lines = refl
 
 two_lines : lines_of (97 ∷ 13 ∷ 10 ∷ 10 ∷ 98 ∷ []) ≡ (97 ∷ []) ∷ [] ∷ (98 ∷ []) ∷ []
-unfolding lines_of
+unfolding lines_of ended_lines_of
 two_lines = refl
 
 last_is_unfinished : ended_lines_of (97 ∷ 13 ∷ 10 ∷ 10 ∷ 98 ∷ []) ≡ (97 ∷ []) ∷ [] ∷ []
@@ -168,5 +161,5 @@ unfolding ended_lines_of
 last_is_unfinished = refl
 
 none_behind_a_feed : lines_of (97 ∷ 13 ∷ 13 ∷ 10 ∷ []) ≡ (97 ∷ 13 ∷ []) ∷ []
-unfolding lines_of
+unfolding lines_of ended_lines_of
 none_behind_a_feed = refl

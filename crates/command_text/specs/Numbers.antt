@@ -10,8 +10,7 @@ number_of word = if nat_le (length word) 5 then number_spelled word else None
 
 -- a number from 1 to 256, as a place from 0
 abbrev pub place_named : List ℕ → Option ℕ
-place_named word =
-    option_and_then (λ n. if nat_le 1 n && nat_le n 256 then Some (n - 1) else None) (number_of word)
+place_named word = option_and_then (λ n. if nat_le 1 n && nat_le n 256 then Some (n - 1) else None) (number_of word)
 
 -- a number up to 65535
 abbrev pub sample_of : List ℕ → Option ℕ

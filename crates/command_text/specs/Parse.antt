@@ -2,6 +2,7 @@
 use Rattle.std.specs.Prelude.{ℕ, ◌<◌, IfSome, List, [], ◌∷◌, length, codes, Option, None, Some, Result, Ok, Err}
 use Rattle.std.specs.Prelude.{option_map, ◌==◌, if◌then◌else◌}
 use Rattle.std.specs.Borrow.{Bor}
+use Rattle.std.specs.Map.{lookup}
 use Rattle.std.specs.Option.{ok_or}
 use Rattle.picture.specs.Readers.{◌>>=◌}
 use Rattle.picture.specs.declared.line_id.Axis.{Axis}
@@ -30,10 +31,7 @@ word_at (word ∷ words) = Ok (word, words)
 
 -- the value of the next word
 abbrev pub field_at : {X : Type 0} → (List ℕ → Option X) → CommandFault → Reader X
-field_at value fault words = do
-  word ← word_at words
-  x ← ok_or (value word.0) fault
-  Ok (x, word.1)
+field_at value fault words = word_at words >>= λ word. ok_or (value word.0) fault >>= λ x. Ok (x, word.1)
 
 abbrev pub place_at : Reader ℕ
 place_at words = field_at place_named BadNumber words
@@ -48,20 +46,13 @@ colour_at words = field_at colour_of BadColour words
 abbrev pub allowance_of : List ℕ → Option (Option ℕ)
 allowance_of word = if is_word word (codes "off") then Some None else option_map Some (number_of word)
 
--- what is beside a word in a table
-abbrev pub named : {X : Type 0} → List ℕ → List (List ℕ × X) → Option X
-named word [] = None
-named word (entry ∷ entries) = if is_word word entry.0 then Some entry.1 else named word entries
-
 abbrev pub axis_at : Reader Axis
-axis_at words = field_at (λ word. named word ((codes "row", Across) ∷ (codes "column", Down) ∷ [])) UnknownWord words
+axis_at words =
+    field_at (λ word. lookup (is_word word) ((codes "row", Across) ∷ (codes "column", Down) ∷ [])) UnknownWord words
 
 -- one value, and then another
 abbrev pub both : {X Y : Type 0} → Reader X → Reader Y → Reader (X × Y)
-both one other words = do
-  x ← one words
-  y ← other x.1
-  Ok ((x.0, y.0), y.1)
+both one other words = one words >>= λ x. other x.1 >>= λ y. Ok ((x.0, y.0), y.1)
 
 -- a row and a column
 unfoldable pub row_and_column_at : Reader (ℕ × ℕ)
@@ -90,14 +81,9 @@ exactly count read words = counted count words >>= read >>= λ x. Ok x.0
 abbrev pub made : {X Y : Type 0} → (X → Y) → Meaning X → Meaning Y
 made make read words = read words >>= λ x. Ok (make x)
 
--- what a table says of a word, by the words after it
-abbrev pub read_by : {X : Type 0} → Option (Meaning X) → Meaning X
-read_by None words = Err UnknownWord
-read_by (Some read) words = read words
-
 -- what a table says of the next word, by the words after that
-abbrev pub second_by : {X : Type 0} → List (List ℕ × Meaning X) → Meaning X
-second_by table words = word_at words >>= λ word. read_by (named word.0 table) word.1
+abbrev pub read_by : {X : Type 0} → List (List ℕ × Meaning X) → Meaning X
+read_by table words = field_at (λ word. lookup (is_word word) table) UnknownWord words >>= λ read. read.0 read.1
 
 -- a row and a column, and no more
 unfoldable pub cell_alone_at : Meaning (ℕ × ℕ)
@@ -109,8 +95,7 @@ spot_at words = exactly 3 (both row_and_column_at colour_at) words
 
 -- a row or a column
 unfoldable pub line_at : Meaning LineId
-line_at words =
-    axis_at words >>= λ axis. made (λ at. record { axis = axis.0; at = at }) (exactly 1 place_at) axis.1
+line_at words = axis_at words >>= λ axis. made (λ at. record { axis = axis.0; at = at }) (exactly 1 place_at) axis.1
 
 -- ---- the edits
 
@@ -118,33 +103,19 @@ unfoldable pub fill_at : Meaning Edit
 fill_at words = made (λ x. edit.Fill x.0.0.0 x.0.0.1 x.0.1.0 x.0.1.1 x.1)
     (exactly 5 (both (both row_and_column_at row_and_column_at) colour_at)) words
 
-unfoldable pub recolour_at : Meaning Edit
-recolour_at words = made (λ x. edit.Recolour x.0 x.1) (exactly 2 (both colour_at colour_at)) words
-
 unfoldable pub swap_at : Meaning Edit
 swap_at words =
     axis_at words >>= λ axis. made (λ x. edit.SwapLines axis.0 x.0 x.1) (exactly 2 (both place_at place_at)) axis.1
 
 abbrev pub palette_at : Meaning Edit
-palette_at words = second_by ((codes "add", made edit.AddColour (exactly 3 rgb_at))
-    ∷ (codes "set", made (λ x. edit.SetColour x.0 x.1) (exactly 4 (both colour_at rgb_at)))
-    ∷ []) words
+palette_at words = read_by ((codes "add", made edit.AddColour (exactly 3 rgb_at))
+    ∷ (codes "set", made (λ x. edit.SetColour x.0 x.1) (exactly 4 (both colour_at rgb_at))) ∷ []) words
 
 -- ---- the other commands
 
 -- a command without a value
 abbrev pub bare_at : Command → Meaning Command
 bare_at c words = counted 0 words >>= λ none. Ok c
-
-abbrev pub why_at : Meaning Command
-why_at words = made (λ spot. command.Why spot.0.0 spot.0.1 spot.1) spot_at words
-
-unfoldable pub allow_at : Meaning Command
-allow_at words = made command.Allow (exactly 1 (field_at allowance_of BadNumber)) words
-
-abbrev pub write_at : Meaning Command
-write_at words =
-    second_by ((codes "ppm", bare_at command.WritePpm) ∷ (codes "non", bare_at command.WriteNon) ∷ []) words
 
 -- ---- the command
 
@@ -168,7 +139,7 @@ abbrev pub commands : List (List ℕ × Meaning Command)
 commands =
     (codes "paint", made (λ spot. command.Edit (edit.Paint spot.0.0 spot.0.1 spot.1)) spot_at)
     ∷ (codes "fill", made command.Edit fill_at)
-    ∷ (codes "recolour", made command.Edit recolour_at)
+    ∷ (codes "recolour", made (λ x. command.Edit (edit.Recolour x.0 x.1)) (exactly 2 (both colour_at colour_at)))
     ∷ (codes "insert", made (λ line. command.Edit (edit.InsertLine line)) line_at)
     ∷ (codes "delete", made (λ line. command.Edit (edit.DeleteLine line)) line_at)
     ∷ (codes "swap", made command.Edit swap_at)
@@ -180,16 +151,11 @@ commands =
     ∷ (codes "clues", bare_at command.Clues)
     ∷ (codes "map", bare_at command.Map)
     ∷ (codes "verdict", bare_at command.Verdict)
-    ∷ (codes "why", why_at)
+    ∷ (codes "why", made (λ spot. command.Why spot.0.0 spot.0.1 spot.1) spot_at)
     ∷ (codes "certify", bare_at command.Certify)
-    ∷ (codes "write", write_at)
+    ∷ (codes "write", read_by ((codes "ppm", bare_at command.WritePpm) ∷ (codes "non", bare_at command.WriteNon) ∷ []))
     ∷ (codes "report", bare_at command.Report)
-    ∷ (codes "allow", allow_at)
-    ∷ []
-
--- the command that a first word begins, by the words after it
-abbrev pub command_at : List ℕ → Meaning Command
-command_at word words = read_by (named word commands) words
+    ∷ (codes "allow", made command.Allow (exactly 1 (field_at allowance_of BadNumber))) ∷ []
 
 -- ---- what functions that read words answer
 

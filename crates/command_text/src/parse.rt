@@ -1,8 +1,11 @@
 //! The command of words.
 
-ghost use Rattle.std.specs.Prelude.{◌≡◌, IfOk};
+ghost use Rattle.std.specs.Prelude.{◌≡◌, [], ◌∷◌, codes, IfOk};
 ghost use Rattle.picture.specs.Readers.{Reads};
-ghost use Rattle.command_text.specs.Parse.{IsBounded, allow_at, bare_at, command_at, fill_at, palette_at, recolour_at, swap_at, why_at, write_at};
+ghost use Rattle.edits.specs.declared.edit.Edit.TheVariants as edit;
+ghost use Rattle.command_text.specs.declared.command.Command.TheVariants as command;
+ghost use Rattle.command_text.specs.declared.fault.CommandFault.TheVariants.{BadNumber};
+ghost use Rattle.command_text.specs.Parse.{IsBounded, allowance_of, bare_at, both, colour_at, commands, exactly, field_at, fill_at, made, palette_at, read_by, spot_at, swap_at};
 ghost use Rattle.command_text.specs.Words.{words_of};
 
 use crate::command::Command;
@@ -30,9 +33,9 @@ fn read_fill(rest: &[u8]) -> Result<Edit, CommandFault>
     })
 }
 
-#[tactic(auto, unfolding(crate::specs::Parse::recolour_at))]
 fn read_recolour(rest: &[u8]) -> Result<Edit, CommandFault>
-    ensures { Reads (λ e. e) result (recolour_at (words_of rest.now)) }
+    ensures { Reads (λ e. e) result (made (λ x. edit.Recolour x.0 x.1)
+        (exactly 2 (both colour_at colour_at)) (words_of rest.now)) }
 {
     let rest = counted(rest, 2)?;
     let (source, rest) = read_colour(rest)?;
@@ -82,7 +85,8 @@ fn bare(command: Command, rest: &[u8]) -> Result<Command, CommandFault>
 
 // The picture as a text, in the format that a word names.
 fn read_write(rest: &[u8]) -> Result<Command, CommandFault>
-    ensures value { Reads (λ c. c) result (write_at (words_of rest.now)) }
+    ensures value { Reads (λ c. c) result (read_by ((codes "ppm", bare_at command.WritePpm)
+        ∷ (codes "non", bare_at command.WriteNon) ∷ []) (words_of rest.now)) }
     ensures bounded { IfOk result IsBounded }
 {
     let (word, rest) = read_word(rest)?;
@@ -93,9 +97,9 @@ fn read_write(rest: &[u8]) -> Result<Command, CommandFault>
     }
 }
 
-#[tactic(auto, unfolding(crate::specs::Parse::allow_at))]
 fn read_allow(rest: &[u8]) -> Result<Command, CommandFault>
-    ensures value { Reads (λ c. c) result (allow_at (words_of rest.now)) }
+    ensures value { Reads (λ c. c) result (made command.Allow
+        (exactly 1 (field_at allowance_of BadNumber)) (words_of rest.now)) }
     ensures bounded { IfOk result IsBounded }
 {
     let (word, _) = read_word(counted(rest, 1)?)?;
@@ -105,7 +109,8 @@ fn read_allow(rest: &[u8]) -> Result<Command, CommandFault>
 
 // Why a cell does not have a colour.
 fn read_why(rest: &[u8]) -> Result<Command, CommandFault>
-    ensures value { Reads (λ c. c) result (why_at (words_of rest.now)) }
+    ensures value { Reads (λ c. c) result (made (λ spot. command.Why spot.0.0 spot.0.1 spot.1)
+        spot_at (words_of rest.now)) }
     ensures bounded { IfOk result IsBounded }
 {
     read_spot(rest).map(|((row, col), colour)| Command::Why { row, col, colour })
@@ -113,7 +118,7 @@ fn read_why(rest: &[u8]) -> Result<Command, CommandFault>
 
 /// The command that a first word begins, by what follows it.
 pub(crate) fn read_command(word: &[u8], rest: &[u8]) -> Result<Command, CommandFault>
-    ensures value { Reads (λ c. c) result (command_at word.now (words_of rest.now)) }
+    ensures value { Reads (λ c. c) result (read_by commands (word.now ∷ words_of rest.now)) }
     ensures bounded { IfOk result IsBounded }
 {
     match word {

@@ -9,7 +9,7 @@ use Rattle.picture.specs.Rows.{rows_of, row_at, width_of, Rows}
 use Rattle.clues.specs.Clue.{clue_of}
 use Rattle.clues.specs.ClueBook.{columns_of}
 use Rattle.non_text.specs.Goal.{is_cell_digit, cell_of}
-use Rattle.non_text.specs.WrittenNon.{is_two_colour_row, is_two_colour}
+use Rattle.non_text.specs.WrittenNon.{is_two_colour}
 use Rattle.non_text.specs.Written.{digit_of}
 use Rattle.non_text.proofs.ClueTexts.{IsTwoColour, IsWritable, writable}
 use Rattle.non_text.proofs.WrittenLines.{AreWritable}
@@ -19,16 +19,16 @@ abbrev pub AreRows : ℕ → List (List ℕ) → Type 0
 AreRows width [] = Unit {0}
 AreRows width (row ∷ rows) = (length row ≡ width) × IsTwoColour row × AreRows width rows
 
-two_colour_row : (row : List ℕ) → is_two_colour_row row ≡ true → IsTwoColour row
+two_colour_row : (row : List ℕ) → list_all (λ cell. leb cell 1) row ≡ true → IsTwoColour row
 two_colour_row [] e = tt
 two_colour_row (cell ∷ row) e =
-    let parts = and_parts (leb cell 1) (is_two_colour_row row) e in
+    let parts = and_parts (leb cell 1) (list_all (λ cell. leb cell 1) row) e in
     (leb-true cell 1 parts.0, two_colour_row row parts.1)
 
 pub are_rows : (width : ℕ) (rows : Rows) → ((i : ℕ) → i < length rows → length (row_at rows i) ≡ width) → is_two_colour rows ≡ true → AreRows width rows
 are_rows width [] even e = tt
 are_rows width (row ∷ rows) even e =
-    let parts = and_parts (is_two_colour_row row) (is_two_colour rows) e in
+    let parts = and_parts (list_all (λ cell. leb cell 1) row) (is_two_colour rows) e in
     (even 0 (omega arith), two_colour_row row parts.0, are_rows width rows (λ i lt. even (suc i) (omega (arith, lt))) parts.1)
 
 -- ---- digits

@@ -1,19 +1,19 @@
 -- The text of a picture, part by part.
-use Rattle.std.proofs.Common.{◌≡◌, ℕ, ◌+◌, ◌-◌, ◌<◌, ◌≤◌, true, false, List, [], ◌∷◌, ◌++◌, length, get_or, take, drop, map, refl, sym, ap, ◌∙◌, arith, ◌&&◌, decimal, codes}
-use Rattle.std.specs.List.{flat_map}
+use Rattle.std.proofs.Common.{◌≡◌, ℕ, ◌+◌, ◌-◌, ◌<◌, ◌≤◌, true, false, List, [], ◌∷◌, ◌++◌, length, get_or, take, drop, map, refl, sym, ap, ◌∙◌, arith, ◌&&◌, decimal, codes, leb}
+use Rattle.std.specs.List.{flat_map, list_all}
 use Rattle.std.proofs.lemmas.List.{at_drop_more, at_drop_all, append_assoc, append-nil, take_all}
 use Rattle.picture.specs.Rows.{row_at, width_of, Rows}
 use Rattle.clues.specs.declared.block.Block.{Block}
 use Rattle.clues.specs.ClueBook.{clues_of}
-use Rattle.non_text.specs.WrittenNon.{is_two_colour_row, is_two_colour}
-use Rattle.non_text.specs.Written.{clue_text, goal_text, ended_line, ended_clue, non_text_of}
+use Rattle.non_text.specs.WrittenNon.{is_two_colour}
+use Rattle.non_text.specs.Written.{clue_text, goal_text, non_text_of}
 
 -- ---- rows one by one
 
-pub two_colour_more : (rows : Rows) (i : ℕ) → i < length rows → is_two_colour_row (row_at rows i) ≡ true → is_two_colour (drop (i + 1) rows) ≡ is_two_colour (drop i rows)
+pub two_colour_more : (rows : Rows) (i : ℕ) → i < length rows → list_all (λ cell. leb cell 1) (row_at rows i) ≡ true → is_two_colour (drop (i + 1) rows) ≡ is_two_colour (drop i rows)
 two_colour_more rows i lt e = sym (at_drop_more is_two_colour rows i [] lt ∙ ap (λ t. t && is_two_colour (drop (i + 1) rows)) e)
 
-pub two_colour_not : (rows : Rows) (i : ℕ) → i < length rows → is_two_colour_row (row_at rows i) ≡ false → is_two_colour (drop i rows) ≡ false
+pub two_colour_not : (rows : Rows) (i : ℕ) → i < length rows → list_all (λ cell. leb cell 1) (row_at rows i) ≡ false → is_two_colour (drop i rows) ≡ false
 two_colour_not rows i lt e = at_drop_more is_two_colour rows i [] lt ∙ ap (λ t. t && is_two_colour (drop (i + 1) rows)) e
 
 pub two_colour_all : (rows : Rows) (i : ℕ) → length rows ≤ i → is_two_colour (drop i rows) ≡ true
@@ -41,6 +41,13 @@ pub ruleset clue_texts = (clue_text_none, append_assoc)
 
 -- ---- the whole
 
+-- a line with the line feed that ends it
+abbrev pub ended_line : List ℕ → List ℕ
+ended_line line = line ++ 10 ∷ []
+
+abbrev pub ended_clue : List Block → List ℕ
+ended_clue clue = ended_line (clue_text clue)
+
 clue_lines-append : (clues : List (List Block)) (lines : List (List ℕ)) → flat_map ended_line (map clue_text clues ++ lines) ≡ flat_map ended_clue clues ++ flat_map ended_line lines
 clue_lines-append [] lines = refl
 clue_lines-append (clue ∷ clues) lines =
@@ -51,8 +58,9 @@ seven a b c d e f g = simp (append_assoc, append-nil)
 
 -- the parts in the order in which they are put
 pub text_is : (rows : Rows) → non_text_of rows
-    ≡ (((((([] ++ ended_line (codes "width " ++ decimal (width_of rows))) ++ ended_line (codes "height " ++ decimal (length rows))) ++ codes "rows\n")
-    ++ flat_map ended_clue (clues_of rows).rows) ++ codes "columns\n") ++ flat_map ended_clue (clues_of rows).columns) ++ ended_line (goal_text rows)
+    ≡ (((((([] ++ ((codes "width " ++ decimal (width_of rows)) ++ 10 ∷ [])) ++ ((codes "height " ++ decimal (length rows)) ++ 10 ∷ [])) ++ codes "rows\n")
+    ++ flat_map (λ clue. clue_text clue ++ 10 ∷ []) (clues_of rows).rows) ++ codes "columns\n") ++ flat_map (λ clue. clue_text clue ++ 10 ∷ []) (clues_of rows).columns)
+    ++ (goal_text rows ++ 10 ∷ [])
 unfolding non_text_of
 text_is rows =
     let width = ended_line (codes "width " ++ decimal (width_of rows)) in

@@ -20,8 +20,9 @@ use Rattle.non_text.specs.ClueLine.{clues_in}
 use Rattle.non_text.specs.Section.{is_full_line, leaves_blanks, kept_lines, section_clues}
 use Rattle.non_text.specs.Puzzle.{size_in, first_of_two}
 use Rattle.non_text.specs.Seen.{seen_with, fault_below}
-use Rattle.non_text.specs.Written.{clue_text, ended_line}
+use Rattle.non_text.specs.Written.{clue_text}
 use Rattle.non_text.proofs.LinesLemmas.{all_lines_more, all_lines_none, lines_of_shown, lines_of_none, at_keyword_later, section_more, section_end}
+use Rattle.non_text.proofs.TextLemmas.{ended_line}
 use Rattle.non_text.proofs.SeenLemmas.{faults_below}
 use Rattle.non_text.proofs.ClueTexts.{BeginsDigit, full_line, no_keyword, IsWritable, small_sum, clue_text_begins, clue_in-clue_text}
 

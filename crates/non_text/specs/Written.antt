@@ -28,12 +28,6 @@ written_lines rows =
     ++ codes "columns" ∷ (map clue_text clues.columns
     ++ goal_text rows ∷ []))
 
--- a line with the line feed that ends it
-abbrev pub ended_line : List ℕ → List ℕ
-ended_line line = line ++ 10 ∷ []
-
-abbrev pub ended_clue : List Block → List ℕ
-ended_clue clue = ended_line (clue_text clue)
-
+-- each line with the line feed that ends it
 unfoldable pub non_text_of : Rows → List ℕ
-non_text_of rows = flat_map ended_line (written_lines rows)
+non_text_of rows = flat_map (λ line. line ++ 10 ∷ []) (written_lines rows)

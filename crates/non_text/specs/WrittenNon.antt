@@ -8,13 +8,9 @@ use Rattle.non_text.specs.declared.fault.NonWriteFault.{NonWriteFault}
 use Rattle.non_text.specs.declared.fault.NonWriteFault.TheVariants.{TwoColoursOnly, Write, Memory}
 use Rattle.non_text.specs.Written.{non_text_of}
 
--- no cell of the row has a colour above 1
-abbrev pub is_two_colour_row : List ℕ → Bool
-is_two_colour_row row = list_all (λ cell. nat_le cell 1) row
-
 -- no cell has a colour above 1
 abbrev pub is_two_colour : Rows → Bool
-is_two_colour rows = list_all is_two_colour_row rows
+is_two_colour rows = list_all (list_all (λ cell. nat_le cell 1)) rows
 
 -- The text is appended, or a prefix of it where a write failed. A picture with a colour above 1 is refused, and nothing
 -- is appended then or where memory ran out.

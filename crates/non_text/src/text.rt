@@ -1,9 +1,9 @@
 //! The text of a picture, made in memory.
 
-ghost use Rattle.std.specs.Prelude.{◌≡◌, ◌++◌, ◌∷◌, map, decimal, IfOk, OnOk};
+ghost use Rattle.std.specs.Prelude.{◌≡◌, ◌++◌, [], ◌∷◌, map, decimal, IfOk, OnOk};
 ghost use Rattle.std.specs.List.{flat_map};
 ghost use Rattle.clues.specs.ClueBook.{clues_along};
-ghost use Rattle.non_text.specs.Written.{clue_text, digit_of, goal_text, ended_line, ended_clue, non_text_of};
+ghost use Rattle.non_text.specs.Written.{clue_text, digit_of, goal_text, non_text_of};
 
 use clues::{Block, ClueBook};
 use itoa::Buffer;
@@ -38,7 +38,7 @@ fn put_number(text: &mut Vec<u8>, number: u8) -> Result<(), AllocError>
 // A keyword line with a number.
 fn put_size(text: &mut Vec<u8>, keyword: &[u8], size: u8) -> Result<(), AllocError>
     ensures { OnOk result (text.new.items
-        ≡ text.old.items ++ ended_line (keyword.now ++ decimal size)) }
+        ≡ text.old.items ++ ((keyword.now ++ decimal size) ++ 10 ∷ [])) }
 {
     text.extend_from_slice(keyword)?;
     put_number(text, size)?;
@@ -66,7 +66,7 @@ fn put_blocks(text: &mut Vec<u8>, blocks: &[Block]) -> Result<(), AllocError>
 // The clues of the rows, or of the columns.
 fn put_clues(text: &mut Vec<u8>, clues: &ClueBook, axis: Axis) -> Result<(), AllocError>
     ensures { OnOk result (text.new.items
-        ≡ text.old.items ++ flat_map ended_clue (clues_along axis clues.now)) }
+        ≡ text.old.items ++ flat_map (λ clue. clue_text clue ++ 10 ∷ []) (clues_along axis clues.now)) }
 {
     for at in 0..clues.line_count(axis) {
         put_blocks(text, clues.clue(LineId { axis, at }).blocks())?;
@@ -78,7 +78,7 @@ fn put_clues(text: &mut Vec<u8>, clues: &ClueBook, axis: Axis) -> Result<(), All
 #[tactic(auto, using(crate::proofs::TextLemmas::texts))]
 // The goal line.
 fn put_goal(text: &mut Vec<u8>, picture: &Picture) -> Result<(), AllocError>
-    ensures { OnOk result (text.new.items ≡ text.old.items ++ ended_line (goal_text picture.now)) }
+    ensures { OnOk result (text.new.items ≡ text.old.items ++ (goal_text picture.now ++ 10 ∷ [])) }
 {
     text.extend_from_slice(b"goal \"")?;
     put_rows(text, picture)?;

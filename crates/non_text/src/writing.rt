@@ -1,7 +1,8 @@
 //! The writer of .non texts.
 
-ghost use Rattle.std.specs.Prelude.{◌≡◌};
-ghost use Rattle.non_text.specs.WrittenNon.{is_two_colour_row, is_two_colour, WritesNon};
+ghost use Rattle.std.specs.Prelude.{◌≡◌, nat_le};
+ghost use Rattle.std.specs.List.{list_all};
+ghost use Rattle.non_text.specs.WrittenNon.{is_two_colour, WritesNon};
 
 use crate::fault::NonWriteFault;
 use crate::text::non_text_of;
@@ -43,7 +44,7 @@ fn is_two_colour(picture: &Picture) -> bool
 
 // Whether no cell of a row has a colour above 1.
 fn is_two_colour_row(row: LineView<'_>) -> bool
-    ensures { result ≡ is_two_colour_row row.entry }
+    ensures { result ≡ list_all (λ cell. nat_le cell 1) row.entry }
 {
     for cell in row.iter() {
         if cell > 1 {

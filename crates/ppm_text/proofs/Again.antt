@@ -10,7 +10,7 @@ use Rattle.picture.specs.declared.picture.TheConstants.{MAX_SIDE}
 use Rattle.picture.specs.Readers.{◌>>=◌}
 use Rattle.picture.specs.CellSet.{no_cells}
 use Rattle.picture.specs.Document.{Content, first_of, triples_of, seen_after, number_among, ordered_triples}
-use Rattle.picture.specs.Palette.{Colours, fits, only_background}
+use Rattle.picture.specs.Palette.{Colours, fits, only_background, triple_at}
 use Rattle.picture.specs.Rows.{rows_of, width_of, Rows}
 use Rattle.picture.specs.declared.rgb.Rgb.{Rgb}
 use Rattle.ppm_text.specs.declared.fault.PpmFault.{PpmFault}
@@ -19,7 +19,7 @@ use Rattle.ppm_text.specs.Tokens.{Token, Unread, magic_of}
 use Rattle.ppm_text.specs.Samples.{side_at}
 use Rattle.ppm_text.specs.Ppm.{Header, header_of, palette_at, numbers_at, at_the_end, ppm_of}
 use Rattle.picture.specs.Writers.{number_text}
-use Rattle.ppm_text.specs.Text.{triple_text, cell_triple, row_text, rows_text, ppm_text}
+use Rattle.ppm_text.specs.Text.{triple_text, rows_text, ppm_text}
 use Rattle.ppm_text.specs.RoundTrip.{IsUngiven, IsReadAgain}
 use Rattle.ppm_text.proofs.Binds.{bind_is}
 use Rattle.ppm_text.proofs.Spelled.{text_tokens, behind, space_closes, line_end_closes, side_again, palette_again}
@@ -29,9 +29,9 @@ use Rattle.picture.proofs.ColourLaws.{few_seen, fits_there}
 
 -- ---- the text of the rows is that of their triples
 
-row_is_triples : (triples : List Rgb) (row : List ℕ) → row_text triples row ≡ flat_map triple_text (triples_of triples row)
+row_is_triples : (triples : List Rgb) (row : List ℕ) → flat_map (λ (cell : ℕ). triple_text (triple_at triples cell)) row ≡ flat_map triple_text (triples_of triples row)
 row_is_triples triples [] = refl
-row_is_triples triples (k ∷ row) = ap (λ (x : List ℕ). cell_triple triples k ++ x) (row_is_triples triples row)
+row_is_triples triples (k ∷ row) = ap (λ (x : List ℕ). triple_text (triple_at triples k) ++ x) (row_is_triples triples row)
 
 rows_are_triples : (triples : List Rgb) (rows : Rows) → rows_text triples rows ≡ flat_map triple_text (flat_map (triples_of triples) rows)
 rows_are_triples triples [] = refl

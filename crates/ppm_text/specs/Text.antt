@@ -11,17 +11,9 @@ use Rattle.picture.specs.Document.{Content}
 abbrev pub triple_text : Rgb → List ℕ
 triple_text rgb = number_text rgb.r 32 ++ (number_text rgb.g 32 ++ number_text rgb.b 10)
 
--- a cell, by the colours of the palette
-abbrev pub cell_triple : List Rgb → ℕ → List ℕ
-cell_triple triples number = triple_text (triple_at triples number)
-
--- the cells of a row from the left
-abbrev pub row_text : List Rgb → List ℕ → List ℕ
-row_text triples row = flat_map (cell_triple triples) row
-
--- the rows from the top
+-- the rows from the top, and the cells of each from the left, by the colours of the palette
 abbrev pub rows_text : List Rgb → Rows → List ℕ
-rows_text triples rows = flat_map (row_text triples) rows
+rows_text triples rows = flat_map (flat_map (λ cell. triple_text (triple_at triples cell))) rows
 
 -- the width and the height on a line, and the maxval on a line
 abbrev pub sizes_text : ℕ → ℕ → ℕ → List ℕ

@@ -2,10 +2,12 @@
 
 ghost use Rattle.std.specs.Prelude.{◌<◌, length, OnOk, OnErr};
 ghost use Rattle.std.specs.Io.KnownBytes.{Appends};
+ghost use Rattle.std.specs.List.{flat_map};
 ghost use Rattle.picture.specs.Content.{content_of};
+ghost use Rattle.picture.specs.Palette.{triple_at};
 ghost use Rattle.picture.specs.Rows.{cell_at, row_at, width_of};
 ghost use Rattle.picture.specs.Writers.{AppendsFront};
-ghost use Rattle.ppm_text.specs.Text.{triple_text, cell_triple, row_text, rows_text};
+ghost use Rattle.ppm_text.specs.Text.{triple_text, rows_text};
 ghost use Rattle.ppm_text.specs.Text.{sizes_text, ppm_text};
 
 use picture::{Document, Rgb, WriteFault, send, send_number};
@@ -29,9 +31,11 @@ fn send_triple<W: Write>(rgb: Rgb, writer: &mut W) -> Result<(), WriteFault>
 fn send_row<W: Write>(document: &Document, row: u8, writer: &mut W) -> Result<(), WriteFault>
     requires { row < length document.now.picture }
     ensures ok { OnOk result (Appends (W.contents writer.old) (W.contents writer.new)
-        (row_text document.now.palette.triples (row_at document.now.picture row))) }
+        (flat_map (λ cell. triple_text (triple_at document.now.palette.triples cell))
+        (row_at document.now.picture row))) }
     ensures err { OnErr result (AppendsFront (W.contents writer.old) (W.contents writer.new)
-        (row_text document.now.palette.triples (row_at document.now.picture row))) }
+        (flat_map (λ cell. triple_text (triple_at document.now.palette.triples cell))
+        (row_at document.now.picture row))) }
 {
     for col in 0..document.picture.width() {
         let number = document.picture.cell(row, col);

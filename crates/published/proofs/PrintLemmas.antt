@@ -15,7 +15,7 @@ use Rattle.command_text.specs.declared.command.Command.{Command}
 use Rattle.command_text.specs.declared.command.Command.TheVariants as command
 use Rattle.command_text.specs.declared.request.Request.{Request}
 use Rattle.command_text.specs.declared.request.Request.TheVariants as request
-use Rattle.command_text.specs.Lines.{lines_of, request_of}
+use Rattle.command_text.specs.Lines.{ended_lines_of, lines_of, request_of}
 use Rattle.command_text.specs.Words.{Texts, words_of}
 use Rattle.session.specs.Refusal.{memory_line}
 use Rattle.session.specs.Session.{IsShort, Replies, Runs, Says, SaysTo, SaysToAll}
@@ -61,7 +61,7 @@ wrote c input line s bytes lines asks short w =
 -- ---- the two lines
 
 picture_lines : lines_of (codes "write ppm\n") ≡ codes "write ppm" ∷ []
-unfolding lines_of
+unfolding lines_of ended_lines_of
 picture_lines = refl
 
 picture_asks : request_of (codes "write ppm") ≡ request.Command command.WritePpm
@@ -69,7 +69,7 @@ unfolding request_of words_of
 picture_asks = refl
 
 cert_lines : lines_of (codes "certify\n") ≡ codes "certify" ∷ []
-unfolding lines_of
+unfolding lines_of ended_lines_of
 cert_lines = refl
 
 cert_asks : request_of (codes "certify") ≡ request.Command command.Certify

@@ -8,9 +8,15 @@ use Rattle.std.proofs.lemmas.List.Sums.{count_by_more_no, count_by_more_yes, sum
 use Rattle.picture.specs.declared.rgb.Rgb.{Rgb}
 use Rattle.picture.specs.Palette.{triple_at}
 use Rattle.picture.specs.Rows.{cell_at, width_of}
+use Rattle.clues.specs.ClueBook.{Clues}
+use Rattle.line_facts.specs.Masks.{Masks}
 use Rattle.edits.specs.Design.{Design, grid, mark_at, marks_of}
-use Rattle.report_text.specs.Report.{colour_line, colour_lines, shown_given, givens_in, row_givens}
+use Rattle.report_text.specs.Report.{audit_text, colour_line, colour_lines, document_text, shown_given, givens_in, row_givens}
 use Rattle.report_text.proofs.ShownLemmas.{next_range}
+
+-- all that stands before the ending
+abbrev pub front_text : Design → Clues → Masks → List ℕ
+front_text d clues facts = document_text d ++ audit_text clues facts
 
 flat_more : (f : ℕ → List ℕ) (k : ℕ) → flat_map f (range_with_len 0 (k + 1)) ≡ flat_map f (range_with_len 0 k) ++ f k
 flat_more f k = ap (flat_map f) (next_range k) ∙ flat_map-append f (range_with_len 0 k) (k ∷ []) ∙ ap (λ (rest : List ℕ). flat_map f (range_with_len 0 k) ++ rest) (append-nil (f k))

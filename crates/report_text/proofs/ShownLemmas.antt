@@ -6,7 +6,7 @@ use Rattle.std.proofs.lemmas.List.{map-append}
 use Rattle.std.proofs.lemmas.List.Elements.{filter-append}
 use Rattle.std.proofs.lemmas.Nat.{ones_le_self}
 use Rattle.std.proofs.lemmas.Nat.Bits.{bit_at-trailing_zeros}
-use Rattle.report_text.specs.ReasonText.{letters_among}
+use Rattle.report_text.specs.ReasonText.{letters_left}
 use Rattle.report_text.specs.Shown.{letter}
 
 -- nothing was pushed yet
@@ -23,6 +23,16 @@ lowest_of_one zero fits one = absurd (omega (arith, ones_le_self 0, one))
 lowest_of_one (suc mask) fits one = (bit_at-trailing_zeros w16 (suc mask) (omega arith) fits).0
 
 -- ---- the colours that a premise leaves
+
+-- the letters of those of some colours that are not excluded
+unfoldable pub letters_among : ℕ → List ℕ → List ℕ
+letters_among excluded colours = map letter (filter (λ k. not (bit_at excluded k == 1)) colours)
+
+pub letters_all : (excluded : ℕ) → letters_left excluded ≡ letters_among excluded (range_with_len 0 16)
+unfolding letters_among letters_left
+letters_all excluded = refl
+
+pub ruleset all_letters = (letters_all)
 
 range_more : (a n : ℕ) → range_with_len a (suc n) ≡ range_with_len a n ++ (a + n) ∷ []
 range_more a zero = ap (λ (k : ℕ). k ∷ []) (omega arith)

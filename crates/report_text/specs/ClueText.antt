@@ -1,6 +1,6 @@
 -- Clues as text: `r 1: 2a 1b` for a row, `c 1: 0` for a column without a block.
 use Rattle.std.specs.Prelude.{ℕ, ◌+◌, List, [], ◌∷◌, ◌++◌, map, codes, decimal}
-use Rattle.std.specs.List.{join_with_byte}
+use Rattle.std.specs.List.{enumerate_from, flat_map, join_with_byte}
 use Rattle.picture.specs.declared.line_id.Axis.{Axis}
 use Rattle.picture.specs.declared.line_id.Axis.TheVariants.{Across, Down}
 use Rattle.picture.specs.declared.line_id.LineId.{LineId}
@@ -26,8 +26,7 @@ numbered_clue letter number clue = letter ∷ 32 ∷ (decimal number ++ (codes "
 
 -- a line for each clue, with numbers from a first one on
 unfoldable pub numbered_clues : ℕ → ℕ → List (List Block) → List ℕ
-numbered_clues letter n [] = []
-numbered_clues letter n (clue ∷ clues) = numbered_clue letter n clue ++ numbered_clues letter (n + 1) clues
+numbered_clues letter n clues = flat_map (λ line. numbered_clue letter line.0 line.1) (enumerate_from n clues)
 
 -- `r` for a row and `c` for a column
 abbrev pub letter_of : Axis → ℕ

@@ -8,13 +8,9 @@ use Rattle.justify.specs.declared.premise.Premise.{Premise}
 use Rattle.report_text.specs.ClueText.{letter_of}
 use Rattle.report_text.specs.Shown.{letter}
 
--- the letters of those of some colours that are not excluded
-unfoldable pub letters_among : ℕ → List ℕ → List ℕ
-letters_among excluded colours = map letter (filter (λ k. not (bit_at excluded k == 1)) colours)
-
 -- the letters of the colours that are not excluded, in ascending order
-abbrev pub letters_left : ℕ → List ℕ
-letters_left excluded = letters_among excluded (range_with_len 0 16)
+unfoldable pub letters_left : ℕ → List ℕ
+letters_left excluded = map letter (filter (λ k. not (bit_at excluded k == 1)) (range_with_len 0 16))
 
 -- a cell by its place along the line, from 1, and the letters of the colours that the premise leaves there
 abbrev pub premise_text : Premise → List ℕ
@@ -33,5 +29,5 @@ reason_text line premises =
 -- ---- worked premises
 
 one_is_left : letters_left 65533 ≡ 97 ∷ []
-unfolding letters_among
+unfolding letters_left
 one_is_left = refl

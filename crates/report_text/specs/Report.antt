@@ -1,19 +1,16 @@
 -- The report of a bench.
-use Rattle.std.specs.Prelude.{ℕ, ◌+◌, Bool, List, [], ◌∷◌, ◌++◌, length, codes, count_ones, count_by, nat_lt}
+use Rattle.std.specs.Prelude.{ℕ, ◌+◌, List, [], ◌∷◌, ◌++◌, length, codes, count_ones, count_by, nat_lt}
 use Rattle.std.specs.Prelude.{◌==◌, if◌then◌else◌}
 use Rattle.std.specs.List.{flat_map, range_with_len, sum_by}
 use Rattle.line_facts.specs.Masks.{Masks}
 use Rattle.picture.specs.declared.rgb.Rgb.{Rgb}
 use Rattle.picture.specs.Palette.{Colours, triple_at}
-use Rattle.picture.specs.Rows.{cell_at, width_of, Rows}
+use Rattle.picture.specs.Rows.{cell_at, width_of}
 use Rattle.picture.specs.Writers.{number_text}
 use Rattle.clues.specs.ClueBook.{Clues}
 use Rattle.edits.specs.Design.{Design}
 use Rattle.report_text.specs.ClueText.{clues_text}
 use Rattle.report_text.specs.Shown.{letter, map_text, picture_text}
-
-abbrev pub size_text : Rows → List ℕ
-size_text rows = codes "size " ++ (number_text (length rows) 32 ++ number_text (width_of rows) 10)
 
 -- a colour's letter and its triple
 abbrev pub colour_line : ℕ → Rgb → List ℕ
@@ -39,17 +36,13 @@ row_givens d i n = flat_map (λ j. if cell_at d.marks i j == 1 then shown_given 
 unfoldable pub givens_in : Design → ℕ → List ℕ
 givens_in d n = flat_map (λ i. row_givens d i (width_of d.rows)) (range_with_len 0 n)
 
--- more than one colour is left
-abbrev pub is_open : ℕ → Bool
-is_open mask = nat_lt 1 (count_ones mask)
-
--- how many cells are open
+-- how many cells are open: more than one colour is left there
 abbrev pub open_cells : Masks → ℕ
-open_cells facts = sum_by (count_by is_open) facts
+open_cells facts = sum_by (count_by (λ mask. nat_lt 1 (count_ones mask))) facts
 
 -- the document: its size, its colours, its picture and its givens
 abbrev pub document_text : Design → List ℕ
-document_text d = size_text d.rows
+document_text d = (codes "size " ++ (number_text (length d.rows) 32 ++ number_text (width_of d.rows) 10))
     ++ (colours_text d.colours ++ (codes "picture\n" ++ (picture_text d.rows ++ givens_in d (length d.rows))))
 
 -- what follows from it: the clues, the map, and how many cells are open
@@ -62,9 +55,6 @@ abbrev pub ending_text : List ℕ → ℕ → ℕ → List ℕ
 ending_text word past future =
     codes "verdict " ++ (word ++ (codes "\nhistory " ++ (number_text past 32 ++ number_text future 10)))
 
--- all that stands before the ending
-abbrev pub front_text : Design → Clues → Masks → List ℕ
-front_text d clues facts = document_text d ++ audit_text clues facts
-
+-- the whole report
 abbrev pub report_text : Design → Clues → Masks → List ℕ → ℕ → ℕ → List ℕ
-report_text d clues facts word past future = front_text d clues facts ++ ending_text word past future
+report_text d clues facts word past future = (document_text d ++ audit_text clues facts) ++ ending_text word past future

@@ -47,6 +47,7 @@ fn push_premise(text: &mut Vec<u8>, premise: Premise) -> Result<(), AllocError>
     push_left(text, premise.colours)
 }
 
+#[tactic(auto, using(crate::proofs::ShownLemmas::all_letters))]
 // The letters of the colours that are not excluded.
 fn push_left(text: &mut Vec<u8>, excluded: u16) -> Result<(), AllocError>
     ensures { OnOk result (text.new.items ≡ text.old.items ++ letters_left excluded) }

@@ -1,11 +1,11 @@
 //! The report of a bench.
 
-ghost use Rattle.std.specs.Prelude.{◌≡◌, ◌<◌, ◌≤◌, ◌+◌, ◌++◌, ◌==◌, count_by, length, OnOk};
+ghost use Rattle.std.specs.Prelude.{◌≡◌, ◌<◌, ◌≤◌, ◌+◌, ◌++◌, ◌==◌, codes, count_by, count_ones, length, nat_lt, OnOk};
 ghost use Rattle.picture.specs.Rows.{cell_at, row_at, width_of};
 ghost use Rattle.picture.specs.Writers.{number_text};
 ghost use Rattle.edits.specs.Design.{design_of};
 ghost use Rattle.report_text.specs.Room.{TakesRoom};
-ghost use Rattle.report_text.specs.Report.{audit_text, colour_line, colour_lines, colours_text, document_text, ending_text, front_text, givens_in, is_open, open_cells, row_givens, shown_given, size_text};
+ghost use Rattle.report_text.specs.Report.{audit_text, colour_line, colour_lines, colours_text, document_text, ending_text, givens_in, open_cells, row_givens, shown_given};
 
 use crate::clue_text::{push_clues, push_number};
 use crate::shown::{letter_of, push_map, push_picture};
@@ -28,7 +28,8 @@ pub fn push_front(
     map: &Facts,
 ) -> Result<(), AllocError>
     ensures { OnOk result (text.new.items
-        ≡ text.old.items ++ front_text (design_of document.now) clues.now map.now) }
+        ≡ text.old.items ++ (document_text (design_of document.now)
+        ++ audit_text clues.now map.now)) }
 {
     push_document(text, document)?;
     push_audit(text, clues, map)
@@ -58,7 +59,8 @@ fn push_document(text: &mut Vec<u8>, document: &Document) -> Result<(), AllocErr
 
 #[tactic(auto, using(std::proofs::lemmas::List::append_assoc))]
 fn push_size(text: &mut Vec<u8>, picture: &Picture) -> Result<(), AllocError>
-    ensures { OnOk result (text.new.items ≡ text.old.items ++ size_text picture.now) }
+    ensures { OnOk result (text.new.items ≡ text.old.items ++ (codes "size "
+        ++ (number_text (length picture.now) 32 ++ number_text (width_of picture.now) 10))) }
 {
     text.extend_from_slice(b"size ")?;
     push_before(text, usize::from(picture.height()), b' ')?;
@@ -173,7 +175,7 @@ fn open_cells(map: &Facts) -> usize
 #[tactic(auto, using(crate::proofs::ReportLemmas::sums))]
 fn open_in_row(map: &Facts, row: u8) -> usize
     requires { row < length map.now }
-    ensures value { result ≡ count_by is_open (row_at map.now row) }
+    ensures value { result ≡ count_by (λ mask. nat_lt 1 (count_ones mask)) (row_at map.now row) }
     ensures small { result ≤ 120 }
 {
     let mut count = 0;

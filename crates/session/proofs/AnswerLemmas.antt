@@ -33,8 +33,9 @@ use Rattle.report_text.specs.ClueText.{clues_text}
 use Rattle.session.specs.Refusal.{edit_line, memory_line, refusal_line}
 use Rattle.session.specs.Session.{JudgesAs, Replies, SaysStroke, report_on}
 use Rattle.session.specs.Texts.{certified_text, content, done_text, verdict_text, verdict_word, why_text}
-use Rattle.report_text.specs.Report.{ending_text, front_text}
+use Rattle.report_text.specs.Report.{ending_text}
 use Rattle.report_text.specs.Shown.{map_text}
+use Rattle.report_text.proofs.ReportLemmas.{front_text}
 
 -- a stroke, by what the bench answers
 pub says_stroke : (stroke : Stroke) (old new : Seen) (outcome : Result (Unit {0}) EditFault) → OnOk outcome (Accepts stroke old new) → IfErr outcome (λ fault. Refuses stroke fault old new)

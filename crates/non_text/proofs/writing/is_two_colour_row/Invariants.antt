@@ -1,6 +1,6 @@
-use Rattle.std.proofs.Common.{◌≡◌}
-use Rattle.non_text.specs.WrittenNon.{is_two_colour_row}
+use Rattle.std.proofs.Common.{◌≡◌, leb}
+use Rattle.std.specs.List.{list_all}
 use Rattle.non_text.proofs.writing.is_two_colour_row.Given as goal
 
 abbrev pub invariant-loop-cell : goal.invariant-loop-cell
-invariant-loop-cell l = is_two_colour_row l.cell-iterator ≡ is_two_colour_row l.fn.row
+invariant-loop-cell l = list_all (λ cell. leb cell 1) l.cell-iterator ≡ list_all (λ cell. leb cell 1) l.fn.row

@@ -1,8 +1,7 @@
 use Rattle.std.proofs.Common.{[], ◌∷◌, ◌+◌, ◌++◌, ◌∙◌, List, Vec, Global, ap, sym, ℕ}
 use Rattle.std.specs.List.{range_with_len}
-use Rattle.report_text.specs.ReasonText.{letters_among}
 use Rattle.report_text.specs.Shown.{letter}
-use Rattle.report_text.proofs.ShownLemmas.{letters_none, letters_passed, letters_taken, none_pushed, pushed}
+use Rattle.report_text.proofs.ShownLemmas.{letters_among, letters_none, letters_passed, letters_taken, none_pushed, pushed}
 use Rattle.report_text.proofs.reason_text.push_left.Goals as goal
 use Rattle.report_text.proofs.reason_text.push_left.Goals.{then-not-has_colour+in_ok-push, else-not-has_colour}
 

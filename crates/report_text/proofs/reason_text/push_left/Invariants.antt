@@ -1,6 +1,6 @@
 use Rattle.std.proofs.Common.{◌≡◌, ◌++◌}
-use Rattle.report_text.specs.ReasonText.{letters_among}
 use Rattle.std.specs.List.{range_with_len}
+use Rattle.report_text.proofs.ShownLemmas.{letters_among}
 use Rattle.report_text.proofs.reason_text.push_left.Given as goal
 
 abbrev pub invariant-loop-colour : goal.invariant-loop-colour

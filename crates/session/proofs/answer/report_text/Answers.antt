@@ -1,7 +1,7 @@
 use Rattle.std.proofs.Common.{◌≡◌, ◌∙◌, arith}
 use Rattle.std.proofs.lemmas.Result.{err_from_is_err_and}
 use Rattle.live_audit.specs.declared.verdict.Verdict.{Verdict}
-use Rattle.report_text.specs.Report.{front_text}
+use Rattle.report_text.proofs.ReportLemmas.{front_text}
 use Rattle.session.specs.Session.{JudgesAs}
 use Rattle.session.specs.Texts.{verdict_word}
 use Rattle.session.proofs.AnswerLemmas.{from_nothing, judged_now, reported, unjudged_now}
