@@ -1,6 +1,7 @@
 -- The text that is written for a certificate is read as the same certificate.
 use Rattle.std.proofs.Common.{◌≡◌, ℕ, ◌+◌, ◌^◌, ◌<◌, Bool, true, false, cond, not, eqb, List, [], ◌∷◌, ◌++◌, length, get_or, append_assoc, Option, None, Some, Result, Ok, Err, refl, sym, ap, ◌∙◌}
 use Rattle.std.proofs.Common.{subst, arith, inl, inr, codes, decimal, nat_le, option_map}
+use Rattle.std.specs.List.{flat_map}
 use Rattle.std.specs.Option.{ok_or, option_and_then}
 use Rattle.std.proofs.lemmas.Bool.{and_from, cases_lt, le-leb, ne_eqb}
 use Rattle.std.proofs.lemmas.Fmt.{decimal_digit, first_decimal, length-decimal-le}
@@ -21,8 +22,15 @@ use Rattle.cert_text.specs.declared.tree_line.LineNumber.{LineNumber}
 use Rattle.cert_text.specs.Cert.{Certificate, certificate, AreOrdered, AreWritable, IsCert, IsShort, IsWritable, rank}
 use Rattle.cert_text.specs.Text.{below_givens, cell_named, cell_number, cert_line, cert_of_lines, given_line, given_lines, has_leading_zero, is_word, line_by, line_named, line_number}
 use Rattle.cert_text.specs.Text.{lines_of, number_of, take_given, three_of, tree_lines, words_of}
-use Rattle.cert_text.specs.WrittenCert.{IsReadAgain, axis_text, given_text, givens_text, line_text, lines_text, named_text}
+use Rattle.cert_text.specs.WrittenCert.{IsReadAgain, axis_text, given_text, line_text, named_text}
 use Rattle.cert_text.proofs.WordLemmas.{lines_more, lines_none}
+
+-- the lines that give cells, and those below them
+abbrev pub givens_text : List CellNumber → List ℕ
+givens_text givens = flat_map given_text givens
+
+abbrev lines_text : List CertLine → List ℕ
+lines_text lines = flat_map line_text lines
 
 -- ---- numbers
 

@@ -22,9 +22,9 @@ use Rattle.cert_text.specs.declared.fault.CertFault.TheVariants.{BadLine}
 use Rattle.cert_text.specs.declared.tree_line.CellNumber.{CellNumber}
 use Rattle.cert_text.specs.Cert.{IsShort}
 use Rattle.cert_text.specs.Text.{given_line, line_number, lines_of, three_of, words_of}
-use Rattle.cert_text.specs.WrittenCert.{axis_text, givens_text}
+use Rattle.cert_text.specs.WrittenCert.{axis_text}
 use Rattle.cert_text.proofs.RoundTrip.{HasNoGiven, IsWord, axis_is, axis_named, axis_word, cell_named_again, decimal_is, first_line_is, givens_again, lacks_append, no_leading_zero, nothing_given}
-use Rattle.cert_text.proofs.RoundTrip.{given_of_three, number_is, other_line_first}
+use Rattle.cert_text.proofs.RoundTrip.{given_of_three, givens_text, number_is, other_line_first}
 use Rattle.cert_text.proofs.WordLemmas.{lines_none}
 use Rattle.lemma_text.specs.declared.lemma_line.Literal.{Literal}
 use Rattle.lemma_text.specs.declared.lemma_line.LemmaLine.{LemmaLine}
