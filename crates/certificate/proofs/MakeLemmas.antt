@@ -1,7 +1,7 @@
 -- The lines of a tree that a search writes are those of a certificate without error.
 use Rattle.std.proofs.Common.{◌≡◌, ℕ, suc, ◌+◌, ◌-◌, ◌<◌, ◌≤◌, List, [], ◌∷◌, ◌++◌, true, None, Some, length, eqb, eqb-true, refl, sym, ap, ◌∙◌, arith, inr}
 use Rattle.std.specs.Int.{bit_at}
-use Rattle.std.specs.List.{All, range_with_len}
+use Rattle.std.specs.List.{All, AllByRecursion, range_with_len}
 use Rattle.std.proofs.lemmas.List.Elements.{filter_passes}
 use Rattle.line_facts.specs.Masks.{Masks}
 use Rattle.picture.specs.declared.line_id.Axis.{Axis}
@@ -26,7 +26,7 @@ use Rattle.cert_text.specs.declared.tree_line.CertLine.TheVariants.{Line, Split,
 use Rattle.second_search.specs.Trees.{IsOtherIn, Stands, Walks}
 use Rattle.second_search.proofs.FindLemmas.{held_within}
 use Rattle.line_facts.specs.Branches.{colours_of, held}
-use Rattle.cert_text.specs.Cert.{AreWritable, IsWritable}
+use Rattle.cert_text.specs.Cert.{IsWritable}
 use Rattle.cert_check.specs.FirstFault.{FirstFault, Leads}
 use Rattle.certificate.specs.MadeCert.{EachExcludes, ExcludesSome, WritesTree}
 use Rattle.cert_check.specs.Puzzle.{HasCellNumber, HasLineNumber, line_id}
@@ -116,7 +116,7 @@ excludes law picture facts (Dead number) next h = tt
 excludes law picture facts Done next h = tt
 
 record IsWhole (picture : Rows) (waits : List (List (List ℕ))) (lines : List CertLine) : Type 0 where
-  writes : AreWritable lines
+  writes : AllByRecursion IsWritable lines
   goes : (n : ℕ) → FirstFault picture waits n lines None
   each : EachExcludes picture waits lines
 

@@ -6,7 +6,7 @@ use Rattle.picture.specs.CellSet.{HasCell}
 use Rattle.picture.specs.Document.{AreInside}
 use Rattle.picture.specs.Rows.{width_of, Rows}
 use Rattle.cert_text.specs.declared.tree_line.CellNumber.{CellNumber}
-use Rattle.cert_text.specs.Cert.{AreOrdered, IsShort, rank}
+use Rattle.cert_text.specs.Cert.{AreOrdered, rank}
 use Rattle.lemma_proof.specs.Naming.{NamesGivens, NamesUpTo}
 use Rattle.cert_check.specs.Puzzle.{HasCellNumber, HasCellNumbers, IsAmong, numbered}
 
@@ -57,8 +57,8 @@ more_named givens row col cells new h w has e n =
       ordered = λ more o.
           let Q : List CellNumber → Type 0 = AreOrdered 0 in
           let R : ℕ → Type 0 = λ least. AreOrdered least more in
-          let short_row : IsShort (row + 1) = omega arith in
-          let short_col : IsShort (col + 1) = omega arith in
+          let short_row : row + 1 < 1000 = omega arith in
+          let short_col : col + 1 < 1000 = omega arith in
           let behind : (row + 1) * 1000 + (col + 1) < (row + 1) * 1000 + (col + 1) + 1 = omega arith in
           subst Q (sym (append_assoc cells (cell ∷ []) more))
           (n.ordered (cell ∷ more) (short_row, short_col, behind, subst R (let q : (row + 1) * 1000 + (col + 1 + 1) ≡ (row + 1) * 1000 + (col + 1) + 1 = omega arith in q) o));
