@@ -1,14 +1,14 @@
 -- The first error and the tree: there is none exactly where the lines are a tree that proves the picture.
-use Rattle.std.proofs.Common.{◌≡◌, ℕ, ◌+◌, ◌-◌, List, [], ◌∷◌, ◌++◌, Option, None, Some, Result, Ok, Err, append_assoc, refl, sym, ap, ◌∙◌, inl, inr}
+use Rattle.std.proofs.Common.{◌≡◌, ℕ, ◌+◌, ◌-◌, List, [], ◌∷◌, ◌++◌, Option, None, Some, Result, Ok, Err, append_assoc, get_or, refl, sym, ap, ◌∙◌, inl, inr}
 use Rattle.std.specs.Prelude.{IfErr, OnOk}
-use Rattle.std.proofs.lemmas.List.{append-nil}
+use Rattle.std.proofs.lemmas.List.{append-nil, ext_get_or}
 use Rattle.line_facts.specs.Masks.{Masks}
-use Rattle.picture.specs.Rows.{Rows}
+use Rattle.picture.proofs.BitLaws.{same_bits}
+use Rattle.picture.specs.Rows.{cell_at, line_of, row_at, Rows}
 use Rattle.picture.specs.declared.line_id.LineId.{LineId}
 use Rattle.picture.specs.Picture.{IsPicture}
 use Rattle.line_facts.specs.FactSets.{with_given}
-use Rattle.line_facts.proofs.ForceLaws.{gains_closes, gains_grows, gains_inside}
-use Rattle.line_facts.proofs.FitLaws.{within_both}
+use Rattle.line_facts.proofs.ForceLaws.{on_or_not}
 use Rattle.cert_text.specs.declared.fault.CertFault.{CertFault}
 use Rattle.cert_text.specs.declared.fault.CertFault.TheVariants.{Memory}
 use Rattle.cert_text.specs.declared.tree_line.LineNumber.{LineNumber}
@@ -19,14 +19,24 @@ use Rattle.cert_text.specs.Cert.{Certificate}
 use Rattle.cert_check.specs.Puzzle.{HasCellNumber, HasCellNumbers, HasLineNumber, IsDead, IsForced, IsUnique, ShowsOnly, base_of, blank_for, line_id, split_at, with_givens}
 use Rattle.cert_check.specs.Tree.{Tree, Trees, done, dead, forced, split, none, more, written, each_written, Proves, EachProves, IsProof}
 use Rattle.cert_check.specs.FirstFault.{AnswersFirst, CertFirstFault, FirstFault, FirstFaultBehind, HasFault, Leads}
-use Rattle.cert_check.proofs.Soundness.{proof_is_unique}
+use Rattle.cert_check.proofs.Soundness.{at_place, proof_is_unique}
 
 -- ---- what a line forces is one set of facts
 
 pub same_gains : (picture : Rows) (facts : Masks) (one : List (List ℕ)) (other : Rows) (line : LineId) → IsForced picture facts line one → IsForced picture facts line other → one ≡ other
 same_gains picture facts one other line f h =
-    let half = λ (a b : List (List ℕ)) (g : IsForced picture facts line a) (k : IsForced picture facts line b). gains_inside _ _ _ _ _ g.1 b (gains_grows _ _ _ _ _ k.1) (gains_closes _ _ _ _ _ k.1) in
-    within_both one other (half one other f h) (half other one h f)
+    ext_get_or [] one other (sym f.same_shape.rows ∙ h.same_shape.rows)
+    (λ row _. ext_get_or 0 (row_at one row) (row_at other row) (sym (f.same_shape.each row) ∙ h.same_shape.each row) (λ col _. each_cell row col))
+  where
+    each_cell : (row col : ℕ) → cell_at one row col ≡ cell_at other row col
+    each_cell row col = elim (on_or_not line row col) [
+      | inl on ↦
+          at_place one line row col on
+          ∙ (same_bits (get_or (line_of one line) on.0 0) (get_or (line_of other line) on.0 0)
+          (λ k. ((λ s. (h.exact on.0 k).1 ((f.exact on.0 k).0 s)), (λ s. (f.exact on.0 k).1 ((h.exact on.0 k).0 s))))
+          ∙ sym (at_place other line row col on))
+      | inr off ↦ f.elsewhere row col off ∙ sym (h.elsewhere row col off)
+    ]
 
 -- ---- trees one after the other
 

@@ -1,13 +1,13 @@
 -- What a certificate speaks of: a picture, its clues, and facts on its cells.
-use Rattle.std.specs.Prelude.{◌≡◌, ◌⊎◌, ℕ, ◌+◌, ◌-◌, ◌<◌, ◌≤◌, List, [], ◌∷◌, length}
+use Rattle.std.specs.Prelude.{◌≡◌, ◌⊎◌, ℕ, ◌+◌, ◌-◌, ◌<◌, ◌≤◌, ◌↔◌, List, [], ◌∷◌, length, slice_index}
+use Rattle.std.specs.Prelude.{IsBitSet}
 use Rattle.line_facts.specs.Masks.{Masks}
 use Rattle.picture.specs.declared.line_id.LineId.{LineId}
 use Rattle.picture.specs.Rows.{width_of, cell_at, line_of, lines_along, Rows}
 use Rattle.clues.specs.ClueBook.{clue_at, clues_of}
 use Rattle.clues.specs.Solution.{IsOnlySolution}
-use Rattle.line_facts.specs.declared.line_engine.Outcome.{Outcome}
-use Rattle.line_facts.specs.Fits.{CanFit}
-use Rattle.line_facts.specs.FactSets.{Gains, Leaves, nothing_excluded, with_given}
+use Rattle.line_facts.specs.Fits.{CanFit, CanHave}
+use Rattle.line_facts.specs.FactSets.{IsOn, Leaves, SameShape, nothing_excluded, with_given}
 use Rattle.line_facts.specs.Branches.{branches}
 use Rattle.cert_text.specs.declared.tree_line.CellNumber.{CellNumber}
 use Rattle.cert_text.specs.declared.tree_line.LineNumber.{LineNumber}
@@ -45,9 +45,13 @@ IsNamed cells row col = IsAmong (numbered row col) cells
 
 -- ---- what lines say of facts, for the clues of a picture
 
--- the facts gain all that a line forces
-abbrev pub IsForced : Rows → Masks → LineId → List (List ℕ) → Type 0
-IsForced picture facts line more = (outcome : Outcome) × Gains (clue_at (clues_of picture) line) line facts more outcome
+-- The facts gain all that a line forces: its cells have exactly the colours that some list that fits has there, and the
+-- other cells stay as they were.
+pub record IsForced (picture : Rows) (facts : Masks) (line : LineId) (more : List (List ℕ)) : Type 0 where
+  pub same_shape : SameShape facts more
+  pub exact : (i k : ℕ) → IsBitSet (slice_index (line_of more line) i) k
+      ↔ CanHave (clue_at (clues_of picture) line) (line_of facts line) i k
+  pub elsewhere : (row col : ℕ) → (IsOn line row col → ⊥) → cell_at more row col ≡ cell_at facts row col
 
 -- no list fits a line
 abbrev pub IsDead : Rows → Masks → LineId → Type 0

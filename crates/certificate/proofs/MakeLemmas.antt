@@ -110,7 +110,6 @@ excludes : OneLineDecides → (picture : Rows) (facts : Masks) (line : CertLine)
 excludes law picture facts (Line number) next h = λ gained forced same.
     let mine = h.1.1.0 in
     mine.more (ap (λ (fs : List (List ℕ)). line_of fs (line_id number)) (sym same) ∙ narrowed_masks law (clue_at (clues_of picture) (line_id number)) (line_of facts (line_id number))
-    (line_of gained (line_id number)) (line_of h.1.0 (line_id number)) forced.0 mine.outcome forced.1.narrows mine.gains.narrows)
 excludes law picture facts (Split cell) next h = h.1.1
 excludes law picture facts (Dead number) next h = tt
 excludes law picture facts Done next h = tt
