@@ -1,3 +1,4 @@
+pub mod AmongLemmas
 pub mod BaseLemmas
 pub mod Exactness
 pub mod GivenLemmas

@@ -1,6 +1,7 @@
 -- What a certificate speaks of: a picture, its clues, and facts on its cells.
-use Rattle.std.specs.Prelude.{◌≡◌, ◌⊎◌, ℕ, ◌+◌, ◌-◌, ◌<◌, ◌≤◌, ◌↔◌, List, [], ◌∷◌, length, slice_index}
+use Rattle.std.specs.Prelude.{◌≡◌, ℕ, ◌+◌, ◌-◌, ◌<◌, ◌≤◌, ◌↔◌, List, length, slice_index}
 use Rattle.std.specs.Prelude.{IsBitSet}
+use Rattle.std.specs.List.{Contains, fold}
 use Rattle.line_facts.specs.Masks.{Masks}
 use Rattle.picture.specs.declared.line_id.LineId.{LineId}
 use Rattle.picture.specs.Rows.{width_of, cell_at, line_of, lines_along, Rows}
@@ -26,22 +27,13 @@ line_id line = record { axis = line.axis; at = line.number - 1 }
 abbrev pub HasCellNumber : Rows → CellNumber → Type 0
 HasCellNumber grid cell = (0 < cell.row) × (cell.row ≤ length grid) × (0 < cell.col) × (cell.col ≤ width_of grid)
 
--- the picture has the cells with these numbers
-abbrev pub HasCellNumbers : Rows → List CellNumber → Type 0
-HasCellNumbers picture [] = Unit {0}
-HasCellNumbers picture (cell ∷ cells) = HasCellNumber picture cell × HasCellNumbers picture cells
-
 -- the number of a cell at a row and a column
 abbrev pub numbered : ℕ → ℕ → CellNumber
 numbered row col = record { row = row + 1; col = col + 1 }
 
-abbrev pub IsAmong : CellNumber → List CellNumber → Type 0
-IsAmong cell [] = ⊥
-IsAmong cell (first ∷ cells) = (cell ≡ first) ⊎ IsAmong cell cells
-
 -- a cell is one of those that are named
 abbrev pub IsNamed : List CellNumber → ℕ → ℕ → Type 0
-IsNamed cells row col = IsAmong (numbered row col) cells
+IsNamed cells row col = Contains cells (numbered row col)
 
 -- ---- what lines say of facts, for the clues of a picture
 
@@ -69,17 +61,11 @@ ShowsOnly picture facts = (row col k : ℕ) → Leaves facts row col k → k ≡
 
 -- the facts with the picture's colour alone left in each given
 abbrev pub with_givens : Rows → List CellNumber → Masks → Masks
-with_givens picture [] facts = facts
-with_givens picture (cell ∷ cells) facts =
-    with_givens picture cells (with_given picture facts (cell.row - 1) (cell.col - 1))
+with_givens picture givens facts = fold (λ fs cell. with_given picture fs (cell.row - 1) (cell.col - 1)) facts givens
 
--- the facts without an exclusion, of the size of a picture
-abbrev pub blank_for : Rows → Masks
-blank_for picture = nothing_excluded (length picture) (width_of picture)
-
--- the facts that the givens say: the root of a tree
+-- the facts that the givens say, where nothing else is excluded: the root of a tree
 abbrev pub base_of : Rows → List CellNumber → Masks
-base_of picture givens = with_givens picture givens (blank_for picture)
+base_of picture givens = with_givens picture givens (nothing_excluded (length picture) (width_of picture))
 
 -- ---- what a certificate shows
 
