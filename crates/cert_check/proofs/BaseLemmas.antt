@@ -86,11 +86,12 @@ open_once picture facts cell r c k h l = elim (at_or_off r c cell) [
       rw (p.0, p.1, at_with_cell facts row col (2 ^ cell_at picture row col) inside.0 inside.1) ((power_has (cell_at picture row col) k).1 (rw (p.0, p.1) at (h p)))
 ]
 
-pub open_stays : (picture : Rows) (facts : Masks) (cells : List CellNumber) → AllByRecursion (HasCellNumber picture) cells → (r c k : ℕ) → (Contains cells (numbered r c) → k ≡ cell_at picture r c) → Leaves facts r c k
-    → Leaves (with_givens picture cells facts) r c k
+pub open_stays : (picture : Rows) (facts : Masks) (cells : List CellNumber) → AllByRecursion (HasCellNumber picture) cells → (r c k : ℕ)
+    → (Contains cells (numbered r c) → k ≡ cell_at picture r c) → Leaves facts r c k → Leaves (with_givens picture cells facts) r c k
 open_stays picture facts [] has r c k h l = l
 open_stays picture facts (cell ∷ cells) has r c k h l =
-    open_stays picture (once picture facts cell) cells has.1 r c k (λ m. h (among_rest (numbered r c) cell cells m)) (open_once picture facts cell r c k (λ p. h (among_first (numbered r c) cell cells (number_is p.0 p.1))) l)
+    open_stays picture (once picture facts cell) cells has.1 r c k (λ m. h (among_rest (numbered r c) cell cells m))
+    (open_once picture facts cell r c k (λ p. h (among_first (numbered r c) cell cells (number_is p.0 p.1))) l)
   where
     number_is : r ≡ cell.row - 1 → c ≡ cell.col - 1 → numbered r c ≡ cell
     number_is e f =

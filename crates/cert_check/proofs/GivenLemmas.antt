@@ -26,7 +26,8 @@ pub missing : (picture : Rows) (start facts : Masks) (i : ℕ) (givens : List Ce
 missing picture start facts i givens cell d so_far l e outside lines = so_far.goes lines (Some (Place (2 + i))) (rw (here givens i d l, ← e) (inl (outside, refl)))
 
 -- each given lies in the picture where all do
-pub has_each : (picture : Rows) (cells : List CellNumber) (i : ℕ) (cell d : CellNumber) → i < length cells → cell ≡ get_or cells i d → AllByRecursion (HasCellNumber picture) cells → HasCellNumber picture cell
+pub has_each : (picture : Rows) (cells : List CellNumber) (i : ℕ) (cell d : CellNumber) → i < length cells → cell ≡ get_or cells i d
+    → AllByRecursion (HasCellNumber picture) cells → HasCellNumber picture cell
 has_each picture [] i cell d l e has = absurd (omega arith)
 has_each picture (c ∷ cells) zero cell d l e has = let P : CellNumber → Type 0 = λ x. HasCellNumber picture x in subst P (sym e) has.0
 has_each picture (c ∷ cells) (suc i) cell d l e has = has_each picture cells i cell d (omega arith) e has.1

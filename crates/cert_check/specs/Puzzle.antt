@@ -39,7 +39,7 @@ IsNamed cells row col = Contains cells (numbered row col)
 
 -- The facts gain all that a line forces: its cells have exactly the colours that some list that fits has there, and the
 -- other cells stay as they were.
-pub record IsForced (picture : Rows) (facts : Masks) (line : LineId) (more : List (List ℕ)) : Type 0 where
+pub record IsForced (picture : Rows) (facts : Masks) (line : LineId) (more : Masks) : Type 0 where
   pub same_shape : SameShape facts more
   pub exact : (i k : ℕ) → IsBitSet (slice_index (line_of more line) i) k
       ↔ CanHave (clue_at (clues_of picture) line) (line_of facts line) i k

@@ -32,7 +32,8 @@ pub fn set_givens(
     requires few { FIRST_LINES + length givens.now < 2 ^ 64 }
     ensures base { GivesBase picture.now facts.old givens.now result facts.new }
     ensures facts { OnOk result (facts.new ≡ with_givens picture.now givens.now facts.old) }
-    ensures outside { IfErr result (λ _. AllByRecursion (HasCellNumber picture.now) givens.now → ⊥) }
+    ensures outside { IfErr result
+        (λ _. AllByRecursion (HasCellNumber picture.now) givens.now → ⊥) }
     ensures inside { OnOk result (AllByRecursion (HasCellNumber picture.now) givens.now) }
 {
     for (i, given) in givens.iter().enumerate() {

@@ -68,7 +68,8 @@ pub fn send_givens<W: Write>(givens: &[CellNumber], writer: &mut W) -> Result<()
     ensures ok { OnOk result
         (Appends (W.contents writer.old) (W.contents writer.new) (flat_map given_text givens.now)) }
     ensures err { OnErr result
-        (AppendsFront (W.contents writer.old) (W.contents writer.new) (flat_map given_text givens.now)) }
+        (AppendsFront (W.contents writer.old) (W.contents writer.new)
+        (flat_map given_text givens.now)) }
 {
     for i in 0..givens.len() {
         send_cell(b"given ", givens[i], writer)?;
@@ -82,7 +83,8 @@ fn send_lines<W: Write>(lines: &[CertLine], writer: &mut W) -> Result<(), WriteF
     ensures ok { OnOk result
         (Appends (W.contents writer.old) (W.contents writer.new) (flat_map line_text lines.now)) }
     ensures err { OnErr result
-        (AppendsFront (W.contents writer.old) (W.contents writer.new) (flat_map line_text lines.now)) }
+        (AppendsFront (W.contents writer.old) (W.contents writer.new)
+        (flat_map line_text lines.now)) }
 {
     for i in 0..lines.len() {
         send_line(lines[i], writer)?;

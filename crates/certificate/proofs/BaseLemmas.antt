@@ -13,7 +13,8 @@ blank_row picture row l = get_or-replicate (length picture) row (replicate (widt
 
 blank_left : (picture : Rows) (row col k : ℕ) → row < length picture → col < width_of picture → Leaves (nothing_excluded (length picture) (width_of picture)) row col k → k < 16
 blank_left picture row col k h w l =
-    let e : cell_at (nothing_excluded (length picture) (width_of picture)) row col ≡ 65535 = ap (λ (r : List ℕ). get_or r col 0) (blank_row picture row h) ∙ get_or-replicate (width_of picture) col 65535 0 w in
+    let e : cell_at (nothing_excluded (length picture) (width_of picture)) row col ≡ 65535 =
+    ap (λ (r : List ℕ). get_or r col 0) (blank_row picture row h) ∙ get_or-replicate (width_of picture) col 65535 0 w in
     bit_below 65535 16 k (omega arith) (rw e at l)
 
 -- the root of a certificate with exactly the cells of a set is the base of that set
@@ -28,6 +29,7 @@ bases_are_one picture givens cells is names = record {
       ],
       (λ has. given_left picture (nothing_excluded (length picture) (width_of picture)) cells row col k ((names.named row col).0 has) l),
     )),
-    (λ o. open_stays picture (nothing_excluded (length picture) (width_of picture)) cells names.inside row col k (λ m. o.1 ((names.named row col).1 m)) (all_left (length picture) (width_of picture) row col k h w o.0)),
+    (λ o. open_stays picture (nothing_excluded (length picture) (width_of picture)) cells names.inside row col k (λ m. o.1 ((names.named row col).1 m))
+        (all_left (length picture) (width_of picture) row col k h w o.0)),
   );
 }

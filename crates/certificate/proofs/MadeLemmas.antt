@@ -53,7 +53,8 @@ none_made picture start givens cells is inside names shape e w =
 -- ---- no other picture
 
 pub some_made : (picture : Rows) (start : Masks) (givens : List ℕ) (cells : List CellNumber) (lines : List CertLine) (cert : Certificate) → IsPicture picture → NamesGivens picture givens cells
-    → GivesBase picture (nothing_excluded (length picture) (width_of picture)) cells (Ok tt) start → start ≡ with_givens picture cells (nothing_excluded (length picture) (width_of picture)) → HasNoFault picture (start ∷ []) lines
+    → GivesBase picture (nothing_excluded (length picture) (width_of picture)) cells (Ok tt) start
+    → start ≡ with_givens picture cells (nothing_excluded (length picture) (width_of picture)) → HasNoFault picture (start ∷ []) lines
     → EachExcludes picture (start ∷ []) lines → IsCert cert → cert.givens ≡ cells → cert.lines ≡ lines → (cert.version ≡ 1) ↔ (cells ≡ []) → IsMade picture givens cert
 some_made picture start givens cells lines cert is names base root none each c g l v =
     let accepted : CertFirstFault picture cert None = rw (g, l) (base.1 lines None (none (2 + length cells))) in

@@ -105,7 +105,8 @@ writable picture facts Done next is s h = tt
 excludes : (picture : Rows) (facts : Masks) (line : CertLine) (next : List (List (List ℕ))) → Stands (clues_of picture) picture facts line next → ExcludesSome picture facts line
 excludes picture facts (Line number) next h = λ gained forced same.
     let mine = h.1.1.0 in
-    mine.more (ap (λ (fs : List (List ℕ)). line_of fs (line_id number)) (sym same ∙ same_gains picture facts gained h.1.0 (line_id number) forced (gains_force picture facts h.1.0 (line_id number) mine.outcome mine.gains)))
+    mine.more (ap (λ (fs : List (List ℕ)). line_of fs (line_id number)) (sym same ∙ same_gains picture facts gained h.1.0 (line_id number) forced
+    (gains_force picture facts h.1.0 (line_id number) mine.outcome mine.gains)))
 excludes picture facts (Split cell) next h = h.1.1
 excludes picture facts (Dead number) next h = tt
 excludes picture facts Done next h = tt

@@ -66,8 +66,8 @@ inside_no_fault picture [] n fault has f = f
 inside_no_fault picture (cell ∷ cells) n fault has (inl h) = h.0 has.0
 inside_no_fault picture (cell ∷ cells) n fault has (inr h) = inside_no_fault picture cells (n + 1) fault has.1 h.1
 
-given_fault : (picture : Rows) (facts : Masks) (cells : List CellNumber) (n : ℕ) (fault : CertFault) → (AllByRecursion (HasCellNumber picture) cells → ⊥) → FirstFaultBehind picture facts n cells [] (Some fault)
-    → GivenFault picture n cells fault
+given_fault : (picture : Rows) (facts : Masks) (cells : List CellNumber) (n : ℕ) (fault : CertFault) → (AllByRecursion (HasCellNumber picture) cells → ⊥)
+    → FirstFaultBehind picture facts n cells [] (Some fault) → GivenFault picture n cells fault
 given_fault picture facts [] n fault outside f = absurd (outside tt)
 given_fault picture facts (cell ∷ cells) n fault outside (inl h) = inl (h.0, (let e = h.1 in cc))
 given_fault picture facts (cell ∷ cells) n fault outside (inr h) =

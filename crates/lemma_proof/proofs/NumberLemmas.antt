@@ -158,6 +158,7 @@ none_given picture givens (cell ∷ cells) names none =
     let left : 0 < cell.col = inside.2 in
     let row : cell.row ≡ cell.row - 1 + 1 = omega arith in
     let col : cell.col ≡ cell.col - 1 + 1 = omega arith in
-    absurd (none (cell.row - 1) (cell.col - 1) ((names.named (cell.row - 1) (cell.col - 1)).1 (among_first (numbered (cell.row - 1) (cell.col - 1)) cell cells (sym (same_number cell (cell.row - 1) (cell.col - 1) row col)))))
+    absurd (none (cell.row - 1) (cell.col - 1) ((names.named (cell.row - 1) (cell.col - 1)).1
+    (among_first (numbered (cell.row - 1) (cell.col - 1)) cell cells (sym (same_number cell (cell.row - 1) (cell.col - 1) row col)))))
 
 pub ruleset naming = (none_named, more_named, same_named, row_named, all_named)

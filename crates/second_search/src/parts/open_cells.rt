@@ -37,7 +37,8 @@ pub(crate) fn is_open(facts: &Facts, cell: Cell) -> bool
 #[tactic(auto, using(crate::proofs::ChainLemmas::tests_two))]
 // Whether a mask has more than one colour.
 fn has_two_colours(mask: u16) -> bool
-    ensures { IsTrue result ↔ ((j : ℕ) × (k : ℕ) × IsBitSet mask j × IsBitSet mask k × (j ≡ k → ⊥)) }
+    ensures { IsTrue result
+        ↔ ((j : ℕ) × (k : ℕ) × IsBitSet mask j × IsBitSet mask k × (j ≡ k → ⊥)) }
 {
     if mask == 0 {
         return false;
