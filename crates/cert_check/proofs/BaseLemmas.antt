@@ -1,6 +1,7 @@
 -- The facts that givens say, cell by cell.
 use Rattle.std.proofs.Common.{◌≡◌, ◌⊎◌, ℕ, ◌+◌, ◌-◌, ◌^◌, ◌<◌, List, [], ◌∷◌, length, ap, subst, sym, ◌∙◌, arith, inl, inr}
 use Rattle.std.specs.Prelude.{IsBitSet}
+use Rattle.std.specs.List.{AllByRecursion, Contains}
 use Rattle.std.proofs.lemmas.Bool.{cases_eq, cases_lt}
 use Rattle.std.proofs.lemmas.List.{get_or_past}
 use Rattle.line_facts.specs.Masks.{Masks}
@@ -9,7 +10,8 @@ use Rattle.line_facts.specs.FactSets.{Leaves, SameShape, with_given}
 use Rattle.line_facts.proofs.GridLaws.{at_with_cell, off_with_cell, shape_with_cell}
 use Rattle.picture.proofs.BitLaws.{no_bit, power_has}
 use Rattle.cert_text.specs.declared.tree_line.CellNumber.{CellNumber}
-use Rattle.cert_check.specs.Puzzle.{HasCellNumbers, IsAmong, numbered, with_givens}
+use Rattle.cert_check.proofs.AmongLemmas.{among_cases, among_first, among_rest}
+use Rattle.cert_check.specs.Puzzle.{HasCellNumber, numbered, with_givens}
 
 -- a colour is left inside the grid alone
 pub left_inside : (facts : Masks) (row col k : ℕ) → Leaves facts row col k → (row < length facts) × (col < length (row_at facts row))
@@ -57,18 +59,20 @@ left_or_given picture facts (cell ∷ cells) r c k l = elim (left_or_given pictu
 ]
 
 -- in a given only the picture's colour is left
-pub given_left : (picture : Rows) (facts : Masks) (cells : List CellNumber) (r c k : ℕ) → IsAmong (numbered r c) cells → Leaves (with_givens picture cells facts) r c k → k ≡ cell_at picture r c
-given_left picture facts [] r c k m l = absurd m
-given_left picture facts (cell ∷ cells) r c k (inl e) l = elim (left_or_given picture (once picture facts cell) cells r c k l) [
-  | inr f ↦ f
-  | inl h ↦
-      let row : r + 1 ≡ cell.row = ap (λ (x : CellNumber). x.row) e in
-      let col : c + 1 ≡ cell.col = ap (λ (x : CellNumber). x.col) e in
-      let a : r ≡ cell.row - 1 = omega arith in
-      let b : c ≡ cell.col - 1 = omega arith in
-      rw (a, b) (at_once picture facts cell k (rw (a, b) at h))
+pub given_left : (picture : Rows) (facts : Masks) (cells : List CellNumber) (r c k : ℕ) → Contains cells (numbered r c) → Leaves (with_givens picture cells facts) r c k → k ≡ cell_at picture r c
+given_left picture facts [] r c k m l = absurd (let q = m.1 in omega arith)
+given_left picture facts (cell ∷ cells) r c k m l = elim (among_cases (numbered r c) cell cells m) [
+  | inr rest ↦ given_left picture (once picture facts cell) cells r c k rest l
+  | inl e ↦ elim (left_or_given picture (once picture facts cell) cells r c k l) [
+    | inr f ↦ f
+    | inl h ↦
+        let row : r + 1 ≡ cell.row = ap (λ (x : CellNumber). x.row) e in
+        let col : c + 1 ≡ cell.col = ap (λ (x : CellNumber). x.col) e in
+        let a : r ≡ cell.row - 1 = omega arith in
+        let b : c ≡ cell.col - 1 = omega arith in
+        rw (a, b) (at_once picture facts cell k (rw (a, b) at h))
+  ]
 ]
-given_left picture facts (cell ∷ cells) r c k (inr m) l = given_left picture (once picture facts cell) cells r c k m l
 
 -- what is left stays left, but for the other colours of a given
 open_once : (picture : Rows) (facts : Masks) (cell : CellNumber) (r c k : ℕ) → (((r ≡ cell.row - 1) × (c ≡ cell.col - 1)) → k ≡ cell_at picture r c) → Leaves facts r c k
@@ -82,11 +86,12 @@ open_once picture facts cell r c k h l = elim (at_or_off r c cell) [
       rw (p.0, p.1, at_with_cell facts row col (2 ^ cell_at picture row col) inside.0 inside.1) ((power_has (cell_at picture row col) k).1 (rw (p.0, p.1) at (h p)))
 ]
 
-pub open_stays : (picture : Rows) (facts : Masks) (cells : List CellNumber) → HasCellNumbers picture cells → (r c k : ℕ) → (IsAmong (numbered r c) cells → k ≡ cell_at picture r c) → Leaves facts r c k
-    → Leaves (with_givens picture cells facts) r c k
+pub open_stays : (picture : Rows) (facts : Masks) (cells : List CellNumber) → AllByRecursion (HasCellNumber picture) cells → (r c k : ℕ)
+    → (Contains cells (numbered r c) → k ≡ cell_at picture r c) → Leaves facts r c k → Leaves (with_givens picture cells facts) r c k
 open_stays picture facts [] has r c k h l = l
 open_stays picture facts (cell ∷ cells) has r c k h l =
-    open_stays picture (once picture facts cell) cells has.1 r c k (λ m. h (inr m)) (open_once picture facts cell r c k (λ p. h (inl (number_is p.0 p.1))) l)
+    open_stays picture (once picture facts cell) cells has.1 r c k (λ m. h (among_rest (numbered r c) cell cells m))
+    (open_once picture facts cell r c k (λ p. h (among_first (numbered r c) cell cells (number_is p.0 p.1))) l)
   where
     number_is : r ≡ cell.row - 1 → c ≡ cell.col - 1 → numbered r c ≡ cell
     number_is e f =

@@ -1,14 +1,15 @@
 -- The first error and the tree: there is none exactly where the lines are a tree that proves the picture.
-use Rattle.std.proofs.Common.{◌≡◌, ℕ, ◌+◌, ◌-◌, List, [], ◌∷◌, ◌++◌, Option, None, Some, Result, Ok, Err, append_assoc, refl, sym, ap, ◌∙◌, inl, inr}
+use Rattle.std.proofs.Common.{◌≡◌, ℕ, ◌+◌, ◌-◌, List, [], ◌∷◌, ◌++◌, Option, None, Some, Result, Ok, Err, append_assoc, get_or, length, refl, sym, ap, ◌∙◌, inl, inr}
 use Rattle.std.specs.Prelude.{IfErr, OnOk}
-use Rattle.std.proofs.lemmas.List.{append-nil}
+use Rattle.std.specs.List.{AllByRecursion}
+use Rattle.std.proofs.lemmas.List.{append-nil, ext_get_or}
 use Rattle.line_facts.specs.Masks.{Masks}
-use Rattle.picture.specs.Rows.{Rows}
+use Rattle.picture.proofs.BitLaws.{same_bits}
+use Rattle.picture.specs.Rows.{cell_at, line_of, row_at, width_of, Rows}
 use Rattle.picture.specs.declared.line_id.LineId.{LineId}
 use Rattle.picture.specs.Picture.{IsPicture}
-use Rattle.line_facts.specs.FactSets.{with_given}
-use Rattle.line_facts.proofs.ForceLaws.{gains_closes, gains_grows, gains_inside}
-use Rattle.line_facts.proofs.FitLaws.{within_both}
+use Rattle.line_facts.specs.FactSets.{nothing_excluded, with_given}
+use Rattle.line_facts.proofs.ForceLaws.{on_or_not}
 use Rattle.cert_text.specs.declared.fault.CertFault.{CertFault}
 use Rattle.cert_text.specs.declared.fault.CertFault.TheVariants.{Memory}
 use Rattle.cert_text.specs.declared.tree_line.LineNumber.{LineNumber}
@@ -16,17 +17,27 @@ use Rattle.cert_text.specs.declared.tree_line.CellNumber.{CellNumber}
 use Rattle.cert_text.specs.declared.tree_line.CertLine.{CertLine}
 use Rattle.cert_text.specs.declared.tree_line.CertLine.TheVariants.{Line, Split, Dead, Done}
 use Rattle.cert_text.specs.Cert.{Certificate}
-use Rattle.cert_check.specs.Puzzle.{HasCellNumber, HasCellNumbers, HasLineNumber, IsDead, IsForced, IsUnique, ShowsOnly, base_of, blank_for, line_id, split_at, with_givens}
+use Rattle.cert_check.specs.Puzzle.{HasCellNumber, HasLineNumber, IsDead, IsForced, IsUnique, ShowsOnly, base_of, line_id, split_at, with_givens}
 use Rattle.cert_check.specs.Tree.{Tree, Trees, done, dead, forced, split, none, more, written, each_written, Proves, EachProves, IsProof}
 use Rattle.cert_check.specs.FirstFault.{AnswersFirst, CertFirstFault, FirstFault, FirstFaultBehind, HasFault, Leads}
-use Rattle.cert_check.proofs.Soundness.{proof_is_unique}
+use Rattle.cert_check.proofs.Soundness.{at_place, proof_is_unique}
 
 -- ---- what a line forces is one set of facts
 
 pub same_gains : (picture : Rows) (facts : Masks) (one : List (List ℕ)) (other : Rows) (line : LineId) → IsForced picture facts line one → IsForced picture facts line other → one ≡ other
 same_gains picture facts one other line f h =
-    let half = λ (a b : List (List ℕ)) (g : IsForced picture facts line a) (k : IsForced picture facts line b). gains_inside _ _ _ _ _ g.1 b (gains_grows _ _ _ _ _ k.1) (gains_closes _ _ _ _ _ k.1) in
-    within_both one other (half one other f h) (half other one h f)
+    ext_get_or [] one other (sym f.same_shape.rows ∙ h.same_shape.rows)
+    (λ row _. ext_get_or 0 (row_at one row) (row_at other row) (sym (f.same_shape.each row) ∙ h.same_shape.each row) (λ col _. each_cell row col))
+  where
+    each_cell : (row col : ℕ) → cell_at one row col ≡ cell_at other row col
+    each_cell row col = elim (on_or_not line row col) [
+      | inl on ↦
+          at_place one line row col on
+          ∙ (same_bits (get_or (line_of one line) on.0 0) (get_or (line_of other line) on.0 0)
+          (λ k. ((λ s. (h.exact on.0 k).1 ((f.exact on.0 k).0 s)), (λ s. (f.exact on.0 k).1 ((h.exact on.0 k).0 s))))
+          ∙ sym (at_place other line row col on))
+      | inr off ↦ f.elsewhere row col off ∙ sym (h.elsewhere row col off)
+    ]
 
 -- ---- trees one after the other
 
@@ -182,7 +193,7 @@ trees_no_fault picture (line ∷ lines) (facts ∷ others) (more tree trees) e p
 -- ---- the givens before them
 
 record Behind (picture : Rows) (facts : Masks) (givens : List CellNumber) (lines : List CertLine) : Type 0 where
-  inside : HasCellNumbers picture givens
+  inside : AllByRecursion (HasCellNumber picture) givens
   number : ℕ
   none_first : FirstFault picture (with_givens picture givens facts ∷ []) number lines None
 
@@ -193,7 +204,7 @@ behind_none picture facts n (cell ∷ cells) lines (inr h) =
     let b = behind_none picture (with_given picture facts (cell.row - 1) (cell.col - 1)) (n + 1) cells lines h.1 in
     record { inside = (h.0, b.inside); number = b.number; none_first = b.none_first }
 
-behind_all : (picture : Rows) (facts : Masks) (n : ℕ) (givens : List CellNumber) (lines : List CertLine) (fault : Option CertFault) → HasCellNumbers picture givens
+behind_all : (picture : Rows) (facts : Masks) (n : ℕ) (givens : List CellNumber) (lines : List CertLine) (fault : Option CertFault) → AllByRecursion (HasCellNumber picture) givens
     → ((m : ℕ) → FirstFault picture (with_givens picture givens facts ∷ []) m lines fault → fault ≡ None) → FirstFaultBehind picture facts n givens lines fault → fault ≡ None
 behind_all picture facts n [] lines fault has h f = h n f
 behind_all picture facts n (cell ∷ cells) lines fault has h (inl g) = absurd (g.0 has.0)
@@ -209,14 +220,14 @@ one_tree picture facts lines (more tree (more other trees)) e p = absurd p.1
 
 pub none_is_proof : (picture : Rows) (cert : Certificate) → CertFirstFault picture cert None → IsProof picture cert
 none_is_proof picture cert f =
-    let b = behind_none picture (blank_for picture) 2 cert.givens cert.lines f in
+    let b = behind_none picture (nothing_excluded (length picture) (width_of picture)) 2 cert.givens cert.lines f in
     let g = no_fault_trees picture cert.lines (base_of picture cert.givens ∷ []) b.number b.none_first in
     let t = one_tree picture (base_of picture cert.givens) cert.lines g.trees g.written_is g.proves in
     record { inside = b.inside; tree = t.0; lines = t.1; proves = t.2 }
 
 proof_is_none : (picture : Rows) (cert : Certificate) → IsProof picture cert → (fault : Option CertFault) → CertFirstFault picture cert fault → fault ≡ None
 proof_is_none picture cert p fault f =
-    behind_all picture (blank_for picture) 2 cert.givens cert.lines fault p.inside
+    behind_all picture (nothing_excluded (length picture) (width_of picture)) 2 cert.givens cert.lines fault p.inside
     (λ m. trees_no_fault picture cert.lines (base_of picture cert.givens ∷ []) (more p.tree none) (p.lines ∙ sym (append-nil (written p.tree))) (p.proves, tt) m fault)
     f
 

@@ -1,5 +1,6 @@
 -- Givens held one by one.
 use Rattle.std.proofs.Common.{◌≡◌, ℕ, zero, suc, ◌+◌, ◌*◌, ◌<◌, ◌≤◌, List, [], ◌∷◌, Option, Some, length, get_or, drop, drop-cons, add-one, refl, sym, subst, inl, arith}
+use Rattle.std.specs.List.{AllByRecursion}
 use Rattle.line_facts.specs.Masks.{Masks}
 use Rattle.picture.specs.Rows.{Rows}
 use Rattle.cert_text.specs.declared.fault.CertFault.{CertFault}
@@ -7,14 +8,14 @@ use Rattle.cert_text.specs.declared.fault.CertFault.TheVariants.{Place}
 use Rattle.cert_text.specs.declared.tree_line.CellNumber.{CellNumber}
 use Rattle.cert_text.specs.declared.tree_line.CertLine.{CertLine}
 use Rattle.cert_text.specs.Cert.{AreOrdered}
-use Rattle.cert_check.specs.Puzzle.{HasCellNumber, HasCellNumbers, with_givens}
+use Rattle.cert_check.specs.Puzzle.{HasCellNumber, with_givens}
 use Rattle.cert_check.specs.FirstFault.{FirstFaultBehind}
 
 -- the first i givens are held: what is first after the others is first after all
 pub record BaseSoFar (picture : Rows) (start facts : Masks) (i : ℕ) (givens : List CellNumber) : Type 0 where
   pub goes : (lines : List CertLine) (fault : Option CertFault) → FirstFaultBehind picture facts (2 + i) (drop i givens) lines fault → FirstFaultBehind picture start 2 givens lines fault
   pub held : with_givens picture (drop i givens) facts ≡ with_givens picture givens start
-  pub inside : HasCellNumbers picture (drop i givens) → HasCellNumbers picture givens
+  pub inside : AllByRecursion (HasCellNumber picture) (drop i givens) → AllByRecursion (HasCellNumber picture) givens
 
 here : (cells : List CellNumber) (i : ℕ) (d : CellNumber) → i < length cells → drop i cells ≡ get_or cells i d ∷ drop (i + 1) cells
 here cells i d l = rw (add-one, drop-cons cells i d) refl
@@ -25,7 +26,8 @@ pub missing : (picture : Rows) (start facts : Masks) (i : ℕ) (givens : List Ce
 missing picture start facts i givens cell d so_far l e outside lines = so_far.goes lines (Some (Place (2 + i))) (rw (here givens i d l, ← e) (inl (outside, refl)))
 
 -- each given lies in the picture where all do
-pub has_each : (picture : Rows) (cells : List CellNumber) (i : ℕ) (cell d : CellNumber) → i < length cells → cell ≡ get_or cells i d → HasCellNumbers picture cells → HasCellNumber picture cell
+pub has_each : (picture : Rows) (cells : List CellNumber) (i : ℕ) (cell d : CellNumber) → i < length cells → cell ≡ get_or cells i d
+    → AllByRecursion (HasCellNumber picture) cells → HasCellNumber picture cell
 has_each picture [] i cell d l e has = absurd (omega arith)
 has_each picture (c ∷ cells) zero cell d l e has = let P : CellNumber → Type 0 = λ x. HasCellNumber picture x in subst P (sym e) has.0
 has_each picture (c ∷ cells) (suc i) cell d l e has = has_each picture cells i cell d (omega arith) e has.1

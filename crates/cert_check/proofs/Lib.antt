@@ -1,7 +1,7 @@
+pub mod AmongLemmas
 pub mod BaseLemmas
 pub mod Exactness
 pub mod GivenLemmas
 pub mod ShowingLemmas
 pub mod Soundness
 pub mod WalkLemmas
-pub mod WritableLaws

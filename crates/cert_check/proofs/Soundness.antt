@@ -1,6 +1,7 @@
 -- What a tree proves is true: no other picture is left by its facts.
 use Rattle.std.proofs.Common.{◌≡◌, ℕ, ◌-◌, ◌^◌, ◌<◌, ◌⊎◌, List, [], ◌∷◌, length, get_or, sym, ap, subst, ◌∙◌, arith, inl, inr}
 use Rattle.std.specs.Prelude.{IsBitSet}
+use Rattle.std.specs.List.{AllByRecursion}
 use Rattle.std.proofs.lemmas.Bool.{cases_lt}
 use Rattle.std.proofs.lemmas.List.{ext_get_or, get_or_past, length-map}
 use Rattle.line_facts.specs.Masks.{Masks}
@@ -12,9 +13,9 @@ use Rattle.picture.specs.Rows.{width_of, row_at, cell_at, line_along, line_of, l
 use Rattle.picture.proofs.BitLaws.{no_bit, power_has}
 use Rattle.clues.proofs.BookLaws.{clue_at-clues_of}
 use Rattle.clues.specs.ClueBook.{Clues, clue_at, clues_of}
-use Rattle.line_facts.specs.declared.line_engine.Outcome.{Outcome}
-use Rattle.line_facts.specs.FactSets.{Gains, IsOn, Leaves, SameShape, col_on, row_on}
+use Rattle.line_facts.specs.FactSets.{IsOn, IsWithin, Leaves, SameShape, col_on, nothing_excluded, row_on}
 use Rattle.line_facts.specs.Fits.{CanHave, Fits}
+use Rattle.line_facts.proofs.FitLaws.{have_left}
 use Rattle.line_facts.proofs.ForceLaws.{on_or_not}
 use Rattle.line_facts.proofs.GridLaws.{all_left, cell_on, full_shape, same_has_line, same_line_length, shape_sym, shape_trans, shape_with_cell}
 use Rattle.line_facts.specs.Branches.{colours_of, held}
@@ -23,7 +24,7 @@ use Rattle.trail.proofs.GridLemmas.{set_each}
 use Rattle.cert_text.specs.declared.tree_line.LineNumber.{LineNumber}
 use Rattle.cert_text.specs.declared.tree_line.CellNumber.{CellNumber}
 use Rattle.cert_text.specs.Cert.{Certificate}
-use Rattle.cert_check.specs.Puzzle.{HasCellNumber, HasCellNumbers, HasLineNumber, IsNamed, IsUnique, ShowsOnly, base_of, blank_for, line_id, split_at}
+use Rattle.cert_check.specs.Puzzle.{HasCellNumber, HasLineNumber, IsForced, IsNamed, IsUnique, ShowsOnly, base_of, line_id, split_at}
 use Rattle.cert_check.specs.Tree.{Tree, Trees, done, dead, forced, split, none, more, Proves, EachProves, IsProof}
 use Rattle.cert_check.proofs.BaseLemmas.{givens_shape, open_stays}
 
@@ -65,7 +66,7 @@ fits_line picture facts other line rival has k =
     })
 
 -- a cell of a line, told by the line
-at_place : (rows : Rows) (line : LineId) (row col : ℕ) (on : IsOn line row col) → cell_at rows row col ≡ get_or (line_of rows line) on.0 0
+pub at_place : (rows : Rows) (line : LineId) (row col : ℕ) (on : IsOn line row col) → cell_at rows row col ≡ get_or (line_of rows line) on.0 0
 at_place rows line row col on = ap (λ r. cell_at rows r col) on.1 ∙ (ap (λ c. cell_at rows (row_on line.axis line.at on.0) c) on.2 ∙ sym (cell_on rows line on.0))
 
 -- the picture's line has its colour there
@@ -85,16 +86,28 @@ can_have picture facts other line row col on rival has k left =
     }
 
 -- what a line forces leaves the picture
-pub forced_keeps : (picture : Rows) (facts gained : Masks) (other : Rows) (line : LineId) (outcome : Outcome) → IsRival picture other → HasLine facts line
-    → Gains (clue_at (clues_of picture) line) line facts gained outcome → Keeps facts other → Keeps gained other
-forced_keeps picture facts gained other line outcome rival has g k = record {
+pub forced_keeps : (picture : Rows) (facts gained : Masks) (other : Rows) (line : LineId) → IsRival picture other → HasLine facts line
+    → IsForced picture facts line gained → Keeps facts other → Keeps gained other
+forced_keeps picture facts gained other line rival has g k = record {
   same_shape = shape_trans k.same_shape g.same_shape;
   leaves = λ row col l.
       let P : ℕ → Type 0 = λ m. IsBitSet m (cell_at other row col) in
       let left = k.leaves row col l in
       elim (on_or_not line row col) [
-        | inl on ↦ subst P (sym (at_place gained line row col on)) ((g.narrows.exact on.0 (cell_at other row col)).1 (can_have picture facts other line row col on rival has k left))
+        | inl on ↦ subst P (sym (at_place gained line row col on)) ((g.exact on.0 (cell_at other row col)).1 (can_have picture facts other line row col on rival has k left))
         | inr off ↦ subst P (sym (g.elsewhere row col off)) left
+      ];
+}
+
+-- what a line forces excludes no less than before
+pub forced_within : (picture : Rows) (facts gained : Masks) (line : LineId) → IsForced picture facts line gained → IsWithin facts gained
+forced_within picture facts gained line f = record {
+  same_shape = f.same_shape;
+  leaves = λ row col k s.
+      let P : ℕ → Type 0 = λ m. IsBitSet m k in
+      elim (on_or_not line row col) [
+        | inl on ↦ subst P (sym (at_place facts line row col on)) (have_left ((f.exact on.0 k).0 (subst P (at_place gained line row col on) s)))
+        | inr off ↦ subst P (f.elsewhere row col off) s
       ];
 }
 
@@ -150,7 +163,7 @@ mutual
       absurd (p.1 (line_of other (line_id number), fits_line picture facts other (line_id number) rival has keeps))
   sound picture other rival (forced number tree) facts p keeps =
       let has = line_there picture facts number (shape_trans rival.same_shape keeps.same_shape) p.0 in
-      sound picture other rival tree p.1.0 p.1.1.1 (forced_keeps picture facts p.1.0 other (line_id number) p.1.1.0.0 rival has p.1.1.0.1 keeps)
+      sound picture other rival tree p.1.0 p.1.1.1 (forced_keeps picture facts p.1.0 other (line_id number) rival has p.1.1.0 keeps)
   sound picture other rival (split cell trees) facts p keeps = each_sound picture other rival trees (split_at facts cell) p.1 (split_keeps picture facts other cell rival p.0 keeps)
 
   each_sound : (picture other : Rows) → IsRival picture other → (trees : Trees) (all : List (List (List ℕ))) → EachProves picture all trees → KeepsSome all other → other ≡ picture
@@ -168,16 +181,16 @@ row_is_there other row col l = elim (cases_lt row (length other)) [
   | inr p ↦ let e = ap (λ (r : List ℕ). length r) (get_or_past other row [] p) in absurd (omega arith)
 ]
 
-pub base_keeps : (picture other : Rows) (cells : List CellNumber) → IsPicture picture → IsRival picture other → HasCellNumbers picture cells
+pub base_keeps : (picture other : Rows) (cells : List CellNumber) → IsPicture picture → IsRival picture other → AllByRecursion (HasCellNumber picture) cells
     → ((row col : ℕ) → IsNamed cells row col → cell_at other row col ≡ cell_at picture row col) → Keeps (base_of picture cells) other
 base_keeps picture other cells is rival has keeps = record {
-  same_shape = shape_trans (shape_sym rival.same_shape) (givens_shape picture (blank_for picture) cells (full_shape picture is));
+  same_shape = shape_trans (shape_sym rival.same_shape) (givens_shape picture (nothing_excluded (length picture) (width_of picture)) cells (full_shape picture is));
   leaves = λ row col l.
       let h = row_is_there other row col l in
       let rows = rival.same_shape.rows in
       let e = rival.same_shape.each row in
       let r = is.rectangular row (omega arith) in
-      open_stays picture (blank_for picture) cells has row col (cell_at other row col) (keeps row col)
+      open_stays picture (nothing_excluded (length picture) (width_of picture)) cells has row col (cell_at other row col) (keeps row col)
       (all_left (length picture) (width_of picture) row col (cell_at other row col) (omega arith) (omega arith) (rival.is_picture.colours row col));
 }
 

@@ -18,7 +18,7 @@ use Rattle.trail.specs.Trail.{GoesOn, Trailed}
 use Rattle.cert_text.specs.declared.tree_line.LineNumber.{LineNumber}
 use Rattle.cert_text.specs.declared.tree_line.CertLine.{CertLine}
 use Rattle.cert_text.specs.declared.tree_line.CertLine.TheVariants.{Line, Done}
-use Rattle.cert_check.specs.Puzzle.{HasLineNumber, IsDead, line_id}
+use Rattle.cert_check.specs.Puzzle.{HasLineNumber, IsDead, IsForced, line_id}
 use Rattle.cert_check.specs.FirstFault.{AnswersFirst, FirstFault}
 use Rattle.cert_check.specs.Walk.{CanCheck, Takes, waiting}
 
@@ -46,13 +46,17 @@ not_dead picture facts clues longest clue number found b can e c is f dead =
     let t : b ≡ true = is.1 (rw (by_found picture clues longest clue number found can e c, e) dead) in
     cc
 
+-- what an engine narrows is what the line forces
+pub gains_force : (picture : Rows) (facts gained : Masks) (line : LineId) (outcome : Outcome) → Gains (clue_at (clues_of picture) line) line facts gained outcome → IsForced picture facts line gained
+gains_force picture facts gained line outcome g = record { same_shape = g.same_shape; exact = g.narrows.exact; elsewhere = g.elsewhere }
+
 pub forced_takes : (picture : Rows) (old new : Trailed) (clues : Clues) (longest : ℕ) (clue : List Block) (number : LineNumber) (found : LineId) (n : ℕ) → CanCheck picture clues longest
     → SameShape picture old.at_hand → HasLineNumber picture number → found ≡ line_id number → clue ≡ clue_at clues found → (outcome : Outcome) × Gains clue found old.at_hand new.at_hand outcome
     → new.behind ≡ old.behind → Takes picture old new (Line number) n (Ok true)
 forced_takes picture old new clues longest clue number found n can shape h e c f behind =
     let gains = rw (by_found picture clues longest clue number found can e c, e) at f.1 in (
       shape_trans shape f.1.same_shape,
-      (new.at_hand ∷ [], ((h, (new.at_hand, ((f.0, gains), refl))), ap (λ (fs : List (List (List ℕ))). new.at_hand ∷ fs) behind)),
+      (new.at_hand ∷ [], ((h, (new.at_hand, (gains_force picture old.at_hand new.at_hand (line_id number) f.0 gains, refl))), ap (λ (fs : List (List (List ℕ))). new.at_hand ∷ fs) behind)),
     )
 
 -- ---- the next branch

@@ -1,15 +1,16 @@
 -- The first error of a certificate, line by line from the top.
-use Rattle.std.specs.Prelude.{◌≡◌, ◌⊎◌, ℕ, ◌+◌, ◌-◌, List, [], ◌∷◌, ◌++◌, Option, Some, None, Result, Ok, Err}
+use Rattle.std.specs.Prelude.{◌≡◌, ◌⊎◌, ℕ, ◌+◌, ◌-◌, List, [], ◌∷◌, ◌++◌, length, Option, Some, None, Result, Ok}
+use Rattle.std.specs.Prelude.{Err}
 use Rattle.line_facts.specs.Masks.{Masks}
-use Rattle.picture.specs.Rows.{Rows}
-use Rattle.line_facts.specs.FactSets.{with_given}
+use Rattle.picture.specs.Rows.{width_of, Rows}
+use Rattle.line_facts.specs.FactSets.{nothing_excluded, with_given}
 use Rattle.cert_text.specs.declared.fault.CertFault.{CertFault}
 use Rattle.cert_text.specs.declared.fault.CertFault.TheVariants.{Place, NotDead, NotDone, Ended, Trailing, Memory}
 use Rattle.cert_text.specs.declared.tree_line.CellNumber.{CellNumber}
 use Rattle.cert_text.specs.declared.tree_line.CertLine.{CertLine}
 use Rattle.cert_text.specs.declared.tree_line.CertLine.TheVariants.{Line, Split, Dead, Done}
 use Rattle.cert_text.specs.Cert.{Certificate}
-use Rattle.cert_check.specs.Puzzle.{HasCellNumber, HasLineNumber, IsDead, IsForced, ShowsOnly, blank_for, line_id}
+use Rattle.cert_check.specs.Puzzle.{HasCellNumber, HasLineNumber, IsDead, IsForced, ShowsOnly, line_id}
 use Rattle.cert_check.specs.Puzzle.{split_at}
 
 -- the facts of the branches that a line which stands leads to
@@ -51,7 +52,8 @@ FirstFaultBehind picture facts n (cell ∷ cells) lines fault =
 
 -- the first error of a certificate: the givens begin at line 2
 abbrev pub CertFirstFault : Rows → Certificate → Option CertFault → Type 0
-CertFirstFault picture cert fault = FirstFaultBehind picture (blank_for picture) 2 cert.givens cert.lines fault
+CertFirstFault picture cert fault =
+    FirstFaultBehind picture (nothing_excluded (length picture) (width_of picture)) 2 cert.givens cert.lines fault
 
 -- What a checker answers: out of memory, or the first error, and Ok where there is none.
 abbrev pub AnswersFirst : (Option CertFault → Type 0) → Result (Unit {0}) CertFault → Type 0

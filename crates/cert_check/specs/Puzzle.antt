@@ -1,13 +1,14 @@
 -- What a certificate speaks of: a picture, its clues, and facts on its cells.
-use Rattle.std.specs.Prelude.{◌≡◌, ◌⊎◌, ℕ, ◌+◌, ◌-◌, ◌<◌, ◌≤◌, List, [], ◌∷◌, length}
+use Rattle.std.specs.Prelude.{◌≡◌, ℕ, ◌+◌, ◌-◌, ◌<◌, ◌≤◌, ◌↔◌, List, length, slice_index}
+use Rattle.std.specs.Prelude.{IsBitSet}
+use Rattle.std.specs.List.{Contains, fold}
 use Rattle.line_facts.specs.Masks.{Masks}
 use Rattle.picture.specs.declared.line_id.LineId.{LineId}
 use Rattle.picture.specs.Rows.{width_of, cell_at, line_of, lines_along, Rows}
 use Rattle.clues.specs.ClueBook.{clue_at, clues_of}
 use Rattle.clues.specs.Solution.{IsOnlySolution}
-use Rattle.line_facts.specs.declared.line_engine.Outcome.{Outcome}
-use Rattle.line_facts.specs.Fits.{CanFit}
-use Rattle.line_facts.specs.FactSets.{Gains, Leaves, nothing_excluded, with_given}
+use Rattle.line_facts.specs.Fits.{CanFit, CanHave}
+use Rattle.line_facts.specs.FactSets.{IsOn, Leaves, SameShape, nothing_excluded, with_given}
 use Rattle.line_facts.specs.Branches.{branches}
 use Rattle.cert_text.specs.declared.tree_line.CellNumber.{CellNumber}
 use Rattle.cert_text.specs.declared.tree_line.LineNumber.{LineNumber}
@@ -26,28 +27,23 @@ line_id line = record { axis = line.axis; at = line.number - 1 }
 abbrev pub HasCellNumber : Rows → CellNumber → Type 0
 HasCellNumber grid cell = (0 < cell.row) × (cell.row ≤ length grid) × (0 < cell.col) × (cell.col ≤ width_of grid)
 
--- the picture has the cells with these numbers
-abbrev pub HasCellNumbers : Rows → List CellNumber → Type 0
-HasCellNumbers picture [] = Unit {0}
-HasCellNumbers picture (cell ∷ cells) = HasCellNumber picture cell × HasCellNumbers picture cells
-
 -- the number of a cell at a row and a column
 abbrev pub numbered : ℕ → ℕ → CellNumber
 numbered row col = record { row = row + 1; col = col + 1 }
 
-abbrev pub IsAmong : CellNumber → List CellNumber → Type 0
-IsAmong cell [] = ⊥
-IsAmong cell (first ∷ cells) = (cell ≡ first) ⊎ IsAmong cell cells
-
 -- a cell is one of those that are named
 abbrev pub IsNamed : List CellNumber → ℕ → ℕ → Type 0
-IsNamed cells row col = IsAmong (numbered row col) cells
+IsNamed cells row col = Contains cells (numbered row col)
 
 -- ---- what lines say of facts, for the clues of a picture
 
--- the facts gain all that a line forces
-abbrev pub IsForced : Rows → Masks → LineId → List (List ℕ) → Type 0
-IsForced picture facts line more = (outcome : Outcome) × Gains (clue_at (clues_of picture) line) line facts more outcome
+-- The facts gain all that a line forces: its cells have exactly the colours that some list that fits has there, and the
+-- other cells stay as they were.
+pub record IsForced (picture : Rows) (facts : Masks) (line : LineId) (more : Masks) : Type 0 where
+  pub same_shape : SameShape facts more
+  pub exact : (i k : ℕ) → IsBitSet (slice_index (line_of more line) i) k
+      ↔ CanHave (clue_at (clues_of picture) line) (line_of facts line) i k
+  pub elsewhere : (row col : ℕ) → (IsOn line row col → ⊥) → cell_at more row col ≡ cell_at facts row col
 
 -- no list fits a line
 abbrev pub IsDead : Rows → Masks → LineId → Type 0
@@ -65,17 +61,11 @@ ShowsOnly picture facts = (row col k : ℕ) → Leaves facts row col k → k ≡
 
 -- the facts with the picture's colour alone left in each given
 abbrev pub with_givens : Rows → List CellNumber → Masks → Masks
-with_givens picture [] facts = facts
-with_givens picture (cell ∷ cells) facts =
-    with_givens picture cells (with_given picture facts (cell.row - 1) (cell.col - 1))
+with_givens picture givens facts = fold (λ fs cell. with_given picture fs (cell.row - 1) (cell.col - 1)) facts givens
 
--- the facts without an exclusion, of the size of a picture
-abbrev pub blank_for : Rows → Masks
-blank_for picture = nothing_excluded (length picture) (width_of picture)
-
--- the facts that the givens say: the root of a tree
+-- the facts that the givens say, where nothing else is excluded: the root of a tree
 abbrev pub base_of : Rows → List CellNumber → Masks
-base_of picture givens = with_givens picture givens (blank_for picture)
+base_of picture givens = with_givens picture givens (nothing_excluded (length picture) (width_of picture))
 
 -- ---- what a certificate shows
 

@@ -1,5 +1,6 @@
 -- Trees of lines, and what it is that a tree proves.
 use Rattle.std.specs.Prelude.{◌≡◌, ℕ, List, [], ◌∷◌, ◌++◌}
+use Rattle.std.specs.List.{AllByRecursion}
 use Rattle.line_facts.specs.Masks.{Masks}
 use Rattle.picture.specs.Rows.{Rows}
 use Rattle.cert_text.specs.declared.tree_line.LineNumber.{LineNumber}
@@ -7,7 +8,7 @@ use Rattle.cert_text.specs.declared.tree_line.CellNumber.{CellNumber}
 use Rattle.cert_text.specs.declared.tree_line.CertLine.{CertLine}
 use Rattle.cert_text.specs.declared.tree_line.CertLine.TheVariants.{Line, Split, Dead, Done}
 use Rattle.cert_text.specs.Cert.{Certificate}
-use Rattle.cert_check.specs.Puzzle.{HasCellNumber, HasCellNumbers, HasLineNumber, IsDead, IsForced, ShowsOnly, base_of}
+use Rattle.cert_check.specs.Puzzle.{HasCellNumber, HasLineNumber, IsDead, IsForced, ShowsOnly, base_of}
 use Rattle.cert_check.specs.Puzzle.{line_id, split_at}
 
 mutual
@@ -47,13 +48,12 @@ abbrev mutual
   -- as many trees as there are facts, each of which proves the picture from its own
   pub EachProves : Rows → List (List (List ℕ)) → Trees → Type 0
   EachProves picture [] none = Unit {0}
-  EachProves picture [] (more tree trees) = ⊥
-  EachProves picture (facts ∷ others) none = ⊥
   EachProves picture (facts ∷ others) (more tree trees) = Proves picture facts tree × EachProves picture others trees
+  EachProves picture _ _ = ⊥
 
 -- The givens lie in the picture, and the lines are a tree that proves it from what the givens say.
 pub record IsProof (picture : Rows) (cert : Certificate) : Type 0 where
-  pub inside : HasCellNumbers picture cert.givens
+  pub inside : AllByRecursion (HasCellNumber picture) cert.givens
   pub tree : Tree
   pub lines : cert.lines ≡ written tree
   pub proves : Proves picture (base_of picture cert.givens) tree

@@ -1,11 +1,12 @@
 //! The checker of certificates.
 
 ghost use Rattle.std.specs.Prelude.{◌≡◌, ℕ, ◌≤◌, ◌<◌, ◌+◌, ◌∷◌, ◌^◌, [], length, IfErr, OnOk, List, Option, Some};
+ghost use Rattle.std.specs.List.{AllByRecursion};
 ghost use Rattle.picture.specs.Rows.{width_of};
 ghost use Rattle.line_facts.specs.FactSets.{SameShape};
 ghost use Rattle.cert_text.specs.declared.tree_line.CertLine.{CertLine};
 ghost use Rattle.cert_check.specs.FirstFault.{AnswersFirst, CertFirstFault, FirstFault, FirstFaultBehind};
-ghost use Rattle.cert_check.specs.Puzzle.{HasCellNumbers, IsUnique, with_givens};
+ghost use Rattle.cert_check.specs.Puzzle.{HasCellNumber, IsUnique, with_givens};
 ghost use Rattle.cert_check.specs.Tree.{IsProof};
 ghost use Rattle.cert_check.specs.Walk.{CanCheck, GivesBase};
 
@@ -31,8 +32,9 @@ pub fn set_givens(
     requires few { FIRST_LINES + length givens.now < 2 ^ 64 }
     ensures base { GivesBase picture.now facts.old givens.now result facts.new }
     ensures facts { OnOk result (facts.new ≡ with_givens picture.now givens.now facts.old) }
-    ensures outside { IfErr result (λ _. HasCellNumbers picture.now givens.now → ⊥) }
-    ensures inside { OnOk result (HasCellNumbers picture.now givens.now) }
+    ensures outside { IfErr result
+        (λ _. AllByRecursion (HasCellNumber picture.now) givens.now → ⊥) }
+    ensures inside { OnOk result (AllByRecursion (HasCellNumber picture.now) givens.now) }
 {
     for (i, given) in givens.iter().enumerate() {
         let Some(cell) = cell_in(picture, *given) else {
@@ -65,7 +67,7 @@ pub fn check_cert<E: LineEngine>(
     ensures only { IsProof picture.now cert.now → IfErr result (λ e. e ≡ CertFault.Memory) }
     ensures unique { OnOk result (IsUnique picture.now cert.now.givens) }
     ensures work { E.calls engine.new ≤ E.calls engine.old + length cert.now.lines }
-    ensures idle { (HasCellNumbers picture.now cert.now.givens → ⊥)
+    ensures idle { (AllByRecursion (HasCellNumber picture.now) cert.now.givens → ⊥)
         → E.calls engine.new ≡ E.calls engine.old }
     ensures same_longest { E.longest engine.new ≡ E.longest engine.old }
 {

@@ -1,6 +1,7 @@
 -- Lines read one by one: what is read so far, and what is left to read.
 use Rattle.std.proofs.Common.{◌≡◌, ℕ, ◌+◌, ◌<◌, ◌≤◌, Bool, true, false, cond, List, [], ◌∷◌, ◌++◌, Option, None, Some, Result, Ok, Err, append_assoc, refl, sym, ap, subst, ◌∙◌, arith, inl, inr}
 use Rattle.std.proofs.Common.{nat_le}
+use Rattle.std.specs.List.{AllByRecursion}
 use Rattle.std.specs.Option.{ok_or}
 use Rattle.std.proofs.lemmas.Bool.{le-leb}
 use Rattle.std.proofs.lemmas.Bool.Decides.{leb_tells}
@@ -10,7 +11,7 @@ use Rattle.cert_text.specs.declared.fault.CertFault.{CertFault}
 use Rattle.cert_text.specs.declared.fault.CertFault.TheVariants.{BadLine}
 use Rattle.cert_text.specs.declared.tree_line.CellNumber.{CellNumber}
 use Rattle.cert_text.specs.declared.tree_line.CertLine.{CertLine}
-use Rattle.cert_text.specs.Cert.{AreOrdered, AreWritable, IsShort, IsWritable, rank}
+use Rattle.cert_text.specs.Cert.{AreOrdered, IsWritable, rank}
 use Rattle.cert_text.specs.Text.{cert_line, given_line, given_lines, take_given, tree_lines}
 
 -- ---- the lines
@@ -26,7 +27,7 @@ behind_more front line (Err e) = refl
 -- what is read from here, after the lines so far, is what is read from the beginning
 pub record LinesLeft (front : List CertLine) (n : ℕ) (lines : List (List ℕ)) (whole : Result (List CertLine) CertFault) : Type 0 where
   pub is : lines_behind front (tree_lines n lines) ≡ whole
-  pub writable : (more : List CertLine) → AreWritable more → AreWritable (front ++ more)
+  pub writable : (more : List CertLine) → AllByRecursion IsWritable more → AllByRecursion IsWritable (front ++ more)
 
 pub lines_start : (n : ℕ) (lines : List (List ℕ)) → LinesLeft [] n lines (tree_lines n lines)
 lines_start n lines = record { is = none_before (tree_lines n lines); writable = λ more w. w }
@@ -45,7 +46,7 @@ lines_more front new line text n lines rest whole e l w p left =
           behind_more front line (tree_lines (n + 1) rest)
           ∙ (ap (λ (o : Option CertLine). lines_behind front (ok_or o (BadLine n) >>= λ first. (tree_lines (n + 1) rest >>= λ read. Ok (first ∷ read)))) l
           ∙ (ap (λ (ls : List (List ℕ)). lines_behind front (tree_lines n ls)) (sym e) ∙ left.is));
-      writable = λ more m. subst AreWritable (sym (append_assoc front (line ∷ []) more)) (left.writable (line ∷ more) (w, m));
+      writable = λ more m. subst (AllByRecursion IsWritable) (sym (append_assoc front (line ∷ []) more)) (left.writable (line ∷ more) (w, m));
     })
 
 pub lines_stop : (front : List CertLine) (text : List ℕ) (n : ℕ) (lines rest : List (List ℕ)) (whole : Result (List CertLine) CertFault) → lines ≡ text ∷ rest → None ≡ cert_line text
@@ -60,8 +61,8 @@ pub lines_end : (front : List CertLine) (n : ℕ) (lines : List (List ℕ)) (who
 unfolding tree_lines
 lines_end front n lines whole e left = sym left.is ∙ (ap (λ (ls : List (List ℕ)). lines_behind front (tree_lines n ls)) e ∙ ap Ok (append-nil front))
 
-pub lines_writable : (front : List CertLine) (n : ℕ) (lines : List (List ℕ)) (whole : Result (List CertLine) CertFault) → LinesLeft front n lines whole → AreWritable front
-lines_writable front n lines whole left = subst AreWritable (append-nil front) (left.writable [] tt)
+pub lines_writable : (front : List CertLine) (n : ℕ) (lines : List (List ℕ)) (whole : Result (List CertLine) CertFault) → LinesLeft front n lines whole → AllByRecursion IsWritable front
+lines_writable front n lines whole left = subst (AllByRecursion IsWritable) (append-nil front) (left.writable [] tt)
 
 -- ---- the givens
 
@@ -98,7 +99,7 @@ by_first front text n least lines rest whole o e g left =
     ∙ (ap (λ (ls : List (List ℕ)). givens_behind front (given_lines n least ls)) (sym e) ∙ left.is)
 
 pub givens_more : (front new : List CellNumber) (cell : CellNumber) (text : List ℕ) (n m least : ℕ) (lines rest : List (List ℕ)) (whole : Read) → lines ≡ text ∷ rest → Some cell ≡ given_line text
-    → IsShort cell.row × IsShort cell.col → least ≤ rank cell → new ≡ front ++ (cell ∷ []) → m ≡ n + 1 → GivensLeft front n least lines whole → GivensLeft new m (rank cell + 1) rest whole
+    → (cell.row < 1000) × (cell.col < 1000) → least ≤ rank cell → new ≡ front ++ (cell ∷ []) → m ≡ n + 1 → GivensLeft front n least lines whole → GivensLeft new m (rank cell + 1) rest whole
 givens_more front new cell text n m least lines rest whole e g short l p q left =
     let yes_test : nat_le least (rank cell) ≡ true = le-leb least (rank cell) l in
     let P : List CellNumber → Type 0 = λ f. GivensLeft f m (rank cell + 1) rest whole in

@@ -1,6 +1,7 @@
 -- The text that is written for a certificate is read as the same certificate.
 use Rattle.std.proofs.Common.{◌≡◌, ℕ, ◌+◌, ◌^◌, ◌<◌, Bool, true, false, cond, not, eqb, List, [], ◌∷◌, ◌++◌, length, get_or, append_assoc, Option, None, Some, Result, Ok, Err, refl, sym, ap, ◌∙◌}
 use Rattle.std.proofs.Common.{subst, arith, inl, inr, codes, decimal, nat_le, option_map}
+use Rattle.std.specs.List.{AllByRecursion, flat_map}
 use Rattle.std.specs.Option.{ok_or, option_and_then}
 use Rattle.std.proofs.lemmas.Bool.{and_from, cases_lt, le-leb, ne_eqb}
 use Rattle.std.proofs.lemmas.Fmt.{decimal_digit, first_decimal, length-decimal-le}
@@ -18,11 +19,18 @@ use Rattle.cert_text.specs.declared.tree_line.CellNumber.{CellNumber}
 use Rattle.cert_text.specs.declared.tree_line.CertLine.{CertLine}
 use Rattle.cert_text.specs.declared.tree_line.CertLine.TheVariants.{Line, Split, Dead, Done}
 use Rattle.cert_text.specs.declared.tree_line.LineNumber.{LineNumber}
-use Rattle.cert_text.specs.Cert.{Certificate, certificate, AreOrdered, AreWritable, IsCert, IsShort, IsWritable, rank}
+use Rattle.cert_text.specs.Cert.{Certificate, certificate, AreOrdered, IsCert, IsWritable, rank}
 use Rattle.cert_text.specs.Text.{below_givens, cell_named, cell_number, cert_line, cert_of_lines, given_line, given_lines, has_leading_zero, is_word, line_by, line_named, line_number}
 use Rattle.cert_text.specs.Text.{lines_of, number_of, take_given, three_of, tree_lines, words_of}
-use Rattle.cert_text.specs.WrittenCert.{IsReadAgain, axis_text, given_text, givens_text, line_text, lines_text, named_text}
+use Rattle.cert_text.specs.WrittenCert.{IsReadAgain, axis_text, given_text, line_text, named_text}
 use Rattle.cert_text.proofs.WordLemmas.{lines_more, lines_none}
+
+-- the lines that give cells, and those below them
+abbrev pub givens_text : List CellNumber → List ℕ
+givens_text givens = flat_map given_text givens
+
+abbrev lines_text : List CertLine → List ℕ
+lines_text lines = flat_map line_text lines
 
 -- ---- numbers
 
@@ -37,7 +45,7 @@ no_leading_zero n l = elim (cases_lt n 10) [
     by_first (d ∷ []) h = refl
     by_first (d ∷ e ∷ ds) h = ne_eqb d 48 (omega arith)
 
-number_again : (n : ℕ) → IsShort n → number_of (decimal n) ≡ Some n
+number_again : (n : ℕ) → n < 1000 → number_of (decimal n) ≡ Some n
 number_again n l =
     ap (λ t. cond t None (short_number 3 (decimal n))) (no_leading_zero n (omega arith))
     ∙ ap (λ t. cond t (number_spelled (decimal n)) None) (le-leb (length (decimal n)) 3 (length-decimal-le 3 n (omega arith) (omega arith) (omega arith)))
@@ -52,7 +60,7 @@ pub record IsWord (bytes : List ℕ) : Type 0 where
 pub decimal_is : (n : ℕ) → n < 2 ^ 64 → IsWord (decimal n)
 decimal_is n l = record { no_space = decimal_lacks 32 n (omega arith) l; no_feed = decimal_lacks 10 n (omega arith) l }
 
-pub number_is : (n : ℕ) → IsShort n → IsWord (decimal n)
+pub number_is : (n : ℕ) → n < 1000 → IsWord (decimal n)
 number_is n l = decimal_is n (omega arith)
 
 abbrev pub axis_word : Axis → List ℕ
@@ -67,11 +75,11 @@ axis_text_is : (axis : Axis) → axis_text axis ≡ axis_word axis ++ 32 ∷ []
 axis_text_is Across = refl
 axis_text_is Down = refl
 
-pub axis_named : (axis : Axis) (n : ℕ) → IsShort n → line_named (axis_word axis) (decimal n) ≡ Some (line_number axis n)
+pub axis_named : (axis : Axis) (n : ℕ) → n < 1000 → line_named (axis_word axis) (decimal n) ≡ Some (line_number axis n)
 axis_named Across n l = ap (option_map (line_number Across)) (number_again n l)
 axis_named Down n l = ap (option_map (line_number Down)) (number_again n l)
 
-pub cell_named_again : (row col : ℕ) → IsShort row → IsShort col → cell_named (decimal row) (decimal col) ≡ Some (cell_number row col)
+pub cell_named_again : (row col : ℕ) → row < 1000 → col < 1000 → cell_named (decimal row) (decimal col) ≡ Some (cell_number row col)
 cell_named_again row col l m =
     ap (option_and_then (λ (row : ℕ). option_map (cell_number row) (number_of (decimal col)))) (number_again row l)
     ∙ ap (option_map (cell_number row)) (number_again col m)
@@ -105,7 +113,7 @@ module _ (a b d : List ℕ) (is_a : IsWord a) (is_b : IsWord b) (is_d : IsWord d
       ap lines_of (parts a b d rest)
       ∙ first_line_is (spaced a b d) rest (lacks_append 10 a (32 ∷ (b ++ 32 ∷ d)) is_a.no_feed (lacks_append 10 b (32 ∷ d) is_b.no_feed is_d.no_feed))
 
-pub named_first : (word : List ℕ) (line : LineNumber) → IsWord word → IsShort line.number → (rest : List ℕ)
+pub named_first : (word : List ℕ) (line : LineNumber) → IsWord word → line.number < 1000 → (rest : List ℕ)
     → lines_of (named_text (word ++ 32 ∷ []) line ++ rest) ≡ spaced word (axis_word line.axis) (decimal line.number) ∷ lines_of rest
 named_first word line is l rest =
     ap (λ (axis : List ℕ). lines_of (((word ++ 32 ∷ []) ++ (axis ++ number_text line.number 10)) ++ rest)) (axis_text_is line.axis)
@@ -157,7 +165,7 @@ again Done w = record { first = λ rest. first_line_is (codes "done") rest refl;
 
 -- ---- all lines
 
-tree_again : (lines : List CertLine) (n : ℕ) → AreWritable lines → tree_lines n (lines_of (lines_text lines)) ≡ Ok lines
+tree_again : (lines : List CertLine) (n : ℕ) → AllByRecursion IsWritable lines → tree_lines n (lines_of (lines_text lines)) ≡ Ok lines
 unfolding tree_lines
 tree_again [] n w = ap (tree_lines n) lines_none
 tree_again (line ∷ lines) n w =
@@ -166,7 +174,7 @@ tree_again (line ∷ lines) n w =
     ∙ (ap (λ (o : Option CertLine). ok_or o (BadLine n) >>= λ first. (tree_lines (n + 1) (lines_of (lines_text lines)) >>= λ rest. Ok (first ∷ rest))) a.reads
     ∙ ap (λ (r : Result (List CertLine) CertFault). r >>= λ rest. Ok (line ∷ rest)) (tree_again lines (n + 1) w.1))
 
-given_again : (cell : CellNumber) → IsShort cell.row → IsShort cell.col → given_line (spaced (codes "given") (decimal cell.row) (decimal cell.col)) ≡ Some cell
+given_again : (cell : CellNumber) → cell.row < 1000 → cell.col < 1000 → given_line (spaced (codes "given") (decimal cell.row) (decimal cell.col)) ≡ Some cell
 unfolding given_line
 given_again cell l m =
     ap given_of_three (spaced_words (codes "given") (decimal cell.row) (decimal cell.col) is_given (number_is cell.row l) (number_is cell.col m)) ∙ cell_named_again cell.row cell.col l m
@@ -191,7 +199,7 @@ other_line_first text line rest first other = record {
       ∙ ap (λ (ls : List (List ℕ)). Ok ([], ls)) (sym first));
 }
 
-none_given : (lines : List CertLine) → AreWritable lines → HasNoGiven (lines_text lines)
+none_given : (lines : List CertLine) → AllByRecursion IsWritable lines → HasNoGiven (lines_text lines)
 none_given [] w = nothing_given
 none_given (line ∷ lines) w =
     let a = again line w.0 in
@@ -214,13 +222,13 @@ givens_again (cell ∷ cells) below n least o w =
 
 -- ---- the whole text
 
-first_again : (givens : List CellNumber) (lines : List CertLine) → givens ≡ [] → AreWritable lines → IsReadAgain (certificate 1 givens lines)
+first_again : (givens : List CellNumber) (lines : List CertLine) → givens ≡ [] → AllByRecursion IsWritable lines → IsReadAgain (certificate 1 givens lines)
 first_again givens lines e w =
     let P : List CellNumber → Type 0 = λ cells. IsReadAgain (certificate 1 cells lines) in
     subst P (sym e)
     (ap cert_of_lines (first_line_is (codes "nonocert 1") (lines_text lines) refl) ∙ ap (λ (r : Result (List CertLine) CertFault). r >>= λ read. Ok (certificate 1 [] read)) (tree_again lines 2 w))
 
-second_again : (givens : List CellNumber) (lines : List CertLine) → AreOrdered 0 givens → AreWritable lines → IsReadAgain (certificate 2 givens lines)
+second_again : (givens : List CellNumber) (lines : List CertLine) → AreOrdered 0 givens → AllByRecursion IsWritable lines → IsReadAgain (certificate 2 givens lines)
 second_again givens lines o w =
     ap cert_of_lines (first_line_is (codes "nonocert 2") (givens_text givens ++ lines_text lines) refl)
     ∙ (ap (λ (r : Result (List CellNumber × List (List ℕ)) CertFault). r >>= below_givens) (givens_again givens (lines_text lines) 2 0 o (none_given lines w))

@@ -37,15 +37,9 @@ line_text Done = codes "done\n"
 abbrev pub version_text : ℕ → List ℕ
 version_text version = if version == 1 then codes "nonocert 1\n" else codes "nonocert 2\n"
 
-abbrev pub givens_text : List CellNumber → List ℕ
-givens_text givens = flat_map given_text givens
-
-abbrev pub lines_text : List CertLine → List ℕ
-lines_text lines = flat_map line_text lines
-
 -- the version, the givens and the lines
 abbrev pub cert_text : Certificate → List ℕ
-cert_text cert = version_text cert.version ++ (givens_text cert.givens ++ lines_text cert.lines)
+cert_text cert = version_text cert.version ++ (flat_map given_text cert.givens ++ flat_map line_text cert.lines)
 
 -- What is written is read as the same certificate.
 abbrev pub IsReadAgain : Certificate → Type 0

@@ -1,8 +1,9 @@
 //! The reader of certificates.
 
 ghost use Rattle.std.specs.Prelude.{◌≡◌, ◌+◌, ◌^◌, ◌<◌, ◌≤◌, length, IfOk, IfSome};
+ghost use Rattle.std.specs.List.{AllByRecursion};
 ghost use Rattle.picture.specs.Readers.{Gives};
-ghost use Rattle.cert_text.specs.Cert.{AreOrdered, AreWritable, IsShort, IsWritable, rank};
+ghost use Rattle.cert_text.specs.Cert.{AreOrdered, IsWritable, rank};
 ghost use Rattle.cert_text.specs.Text.{cell_named, cert_line, cert_of, given_line, given_lines, givens_seen, line_named, lines_of, tree_lines};
 
 use crate::cert::Cert;
@@ -15,7 +16,7 @@ use std::alloc::Global;
 /// The line that two words name.
 pub fn line_named(first: &[u8], second: &[u8]) -> Option<LineNumber>
     ensures value { result ≡ line_named first.now second.now }
-    ensures short { IfSome result (λ line. IsShort line.number) }
+    ensures short { IfSome result (λ line. line.number < 1000) }
 {
     let axis = match first {
         b"r" => Axis::Across,
@@ -29,7 +30,7 @@ pub fn line_named(first: &[u8], second: &[u8]) -> Option<LineNumber>
 /// The cell that two words name.
 pub fn cell_named(first: &[u8], second: &[u8]) -> Option<CellNumber>
     ensures value { result ≡ cell_named first.now second.now }
-    ensures short { IfSome result (λ cell. IsShort cell.row × IsShort cell.col) }
+    ensures short { IfSome result (λ cell. (cell.row < 1000) × (cell.col < 1000)) }
 {
     let row = number_in(first)?;
     let col = number_in(second)?;
@@ -61,7 +62,7 @@ fn line_in(line: &[u8]) -> Option<CertLine>
 // A line that gives a cell.
 fn given_in(line: &[u8]) -> Option<CellNumber>
     ensures value { result ≡ given_line line.now }
-    ensures short { IfSome result (λ cell. IsShort cell.row × IsShort cell.col) }
+    ensures short { IfSome result (λ cell. (cell.row < 1000) × (cell.col < 1000)) }
 {
     let (word, first, second) = three_words(line)?;
     if !is_word(word, b"given") {
@@ -108,7 +109,7 @@ fn read_lines(alloc: Global, text: &[u8], first: usize) -> Result<Vec<CertLine>,
     requires few { first + length text.now < 2 ^ 64 }
     ensures value { Gives CertFault.Memory (λ lines. lines.items) result
         (tree_lines first (lines_of text.now)) }
-    ensures writable { IfOk result (λ lines. AreWritable lines.items) }
+    ensures writable { IfOk result (λ lines. AllByRecursion IsWritable lines.items) }
 {
     let mut lines = Vec::new(alloc);
     let mut number = first;

@@ -2,8 +2,9 @@
 
 ghost use Rattle.std.specs.Prelude.{◌≡◌, OnOk, OnErr};
 ghost use Rattle.std.specs.Io.KnownBytes.{Appends};
+ghost use Rattle.std.specs.List.{flat_map};
 ghost use Rattle.picture.specs.Writers.{AppendsFront};
-ghost use Rattle.cert_text.specs.WrittenCert.{axis_text, cell_text, cert_text, givens_text, line_text, lines_text, named_text, version_text};
+ghost use Rattle.cert_text.specs.WrittenCert.{axis_text, cell_text, cert_text, given_text, line_text, named_text, version_text};
 
 use crate::cert::Cert;
 use crate::tree_line::{CellNumber, CertLine, LineNumber};
@@ -65,9 +66,10 @@ fn send_line<W: Write>(line: CertLine, writer: &mut W) -> Result<(), WriteFault>
 /// Writes the lines of givens, or after an error a prefix of them.
 pub fn send_givens<W: Write>(givens: &[CellNumber], writer: &mut W) -> Result<(), WriteFault>
     ensures ok { OnOk result
-        (Appends (W.contents writer.old) (W.contents writer.new) (givens_text givens.now)) }
+        (Appends (W.contents writer.old) (W.contents writer.new) (flat_map given_text givens.now)) }
     ensures err { OnErr result
-        (AppendsFront (W.contents writer.old) (W.contents writer.new) (givens_text givens.now)) }
+        (AppendsFront (W.contents writer.old) (W.contents writer.new)
+        (flat_map given_text givens.now)) }
 {
     for i in 0..givens.len() {
         send_cell(b"given ", givens[i], writer)?;
@@ -79,9 +81,10 @@ pub fn send_givens<W: Write>(givens: &[CellNumber], writer: &mut W) -> Result<()
 // Writes the lines below the givens.
 fn send_lines<W: Write>(lines: &[CertLine], writer: &mut W) -> Result<(), WriteFault>
     ensures ok { OnOk result
-        (Appends (W.contents writer.old) (W.contents writer.new) (lines_text lines.now)) }
+        (Appends (W.contents writer.old) (W.contents writer.new) (flat_map line_text lines.now)) }
     ensures err { OnErr result
-        (AppendsFront (W.contents writer.old) (W.contents writer.new) (lines_text lines.now)) }
+        (AppendsFront (W.contents writer.old) (W.contents writer.new)
+        (flat_map line_text lines.now)) }
 {
     for i in 0..lines.len() {
         send_line(lines[i], writer)?;

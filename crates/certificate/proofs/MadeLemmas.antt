@@ -20,14 +20,14 @@ use Rattle.cert_check.specs.FirstFault.{CertFirstFault}
 use Rattle.certificate.specs.MadeCert.{BasesAreOne, EachExcludes, HasNoFault, HasOther, IsMade, Makes, WritesTree}
 use Rattle.lemma_proof.specs.Naming.{NamesGivens}
 use Rattle.lemma_proof.proofs.MakingLemmas.{unique_has_no_other}
-use Rattle.cert_check.specs.Puzzle.{IsUnique, base_of, blank_for, with_givens}
+use Rattle.cert_check.specs.Puzzle.{IsUnique, base_of, with_givens}
 use Rattle.cert_check.specs.Walk.{GivesBase}
 use Rattle.cert_check.proofs.BaseLemmas.{given_left}
 use Rattle.cert_check.proofs.Exactness.{none_is_proof}
 use Rattle.cert_check.proofs.Soundness.{proof_is_unique}
 
 pub none_made : (picture : Rows) (start : Masks) (givens : List ℕ) (cells : List CellNumber) → IsPicture picture → AreInside givens picture → NamesGivens picture givens cells → SameShape picture start
-    → start ≡ with_givens picture cells (blank_for picture) → WritesTree picture start None → Makes picture givens None
+    → start ≡ with_givens picture cells (nothing_excluded (length picture) (width_of picture)) → WritesTree picture start None → Makes picture givens None
 none_made picture start givens cells is inside names shape e w =
     let other = w.0 in
     let fills = w.1.0 in
@@ -44,7 +44,7 @@ none_made picture start givens cells is inside names shape e w =
               let c = same.each row in
               let q = is.rectangular row i.0 in
               let l : Leaves start row col (cell_at other row col) = fills.leaves row col (let h = i.1 in omega arith) in
-              given_left picture (blank_for picture) cells row col (cell_at other row col) ((names.named row col).0 has) (rw e at l);
+              given_left picture (nothing_excluded (length picture) (width_of picture)) cells row col (cell_at other row col) ((names.named row col).0 has) (rw e at l);
         };
         differs = w.1.1;
       },
@@ -53,7 +53,8 @@ none_made picture start givens cells is inside names shape e w =
 -- ---- no other picture
 
 pub some_made : (picture : Rows) (start : Masks) (givens : List ℕ) (cells : List CellNumber) (lines : List CertLine) (cert : Certificate) → IsPicture picture → NamesGivens picture givens cells
-    → GivesBase picture (blank_for picture) cells (Ok tt) start → start ≡ with_givens picture cells (blank_for picture) → HasNoFault picture (start ∷ []) lines
+    → GivesBase picture (nothing_excluded (length picture) (width_of picture)) cells (Ok tt) start
+    → start ≡ with_givens picture cells (nothing_excluded (length picture) (width_of picture)) → HasNoFault picture (start ∷ []) lines
     → EachExcludes picture (start ∷ []) lines → IsCert cert → cert.givens ≡ cells → cert.lines ≡ lines → (cert.version ≡ 1) ↔ (cells ≡ []) → IsMade picture givens cert
 some_made picture start givens cells lines cert is names base root none each c g l v =
     let accepted : CertFirstFault picture cert None = rw (g, l) (base.1 lines None (none (2 + length cells))) in
@@ -73,7 +74,7 @@ some_made picture start givens cells lines cert is names base root none each c g
 
 -- the facts at the root, as they were made
 root_is : (picture : Rows) (blank start : Masks) (cells : List CellNumber) (height width : ℕ) → height ≡ length picture → width ≡ width_of picture → blank ≡ nothing_excluded height width
-    → blank ≡ blank_for picture
+    → blank ≡ nothing_excluded (length picture) (width_of picture)
 root_is picture blank start cells height width h w b = b ∙ (ap (λ (n : ℕ). nothing_excluded n width) h ∙ ap (nothing_excluded (length picture)) w)
 
 pub made_shape : (picture : Rows) (blank : Masks) (height width : ℕ) → IsPicture picture → height ≡ length picture → width ≡ width_of picture → blank ≡ nothing_excluded height width

@@ -1,7 +1,7 @@
 -- The lines of a tree that a search writes are those of a certificate without error.
 use Rattle.std.proofs.Common.{◌≡◌, ℕ, suc, ◌+◌, ◌-◌, ◌<◌, ◌≤◌, List, [], ◌∷◌, ◌++◌, true, None, Some, length, eqb, eqb-true, refl, sym, ap, ◌∙◌, arith, inr}
 use Rattle.std.specs.Int.{bit_at}
-use Rattle.std.specs.List.{All, range_with_len}
+use Rattle.std.specs.List.{All, AllByRecursion, range_with_len}
 use Rattle.std.proofs.lemmas.List.Elements.{filter_passes}
 use Rattle.line_facts.specs.Masks.{Masks}
 use Rattle.picture.specs.declared.line_id.Axis.{Axis}
@@ -9,14 +9,10 @@ use Rattle.picture.specs.declared.line_id.Axis.TheVariants.{Across, Down}
 use Rattle.picture.proofs.BitLaws.{bit_is_set}
 use Rattle.picture.specs.Picture.{IsPicture}
 use Rattle.picture.specs.Rows.{width_of, cell_at, line_of, lines_along, Rows}
-use Rattle.clues.specs.declared.block.Block.{Block}
-use Rattle.clues.specs.ClueBook.{Clues, clue_at, clues_of}
+use Rattle.clues.specs.ClueBook.{Clues, clues_of}
 use Rattle.clues.specs.Laws.{CluesAreOfLines}
-use Rattle.line_facts.specs.declared.line_engine.Outcome.{Outcome}
 use Rattle.line_facts.specs.FactSets.{IsWithin, SameShape}
-use Rattle.line_facts.specs.Laws.{ForcingClosesALine, OneLineDecides}
 use Rattle.line_facts.proofs.GridLaws.{shape_refl, shape_trans}
-use Rattle.line_facts.specs.NarrowedLine.{Narrows}
 use Rattle.fixpoint.specs.ClosedFacts.{AreClosable}
 use Rattle.fixpoint.proofs.ClosingLaws.{within_trans}
 use Rattle.cert_text.specs.declared.tree_line.CellNumber.{CellNumber}
@@ -26,12 +22,15 @@ use Rattle.cert_text.specs.declared.tree_line.CertLine.TheVariants.{Line, Split,
 use Rattle.second_search.specs.Trees.{IsOtherIn, Stands, Walks}
 use Rattle.second_search.proofs.FindLemmas.{held_within}
 use Rattle.line_facts.specs.Branches.{colours_of, held}
-use Rattle.cert_text.specs.Cert.{AreWritable, IsWritable}
+use Rattle.cert_text.specs.Cert.{IsWritable}
 use Rattle.cert_check.specs.FirstFault.{FirstFault, Leads}
 use Rattle.certificate.specs.MadeCert.{EachExcludes, ExcludesSome, WritesTree}
 use Rattle.cert_check.specs.Puzzle.{HasCellNumber, HasLineNumber, line_id}
 use Rattle.cert_check.specs.Walk.{CanCheck}
 use Rattle.cert_check.proofs.BaseLemmas.{left_inside}
+use Rattle.cert_check.proofs.Exactness.{same_gains}
+use Rattle.cert_check.proofs.Soundness.{forced_within}
+use Rattle.cert_check.proofs.WalkLemmas.{gains_force}
 
 -- ---- what waits excludes no less than the facts at the root
 
@@ -55,21 +54,18 @@ colours_are_left : (mask : ℕ) → All (λ k. eqb (bit_at mask k) 1 ≡ true) (
 unfolding colours_of
 colours_are_left mask = filter_passes (λ k. eqb (bit_at mask k) 1) (range_with_len 0 16)
 
-led_within : ForcingClosesALine → (picture : Rows) (start facts : Masks) (line : CertLine) (next : List (List (List ℕ))) → Leads picture facts line next → IsWithin start facts → EachWithin start next
-led_within law picture start facts (Line number) next l w =
+led_within : (picture : Rows) (start facts : Masks) (line : CertLine) (next : List (List (List ℕ))) → Leads picture facts line next → IsWithin start facts → EachWithin start next
+led_within picture start facts (Line number) next l w =
     let forced = l.1.1.0 in
-    rw l.1.1.1 (within_trans start facts l.1.0 w (law.grows _ _ _ _ _ forced.1), tt)
-led_within law picture start facts (Split cell) next l w =
+    rw l.1.1.1 (within_trans start facts l.1.0 w (forced_within picture facts l.1.0 (line_id number) forced), tt)
+led_within picture start facts (Split cell) next l w =
     let row = cell.row - 1 in
     let col = cell.col - 1 in
     rw l.1 (each_held start facts row col (colours_of (cell_at facts row col)) w (colours_are_left (cell_at facts row col)))
-led_within law picture start facts (Dead number) next l w = rw l.2 tt
-led_within law picture start facts Done next l w = rw l.1 tt
+led_within picture start facts (Dead number) next l w = rw l.2 tt
+led_within picture start facts Done next l w = rw l.1 tt
 
 -- ---- the lines of a tree are those of a certificate
-
-narrowed_masks : OneLineDecides → (clue : List Block) (left one other : List ℕ) (first second : Outcome) → Narrows clue left first one → Narrows clue left second other → one ≡ other
-narrowed_masks law clue left one other first second n m = (law clue left one other first second n m).0
 
 line_number : (picture : Rows) (facts : Masks) (number : LineNumber) → SameShape picture facts → HasLineNumber facts number → HasLineNumber picture number
 line_number picture facts number s h = by number.axis h
@@ -88,7 +84,7 @@ cell_inside picture facts cell s h =
     ((let a : 0 < cell.row = h.0 in a), (let a : cell.row ≤ length picture = omega arith in a), (let a : 0 < cell.col = h.2 in a), (let a : cell.col ≤ width_of picture = omega arith in a))
 
 leads : (picture : Rows) (facts : Masks) (line : CertLine) (next : List (List (List ℕ))) → SameShape picture facts → Stands (clues_of picture) picture facts line next → Leads picture facts line next
-leads picture facts (Line number) next s h = (line_number picture facts number s h.0, (h.1.0, ((h.1.1.0.outcome, h.1.1.0.gains), h.1.1.1)))
+leads picture facts (Line number) next s h = (line_number picture facts number s h.0, (h.1.0, (gains_force picture facts h.1.0 (line_id number) h.1.1.0.outcome h.1.1.0.gains, h.1.1.1)))
 leads picture facts (Split cell) next s h = (cell_inside picture facts cell s h.0, h.1.0)
 leads picture facts (Dead number) next s h = (line_number picture facts number s h.0, h.1.0, h.1.1)
 leads picture facts Done next s h = h
@@ -106,44 +102,44 @@ writable picture facts (Dead number) next is s h = let q = line_number picture f
     (let l : number.number < 1000 = omega (arith, q.1, few) in l)
 writable picture facts Done next is s h = tt
 
-excludes : OneLineDecides → (picture : Rows) (facts : Masks) (line : CertLine) (next : List (List (List ℕ))) → Stands (clues_of picture) picture facts line next → ExcludesSome picture facts line
-excludes law picture facts (Line number) next h = λ gained forced same.
+excludes : (picture : Rows) (facts : Masks) (line : CertLine) (next : List (List (List ℕ))) → Stands (clues_of picture) picture facts line next → ExcludesSome picture facts line
+excludes picture facts (Line number) next h = λ gained forced same.
     let mine = h.1.1.0 in
-    mine.more (ap (λ (fs : List (List ℕ)). line_of fs (line_id number)) (sym same) ∙ narrowed_masks law (clue_at (clues_of picture) (line_id number)) (line_of facts (line_id number))
-    (line_of gained (line_id number)) (line_of h.1.0 (line_id number)) forced.0 mine.outcome forced.1.narrows mine.gains.narrows)
-excludes law picture facts (Split cell) next h = h.1.1
-excludes law picture facts (Dead number) next h = tt
-excludes law picture facts Done next h = tt
+    mine.more (ap (λ (fs : List (List ℕ)). line_of fs (line_id number)) (sym same ∙ same_gains picture facts gained h.1.0 (line_id number) forced
+    (gains_force picture facts h.1.0 (line_id number) mine.outcome mine.gains)))
+excludes picture facts (Split cell) next h = h.1.1
+excludes picture facts (Dead number) next h = tt
+excludes picture facts Done next h = tt
 
 record IsWhole (picture : Rows) (waits : List (List (List ℕ))) (lines : List CertLine) : Type 0 where
-  writes : AreWritable lines
+  writes : AllByRecursion IsWritable lines
   goes : (n : ℕ) → FirstFault picture waits n lines None
   each : EachExcludes picture waits lines
 
 no_cons : (facts : Masks) (others : List (List (List ℕ))) → facts ∷ others ≡ [] → ⊥
 no_cons facts others e = let n : length (facts ∷ others) ≡ 0 = ap length e in absurd (omega arith)
 
-whole : ForcingClosesALine → OneLineDecides → (picture : Rows) (start : Masks) → IsPicture picture → SameShape picture start → (lines : List CertLine) (waits : List (List (List ℕ)))
+whole : (picture : Rows) (start : Masks) → IsPicture picture → SameShape picture start → (lines : List CertLine) (waits : List (List (List ℕ)))
     → EachWithin start waits → Walks (clues_of picture) picture lines waits [] → IsWhole picture waits lines
-whole law once picture start is s [] [] w h = record { writes = tt; goes = λ n. refl; each = tt }
-whole law once picture start is s [] (facts ∷ others) w h = absurd (no_cons facts others h)
-whole law once picture start is s (line ∷ lines) [] w h = absurd h
-whole law once picture start is s (line ∷ lines) (facts ∷ others) w h =
+whole picture start is s [] [] w h = record { writes = tt; goes = λ n. refl; each = tt }
+whole picture start is s [] (facts ∷ others) w h = absurd (no_cons facts others h)
+whole picture start is s (line ∷ lines) [] w h = absurd h
+whole picture start is s (line ∷ lines) (facts ∷ others) w h =
     let next = h.0 in
     let shape = shape_trans s w.0.same_shape in
     let stands = h.1.0 in
     let lead = leads picture facts line next shape stands in
-    let rest = whole law once picture start is s lines (next ++ others) (both_within start next others (led_within law picture start facts line next lead w.0) w.1) h.1.1 in
+    let rest = whole picture start is s lines (next ++ others) (both_within start next others (led_within picture start facts line next lead w.0) w.1) h.1.1 in
     record {
       writes = (writable picture facts line next is shape stands, rest.writes);
       goes = λ n. inr (next, (lead, rest.goes (n + 1)));
-      each = (excludes once picture facts line next stands, (next, (lead, rest.each)));
+      each = (excludes picture facts line next stands, (next, (lead, rest.each)));
     }
 
-pub whole_tree : ForcingClosesALine → OneLineDecides → (picture : Rows) (start : Masks) (clues : Clues) (longest : ℕ) (lines : List CertLine) → CanCheck picture clues longest → SameShape picture start
+pub whole_tree : (picture : Rows) (start : Masks) (clues : Clues) (longest : ℕ) (lines : List CertLine) → CanCheck picture clues longest → SameShape picture start
     → Walks clues picture lines (start ∷ []) [] → WritesTree picture start (Some lines)
-whole_tree law once picture start clues longest lines can s h =
-    let w = whole law once picture start can.is_picture s lines (start ∷ []) (record { same_shape = shape_refl start; leaves = λ row col k l. l }, tt) (rw can.clues_are at h) in
+whole_tree picture start clues longest lines can s h =
+    let w = whole picture start can.is_picture s lines (start ∷ []) (record { same_shape = shape_refl start; leaves = λ row col k l. l }, tt) (rw can.clues_are at h) in
     (w.writes, w.goes, w.each)
 
 pub other_tree : (picture : Rows) (start : Masks) (other : Rows) (clues : Clues) (longest : ℕ) → CanCheck picture clues longest → IsOtherIn clues picture start other → WritesTree picture start None

@@ -1,5 +1,6 @@
 -- Certificates that are made.
 use Rattle.std.specs.Prelude.{◌≡◌, ℕ, ◌↔◌, List, [], ◌∷◌, ◌++◌, Option, None, Some}
+use Rattle.std.specs.List.{AllByRecursion}
 use Rattle.std.proofs.Common.{Vec, Global}
 use Rattle.line_facts.specs.Masks.{Masks}
 use Rattle.picture.specs.Rows.{Rows}
@@ -13,7 +14,7 @@ use Rattle.cert_text.specs.declared.tree_line.CellNumber.{CellNumber}
 use Rattle.cert_text.specs.declared.tree_line.CertLine.{CertLine}
 use Rattle.cert_text.specs.declared.tree_line.CertLine.TheVariants.{Line, Split, Dead, Done}
 use Rattle.second_search.specs.Trees.{IsUnsettledAt}
-use Rattle.cert_text.specs.Cert.{AreWritable, Certificate, IsCert}
+use Rattle.cert_text.specs.Cert.{Certificate, IsCert, IsWritable}
 use Rattle.cert_check.specs.FirstFault.{CertFirstFault, FirstFault, Leads}
 use Rattle.cert_check.specs.Puzzle.{IsForced, IsUnique, base_of, line_id}
 use Rattle.cert_check.specs.Tree.{IsProof}
@@ -51,7 +52,7 @@ lines_seen (Some lines) = Some lines.items
 abbrev pub WritesTree : Rows → Masks → Option (List CertLine) → Type 0
 WritesTree picture start None = (other : Rows) × (Fills (clues_of picture) start other × (other ≡ picture → ⊥))
 WritesTree picture start (Some lines) =
-    AreWritable lines × HasNoFault picture (start ∷ []) lines × EachExcludes picture (start ∷ []) lines
+    AllByRecursion IsWritable lines × HasNoFault picture (start ∷ []) lines × EachExcludes picture (start ∷ []) lines
 
 -- ---- the certificate
 

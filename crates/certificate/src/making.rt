@@ -1,9 +1,10 @@
 //! The maker of certificates.
 
 ghost use Rattle.std.specs.Prelude.{◌≡◌, ◌≤◌, ◌↔◌, [], length, IfOk, IsTrue};
+ghost use Rattle.std.specs.List.{AllByRecursion};
 ghost use Rattle.picture.specs.Document.{AreInside};
 ghost use Rattle.picture.specs.Rows.{width_of};
-ghost use Rattle.cert_text.specs.Cert.{AreOrdered, AreWritable, IsCert};
+ghost use Rattle.cert_text.specs.Cert.{AreOrdered, IsCert, IsWritable};
 ghost use Rattle.certificate.specs.MadeCert.{HasOther, Makes, WritesTree, lines_seen};
 ghost use Rattle.cert_check.specs.Walk.{CanCheck};
 ghost use Rattle.line_facts.specs.FactSets.{SameShape};
@@ -51,7 +52,7 @@ fn write_tree<E: LineEngine>(
 // The certificate of a tree with these givens.
 fn with_version(givens: Vec<CellNumber>, lines: Vec<CertLine>) -> Cert
     requires givens { AreOrdered 0 givens.items }
-    requires lines { AreWritable lines.items }
+    requires lines { AllByRecursion IsWritable lines.items }
     ensures cert { IsCert result }
     ensures givens { result.givens ≡ givens.items }
     ensures lines { result.lines ≡ lines.items }

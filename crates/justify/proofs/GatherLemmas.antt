@@ -12,8 +12,11 @@ use Rattle.std.proofs.lemmas.Nat.Bits.{bit_at-zero}
 use Rattle.std.proofs.Math.Nat.{div-div-eq-div-mul}
 use Rattle.justify.specs.declared.premise.Premise.{Premise}
 use Rattle.justify.specs.GatheredCells.{Gathered, AreColoured}
-use Rattle.justify.specs.Premises.{premise, premise_at, Gathers}
+use Rattle.justify.specs.Premises.{premise_at, Gathers}
 use Rattle.picture.proofs.BitLaws.{no_bit}
+
+abbrev pub premise : ℕ → ℕ → Premise
+premise at colours = record { at = at; colours = colours }
 
 module _ (masks : List ℕ) (n : ℕ) (found : List Premise) (count : ℕ) (new : Premise) (g : Gathered masks n found count) where
   kept : (m : ℕ) → m < count → premise_at (set found count new) m ≡ premise_at found m

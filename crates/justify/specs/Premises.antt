@@ -2,11 +2,8 @@
 use Rattle.std.specs.Prelude.{◌≡◌, ℕ, ◌<◌, ◌^◌, List, length, slice_index, slice_index_or, IsBitSet, ◌↔◌}
 use Rattle.justify.specs.declared.premise.Premise.{Premise}
 
-abbrev pub premise : ℕ → ℕ → Premise
-premise at colours = record { at = at; colours = colours }
-
 abbrev pub premise_at : List Premise → ℕ → Premise
-premise_at premises n = slice_index_or premises n (premise 0 0)
+premise_at premises n = slice_index_or premises n (record { at = 0; colours = 0 })
 
 -- at ascending places, and each with some of the sixteen colours
 pub record ArePremises (premises : List Premise) : Type 0 where

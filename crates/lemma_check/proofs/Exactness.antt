@@ -1,6 +1,7 @@
 -- The first error is one: where there is none, there is no other; and what follows for a proof.
 use Rattle.std.proofs.Common.{◌≡◌, ℕ, ◌+◌, ◌-◌, ◌<◌, ◌≤◌, true, false, List, [], ◌∷◌, length, Option, None, Some, Result, Ok, Err, refl, sym, ap, subst, ◌∙◌, arith, inl, inr}
 use Rattle.std.specs.Prelude.{IfErr, OnOk}
+use Rattle.std.specs.List.{AllByRecursion}
 use Rattle.line_facts.specs.Masks.{Masks}
 use Rattle.picture.specs.Rows.{Rows}
 use Rattle.picture.specs.Picture.{IsPicture}
@@ -9,7 +10,7 @@ use Rattle.cert_text.specs.declared.fault.CertFault.{CertFault}
 use Rattle.cert_text.specs.declared.fault.CertFault.TheVariants.{Place, Memory}
 use Rattle.cert_text.specs.declared.tree_line.CellNumber.{CellNumber}
 use Rattle.cert_check.specs.FirstFault.{AnswersFirst, FirstFaultBehind}
-use Rattle.cert_check.specs.Puzzle.{HasCellNumber, HasCellNumbers, IsUnique, base_of, line_id}
+use Rattle.cert_check.specs.Puzzle.{HasCellNumber, IsUnique, base_of, line_id}
 use Rattle.cert_check.proofs.Exactness.{same_gains}
 use Rattle.lemma_text.specs.declared.lemma_line.LemmaLine.{LemmaLine}
 use Rattle.lemma_text.specs.declared.lemma_line.LemmaLine.TheVariants.{Line, Use, Dead, Broken, Done, Part, Lemma, Deny, Forget}
@@ -60,13 +61,13 @@ no_other picture (line ∷ lines) (Some walk) n fault (inr s) (inr t) =
 
 -- ---- the givens before the lines
 
-inside_no_fault : (picture : Rows) (cells : List CellNumber) (n : ℕ) (fault : CertFault) → HasCellNumbers picture cells → GivenFault picture n cells fault → ⊥
+inside_no_fault : (picture : Rows) (cells : List CellNumber) (n : ℕ) (fault : CertFault) → AllByRecursion (HasCellNumber picture) cells → GivenFault picture n cells fault → ⊥
 inside_no_fault picture [] n fault has f = f
 inside_no_fault picture (cell ∷ cells) n fault has (inl h) = h.0 has.0
 inside_no_fault picture (cell ∷ cells) n fault has (inr h) = inside_no_fault picture cells (n + 1) fault has.1 h.1
 
-given_fault : (picture : Rows) (facts : Masks) (cells : List CellNumber) (n : ℕ) (fault : CertFault) → (HasCellNumbers picture cells → ⊥) → FirstFaultBehind picture facts n cells [] (Some fault)
-    → GivenFault picture n cells fault
+given_fault : (picture : Rows) (facts : Masks) (cells : List CellNumber) (n : ℕ) (fault : CertFault) → (AllByRecursion (HasCellNumber picture) cells → ⊥)
+    → FirstFaultBehind picture facts n cells [] (Some fault) → GivenFault picture n cells fault
 given_fault picture facts [] n fault outside f = absurd (outside tt)
 given_fault picture facts (cell ∷ cells) n fault outside (inl h) = inl (h.0, (let e = h.1 in cc))
 given_fault picture facts (cell ∷ cells) n fault outside (inr h) =
@@ -74,11 +75,11 @@ given_fault picture facts (cell ∷ cells) n fault outside (inr h) =
 
 -- ---- what a checker answers
 
-pub outside_first : (picture : Rows) (facts : Masks) (proof : ProofLines) (fault : CertFault) → (HasCellNumbers picture proof.givens → ⊥)
+pub outside_first : (picture : Rows) (facts : Masks) (proof : ProofLines) (fault : CertFault) → (AllByRecursion (HasCellNumber picture) proof.givens → ⊥)
     → FirstFaultBehind picture facts 2 proof.givens [] (Some fault) → AnswersFirst (ProofFirstFault picture proof) (Err fault)
 outside_first picture facts proof fault outside f = inr (inl (fault, (given_fault picture facts proof.givens 2 fault outside f, refl)))
 
-pub inside_first : (picture : Rows) (proof : ProofLines) (r : Result (Unit {0}) CertFault) → HasCellNumbers picture proof.givens
+pub inside_first : (picture : Rows) (proof : ProofLines) (r : Result (Unit {0}) CertFault) → AllByRecursion (HasCellNumber picture) proof.givens
     → AnswersFirst (FirstFault picture (Some (root (base_of picture proof.givens))) (2 + length proof.givens) proof.lines) r → AnswersFirst (ProofFirstFault picture proof) r
 inside_first picture proof (Ok x) has f = inr (has, f)
 inside_first picture proof (Err e) has (inl m) = inl m

@@ -9,7 +9,7 @@ use Rattle.line_facts.proofs.GridLaws.{shape_refl, shape_sym, shape_trans}
 use Rattle.cert_text.specs.declared.fault.CertFault.{CertFault}
 use Rattle.cert_text.specs.declared.tree_line.CellNumber.{CellNumber}
 use Rattle.cert_text.specs.declared.tree_line.LineNumber.{LineNumber}
-use Rattle.cert_check.specs.Puzzle.{HasLineNumber, IsForced, IsUnique, base_of, line_id}
+use Rattle.cert_check.specs.Puzzle.{HasLineNumber, IsUnique, base_of, line_id}
 use Rattle.cert_check.proofs.Soundness.{IsRival, Keeps, base_keeps, fits_line, forced_keeps, line_there, shows_it}
 use Rattle.lemma_text.specs.declared.lemma_line.Literal.{Literal}
 use Rattle.lemma_text.specs.declared.lemma_line.LemmaLine.{LemmaLine}
@@ -126,7 +126,7 @@ module _ (picture other : Rows) where
         let g = rw l.1.1.1 at is in
         goes_on walk l.1.0 walk.behind (λ all keeps.
         let has = line_there picture walk.at_hand number (shape_trans rival.same_shape keeps.same_shape) l.0 in
-        forced_keeps picture walk.at_hand l.1.0 other (line_id number) l.1.1.0.0 rival has l.1.1.0.1 keeps) g
+        forced_keeps picture walk.at_hand l.1.0 other (line_id number) rival has l.1.1.0 keeps) g
     settled_led walk (Use n) next l x is =
         let g = rw l.1 at is in
         goes_on walk (used walk.at_hand (numbered walk.lemmas n).literals) walk.behind (λ all keeps. used_keeps walk.at_hand other keeps (numbered walk.lemmas n).literals (all n l.0)) g

@@ -1,6 +1,7 @@
 -- The first error of a proof by lemmas, line by line from the top; and what is a proof.
 use Rattle.std.specs.Prelude.{◌≡◌, ◌⊎◌, ℕ, ◌+◌, ◌<◌, ◌≤◌, true, false, List, [], ◌∷◌, length, Bool, Option, Some, None}
 use Rattle.std.specs.Prelude.{Result, Ok, Err}
+use Rattle.std.specs.List.{AllByRecursion}
 use Rattle.line_facts.specs.Masks.{Masks}
 use Rattle.picture.specs.Rows.{Rows}
 use Rattle.line_facts.specs.FactSets.{SameShape}
@@ -8,7 +9,7 @@ use Rattle.cert_text.specs.declared.fault.CertFault.{CertFault}
 use Rattle.cert_text.specs.declared.fault.CertFault.TheVariants.{Place, NoLemma, Misplaced, Full, NotDead, NotDone}
 use Rattle.cert_text.specs.declared.fault.CertFault.TheVariants.{Ended, Trailing, Memory}
 use Rattle.cert_text.specs.declared.tree_line.CellNumber.{CellNumber}
-use Rattle.cert_check.specs.Puzzle.{HasCellNumber, HasCellNumbers, HasLineNumber, IsDead, IsForced, ShowsOnly, base_of}
+use Rattle.cert_check.specs.Puzzle.{HasCellNumber, HasLineNumber, IsDead, IsForced, ShowsOnly, base_of}
 use Rattle.cert_check.specs.Puzzle.{line_id}
 use Rattle.lemma_text.specs.declared.lemma_line.LemmaLine.{LemmaLine}
 use Rattle.lemma_text.specs.declared.lemma_line.LemmaLine.TheVariants.{Line, Use, Dead, Broken, Done, Part, Lemma, Deny}
@@ -92,7 +93,7 @@ GivenFault picture n (cell ∷ cells) fault =
 abbrev pub ProofFirstFault : Rows → ProofLines → Option CertFault → Type 0
 ProofFirstFault picture proof fault =
     ((found : CertFault) × (GivenFault picture 2 proof.givens found × (fault ≡ Some found)))
-    ⊎ (HasCellNumbers picture proof.givens
+    ⊎ (AllByRecursion (HasCellNumber picture) proof.givens
     × FirstFault picture (Some (root (base_of picture proof.givens))) (2 + length proof.givens) proof.lines fault)
 
 -- a proof by lemmas: no line has an error, and the walk over its lines is whole

@@ -1,10 +1,11 @@
 //! A proof by lemmas checked from its first line.
 
 ghost use Rattle.std.specs.Prelude.{◌≡◌, ◌+◌, ◌≤◌, ◌<◌, ◌^◌, length, IfErr, OnOk, Some};
+ghost use Rattle.std.specs.List.{AllByRecursion};
 ghost use Rattle.picture.specs.Rows.{width_of};
 ghost use Rattle.line_facts.specs.FactSets.{SameShape};
 ghost use Rattle.cert_check.specs.FirstFault.{AnswersFirst};
-ghost use Rattle.cert_check.specs.Puzzle.{HasCellNumbers, IsUnique};
+ghost use Rattle.cert_check.specs.Puzzle.{HasCellNumber, IsUnique};
 ghost use Rattle.cert_check.specs.Walk.{CanCheck};
 ghost use Rattle.lemma_check.specs.FirstFault.{FirstFault, IsLemmaProof, ProofFirstFault};
 ghost use Rattle.lemma_check.specs.Walk.{root};
@@ -73,7 +74,7 @@ pub fn check_proof<E: LineEngine>(
     ensures only { IsLemmaProof picture.now proof.now → IfErr result (λ e. e ≡ CertFault.Memory) }
     ensures unique { OnOk result (IsUnique picture.now proof.now.givens) }
     ensures work { E.calls engine.new ≤ E.calls engine.old + length proof.now.lines }
-    ensures idle { (HasCellNumbers picture.now proof.now.givens → ⊥)
+    ensures idle { (AllByRecursion (HasCellNumber picture.now) proof.now.givens → ⊥)
         → E.calls engine.new ≡ E.calls engine.old }
     ensures calls { E.calls engine.old ≤ E.calls engine.new }
     ensures same_longest { E.longest engine.new ≡ E.longest engine.old }

@@ -2,32 +2,26 @@
 use Rattle.std.proofs.Common.{◌≡◌, ◌⊎◌, ℕ, ◌+◌, ◌-◌, ◌*◌, ◌<◌, ◌≤◌, List, [], ◌∷◌, ◌++◌, append_assoc, length, refl, sym, ap, subst, ◌∙◌, arith, inl, inr}
 use Rattle.std.proofs.lemmas.Bool.{cases_lt}
 use Rattle.std.proofs.lemmas.List.{append-nil}
+use Rattle.std.proofs.lemmas.List.Elements.{Contains-append_left, Contains-push, Contains-push_cases}
+use Rattle.std.specs.List.{AllByRecursion, Contains}
 use Rattle.picture.specs.CellSet.{HasCell}
 use Rattle.picture.specs.Document.{AreInside}
 use Rattle.picture.specs.Rows.{width_of, Rows}
 use Rattle.cert_text.specs.declared.tree_line.CellNumber.{CellNumber}
-use Rattle.cert_text.specs.Cert.{AreOrdered, IsShort, rank}
+use Rattle.cert_text.specs.Cert.{AreOrdered, rank}
 use Rattle.lemma_proof.specs.Naming.{NamesGivens, NamesUpTo}
-use Rattle.cert_check.specs.Puzzle.{HasCellNumber, HasCellNumbers, IsAmong, numbered}
+use Rattle.cert_check.proofs.AmongLemmas.{among_first, among_rest}
+use Rattle.cert_check.specs.Puzzle.{HasCellNumber, numbered}
 
 less_ordered : (a b : ℕ) (cells : List CellNumber) → a ≤ b → AreOrdered b cells → AreOrdered a cells
 less_ordered a b [] l o = tt
 less_ordered a b (cell ∷ cells) l o = (o.0, o.1, (let q = o.2 in let p : a < rank cell + 1 = omega arith in p), o.3)
 
-among_front : (x : CellNumber) (xs ys : List CellNumber) → IsAmong x xs → IsAmong x (xs ++ ys)
-among_front x [] ys h = absurd h
-among_front x (y ∷ xs) ys (inl e) = inl e
-among_front x (y ∷ xs) ys (inr m) = inr (among_front x xs ys m)
+among_parts : (x y : CellNumber) (xs : List CellNumber) → Contains (xs ++ (y ∷ [])) x → Contains xs x ⊎ (x ≡ y)
+among_parts x y xs m = elim (Contains-push_cases xs y x m) [ inl h ↦ inl h | inr e ↦ inr (sym e) ]
 
-among_last : (x : CellNumber) (xs : List CellNumber) → IsAmong x (xs ++ (x ∷ []))
-among_last x [] = inl refl
-among_last x (y ∷ xs) = inr (among_last x xs)
-
-among_parts : (x y : CellNumber) (xs : List CellNumber) → IsAmong x (xs ++ (y ∷ [])) → IsAmong x xs ⊎ (x ≡ y)
-among_parts x y [] (inl e) = inr e
-among_parts x y [] (inr m) = absurd m
-among_parts x y (z ∷ xs) (inl e) = inl (inl e)
-among_parts x y (z ∷ xs) (inr m) = elim (among_parts x y xs m) [ inl h ↦ inl (inr h) | inr e ↦ inr e ]
+none_among : (x : CellNumber) → Contains [] x → ⊥
+none_among x m = let l = m.1 in absurd (omega arith)
 
 same_place : (r c row col : ℕ) → numbered r c ≡ numbered row col → (r ≡ row) × (c ≡ col)
 same_place r c row col e =
@@ -43,8 +37,8 @@ same_number cell row col e f =
 pub none_named : (givens : List ℕ) → NamesUpTo givens 0 0 []
 none_named givens = record {
   ordered = λ more o. less_ordered 0 1001 more (omega arith) o;
-  named = λ r c. ((λ h. absurd h), (λ h. elim h.1 [ inl l ↦ absurd (omega arith) | inr p ↦ let l = p.1 in absurd (omega arith) ]));
-  real = λ cell h. absurd h;
+  named = λ r c. ((λ h. absurd (none_among (numbered r c) h)), (λ h. elim h.1 [ inl l ↦ absurd (omega arith) | inr p ↦ let l = p.1 in absurd (omega arith) ]));
+  real = λ cell h. absurd (none_among cell h);
 }
 
 -- a given more
@@ -57,8 +51,8 @@ more_named givens row col cells new h w has e n =
       ordered = λ more o.
           let Q : List CellNumber → Type 0 = AreOrdered 0 in
           let R : ℕ → Type 0 = λ least. AreOrdered least more in
-          let short_row : IsShort (row + 1) = omega arith in
-          let short_col : IsShort (col + 1) = omega arith in
+          let short_row : row + 1 < 1000 = omega arith in
+          let short_col : col + 1 < 1000 = omega arith in
           let behind : (row + 1) * 1000 + (col + 1) < (row + 1) * 1000 + (col + 1) + 1 = omega arith in
           subst Q (sym (append_assoc cells (cell ∷ []) more))
           (n.ordered (cell ∷ more) (short_row, short_col, behind, subst R (let q : (row + 1) * 1000 + (col + 1 + 1) ≡ (row + 1) * 1000 + (col + 1) + 1 = omega arith in q) o));
@@ -74,13 +68,13 @@ more_named givens row col cells new h w has e n =
       real = λ x h. elim (among_parts x cell cells h) [ inl m ↦ n.real x m | inr f ↦ (row, (col, f)) ];
     })
   where
-    by_place : (r c : ℕ) → HasCell givens r c → (r < row) ⊎ ((r ≡ row) × (c < col + 1)) → IsAmong (numbered r c) (cells ++ (numbered row col ∷ []))
-    by_place r c g (inl l) = among_front (numbered r c) cells (numbered row col ∷ []) ((n.named r c).1 (g, inl l))
+    by_place : (r c : ℕ) → HasCell givens r c → (r < row) ⊎ ((r ≡ row) × (c < col + 1)) → Contains (cells ++ (numbered row col ∷ [])) (numbered r c)
+    by_place r c g (inl l) = Contains-append_left cells (numbered row col ∷ []) (numbered r c) ((n.named r c).1 (g, inl l))
     by_place r c g (inr p) = elim (cases_lt c col) [
-      | inl l ↦ among_front (numbered r c) cells (numbered row col ∷ []) ((n.named r c).1 (g, inr (p.0, l)))
+      | inl l ↦ Contains-append_left cells (numbered row col ∷ []) (numbered r c) ((n.named r c).1 (g, inr (p.0, l)))
       | inr k ↦
           let f : c ≡ col = (let l = p.1 in omega arith) in
-          rw (p.0, f) (among_last (numbered row col) cells)
+          rw (p.0, f) (Contains-push cells (numbered row col))
     ]
 
 -- a cell that is not given
@@ -129,9 +123,9 @@ row_named picture givens row width cells inside wide few n = record {
   real = n.real;
 }
 
-each_inside : (picture : Rows) (cells : List CellNumber) → ((cell : CellNumber) → IsAmong cell cells → HasCellNumber picture cell) → HasCellNumbers picture cells
+each_inside : (picture : Rows) (cells : List CellNumber) → ((cell : CellNumber) → Contains cells cell → HasCellNumber picture cell) → AllByRecursion (HasCellNumber picture) cells
 each_inside picture [] h = tt
-each_inside picture (cell ∷ cells) h = (h cell (inl refl), each_inside picture cells (λ c m. h c (inr m)))
+each_inside picture (cell ∷ cells) h = (h cell (among_first cell cell cells refl), each_inside picture cells (λ c m. h c (among_rest c cell cells m)))
 
 pub all_named : (picture : Rows) (givens : List ℕ) (height : ℕ) (cells : List CellNumber) → AreInside givens picture → height ≡ length picture → NamesUpTo givens height 0 cells
     → NamesGivens picture givens cells
@@ -164,6 +158,7 @@ none_given picture givens (cell ∷ cells) names none =
     let left : 0 < cell.col = inside.2 in
     let row : cell.row ≡ cell.row - 1 + 1 = omega arith in
     let col : cell.col ≡ cell.col - 1 + 1 = omega arith in
-    absurd (none (cell.row - 1) (cell.col - 1) ((names.named (cell.row - 1) (cell.col - 1)).1 (inl (sym (same_number cell (cell.row - 1) (cell.col - 1) row col)))))
+    absurd (none (cell.row - 1) (cell.col - 1) ((names.named (cell.row - 1) (cell.col - 1)).1
+    (among_first (numbered (cell.row - 1) (cell.col - 1)) cell cells (sym (same_number cell (cell.row - 1) (cell.col - 1) row col)))))
 
 pub ruleset naming = (none_named, more_named, same_named, row_named, all_named)

@@ -1,7 +1,7 @@
 -- Cells looked at one by one: they are in order so far.
 use Rattle.std.proofs.Common.{◌≡◌, ℕ, ◌+◌, ◌<◌, ◌≤◌, ◌↔◌, List, ◌∷◌, length, get_or, drop, drop-cons, add-one, sym, subst, arith}
 use Rattle.std.proofs.lemmas.List.{drop_all}
-use Rattle.cert_text.specs.Cert.{AreOrdered, IsShort, rank}
+use Rattle.cert_text.specs.Cert.{AreOrdered, rank}
 use Rattle.cert_text.specs.declared.tree_line.CellNumber.{CellNumber}
 
 -- all are in order where those that are left are, after a rank
@@ -15,7 +15,7 @@ module _ (cells : List CellNumber) (i least : ℕ) (cell : CellNumber) (l : i < 
   here : drop i cells ≡ cell ∷ drop (i + 1) cells
   here = rw (add-one, e) (drop-cons cells i cell l)
 
-  pub order_next : IsShort cell.row → IsShort cell.col → least ≤ rank cell → OrderedSoFar cells (i + 1) (rank cell + 1)
+  pub order_next : cell.row < 1000 → cell.col < 1000 → least ≤ rank cell → OrderedSoFar cells (i + 1) (rank cell + 1)
   order_next r c up = record {
     whole = (
       λ o. (subst (λ (rest : List CellNumber). AreOrdered least rest) here (so_far.whole.0 o)).3,
@@ -23,7 +23,7 @@ module _ (cells : List CellNumber) (i least : ℕ) (cell : CellNumber) (l : i < 
     );
   }
 
-  pub order_stop : (IsShort cell.row → IsShort cell.col → least ≤ rank cell → ⊥) → AreOrdered 0 cells → ⊥
+  pub order_stop : (cell.row < 1000 → cell.col < 1000 → least ≤ rank cell → ⊥) → AreOrdered 0 cells → ⊥
   order_stop apart o =
       let now = subst (λ (rest : List CellNumber). AreOrdered least rest) here (so_far.whole.0 o) in
       apart now.0 now.1 (omega (arith, now.2))

@@ -20,11 +20,10 @@ use Rattle.picture.specs.declared.line_id.Axis.TheVariants.{Across, Down}
 use Rattle.cert_text.specs.declared.fault.CertFault.{CertFault}
 use Rattle.cert_text.specs.declared.fault.CertFault.TheVariants.{BadLine}
 use Rattle.cert_text.specs.declared.tree_line.CellNumber.{CellNumber}
-use Rattle.cert_text.specs.Cert.{IsShort}
 use Rattle.cert_text.specs.Text.{given_line, line_number, lines_of, three_of, words_of}
-use Rattle.cert_text.specs.WrittenCert.{axis_text, givens_text}
+use Rattle.cert_text.specs.WrittenCert.{axis_text}
 use Rattle.cert_text.proofs.RoundTrip.{HasNoGiven, IsWord, axis_is, axis_named, axis_word, cell_named_again, decimal_is, first_line_is, givens_again, lacks_append, no_leading_zero, nothing_given}
-use Rattle.cert_text.proofs.RoundTrip.{given_of_three, number_is, other_line_first}
+use Rattle.cert_text.proofs.RoundTrip.{given_of_three, givens_text, number_is, other_line_first}
 use Rattle.cert_text.proofs.WordLemmas.{lines_none}
 use Rattle.lemma_text.specs.declared.lemma_line.Literal.{Literal}
 use Rattle.lemma_text.specs.declared.lemma_line.LemmaLine.{LemmaLine}
@@ -191,7 +190,7 @@ named_is : (axis : Axis) (n : ℕ) → axis_text axis ++ number_text n 10 ≡ (a
 named_is Across n = refl
 named_is Down n = refl
 
-dead_again : (axis : Axis) (n : ℕ) → IsShort n → by_words (codes "dead" ∷ axis_word axis ∷ decimal n ∷ []) ≡ Some (Dead (line_number axis n))
+dead_again : (axis : Axis) (n : ℕ) → n < 1000 → by_words (codes "dead" ∷ axis_word axis ∷ decimal n ∷ []) ≡ Some (Dead (line_number axis n))
 dead_again Across n l = ap (option_map Dead) (axis_named Across n l)
 dead_again Down n l = ap (option_map Dead) (axis_named Down n l)
 

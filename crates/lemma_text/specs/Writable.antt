@@ -1,7 +1,7 @@
 -- Proofs by lemmas that are read again from the text that is written for them.
 use Rattle.std.specs.Prelude.{◌≡◌, ◌^◌, ◌<◌, Ok}
 use Rattle.std.specs.List.{All}
-use Rattle.cert_text.specs.Cert.{AreOrdered, IsShort}
+use Rattle.cert_text.specs.Cert.{AreOrdered}
 use Rattle.lemma_text.specs.declared.lemma_line.Literal.{Literal}
 use Rattle.lemma_text.specs.declared.lemma_line.LemmaLine.{LemmaLine}
 use Rattle.lemma_text.specs.declared.lemma_line.LemmaLine.TheVariants.{Line, Use, Dead, Broken, Done, Part, Lemma, Deny}
@@ -13,13 +13,13 @@ use Rattle.lemma_text.specs.Writing.{proof_text}
 -- a literal that names at least one of the sixteen colours, and a cell by short numbers
 abbrev pub IsWritableLiteral : Literal → Type 0
 IsWritableLiteral literal =
-    IsShort literal.cell.row × IsShort literal.cell.col × (0 < literal.colours) × (literal.colours < 2 ^ 16)
+    (literal.cell.row < 1000) × (literal.cell.col < 1000) × (0 < literal.colours) × (literal.colours < 2 ^ 16)
 
 -- the numbers of a line are as they can be written
 abbrev pub IsWritable : LemmaLine → Type 0
-IsWritable (Line line) = IsShort line.number
+IsWritable (Line line) = line.number < 1000
 IsWritable (Use lemma) = lemma < 2 ^ 16
-IsWritable (Dead line) = IsShort line.number
+IsWritable (Dead line) = line.number < 1000
 IsWritable (Broken lemma) = lemma < 2 ^ 16
 IsWritable Done = Unit {0}
 IsWritable (Part literal) = IsWritableLiteral literal

@@ -3,7 +3,7 @@ use Rattle.std.specs.Prelude.{ℕ, List, [], ◌∷◌, ◌++◌, codes}
 use Rattle.std.specs.List.{flat_map}
 use Rattle.picture.specs.Writers.{number_text}
 use Rattle.cert_text.specs.declared.tree_line.CellNumber.{CellNumber}
-use Rattle.cert_text.specs.WrittenCert.{givens_text, named_text}
+use Rattle.cert_text.specs.WrittenCert.{given_text, named_text}
 use Rattle.lemma_text.specs.declared.lemma_line.Literal.{Literal}
 use Rattle.lemma_text.specs.declared.lemma_line.LemmaLine.{LemmaLine}
 use Rattle.lemma_text.specs.declared.lemma_line.LemmaLine.TheVariants.{Line, Use, Dead, Broken, Done, Part, Lemma, Deny}
@@ -45,4 +45,4 @@ head_text = codes "nonolemma 1\n"
 
 -- the first line, the givens and the lines
 abbrev pub proof_text : ProofLines → List ℕ
-proof_text proof = head_text ++ (givens_text proof.givens ++ lines_text proof.lines)
+proof_text proof = head_text ++ (flat_map given_text proof.givens ++ lines_text proof.lines)

@@ -1,6 +1,6 @@
 -- Certificates of a document.
 use Rattle.std.specs.Prelude.{◌≡◌, ℕ, ◌↔◌, List, [], ◌∷◌, map, Option, None, Some, unwrap_or}
-use Rattle.std.specs.List.{flat_map, position}
+use Rattle.std.specs.List.{Contains, flat_map, position}
 use Rattle.picture.specs.declared.rgb.Rgb.{Rgb}
 use Rattle.picture.specs.Palette.{first_of, rgb_eq, triple_at}
 use Rattle.picture.specs.Rows.{Rows}
@@ -9,7 +9,7 @@ use Rattle.cert_text.specs.declared.tree_line.CellNumber.{CellNumber}
 use Rattle.cert_text.specs.Cert.{AreOrdered, Certificate, IsCert}
 use Rattle.certificate.specs.FirstFault.{CertFirstFault}
 use Rattle.certificate.specs.MadeCert.{EachExcludes}
-use Rattle.certificate.specs.Puzzle.{IsAmong, base_of, numbered}
+use Rattle.certificate.specs.Puzzle.{base_of, numbered}
 use Rattle.certificate.specs.Tree.{IsProof}
 use Rattle.edits.specs.Design.{Design}
 use Rattle.live_audit.specs.Bench.{IsGiven}
@@ -26,7 +26,7 @@ ordered d =
 -- exactly the givens of a document, by their numbers, in the order of rows
 pub record NamesMarks (d : Design) (cells : List CellNumber) : Type 0 where
   pub in_order : AreOrdered 0 cells
-  pub named : (row col : ℕ) → IsGiven d row col ↔ IsAmong (numbered row col) cells
+  pub named : (row col : ℕ) → IsGiven d row col ↔ Contains cells (numbered row col)
 
 -- A certificate of a document with exactly its givens: the checker finds no error, so the lines prove the picture, and
 -- there is no other. It can be written and is read as itself. It has version 1 exactly where there are no givens. Each

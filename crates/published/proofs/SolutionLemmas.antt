@@ -1,6 +1,8 @@
 -- A check's line without givens, and what is published where nothing is given.
 use Rattle.std.proofs.Common.{◌≡◌, ℕ, ◌+◌, ◌-◌, ◌⊎◌, List, [], ◌∷◌, ◌++◌, length, codes, decimal, Some, Ok, Result, refl, ap, subst, ◌∙◌, arith, inl, inr, length-append}
 use Rattle.std.proofs.lemmas.Bool.{cases_eq}
+use Rattle.std.specs.List.{AllByRecursion, Contains}
+use Rattle.cert_check.proofs.AmongLemmas.{among_first}
 use Rattle.picture.specs.Rows.{Rows}
 use Rattle.picture.specs.CellSet.{no_cells}
 use Rattle.picture.specs.Document.{Content, ordered_of}
@@ -11,7 +13,7 @@ use Rattle.ppm_text.specs.Ppm.{ppm_of}
 use Rattle.cert_text.specs.declared.tree_line.CellNumber.{CellNumber}
 use Rattle.cert_text.specs.declared.fault.CertFault.{CertFault}
 use Rattle.cert_text.specs.Cert.{Certificate}
-use Rattle.certificate.specs.Puzzle.{HasCellNumbers, IsAmong, IsUnique, numbered}
+use Rattle.certificate.specs.Puzzle.{HasCellNumber, IsUnique, numbered}
 use Rattle.cert_text.specs.Text.{cert_of}
 use Rattle.edits.specs.Design.{Design}
 use Rattle.live_audit.specs.Certify.{IsCertificateFor, NamesMarks, ordered}
@@ -87,7 +89,7 @@ is_unique d cert of other s = elim (same_grid other (ordered d).rows) [
 ]
 
 -- cells of a picture are none where no place is among them
-none_named : (picture : Rows) (cells : List CellNumber) → HasCellNumbers picture cells → ((row col : ℕ) → IsAmong (numbered row col) cells → ⊥) → cells ≡ []
+none_named : (picture : Rows) (cells : List CellNumber) → AllByRecursion (HasCellNumber picture) cells → ((row col : ℕ) → Contains cells (numbered row col) → ⊥) → cells ≡ []
 none_named picture [] has none = refl
 none_named picture (cell ∷ cells) has none =
     let row = cell.row - 1 in
@@ -98,7 +100,7 @@ none_named picture (cell ∷ cells) has none =
     let e : at ≡ cell =
     ap (λ (x : ℕ). let y : CellNumber = record { row = x; col = col + 1 } in y) r
     ∙ ap (λ (x : ℕ). let y : CellNumber = record { row = cell.row; col = x } in y) c in
-    absurd (none row col (inl e))
+    absurd (none row col (among_first at cell cells e))
 
 pub solved_pair : (d : Design) (picture cert : List ℕ) (found : Certificate)
     → ppm_of picture (Some (background_in d)) ≡ Ok (ordered_of (record { colours = d.colours; rows = d.rows; givens = no_cells })) → cert_of cert ≡ Ok found

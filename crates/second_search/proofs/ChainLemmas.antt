@@ -1,5 +1,5 @@
 -- Chains of open cells, and the masks of open cells.
-use Rattle.std.proofs.Common.{◌≡◌, ◌≢◌, ℕ, ◌*◌, ◌%◌, ◌^◌, ◌<◌, ◌↔◌, List, [], length, get_or, refl, sym, ap, subst, ◌∙◌, arith, inl, inr, bit_and, Bool, true, false, not, nat_eq, IsTrue, eq-eqb}
+use Rattle.std.proofs.Common.{◌≡◌, ◌≢◌, ℕ, ◌*◌, ◌%◌, ◌^◌, ◌<◌, ◌↔◌, ◌⊎◌, List, [], length, get_or, refl, sym, ap, subst, ◌∙◌, arith, inl, inr, bit_and, Bool, true, false, not, nat_eq, IsTrue, eq-eqb}
 use Rattle.std.proofs.Common.{ne_eqb}
 use Rattle.std.specs.Prelude.{IsBitSet}
 use Rattle.std.specs.Int.{bit_at, bit_not, trailing_zeros, w16}
@@ -10,13 +10,16 @@ use Rattle.std.proofs.lemmas.Nat.Bits.{bit_at-zero, bit_at-trailing_zeros, bit_a
 use Rattle.line_facts.specs.Masks.{Masks}
 use Rattle.picture.specs.Rows.{width_of, row_at, cell_at}
 use Rattle.line_facts.specs.FactSets.{IsFacts}
-use Rattle.second_search.specs.Parts.{HasTwoColours, IsChained, IsOpenCell, ShareLine, begins, goes_on}
+use Rattle.second_search.specs.Parts.{IsChained, IsOpenCell, begins, goes_on}
 use Rattle.picture.proofs.BitLaws.{bit_below, bit_is_set, no_bit, set_bit}
 
 -- ---- masks with more than one colour
 
+abbrev pub HasTwoColours : ℕ → Type 0
+HasTwoColours mask = (j : ℕ) × (k : ℕ) × IsBitSet mask j × IsBitSet mask k × (j ≡ k → ⊥)
+
 pub none_has_two : (mask : ℕ) → mask ≡ 0 → HasTwoColours mask → ⊥
-none_has_two mask e h = no_bit h.one (let P : ℕ → Type 0 = λ m. IsBitSet m h.one in subst P e h.has_one)
+none_has_two mask e h = no_bit h.0 (let P : ℕ → Type 0 = λ m. IsBitSet m h.0 in subst P e h.2)
 
 abbrev pub but_lowest : ℕ → ℕ
 but_lowest mask = bit_and mask (bit_not w16 (1 * 2 ^ trailing_zeros w16 mask % 65536))
@@ -33,13 +36,7 @@ two_colours mask some small less d =
     let next = trailing_zeros w16 (but_lowest mask) in
     let gone = bit_at_clear_same w16 mask low t.0 in
     let apart : next ≢ low = λ e. absurd (let x = ap (bit_at (but_lowest mask)) e in let y = u.1 in omega arith) in
-    record {
-      one = low;
-      other = next;
-      has_one = bit_is_set mask low t.1;
-      has_other = bit_is_set mask next (sym (bit_at_clear_other w16 mask low t.0 next u.0 apart) ∙ u.1);
-      differ = λ e. apart (sym e);
-    }
+    (low, next, bit_is_set mask low t.1, bit_is_set mask next (sym (bit_at_clear_other w16 mask low t.0 next u.0 apart) ∙ u.1), (λ e. apart (sym e)))
 
 only_lowest : (mask k : ℕ) → 0 < mask → mask < 2 ^ 16 → but_lowest mask ≡ 0 → IsBitSet mask k → k ≡ trailing_zeros w16 mask
 only_lowest mask k some small e is =
@@ -56,7 +53,7 @@ only_lowest mask k some small e is =
     ]
 
 pub one_colour : (mask : ℕ) → 0 < mask → mask < 2 ^ 16 → but_lowest mask ≡ 0 → HasTwoColours mask → ⊥
-one_colour mask some small e h = h.differ (only_lowest mask h.one some small e h.has_one ∙ sym (only_lowest mask h.other some small e h.has_other))
+one_colour mask some small e h = h.4 (only_lowest mask h.0 some small e h.2 ∙ sym (only_lowest mask h.1 some small e h.3))
 
 -- the test for it
 pub tests_two : (mask : ℕ) → 0 < mask → mask < 2 ^ 16 → IsTrue (not (nat_eq (but_lowest mask) 0)) ↔ HasTwoColours mask
@@ -68,6 +65,10 @@ tests_two mask some small = elim (cases_eq (but_lowest mask) 0) [
 ]
 
 -- ---- chains
+
+-- two cells share a row or a column
+abbrev pub ShareLine : ℕ → ℕ → ℕ → ℕ → Type 0
+ShareLine row col r c = (row ≡ r) ⊎ (col ≡ c)
 
 -- an open cell lies in the facts
 pub open_inside : (facts : Masks) (row col : ℕ) → IsFacts facts → IsOpenCell facts row col → (row < length facts) × (col < width_of facts)

@@ -14,8 +14,8 @@ use Rattle.line_facts.specs.FactSets.{IsFacts, col_on, row_on}
 use Rattle.fixpoint.specs.LineNames.{AllLines}
 use Rattle.second_search.specs.declared.parts.growth.Growth.{Growth}
 use Rattle.second_search.specs.GrownParts.{HasOpenCellsOf, IsGrown, Leaves, TakesIn}
-use Rattle.second_search.specs.Parts.{IsChained, IsOpenCell, ShareLine, begins, goes_on}
-use Rattle.second_search.proofs.ChainLemmas.{open_inside}
+use Rattle.second_search.specs.Parts.{IsChained, IsOpenCell, begins, goes_on}
+use Rattle.second_search.proofs.ChainLemmas.{ShareLine, open_inside}
 use Rattle.second_search.proofs.LookLemmas.{below_next}
 
 -- ---- lines

@@ -64,7 +64,7 @@ same_given clues givens facts picture other scene cells part same row col given 
   | inl has ↦
       let two = part_open facts cells row col part has in
       let hold = scene.sound.hold_givens row col in
-      absurd (two.differ (hold two.one given two.has_one ∙ sym (hold two.other given two.has_other)))
+      absurd (two.4 (hold two.0 given two.2 ∙ sym (hold two.1 given two.3)))
 ]
 
 pub learnt_one : FillingsAreOfFacts → (clues : Clues) (givens : List ℕ) (facts : Masks) (picture : Rows) → IsScene clues givens facts picture → (cells outside : List ℕ) → IsPart facts cells

@@ -110,13 +110,13 @@ pub differs_open : (clues : Clues) (givens : List ℕ) (facts : Masks) (picture 
     → (cell_at other row col ≡ cell_at picture row col → ⊥) → IsOpenCell facts row col
 differs_open clues givens facts picture other row col s o d =
     elim (cases_lt col (length (row_at other row))) [
-      | inl l ↦ record {
-        one = cell_at other row col;
-        other = cell_at picture row col;
-        has_one = s.sound.leave other o row col l;
-        has_other = s.sound.leave picture (solves_itself clues givens facts picture s) row col (omega arith);
-        differ = d;
-      }
+      | inl l ↦ (
+        cell_at other row col,
+        cell_at picture row col,
+        s.sound.leave other o row col l,
+        s.sound.leave picture (solves_itself clues givens facts picture s) row col (omega arith),
+        d,
+      )
       | inr p ↦ absurd (d (outside_is_0 other row col p ∙ sym (outside_is_0 picture row col (omega arith))))
     ]
 
@@ -147,7 +147,7 @@ settled_there clues givens facts picture row col s l m n =
     λ j. (
       (λ is. elim (cases_eq j (cell_at picture row col)) [
         | inl e ↦ e
-        | inr d ↦ absurd (n (record { one = j; other = cell_at picture row col; has_one = is; has_other = own; differ = d }))
+        | inr d ↦ absurd (n (j, cell_at picture row col, is, own, d))
       ]),
       (λ e. let P : ℕ → Type 0 = λ k. IsBitSet (cell_at facts row col) k in subst P (sym e) own),
     )

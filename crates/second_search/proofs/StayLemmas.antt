@@ -11,7 +11,8 @@ use Rattle.clues.specs.ClueBook.{Clues}
 use Rattle.clues.specs.Laws.{BooksAreTheirClues, CluesAreOfLines, IsOnLine}
 use Rattle.line_facts.proofs.SolutionLaws.{solved_shape}
 use Rattle.second_search.specs.Laws.{FillingsStay}
-use Rattle.second_search.specs.Parts.{Board, GoesThrough, HasTwoColours, IsChained, IsOpenCell, IsOtherFilling, IsPart, IsScene, KeepsLines, ShareLine, begins, goes_on, picked, board}
+use Rattle.second_search.specs.Parts.{Board, GoesThrough, IsChained, IsOpenCell, IsOtherFilling, IsPart, IsScene, KeepsLines, begins, goes_on, picked, board}
+use Rattle.second_search.proofs.ChainLemmas.{HasTwoColours, ShareLine}
 use Rattle.second_search.proofs.PartLemmas.{part_open, picked_picture, through_or_not}
 use Rattle.second_search.proofs.PickLemmas.{cells_along, clue_known, off_part, on_part, same_along, same_clues, same_count, shape_of_picked}
 use Rattle.trail.proofs.GridLemmas.{same_grid}
@@ -123,7 +124,7 @@ module _ (of_lines : CluesAreOfLines) (books : BooksAreTheirClues) (members : Ce
               | inr n ↦ off r c n
               | inl h ↦ absurd (
                   let o = part_open facts_after cells r c after h in
-                  o.differ (t.sound.hold_givens r c o.one g o.has_one ∙ sym (t.sound.hold_givens r c o.other g o.has_other)))
+                  o.4 (t.sound.hold_givens r c o.0 g o.2 ∙ sym (t.sound.hold_givens r c o.1 g o.3)))
             ];
           };
           differs = λ e. f.is_other.differs (same_grid other picture like (λ r c. elim (bit_or_not (slice_index cells r) c) [

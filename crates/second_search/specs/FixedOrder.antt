@@ -50,27 +50,30 @@ SplitsBut facts (Splits settled cell) changed = KeepsOtherLines facts settled ch
 -- left, in ascending order, wait in their place.
 pub data Searches (clues : Clues) (known : Rows) : List Masks → Option Rows → ℕ → Type 0 where
   none_waits : Searches clues known [] None 0
-  is_dead : (facts : Masks) (others : List Masks) (found : Option Rows) (n : ℕ) → Comes clues facts Dies
+  is_dead : (facts : Masks) (others : List Masks) (found : Option Rows) (n : ℕ) → HasDeadLine clues facts
       → Searches clues known others found n → Searches clues known (facts ∷ others) found n
-  is_known : (facts : Masks) (others : List Masks) (found : Option Rows) (n : ℕ) → Comes clues facts (Ends known)
+  is_known : (facts : Masks) (others : List Masks) (found : Option Rows) (n : ℕ)
+      → ((settled : Masks) × (SettlesTo clues facts settled × Shows settled known))
       → Searches clues known others found n → Searches clues known (facts ∷ others) found n
-  is_other : (facts : Masks) (others : List Masks) (picture : Rows) → Comes clues facts (Ends picture)
-      → (picture ≡ known → ⊥) → Searches clues known (facts ∷ others) (Some picture) 0
+  is_other : (facts : Masks) (others : List Masks) (picture : Rows)
+      → ((settled : Masks) × (SettlesTo clues facts settled × Shows settled picture)) → (picture ≡ known → ⊥)
+      → Searches clues known (facts ∷ others) (Some picture) 0
   is_split : (facts : Masks) (others : List Masks) (settled : Masks) (cell : Cell) (found : Option Rows) (n : ℕ)
-      → Comes clues facts (Splits settled cell)
+      → SettlesTo clues facts settled × IsFirstUnsettled settled cell
       → Searches clues known (branches settled cell.row cell.col (cell_at settled cell.row cell.col) ++ others) found n
       → Searches clues known (facts ∷ others) found (suc n)
 
 -- The search through the facts that wait splits n times, and comes then to a first open cell once more.
 pub data SplitsPast (clues : Clues) (known : Rows) : List Masks → ℕ → Type 0 where
   once_more : (facts : Masks) (others : List Masks) (settled : Masks) (cell : Cell)
-      → Comes clues facts (Splits settled cell) → SplitsPast clues known (facts ∷ others) 0
-  past_dead : (facts : Masks) (others : List Masks) (n : ℕ) → Comes clues facts Dies → SplitsPast clues known others n
+      → SettlesTo clues facts settled × IsFirstUnsettled settled cell → SplitsPast clues known (facts ∷ others) 0
+  past_dead : (facts : Masks) (others : List Masks) (n : ℕ) → HasDeadLine clues facts → SplitsPast clues known others n
       → SplitsPast clues known (facts ∷ others) n
-  past_known : (facts : Masks) (others : List Masks) (n : ℕ) → Comes clues facts (Ends known)
-      → SplitsPast clues known others n → SplitsPast clues known (facts ∷ others) n
+  past_known : (facts : Masks) (others : List Masks) (n : ℕ)
+      → ((settled : Masks) × (SettlesTo clues facts settled × Shows settled known)) → SplitsPast clues known others n
+      → SplitsPast clues known (facts ∷ others) n
   past_split : (facts : Masks) (others : List Masks) (settled : Masks) (cell : Cell) (n : ℕ)
-      → Comes clues facts (Splits settled cell)
+      → SettlesTo clues facts settled × IsFirstUnsettled settled cell
       → SplitsPast clues known (branches settled cell.row cell.col (cell_at settled cell.row cell.col) ++ others) n
       → SplitsPast clues known (facts ∷ others) (suc n)
 

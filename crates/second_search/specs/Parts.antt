@@ -1,7 +1,8 @@
 -- Open cells, the parts that they make, and other fillings of a part.
 use Rattle.std.specs.Prelude.{◌≡◌, ℕ, ◌^◌, ◌<◌, ◌⊎◌, ◌↔◌, ◌==◌, Bool, not, if◌then◌else◌, List, [], ◌∷◌, length, map}
-use Rattle.std.specs.Prelude.{slice_index, slice_index_or, bit_and, IsBitSet, refl}
+use Rattle.std.specs.Prelude.{slice_index, slice_index_or, bit_and, refl}
 use Rattle.std.specs.List.{range_with_len}
+use Rattle.line_facts.specs.FactSets.{Leaves}
 use Rattle.line_facts.specs.Masks.{Masks}
 use Rattle.picture.specs.declared.line_id.LineId.{LineId}
 use Rattle.picture.specs.CellSet.{IsCellSet, HasCell}
@@ -12,26 +13,14 @@ use Rattle.clues.specs.Laws.{IsOnLine}
 use Rattle.clues.specs.Solution.{IsOther}
 use Rattle.second_search.specs.Other.{AreSound}
 
--- a mask with more than one colour
-pub record HasTwoColours (mask : ℕ) : Type 0 where
-  pub one : ℕ
-  pub other : ℕ
-  pub has_one : IsBitSet mask one
-  pub has_other : IsBitSet mask other
-  pub differ : one ≡ other → ⊥
-
 -- an open cell: more than one colour is left there
 abbrev pub IsOpenCell : Masks → ℕ → ℕ → Type 0
-IsOpenCell facts row col = HasTwoColours (cell_at facts row col)
+IsOpenCell facts row col = (j : ℕ) × (k : ℕ) × Leaves facts row col j × Leaves facts row col k × (j ≡ k → ⊥)
 
--- two cells share a row or a column
-abbrev pub ShareLine : ℕ → ℕ → ℕ → ℕ → Type 0
-ShareLine row col r c = (row ≡ r) ⊎ (col ≡ c)
-
--- a chain of open cells joins a cell to another, each sharing a line with the next
+-- a chain of open cells joins a cell to another, each sharing a row or a column with the next
 pub data IsChained (facts : Masks) (row col : ℕ) : ℕ → ℕ → Type 0 where
   begins : IsOpenCell facts row col → IsChained facts row col row col
-  goes_on : (r c s d : ℕ) → IsChained facts row col r c → ShareLine r c s d → IsOpenCell facts s d
+  goes_on : (r c s d : ℕ) → IsChained facts row col r c → (r ≡ s) ⊎ (c ≡ d) → IsOpenCell facts s d
       → IsChained facts row col s d
 
 -- a cell comes before another in row order

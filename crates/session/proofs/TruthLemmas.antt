@@ -196,6 +196,7 @@ certified d (Some cert) text h shown =
         record {
           version = version_of cert h.0.is_cert.version h.0.version;
           givens = h.0.givens;
+          writable = h.0.is_cert.lines;
           proof = h.0.proof;
           no_other = h.1;
         },

@@ -1,9 +1,9 @@
 //! Open cells: those in which more than one colour is left.
 
-ghost use Rattle.std.specs.Prelude.{◌≡◌, ◌<◌, ◌↔◌, length, IsTrue, MatchOption};
+ghost use Rattle.std.specs.Prelude.{◌≡◌, ◌<◌, ◌↔◌, ℕ, length, IsBitSet, IsTrue, MatchOption};
 ghost use Rattle.picture.specs.Rows.{width_of};
 ghost use Rattle.second_search.specs.GrownParts.{HasNoOpenCell, IsFirstOpen};
-ghost use Rattle.second_search.specs.Parts.{HasTwoColours, IsOpenCell};
+ghost use Rattle.second_search.specs.Parts.{IsOpenCell};
 
 use line_facts::Facts;
 use trail::Cell;
@@ -37,7 +37,8 @@ pub(crate) fn is_open(facts: &Facts, cell: Cell) -> bool
 #[tactic(auto, using(crate::proofs::ChainLemmas::tests_two))]
 // Whether a mask has more than one colour.
 fn has_two_colours(mask: u16) -> bool
-    ensures { IsTrue result ↔ HasTwoColours mask }
+    ensures { IsTrue result
+        ↔ ((j : ℕ) × (k : ℕ) × IsBitSet mask j × IsBitSet mask k × (j ≡ k → ⊥)) }
 {
     if mask == 0 {
         return false;

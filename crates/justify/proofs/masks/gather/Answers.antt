@@ -1,8 +1,7 @@
 use Rattle.std.proofs.Common.{◌≡◌, ◌+◌, ◌<◌, ◌^◌, ℕ, List, arith, refl, sym, subst, get_or, length}
 use Rattle.justify.specs.declared.premise.Premise.{Premise}
 use Rattle.justify.specs.GatheredCells.{Gathered}
-use Rattle.justify.specs.Premises.{premise}
-use Rattle.justify.proofs.GatherLemmas.{gathered_over, gathered_take, gathered_all}
+use Rattle.justify.proofs.GatherLemmas.{gathered_over, gathered_take, gathered_all, premise}
 use Rattle.justify.proofs.masks.gather.Goals as goal
 use Rattle.justify.proofs.masks.gather.Goals.{then-colours-ne0, else-colours-ne0}
 

@@ -1,6 +1,5 @@
 use Rattle.std.proofs.Common.{◌+◌, ◌<◌, ℕ, arith, refl, get_or, length}
-use Rattle.justify.specs.Premises.{premise}
-use Rattle.justify.proofs.GatherLemmas.{gathered_over, gathered_take, none_coloured}
+use Rattle.justify.proofs.GatherLemmas.{gathered_over, gathered_take, none_coloured, premise}
 use Rattle.justify.proofs.masks.gather_eight.Goals as goal
 
 pub cells-preserved : goal.cells-preserved
