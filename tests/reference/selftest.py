@@ -1,6 +1,7 @@
 """The reference on rows worked by hand, and its two readings of a line against each other. Run before a fuzzing."""
 import random
 
+from .__main__ import answer
 from .certificates import check_cert, read_cert
 from .faults import Fault
 from .lines import clue_of, fillings, map_rows, narrow_by_listing, narrow_by_places, settled
@@ -8,6 +9,7 @@ from .non import read_non, write_non
 from .pictures import read_ppm
 from .runs import Run, work_run
 from .search import Keeper, Scene, pictures_with
+from .sessions import agree
 
 
 def rows_of(text):
@@ -115,8 +117,26 @@ def test_sessions():
         work_run(run, ppm_of(picture), commands.replace('|', '\n').encode())
 
 
+# Pictures, files with `|` for line feeds, and what is printed of them.
+ANSWERS = (
+    ('a', 'nonocert 1|line r 1|done', ('certificate accepted', 0)),
+    ('a./.a', 'nonocert 2|given 1 1|line r 1|line c 1|line r 2|done', ('certificate accepted, givens 1', 0)),
+    ('a./.a', 'nonocert 1|dead r 1', ('certificate NotDead at line 2', 1)),
+    ('a', 'nonolemma 1|line c 1|done', ('proof accepted', 0)),
+    ('a', 'nonolemma 1|done', ('certificate NotDone at line 2', 1)),
+)
+
+
+def test_answers():
+    """The command, and a picture that is none."""
+    for picture, text, wanted in ANSWERS:
+        agree(answer(ppm_of(picture), text.replace('|', '\n').encode()) == wanted, f'{picture} with {text}')
+    agree(answer(b'P6\n', b'nonocert 1\n') == ('ppm NotP3 at byte 0', 1), 'a picture that is none')
+
+
 def test():
     """All of it."""
+    test_answers()
     test_lines(random.Random(1))
     test_pictures()
     test_texts()
