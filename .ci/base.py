@@ -31,12 +31,12 @@ CLAIMS = {
 # The most lines that a claim may need: a larger number needs its reason in docs/DECISIONS.md.
 MOST = {
     'The verdict is true': 60,
-    'A certificate proves uniqueness': 268,
-    'A check answers exactly': 206,
-    'A refused edit changes nothing': 162,
-    'It stays true': 1099,
-    "A session's answers are right": 899,
-    'Published pairs are accepted': 1541,
+    'A certificate proves uniqueness': 265,
+    'A check answers exactly': 190,
+    'A refused edit changes nothing': 143,
+    'It stays true': 1034,
+    "A session's answers are right": 768,
+    'Published pairs are accepted': 1460,
 }
 # The most columns of a line: definitions are read by whoever audits a claim, proofs by whoever mends them.
 WIDTHS = {'specs': 120, 'proofs': 200}
