@@ -1,5 +1,5 @@
 -- What a certificate that was made is for a document.
-use Rattle.std.proofs.Common.{◌≡◌, ℕ, ◌↔◌, List, Option, None, Some, Result, Ok, Err, IfOk, ap, sym, subst, ◌∙◌}
+use Rattle.std.proofs.Common.{◌≡◌, ℕ, ◌↔◌, List, Option, None, Some, Result, Ok, Err, IfOk, ap, subst}
 use Rattle.picture.specs.Rows.{Rows}
 use Rattle.picture.specs.declared.document.Document.{Document}
 use Rattle.picture.specs.CellSet.{HasCell}
@@ -14,7 +14,6 @@ use Rattle.edits.specs.Laws.{MarksAreGivens}
 use Rattle.live_audit.specs.Bench.{IsGiven}
 use Rattle.live_audit.specs.Certify.{Certifies, CertifiesOrdered, IsCertificateFor, ordered}
 use Rattle.live_audit.specs.Verdict.{IsOtherFor}
-use Rattle.live_audit.proofs.OrderLemmas.{ordered_rows}
 
 -- a certificate of a document, or another picture for it
 abbrev MadeFor : Design → Option Certificate → Type 0
@@ -40,7 +39,7 @@ made_for d givens (Some cert) g m = record {
 pub certified : {X : Type 0} → MarksAreGivens → (d o : Document) (result : Result (Option Certificate) X) → AreInside d.givens d.picture → content_of o ≡ ordered_of (content_of d)
     → IfOk result (Makes o.picture o.givens) → IfOk result (CertifiesOrdered (design_of d))
 certified {X = X} marks d o result inside e m =
-    let rows : o.picture ≡ (ordered (design_of d)).rows = ap (λ (c : Content). c.rows) e ∙ sym (ordered_rows (design_of d)) in
+    let rows : o.picture ≡ (ordered (design_of d)).rows = ap (λ (c : Content). c.rows) e in
     let givens : o.givens ≡ d.givens = ap (λ (c : Content). c.givens) e in
     of result (subst (λ (g : List ℕ). IfOk result (Makes (ordered (design_of d)).rows g)) givens (subst (λ (r : List (List ℕ)). IfOk result (Makes r o.givens)) rows m))
   where

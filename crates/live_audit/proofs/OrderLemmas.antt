@@ -1,16 +1,13 @@
 -- The colours of a document numbered as they appear: each comes back.
 use Rattle.std.proofs.Common.{◌≡◌, ℕ, zero, suc, ◌<◌, ◌==◌, ◌⊎◌, Bool, true, false, List, [], ◌∷◌, ◌++◌, length, map, get_or, slice_index, slice_index_or, Option, Some, unwrap_or, refl, sym, ap}
 use Rattle.std.proofs.Common.{subst, ◌∙◌, arith, inl, inr, eqb-true, eq-eqb, ne_eqb}
-use Rattle.std.specs.List.{list_any, AllByRecursion, IsDistinct, position}
+use Rattle.std.specs.List.{list_any, AllByRecursion, IsDistinct}
 use Rattle.std.proofs.lemmas.Bool.{cases_Bool, eqb-false}
 use Rattle.std.proofs.lemmas.Map.Keys.{IsDistinct-head, IsDistinct-tail}
 use Rattle.picture.specs.declared.rgb.Rgb.{Rgb}
 use Rattle.picture.specs.Palette.{place_of, rgb_eq, triple_at}
-use Rattle.picture.specs.Document.{first_of, number_among, ordered_triples, renumbered_rows, rows_shown, seen_after, triples_of}
+use Rattle.picture.specs.Document.{first_of, number_among, renumbered_rows, rows_shown, seen_after, triples_of}
 use Rattle.picture.specs.Rows.{cell_at, Rows}
-use Rattle.picture.proofs.PaletteLemmas.{position-place_of}
-use Rattle.edits.specs.Design.{Design}
-use Rattle.live_audit.specs.Certify.{ordered}
 use Rattle.live_audit.proofs.RenumberLemmas.{cell_moved, moved}
 
 same : (t : Rgb) → rgb_eq t t ≡ true
@@ -115,15 +112,6 @@ cell_or_none (row ∷ rows) (suc i) j = elim (cell_or_none rows i j) [ inl h ↦
 
 abbrev pub there_of : List Rgb → List Rgb → ℕ → ℕ
 there_of among triples k = number_among among (triple_at triples k)
-
--- the cells of the ordered form by the numbers of their colours
-pub ordered_rows : (d : Design) → (ordered d).rows ≡ renumbered_rows (ordered_triples d.colours.triples d.rows) d.colours.triples d.rows
-ordered_rows d =
-    let triples = d.colours.triples in
-    let among = ordered_triples triples d.rows in
-    let numbers : (λ (k : ℕ). unwrap_or (position (rgb_eq (triple_at triples k)) among) 0) ≡ there_of among triples =
-    λ i k. unwrap_or (position-place_of (triple_at triples k) among i) 0 in
-    ap (λ (number : ℕ → ℕ). moved number d.rows) numbers ∙ sym (rows_moved among triples d.rows)
 
 -- each cell's number comes back from the one that it has among other colours, where it shows the same
 pub cells_back : (among triples : List Rgb) (rows : Rows) → there_of among triples 0 ≡ 0 → there_of triples among 0 ≡ 0 → IsDistinct rgb_eq triples → ((i j : ℕ) → cell_at rows i j < length triples)

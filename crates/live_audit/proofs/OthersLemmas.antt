@@ -13,7 +13,7 @@ use Rattle.cert_text.specs.Cert.{Certificate}
 use Rattle.edits.specs.Design.{Design, design_of}
 use Rattle.live_audit.specs.Certify.{Certifies, CertifiesOrdered, ordered}
 use Rattle.live_audit.specs.Verdict.{IsOtherFor}
-use Rattle.live_audit.proofs.OrderLemmas.{background_back, background_there, cells_back, ordered_rows, rows_moved, there_of}
+use Rattle.live_audit.proofs.OrderLemmas.{background_back, background_there, cells_back, rows_moved, there_of}
 use Rattle.live_audit.proofs.RenumberLemmas.{cell_moved, moved, other_moved, restored}
 
 -- where a document has another picture, so has its ordered form, and the other way round
@@ -31,13 +31,12 @@ same_others law books d o palette coloured is ordered_is content shows =
     let cells = flat_map (triples_of triples) rows in
     let t : there_of among triples 0 ≡ 0 = background_there triples cells palette.has_background in
     let b : there_of triples among 0 ≡ 0 = background_back triples cells palette.has_background in
-    let numbered = ordered_rows (design_of d) in
-    let pictures : o.picture ≡ next = ap (λ (c : Content). c.rows) content ∙ sym numbered in
+    let pictures : o.picture ≡ next = ap (λ (c : Content). c.rows) content in
     let colours : o.palette.triples ≡ among = ap (λ (c : Content). c.colours.triples) content in
     let Q : List (List ℕ) → Type 0 = λ r. rows_shown among r ≡ rows_shown triples rows in
     let shown : rows_shown among next ≡ rows_shown triples rows = subst Q pictures (subst (λ (ts : List Rgb). rows_shown ts o.picture ≡ rows_shown triples rows) colours shows) in
-    let comes = cells_back among triples rows t b palette.distinct coloured (subst Q numbered shown) in
-    let are : next ≡ moved (there_of among triples) rows = numbered ∙ rows_moved among triples rows in
+    let comes = cells_back among triples rows t b palette.distinct coloured shown in
+    let are : next ≡ moved (there_of among triples) rows = rows_moved among triples rows in
     let cell : (i j : ℕ) → cell_at next i j ≡ there_of among triples (cell_at rows i j) = λ i j.
     ap (λ (r : List (List ℕ)). cell_at r i j) are ∙ cell_moved (there_of among triples) t rows i j in
     let next_is : IsPicture next = subst (λ (r : List (List ℕ)). IsPicture r) pictures ordered_is in

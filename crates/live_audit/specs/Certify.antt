@@ -1,10 +1,8 @@
 -- Certificates of a document.
-use Rattle.std.specs.Prelude.{◌≡◌, ℕ, ◌↔◌, List, [], ◌∷◌, map, Option, None, Some, unwrap_or}
-use Rattle.std.specs.List.{Contains, flat_map, position}
-use Rattle.picture.specs.declared.rgb.Rgb.{Rgb}
-use Rattle.picture.specs.Palette.{first_of, rgb_eq, triple_at}
+use Rattle.std.specs.Prelude.{◌≡◌, ℕ, ◌↔◌, List, [], ◌∷◌, Option, None, Some}
+use Rattle.std.specs.List.{Contains}
 use Rattle.picture.specs.Rows.{Rows}
-use Rattle.picture.specs.Document.{seen_after}
+use Rattle.picture.specs.Document.{ordered_triples, renumbered_rows}
 use Rattle.cert_text.specs.declared.tree_line.CellNumber.{CellNumber}
 use Rattle.cert_text.specs.Cert.{AreOrdered, Certificate, IsCert}
 use Rattle.certificate.specs.FirstFault.{CertFirstFault}
@@ -15,13 +13,11 @@ use Rattle.edits.specs.Design.{Design}
 use Rattle.live_audit.specs.Bench.{IsGiven}
 use Rattle.live_audit.specs.Verdict.{IsOtherFor}
 
--- the document with its colours numbered as they appear in row order after the background, and no others
+-- the document with its colours numbered as they appear
 abbrev pub ordered : Design → Design
 ordered d =
-    let shown : ℕ → Rgb = triple_at d.colours.triples in
-    let order = seen_after (first_of d.colours.triples ∷ []) (flat_map (map shown) d.rows) in
-    let number : ℕ → ℕ = λ k. unwrap_or (position (rgb_eq (shown k)) order) 0 in
-    record d { colours = record d.colours { triples = order }; rows = map (map number) d.rows }
+    let order = ordered_triples d.colours.triples d.rows in
+    record d { colours = record d.colours { triples = order }; rows = renumbered_rows order d.colours.triples d.rows }
 
 -- exactly the givens of a document, by their numbers, in the order of rows
 pub record NamesMarks (d : Design) (cells : List CellNumber) : Type 0 where

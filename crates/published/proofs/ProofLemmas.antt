@@ -14,6 +14,7 @@ use Rattle.answers.specs.Prove.{IsProofText, IsProve, ambiguous_text, undecided_
 use Rattle.answers.specs.Verify.{IsVerify, verified_text}
 use Rattle.published.specs.Proofs.{AreVerified, ProofsAreVerified}
 use Rattle.published.specs.Solution.{nowhere}
+use Rattle.published.proofs.SolutionLemmas.{only_without}
 
 verified : (file : List ℕ) (background : Option Rgb) (text : List ℕ) (document : Content) → ppm_of file background ≡ Ok document → IsProofText document.rows text → AreVerified file background text
 verified file background text document reads p =
@@ -22,7 +23,7 @@ verified file background text document reads p =
     let P : Result Content PpmFault → Type 0 = λ r. IsVerify r (Ok p.lemmas) (Ok (verified_text [])) in
     let Q : Result ProofLines CertFault → Type 0 = λ r. IsVerify (ppm_of file background) r (Ok (verified_text [])) in
     let U : List CellNumber → Type 0 = λ givens. IsUnique document.rows givens in
-    let one : IsOnlySolution (clues_of document.rows) nowhere document.rows = subst U p.no_givens p.unique in
+    let one : IsOnlySolution (clues_of document.rows) nowhere document.rows = only_without document.rows (subst U p.no_givens p.unique) in
     record {
       check = subst Q (sym p.reads) (subst P (sym reads) shown);
       proof = record { document = document; lemmas = p.lemmas; reads_file = reads; reads_proof = p.reads; is_proof = p.is_proof };

@@ -38,8 +38,19 @@ no_givens (cell ∷ cells) e =
     let c : length front ≡ 9 = refl in
     absurd (omega arith)
 
+-- the only picture by no givens at all is the only solution
+pub only_without : (picture : Rows) → IsUnique picture [] → IsOnlySolution (clues_of picture) nowhere picture
+only_without picture unique other s =
+    unique other (record {
+      is_picture = s.is_picture;
+      rows = s.rows;
+      columns = s.columns;
+      has_clues = s.has_clues;
+      keeps_givens = λ row col named. absurd (omega (arith, named.1));
+    })
+
 solved : (document : Content) (givens : List CellNumber) → givens ≡ [] → IsUnique document.rows givens → IsOnlySolution (clues_of document.rows) nowhere document.rows
-solved document givens e unique = let P : List CellNumber → Type 0 = λ x. IsUnique document.rows x in subst P e unique
+solved document givens e unique = let P : List CellNumber → Type 0 = λ x. IsUnique document.rows x in only_without document.rows (subst P e unique)
 
 pub plain_lines : PlainLinesAreOneSolution
 plain_lines file background cert only check =
