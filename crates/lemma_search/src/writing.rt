@@ -2,10 +2,9 @@
 //! last use.
 
 use crate::atom::{Literal, small};
-use crate::log::Step;
-use crate::plan::{Plan, Way};
+use crate::plan::{Plan, Stage, Told, Way};
 use crate::store::Span;
-use crate::telling::{Teller, Told};
+use crate::telling::Teller;
 use cert_text::{CellNumber, LineNumber};
 use lemma_text::LemmaLine;
 use picture::LineId;
@@ -45,12 +44,12 @@ pub(crate) fn write_lines(alloc: Global, teller: &Teller) -> Result<Vec<LemmaLin
 }
 
 impl<'a> Writer<'a> {
-    fn step(&self, at: u32) -> Option<Step> {
-        self.plan.steps.get(at as usize).copied()
+    fn step(&self, at: u32) -> Option<Stage> {
+        self.plan.stages.get(at as usize).copied()
     }
 
     fn steps(&self) -> u32 {
-        small(self.plan.steps.len())
+        small(self.plan.stages.len())
     }
 
     // What tells a step.
@@ -66,9 +65,9 @@ impl<'a> Writer<'a> {
     }
 
     // Whether a step is written: a lemma only where it is kept, and used.
-    fn is_written(&self, step: Step) -> bool {
+    fn is_written(&self, step: Stage) -> bool {
         match step {
-            Step::Lemma(number, _) => {
+            Stage::Lemma(number, _) => {
                 self.plan.lemma(number).way == Way::Kept && self.last_use(number) != NONE
             }
             _ => true,
@@ -108,7 +107,7 @@ impl<'a> Writer<'a> {
             if !self.is_written(step) {
                 continue;
             }
-            if let Step::Lemma(number, _) = step {
+            if let Stage::Lemma(number, _) = step {
                 self.begin_lemma(number)?;
             }
             for told in self.told(at) {
@@ -150,7 +149,7 @@ impl<'a> Writer<'a> {
 
     // Drops the lemmas that a step uses last. After the end nothing is dropped.
     fn drop_lemmas(&mut self, at: u32) -> Result<(), AllocError> {
-        if let Some(Step::End(_)) = self.step(at) {
+        if let Some(Stage::End(_)) = self.step(at) {
             return Ok(());
         }
         for told in self.told(at) {
