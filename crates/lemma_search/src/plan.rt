@@ -54,10 +54,11 @@ pub(crate) struct Plan<'a> {
 }
 
 // Up to how often a lemma may be told inside.
-const FEW: u32 = 4;
+const FEW: u32 = 8;
 
-// About how many bytes the text of a hint, of a literal, and of the lines about a lemma have.
-const HINT: usize = 8;
+// About how many bytes the text of a hint, of a literal, and of the lines about a lemma have. Of the hints some are not needed where a
+// lemma is told inside.
+const HINT: usize = 7;
 
 const LITERAL: usize = 11;
 
