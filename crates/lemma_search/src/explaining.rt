@@ -48,8 +48,11 @@ impl Question {
             gone: 0,
         };
         for colour in 0..most {
+            if has(left, colour) {
+                continue;
+            }
             let when = marks.when(Atom { cell, colour });
-            if has(left, colour) || when == NEVER || when < self.root {
+            if when == NEVER || when < self.root {
                 continue;
             }
             if when < self.before {
@@ -113,9 +116,12 @@ fn explain_lemma(
             continue;
         }
         for colour in 0..MAX_COLOURS {
+            if !has(literal.colours, colour) {
+                continue;
+            }
             let atom = literal.atom(colour);
             let when = marks.when(atom);
-            if has(literal.colours, colour) && when != NEVER && when >= why.root {
+            if when != NEVER && when >= why.root {
                 premises.push(atom)?;
             }
         }
@@ -139,11 +145,12 @@ fn sweep(
     premises: &mut Vec<Atom>,
 ) -> Result<(), AllocError> {
     let cells = question.cells.min(MOST_CELLS);
+    let most = automaton.colours();
     let mut seen = [UNSEEN; 128];
     let mut behind = [automaton.ends; 128];
     let mut to = automaton.ends;
     for place in (0..cells).rev() {
-        let cell = question.see(marks, place, automaton.colours());
+        let cell = question.see(marks, place, most);
         seen[usize::from(place)] = cell;
         behind[usize::from(place)] = to;
         to = automaton.backward(cell.open, to);
@@ -152,7 +159,7 @@ fn sweep(
     for place in 0..cells {
         let cell = seen[usize::from(place)];
         let mut open = cell.open;
-        for colour in 0..MAX_COLOURS {
+        for colour in 0..most {
             if !has(cell.gone, colour) {
                 continue;
             }

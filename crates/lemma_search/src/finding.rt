@@ -48,17 +48,36 @@ pub fn learn<E: LineEngine>(
     }
 }
 
-// Tells the proof of a search that left nothing.
+// Tells the proof of a search that left nothing, and then tells what is left of it once more: lemmas that are used less may be told
+// inside, and more lines can be left out.
 fn tell<E: LineEngine>(alloc: Global, engine: &mut E, search: &Search) -> Result<Found, AllocError>
     ensures calls { E.calls engine.old ≤ E.calls engine.new }
     ensures same_longest { E.longest engine.new ≡ E.longest engine.old }
 {
     let plan = Plan::new(alloc, &search.log, &search.store)?;
+    let Some(told) = tell_plan(alloc, engine, search, plan)? else {
+        return Ok(Found::Nothing);
+    };
+    let plan = Plan::again(alloc, &told.plan, &told.lines, &told.spans)?;
+    let lines = match tell_plan(alloc, engine, search, plan)? {
+        Some(again) => write_lines(alloc, &again)?,
+        None => write_lines(alloc, &told)?,
+    };
+    Ok(Found::Proof(lines))
+}
+
+// Tells a plan. None where a step does not give what it did in the search.
+fn tell_plan<'a, E: LineEngine>(
+    alloc: Global,
+    engine: &mut E,
+    search: &'a Search<'a>,
+    plan: Plan<'a>,
+) -> Result<Option<Teller<'a>>, AllocError>
+    ensures calls { E.calls engine.old ≤ E.calls engine.new }
+    ensures same_longest { E.longest engine.new ≡ E.longest engine.old }
+{
     let facts = Trace::new(alloc, search.board, &search.store)?;
     let mut teller = Teller::new(alloc, plan, facts);
-    if !teller.tell(engine)? {
-        return Ok(Found::Nothing);
-    }
-    let lines = write_lines(alloc, &teller)?;
-    Ok(Found::Proof(lines))
+    let is_told = teller.tell(engine)?;
+    Ok(if is_told { Some(teller) } else { None })
 }

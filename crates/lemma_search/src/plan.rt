@@ -1,10 +1,32 @@
 //! Which lemmas a proof needs, how often, and how each is told.
 
-use crate::atom::small;
+use crate::atom::{Literal, small};
 use crate::log::{Log, Step};
 use crate::marks::Reason;
 use crate::store::{Span, Store};
+use picture::LineId;
 use std::alloc::{AllocError, Global};
+
+/// A line of a proof, in which lemmas have the search's numbers. As hints, a line may be found dead and a lemma broken, or not; and the
+/// hints after a part, up to the one that ends its branch, refute that the cell has none of the colours.
+#[derive(Clone, Copy)]
+pub(crate) enum Told {
+    Line(LineId),
+    Use(u32),
+    Dead(LineId),
+    Broken(u32),
+    Done,
+    Part(Literal),
+}
+
+/// A step of a proof, with its hints: a lemma, something that is given at the root, or the end.
+#[derive(Clone, Copy)]
+pub(crate) enum Stage {
+    Lemma(u32, Span),
+    Root(Span),
+    End(Span),
+    Done,
+}
 
 /// How a lemma is told: not at all; once, and kept; or each time inside the branch that uses it.
 #[derive(Clone, Copy, Debug, PartialEq, Eq)]
@@ -22,20 +44,21 @@ pub(crate) struct Known {
     pub way: Way,
 }
 
-/// What is told: the search's steps and lemmas, what is known of each lemma, and the hints that are needed.
+/// What is told: the steps and their hints, the search's lemmas, and what is known of each.
 #[derive(Drop)]
 pub(crate) struct Plan<'a> {
-    pub steps: &'a [Step],
+    pub stages: Vec<Stage>,
     pub store: &'a Store,
-    pub hints: Vec<Reason>,
+    pub hints: Vec<Told>,
     pub lemmas: Vec<Known>,
 }
 
 // Up to how often a lemma may be told inside.
-const FEW: u32 = 4;
+const FEW: u32 = 8;
 
-// About how many bytes the text of a hint, of a literal, and of the lines about a lemma have.
-const HINT: usize = 8;
+// About how many bytes the text of a hint, of a literal, and of the lines about a lemma have. Of the hints some are not needed where a
+// lemma is told inside.
+const HINT: usize = 7;
 
 const LITERAL: usize = 11;
 
@@ -43,29 +66,84 @@ const LEMMA: usize = 18;
 
 impl<'a> Plan<'a> {
     /// The plan of what a search found.
-    pub(crate) fn new(
-        alloc: Global,
-        log: &'a Log,
-        store: &'a Store,
-    ) -> Result<Plan<'a>, AllocError> {
-        let mut lemmas = Vec::new(alloc);
-        for step in &log.steps {
-            if let Step::Lemma(_, hints) = *step {
-                lemmas.push(Known {
-                    hints,
-                    uses: 0,
-                    way: Way::Left,
-                })?;
-            }
-        }
+    pub(crate) fn new(alloc: Global, log: &Log, store: &'a Store) -> Result<Plan<'a>, AllocError> {
         let mut plan = Plan {
-            steps: log.steps.as_slice(),
+            stages: Vec::new(alloc),
             store,
-            hints: Vec::from_slice(alloc, &log.hints)?,
-            lemmas,
+            hints: Vec::new(alloc),
+            lemmas: Vec::new(alloc),
         };
+        for step in &log.steps {
+            let stage = plan.stage(log, *step)?;
+            plan.add(stage)?;
+        }
         plan.choose();
         Ok(plan)
+    }
+
+    /// The plan of what was told: its lines are the hints, where each stage has a span of them.
+    pub(crate) fn again(
+        alloc: Global,
+        told: &Plan<'a>,
+        lines: &[Told],
+        spans: &[Span],
+    ) -> Result<Plan<'a>, AllocError> {
+        let mut plan = Plan {
+            stages: Vec::new(alloc),
+            store: told.store,
+            hints: Vec::from_slice(alloc, lines)?,
+            lemmas: Vec::new(alloc),
+        };
+        for (stage, span) in told.stages.iter().zip(spans) {
+            plan.add(stage.with(*span))?;
+        }
+        plan.choose();
+        Ok(plan)
+    }
+
+    // A step of the search with its hints, which are added.
+    fn stage(&mut self, log: &Log, step: Step) -> Result<Stage, AllocError> {
+        let start = self.hints.len();
+        match step {
+            Step::Lemma(_, hints) => {
+                for reason in log.hints.get(hints.start..hints.end).unwrap_or(&[]) {
+                    self.add_hint(*reason)?;
+                }
+            }
+            Step::Root(reason) => self.add_hint(reason)?,
+            Step::End(reason) => self.add_hint(reason)?,
+            Step::Done => {}
+        }
+        let end = self.hints.len();
+        let span = Span { start, end };
+        Ok(match step {
+            Step::Lemma(number, _) => Stage::Lemma(number, span),
+            Step::Root(_) => Stage::Root(span),
+            Step::End(_) => Stage::End(span),
+            Step::Done => Stage::Done,
+        })
+    }
+
+    fn add_hint(&mut self, reason: Reason) -> Result<(), AllocError> {
+        match reason {
+            Reason::Line(line) => self.hints.push(Told::Line(line))?,
+            Reason::Lemma(number) => self.hints.push(Told::Use(number))?,
+            Reason::Decision => {}
+        }
+        Ok(())
+    }
+
+    // Adds a step, and its lemma.
+    fn add(&mut self, stage: Stage) -> Result<(), AllocError> {
+        self.stages.push(stage)?;
+        if let Stage::Lemma(_, hints) = stage {
+            self.lemmas.push(Known {
+                hints,
+                uses: 0,
+                way: Way::Left,
+            })?;
+        }
+        Ok(())
     }
 
     /// What is known of a lemma.
@@ -80,42 +158,45 @@ impl<'a> Plan<'a> {
         }
     }
 
-    pub(crate) fn hint(&self, at: usize) -> Option<Reason> {
+    pub(crate) fn hint(&self, at: usize) -> Option<Told> {
         self.hints.get(at).copied()
     }
 
-    // Counts a use of a lemma.
-    fn count_use(&mut self, reason: Reason) {
-        if let Reason::Lemma(number) = reason
-            && let Some(known) = self.lemmas.get_mut(number as usize)
-        {
-            known.uses = known.uses.saturating_add(1);
+    /// The place after the hint that ends the branch of a part, among the hints after that part.
+    pub(crate) fn end_of_part(&self, hints: Span) -> usize {
+        let mut open = 1u32;
+        for at in hints.start..hints.end {
+            match self.hint(at) {
+                Some(Told::Part(_)) => open = open.saturating_add(1),
+                Some(Told::Dead(_) | Told::Broken(_)) => open = open.saturating_sub(1),
+                _ => {}
+            }
+            if open == 0 {
+                return at.saturating_add(1);
+            }
         }
+        hints.end
     }
 
     // Counts from the end how often each lemma is used. One that is not used itself uses none.
     fn count_uses(&mut self) {
-        for known in self.lemmas.iter_mut() {
-            known.uses = 0;
-        }
-        let steps = self.steps;
-        for step in steps.iter().rev() {
-            match *step {
-                Step::Root(reason) => self.count_use(reason),
-                Step::End(reason) => self.count_use(reason),
-                Step::Done => {}
-                Step::Lemma(number, _) => self.count_hints(self.lemma(number)),
+        for i in (0..self.stages.len()).rev() {
+            match self.stages.get(i).copied() {
+                Some(Stage::Root(hints) | Stage::End(hints)) => self.count_hints(hints),
+                Some(Stage::Lemma(number, hints)) if self.lemma(number).uses > 0 => {
+                    self.count_hints(hints);
+                }
+                _ => {}
             }
         }
     }
 
-    fn count_hints(&mut self, known: Known) {
-        if known.uses == 0 {
-            return;
-        }
-        for at in known.hints.start..known.hints.end {
-            if let Some(reason) = self.hint(at) {
-                self.count_use(reason);
+    fn count_hints(&mut self, hints: Span) {
+        for at in hints.start..hints.end {
+            if let Some(Told::Use(number) | Told::Broken(number)) = self.hint(at)
+                && let Some(known) = self.lemmas.get_mut(number as usize)
+            {
+                known.uses = known.uses.saturating_add(1);
             }
         }
     }
@@ -128,6 +209,18 @@ impl<'a> Plan<'a> {
             if let Some(known) = self.lemmas.get_mut(number as usize) {
                 known.way = way_of(*known, literals);
             }
+        }
+    }
+}
+
+impl Stage {
+    // The same step with other hints.
+    fn with(self, hints: Span) -> Stage {
+        match self {
+            Stage::Lemma(number, _) => Stage::Lemma(number, hints),
+            Stage::Root(_) => Stage::Root(hints),
+            Stage::End(_) => Stage::End(hints),
+            Stage::Done => Stage::Done,
         }
     }
 }

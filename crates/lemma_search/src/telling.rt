@@ -3,25 +3,13 @@
 ghost use Rattle.std.specs.Prelude.{◌≡◌, ◌≤◌};
 
 use crate::atom::{Literal, small};
-use crate::log::Step;
 use crate::marks::Reason;
-use crate::plan::{Plan, Way};
+use crate::plan::{Plan, Stage, Told, Way};
 use crate::store::Span;
 use crate::trace::{Gained, Said, Trace};
 use line_facts::LineEngine;
 use picture::{Axis, LineId};
 use std::alloc::{AllocError, Global};
-
-/// A line of the proof, in which lemmas have the search's numbers.
-#[derive(Clone, Copy)]
-pub(crate) enum Told {
-    Line(LineId),
-    Use(u32),
-    Dead(LineId),
-    Broken(u32),
-    Done,
-    Part(Literal),
-}
 
 // A branch that is told: the hints that are still to come, how many events came before it, and the line of the proof that began it with
 // the colours to which a cell is held after it.
@@ -59,10 +47,12 @@ impl<'a> Teller<'a> {
         ensures calls { E.calls engine.old ≤ E.calls engine.new }
         ensures same_longest { E.longest engine.new ≡ E.longest engine.old }
     {
-        let steps = self.plan.steps;
-        for step in steps {
+        for i in 0..self.plan.stages.len() {
+            let Some(stage) = self.plan.stages.get(i).copied() else {
+                break;
+            };
             let start = self.lines.len();
-            let is_told = self.tell_step(engine, *step)?;
+            let is_told = self.tell_stage(engine, stage)?;
             let end = self.lines.len();
             self.spans.push(Span { start, end })?;
             if !is_told {
@@ -93,19 +83,23 @@ impl<'a> Teller<'a> {
         self.lines.truncate(end);
     }
 
-    fn tell_step<E: LineEngine>(&mut self, engine: &mut E, step: Step) -> Result<bool, AllocError>
+    fn tell_stage<E: LineEngine>(
+        &mut self,
+        engine: &mut E,
+        stage: Stage,
+    ) -> Result<bool, AllocError>
         ensures calls { E.calls engine.old ≤ E.calls engine.new }
         ensures same_longest { E.longest engine.new ≡ E.longest engine.old }
     {
         self.facts.begin();
-        match step {
-            Step::Root(reason) => Ok(self.tell_reason(engine, reason)? != Gained::Dead),
-            Step::End(reason) => Ok(self.tell_reason(engine, reason)? == Gained::Dead),
-            Step::Done => {
+        match stage {
+            Stage::Root(hints) => Ok(self.tell_hints(engine, hints)? != Gained::Dead),
+            Stage::End(hints) => Ok(self.tell_hints(engine, hints)? == Gained::Dead),
+            Stage::Done => {
                 self.add(Told::Done, true)?;
                 Ok(true)
             }
-            Step::Lemma(number, _) => self.tell_lemma(engine, number),
+            Stage::Lemma(number, _) => self.tell_lemma(engine, number),
         }
     }
 
@@ -113,21 +107,6 @@ impl<'a> Teller<'a> {
     fn add(&mut self, told: Told, is_needed: bool) -> Result<(), AllocError> {
         self.lines.push(told)?;
         self.facts.add(is_needed)
-    }
-
-    // Tells a reason at the root.
-    fn tell_reason<E: LineEngine>(
-        &mut self,
-        engine: &mut E,
-        reason: Reason,
-    ) -> Result<Gained, AllocError>
-        ensures calls { E.calls engine.old ≤ E.calls engine.new }
-        ensures same_longest { E.longest engine.new ≡ E.longest engine.old }
-    {
-        let start = self.plan.hints.len();
-        self.plan.hints.push(reason)?;
-        let end = self.plan.hints.len();
-        self.tell_hints(engine, Span { start, end })
     }
 
     // Tells a lemma that is kept.
@@ -188,11 +167,8 @@ impl<'a> Teller<'a> {
                 break;
             }
             branch.hints.start = at.saturating_add(1);
-            let Some(reason) = self.plan.hint(at) else {
-                break;
-            };
-            if self.tell_hint(engine, &mut branches, reason)? == Gained::Dead {
-                self.end_branch(&mut branches, reason)?;
+            if let Some(dead) = self.tell_hint(engine, &mut branches, at)? {
+                self.end_branch(&mut branches, dead)?;
             }
         }
         Ok(Gained::Something)
@@ -210,23 +186,21 @@ impl<'a> Teller<'a> {
         }
     }
 
-    // Tells a hint.
+    // Tells a hint of the branch at hand. Answers why nothing is left, where that is so.
     fn tell_hint<E: LineEngine>(
         &mut self,
         engine: &mut E,
         branches: &mut Vec<Branch>,
-        reason: Reason,
-    ) -> Result<Gained, AllocError>
+        at: usize,
+    ) -> Result<Option<Reason>, AllocError>
         ensures calls { E.calls engine.old ≤ E.calls engine.new }
         ensures same_longest { E.longest engine.new ≡ E.longest engine.old }
     {
-        match reason {
-            Reason::Line(line) => self.tell_line(engine, line),
-            Reason::Lemma(number) if self.plan.lemma(number).way == Way::Inside => {
-                self.tell_inside(branches, number)
-            }
-            Reason::Lemma(number) => self.tell_use(number),
-            Reason::Decision => Ok(Gained::Nothing),
+        match self.plan.hint(at) {
+            Some(Told::Line(line) | Told::Dead(line)) => self.tell_line(engine, line),
+            Some(Told::Use(number) | Told::Broken(number)) => self.tell_use(branches, number),
+            Some(Told::Part(literal)) => self.tell_part(branches, literal, at),
+            _ => Ok(None),
         }
     }
 
@@ -234,49 +208,85 @@ impl<'a> Teller<'a> {
         &mut self,
         engine: &mut E,
         line: LineId,
-    ) -> Result<Gained, AllocError>
+    ) -> Result<Option<Reason>, AllocError>
         ensures calls { E.calls engine.old ≤ E.calls engine.new }
         ensures same_longest { E.longest engine.new ≡ E.longest engine.old }
     {
-        let gained = self.facts.force(engine, line)?;
-        match gained {
+        match self.facts.force(engine, line)? {
             Gained::Nothing => {}
             Gained::Something => self.add(Told::Line(line), false)?,
-            Gained::Dead => self.add(Told::Dead(line), true)?,
+            Gained::Dead => {
+                self.add(Told::Dead(line), true)?;
+                return Ok(Some(Reason::Line(line)));
+            }
         }
-        Ok(gained)
+        Ok(None)
     }
 
-    fn tell_use(&mut self, number: u32) -> Result<Gained, AllocError> {
-        match self.facts.say(self.plan.store.lemma(number)) {
-            Said::Nothing => Ok(Gained::Nothing),
+    // Tells what a lemma says, or the lemma where it is used.
+    fn tell_use(
+        &mut self,
+        branches: &mut Vec<Branch>,
+        number: u32,
+    ) -> Result<Option<Reason>, AllocError> {
+        let known = self.plan.lemma(number);
+        let said = self.facts.say(self.plan.store.lemma(number));
+        if known.way == Way::Inside {
+            self.tell_inside(branches, said, known.hints)?;
+            return Ok(None);
+        }
+        match said {
+            Said::Nothing => Ok(None),
             Said::Broken => {
                 self.add(Told::Broken(number), true)?;
-                Ok(Gained::Dead)
+                Ok(Some(Reason::Lemma(number)))
             }
             Said::Holds(literal) => {
                 self.facts.hold(literal, number)?;
                 self.add(Told::Use(number), false)?;
-                Ok(Gained::Something)
+                Ok(None)
             }
         }
     }
 
-    // Tells a lemma where it is used: the cell that it holds without these colours, by the lemma's hints, and then with these alone.
-    // Where no literal is left, its hints end the branch at hand.
+    // Tells a part by its hints, which end before the rest of the branch at hand.
+    fn tell_part(
+        &mut self,
+        branches: &mut Vec<Branch>,
+        literal: Literal,
+        at: usize,
+    ) -> Result<Option<Reason>, AllocError> {
+        let Some(branch) = branches.last_mut() else {
+            return Ok(None);
+        };
+        let start = at.saturating_add(1);
+        let end = self.plan.end_of_part(Span {
+            start,
+            end: branch.hints.end,
+        });
+        // A single hint holds the cell without a part.
+        if end.saturating_sub(start) > 1 {
+            branch.hints.start = end;
+            let said = self.facts.say(&[literal]);
+            self.tell_inside(branches, said, Span { start, end })?;
+        }
+        Ok(None)
+    }
+
+    // Tells what is said by hints that refute the contrary: the cell that is held without these colours, by the hints, and then with
+    // these alone. Where no colour is left, the hints end the branch at hand.
     fn tell_inside(
         &mut self,
         branches: &mut Vec<Branch>,
-        number: u32,
-    ) -> Result<Gained, AllocError> {
-        let hints = self.plan.lemma(number).hints;
-        match self.facts.say(self.plan.store.lemma(number)) {
-            Said::Nothing => Ok(Gained::Nothing),
+        said: Said,
+        hints: Span,
+    ) -> Result<(), AllocError> {
+        match said {
+            Said::Nothing => {}
             Said::Broken => {
                 if let Some(branch) = branches.last_mut() {
                     branch.hints = hints;
                 }
-                Ok(Gained::Nothing)
             }
             Said::Holds(literal) => {
                 let part = small(self.lines.len());
@@ -288,8 +298,8 @@ impl<'a> Teller<'a> {
                     start,
                     behind: Some((part, literal)),
                 })?;
-                Ok(Gained::Something)
             }
         }
+        Ok(())
     }
 }

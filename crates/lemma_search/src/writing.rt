@@ -1,20 +1,23 @@
 //! The lines of a proof as its text has them: lemmas that are needed, numbered as they begin, and dropped after their
-//! last use.
+//! last use where there is no room for more.
 
 use crate::atom::{Literal, small};
-use crate::log::Step;
-use crate::plan::{Plan, Way};
+use crate::plan::{Plan, Stage, Told, Way};
 use crate::store::Span;
-use crate::telling::{Teller, Told};
+use crate::telling::Teller;
 use cert_text::{CellNumber, LineNumber};
 use lemma_text::LemmaLine;
 use picture::LineId;
 use std::alloc::{AllocError, Global};
 
+// How many literals the lemmas that are kept can have together.
+const ROOM: usize = 65_536;
+
 // No use of a lemma.
 const NONE: u32 = u32::MAX;
 
-/// The lines of a proof so far, and for each lemma its number there and the step that uses it last.
+/// The lines of a proof so far, and for each lemma its number there and the step that uses it last. Some lemmas are kept, but used no
+/// more.
 #[derive(Drop)]
 pub(crate) struct Writer<'a> {
     plan: &'a Plan<'a>,
@@ -24,6 +27,9 @@ pub(crate) struct Writer<'a> {
     numbers: Vec<u16>,
     last: Vec<u32>,
     begun: u16,
+    spent: Vec<u32>,
+    // How many literals the lemmas that are kept have together.
+    literals: usize,
 }
 
 /// Writes what was told.
@@ -37,6 +43,8 @@ pub(crate) fn write_lines(alloc: Global, teller: &Teller) -> Result<Vec<LemmaLin
         numbers: vec![in alloc; 0; lemmas]?,
         last: vec![in alloc; NONE; lemmas]?,
         begun: 0,
+        spent: Vec::new(alloc),
+        literals: 0,
     };
     writer.find_last_uses();
     writer.write_steps()?;
@@ -45,12 +53,12 @@ pub(crate) fn write_lines(alloc: Global, teller: &Teller) -> Result<Vec<LemmaLin
 }
 
 impl<'a> Writer<'a> {
-    fn step(&self, at: u32) -> Option<Step> {
-        self.plan.steps.get(at as usize).copied()
+    fn step(&self, at: u32) -> Option<Stage> {
+        self.plan.stages.get(at as usize).copied()
     }
 
     fn steps(&self) -> u32 {
-        small(self.plan.steps.len())
+        small(self.plan.stages.len())
     }
 
     // What tells a step.
@@ -66,9 +74,9 @@ impl<'a> Writer<'a> {
     }
 
     // Whether a step is written: a lemma only where it is kept, and used.
-    fn is_written(&self, step: Step) -> bool {
+    fn is_written(&self, step: Stage) -> bool {
         match step {
-            Step::Lemma(number, _) => {
+            Stage::Lemma(number, _) => {
                 self.plan.lemma(number).way == Way::Kept && self.last_use(number) != NONE
             }
             _ => true,
@@ -108,20 +116,21 @@ impl<'a> Writer<'a> {
             if !self.is_written(step) {
                 continue;
             }
-            if let Step::Lemma(number, _) = step {
+            if let Stage::Lemma(number, _) = step {
                 self.begin_lemma(number)?;
             }
             for told in self.told(at) {
                 let line = self.line_of(*told);
                 self.lines.push(line)?;
             }
-            self.drop_lemmas(at)?;
+            self.note_spent(at)?;
         }
         Ok(())
     }
 
     // Writes a lemma with its literals, which gets the next number.
     fn begin_lemma(&mut self, number: u32) -> Result<(), AllocError> {
+        self.make_room(self.plan.store.lemma(number).len())?;
         self.begun = self.begun.saturating_add(1);
         if let Some(slot) = self.numbers.get_mut(number as usize) {
             *slot = self.begun;
@@ -148,24 +157,38 @@ impl<'a> Writer<'a> {
         }
     }
 
-    // Drops the lemmas that a step uses last. After the end nothing is dropped.
-    fn drop_lemmas(&mut self, at: u32) -> Result<(), AllocError> {
-        if let Some(Step::End(_)) = self.step(at) {
-            return Ok(());
+    // Makes room for more literals: of the lemmas that are used no more the newest are dropped first.
+    fn make_room(&mut self, more: usize) -> Result<(), AllocError> {
+        self.literals = self.literals.saturating_add(more);
+        for _ in 0..self.spent.len() {
+            if self.literals <= ROOM {
+                break;
+            }
+            let Some(number) = self.spent.pop() else {
+                break;
+            };
+            let line = LemmaLine::Forget(self.number(number));
+            self.lines.push(line)?;
+            let less = self.plan.store.lemma(number).len();
+            self.literals = self.literals.saturating_sub(less);
         }
+        Ok(())
+    }
+
+    // Notes the lemmas that a step uses last.
+    fn note_spent(&mut self, at: u32) -> Result<(), AllocError> {
         for told in self.told(at) {
             if let Told::Use(number) | Told::Broken(number) = *told
                 && self.last_use(number) == at
             {
-                let line = LemmaLine::Forget(self.number(number));
-                self.lines.push(line)?;
+                self.spent.push(number)?;
                 self.forget(number);
             }
         }
         Ok(())
     }
 
-    // A lemma is dropped once.
+    // A lemma is noted once.
     fn forget(&mut self, number: u32) {
         if let Some(last) = self.last.get_mut(number as usize) {
             *last = NONE;
