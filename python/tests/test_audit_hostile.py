@@ -352,8 +352,13 @@ class Processes(Case):
         rows = self.read("rows")
         self.assertEqual(rows["site/one.ppm"]["verdict"], "unique")
         self.assertEqual(rows["site/image.png"]["error"], "Pillow, which reads images, is not installed (pip install Pillow)")
-        done = subprocess.run([*words[:2], "-c", code, "site", "--html", "x"], cwd=self.folder, env=self.env(), capture_output=True, text=True)
+        kept = {name: (self.folder / name) for name in ("rows", "sheet")}
+        kept["sheet"].write_text("as before\n")
+        before = {name: path.read_bytes() for name, path in kept.items()}
+        asked = ["site", "--jsonl", "rows", "--csv", "sheet", "--html", "x"]
+        done = subprocess.run([*words[:2], "-c", code, *asked], cwd=self.folder, env=self.env(), capture_output=True, text=True)
         self.assertEqual((done.returncode, done.stderr), (3, "nonobench-audit: jinja2, which makes the report, is not installed (pip install jinja2)\n"))
+        self.assertEqual({name: path.read_bytes() for name, path in kept.items()}, before, "nothing was written, and yet a file is not as before")
 
 
 class Terminal(Case):

@@ -60,23 +60,29 @@ def is_regular(file: BinaryIO) -> bool:
 
 
 class Output:
-    """Bytes on their way to a file, or to standard output, which is called `-`."""
+    """Bytes on their way to a file, or to standard output, which is called `-`. What a file had is kept until something is written."""
 
     def __init__(self, name: str, keeps: bool = False) -> None:
         self.name = name
         self._parts: list[bytes] = []
         self._size = 0
         self._since = 0.0
+        self._is_old = False  # whether the file still has what it had
         try:
             if name == "-":
                 self.file: BinaryIO = os.fdopen(os.dup(1), "wb", buffering=0)
                 return
             self.file = os.fdopen(os.open(name, os.O_RDWR | os.O_CREAT | os.O_APPEND | os.O_CLOEXEC, 0o666), "r+b", buffering=0)
             locked(name, self.file)
-            if is_regular(self.file) and not keeps:
-                self.file.truncate(0)
+            self._is_old = is_regular(self.file) and not keeps
         except OSError as error:
             raise failure(name, error) from error
+
+    def _empty(self) -> None:
+        """Takes away what the file had."""
+        if self._is_old:
+            self._is_old = False
+            self.file.truncate(0)
 
     def put(self, data: bytes) -> None:
         """Puts bytes, which go out within a moment where `flush` is called now and then."""
@@ -92,6 +98,7 @@ class Output:
         data, self._parts, self._size = memoryview(b"".join(self._parts)), [], 0
         self._since = time.monotonic()
         try:
+            self._empty()
             while data:
                 data = data[self.file.write(data) :]
         except OSError as error:
@@ -101,6 +108,7 @@ class Output:
         """Writes what waits, and lets others write."""
         try:
             self.flush()
+            self._empty()
         finally:
             self.file.close()
 
