@@ -42,7 +42,7 @@ pub enum CertFault {
     /// A line follows the whole tree.
     #[error("line {0}: behind the end")]
     Trailing(usize),
-    /// A growth was refused.
+    /// An allocation was refused.
     #[error("out of memory")]
     Memory,
 }
