@@ -37,8 +37,8 @@ IsNamed cells row col = Contains cells (numbered row col)
 
 -- ---- what lines say of facts, for the clues of a picture
 
--- The facts gain all that a line forces: its cells have exactly the colours that some list that fits has there, so none
--- if no list fits, and the other cells stay as they were.
+-- The facts gain all that a line forces: its cells have exactly the colours that some list that fits has there, and the
+-- other cells stay as they were.
 pub record IsForced (picture : Rows) (facts : Masks) (line : LineId) (more : Masks) : Type 0 where
   pub same_shape : SameShape facts more
   pub exact : (i k : ℕ) → IsBitSet (slice_index (line_of more line) i) k
@@ -53,7 +53,7 @@ IsDead picture facts line = CanFit (clue_at (clues_of picture) line) (line_of fa
 abbrev pub split_at : Masks → CellNumber → List (List (List ℕ))
 split_at facts cell = branches facts (cell.row - 1) (cell.col - 1) (cell_at facts (cell.row - 1) (cell.col - 1))
 
--- no colour is left anywhere but the picture's; a cell may have none left
+-- no colour is left anywhere but the picture's
 abbrev pub ShowsOnly : Rows → Masks → Type 0
 ShowsOnly picture facts = (row col k : ℕ) → Leaves facts row col k → k ≡ cell_at picture row col
 

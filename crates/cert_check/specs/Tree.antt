@@ -35,8 +35,7 @@ abbrev mutual
   each_written (more tree trees) = written tree ++ each_written trees
 
 -- A tree proves a picture from facts. At `done` no other colour is left. At `dead` no list fits the line. After a
--- `line` the rest proves it with all that the line forces. At a `split` each branch proves it: one for each colour that
--- is left in the cell.
+-- `line` the rest proves it with all that the line forces. At a `split` each branch proves it.
 abbrev mutual
   pub Proves : Rows → Masks → Tree → Type 0
   Proves picture facts done = ShowsOnly picture facts

@@ -18,7 +18,7 @@ use line_facts::{Facts, LineEngine};
 use picture::Picture;
 use std::alloc::Global;
 
-// The line of the first given.
+// The line below which the givens stand.
 const FIRST_LINES: usize = 2;
 
 /// Holds each given to the picture's colour: of facts without an exclusion this makes the root of a certificate's tree. The
@@ -47,8 +47,7 @@ pub fn set_givens(
 }
 
 #[tactic(auto, using(crate::proofs::Exactness::answering))]
-/// Checks a certificate of a picture: whether it proves that no other picture of that size has its clues and, in the
-/// certificate's givens, its colours.
+/// Checks a certificate of a picture: whether no other picture has its clues and, in the certificate's givens, its colours.
 /// No line of the picture may be longer than the engine takes.
 ///
 /// The answer is Ok exactly where the givens lie in the picture and the lines are a tree that proves it; else it is the

@@ -46,7 +46,7 @@ pub(crate) fn take_line<E: LineEngine>(
             force(engine, trail, claim.clues.clue(line), line)?;
             Ok(true)
         }
-        // The branch of the cell's lowest colour begins, if one is left.
+        // The branch of the cell's lowest colour begins.
         CertLine::Split(at) => {
             let Some(cell) = cell_in(picture, at) else {
                 return Err(CertFault::Place(number));

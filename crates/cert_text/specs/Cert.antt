@@ -24,7 +24,7 @@ IsWritable Done = Unit {0}
 abbrev pub rank : CellNumber → ℕ
 rank cell = cell.row * 1000 + cell.col
 
--- cells with numbers of at most three digits, in the order of rows, none twice, and each from a rank on
+-- cells with numbers of at most three digits, in the order of rows, none twice, and each after a rank
 abbrev pub AreOrdered : ℕ → List CellNumber → Type 0
 AreOrdered least [] = Unit {0}
 AreOrdered least (cell ∷ cells) =

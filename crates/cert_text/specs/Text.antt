@@ -72,7 +72,7 @@ cell_named first second = option_and_then (λ row. option_map (cell_number row) 
 
 -- ---- the lines of a certificate
 
--- what three words say: what is done, and the two that name a line or a cell
+-- what a word and the two that name a line or a cell say
 abbrev pub line_by : List ℕ × List ℕ × List ℕ → Option CertLine
 line_by t =
     if is_word t.0 (codes "line") then option_map Line (line_named t.1 t.2)

@@ -42,7 +42,7 @@ pub enum CertFault {
     /// A line follows the whole tree.
     #[error("line {0}: behind the end")]
     Trailing(usize),
-    /// An allocation was refused.
+    /// A growth was refused.
     #[error("out of memory")]
     Memory,
 }

@@ -16,7 +16,6 @@ use Rattle.command_text.specs.Words.{Texts, has_byte, words_of}
 
 -- ---- lines
 
--- the byte ends a line
 abbrev pub is_feed : ℕ → Bool
 is_feed b = b == 10
 
@@ -28,8 +27,7 @@ pieces_of bytes = slice_split (λ b. b == 10) bytes
 unfoldable pub ended_lines_of : List ℕ → Texts
 ended_lines_of bytes = map strip_carriage_return (take (length (pieces_of bytes) - 1) (pieces_of bytes))
 
--- The lines of an input that was read to its end: these, and the last piece, where it has a byte, without a carriage
--- return at its end.
+-- The lines of an input that was read to its end: with these the last piece too, where it has a byte.
 unfoldable pub lines_of : List ℕ → Texts
 lines_of bytes = ended_lines_of bytes
     ++ map strip_carriage_return (filter has_byte (drop (length (pieces_of bytes) - 1) (pieces_of bytes)))

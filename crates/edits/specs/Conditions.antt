@@ -1,4 +1,4 @@
--- The conditions of errors, each over all edits: none of them holds for a lawful edit.
+-- The conditions of errors, each over all edits: what functions that read a lawful edit may take for granted.
 use Rattle.std.specs.Prelude.{Bool, false, ◌&&◌, ◌||◌, not, nat_le, nat_lt, ◌==◌, length}
 use Rattle.std.specs.List.{list_any}
 use Rattle.picture.specs.declared.picture.TheConstants.{MAX_SIDE, MAX_COLOURS}

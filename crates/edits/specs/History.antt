@@ -42,19 +42,17 @@ after_undo h t = history t.document (take (length h.past - 1) h.past) (turn h.do
 abbrev pub after_redo : History → Turn → History
 after_redo h t = history t.document (h.past ++ turn h.document t.edit ∷ []) (drop 1 h.future) h.depth
 
--- a step back, where there is one
+-- a step back and a step forth, where there is one
 abbrev pub undone : History → History
 undone h = unwrap_or (option_map (after_undo h) (last_item h.past)) h
 
--- a step forth, where there is one
 abbrev pub redone : History → History
 redone h = unwrap_or (option_map (after_redo h) (slice_get h.future 0)) h
 
--- why an undo is refused, if it is
+-- why they are refused
 abbrev pub undo_fault : History → Option EditFault
 undo_fault h = if length h.past == 0 then Some UndoEmpty else None
 
--- why a redo is refused, if it is
 abbrev pub redo_fault : History → Option EditFault
 redo_fault h = if length h.future == 0 then Some RedoEmpty else None
 

@@ -19,7 +19,7 @@ use line_facts::{Facts, LineEngine};
 use picture::Picture;
 use std::alloc::Global;
 
-// The line of the first given.
+// The line below which the givens stand.
 const FIRST_LINES: usize = 2;
 
 // Takes the lines from the root on, of which the first has a number, and answers the first error.

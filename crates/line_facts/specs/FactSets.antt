@@ -13,11 +13,10 @@ use Rattle.line_facts.specs.declared.line_engine.Outcome.{Outcome}
 use Rattle.line_facts.specs.Fits.{CanHave}
 use Rattle.line_facts.specs.NarrowedLine.{Narrows}
 
--- colour k is left in a cell
+-- colour k is left in a cell, or excluded there
 abbrev pub Leaves : Masks → ℕ → ℕ → ℕ → Type 0
 Leaves facts row col k = IsBitSet (cell_at facts row col) k
 
--- colour k is excluded in a cell
 abbrev pub Excludes : Masks → ℕ → ℕ → ℕ → Type 0
 Excludes facts row col k = Leaves facts row col k → ⊥
 
@@ -79,17 +78,15 @@ pub record IsLeast (clues : Clues) (base facts : Masks) : Type 0 where
   pub holds : IsWithin base facts
   pub least : (others : Masks) → IsClosed clues others → IsWithin base others → IsWithin facts others
 
--- the row of the cell at place i of a line
+-- the cell at place i of a line
 abbrev pub row_on : Axis → ℕ → ℕ → ℕ
 row_on Across at i = at
 row_on Down at i = i
 
--- the column of the cell at place i of a line
 abbrev pub col_on : Axis → ℕ → ℕ → ℕ
 col_on Across at i = i
 col_on Down at i = at
 
--- a cell is on a line
 abbrev pub IsOn : LineId → ℕ → ℕ → Type 0
 IsOn line row col = (i : ℕ) × (row ≡ row_on line.axis line.at i) × (col ≡ col_on line.axis line.at i)
 

@@ -36,7 +36,7 @@ row_givens d i n = flat_map (λ j. if cell_at d.marks i j == 1 then shown_given 
 unfoldable pub givens_in : Design → ℕ → List ℕ
 givens_in d n = flat_map (λ i. row_givens d i (width_of d.rows)) (range_with_len 0 n)
 
--- how many cells are open: those with more than one colour left
+-- how many cells are open: more than one colour is left there
 abbrev pub open_cells : Masks → ℕ
 open_cells facts = sum_by (count_by (λ mask. nat_lt 1 (count_ones mask))) facts
 

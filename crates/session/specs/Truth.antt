@@ -75,8 +75,7 @@ pub record IsTrueVerdict (d : Design) (map : Masks) (allowance : Option ℕ) (ve
   pub is_true : IsVerdictOn d allowance verdict
   pub undecided : (splits : ℕ) → verdict ≡ Undecided splits → IsPastSplits d map splits
 
--- A line forces that colour k is not in a cell, from premises that the map excludes. It does not force it without what
--- they say of any one cell.
+-- A line forces that colour k is not in a cell, from premises that the map excludes, of which none can be left out.
 pub record IsReason (d : Design) (map : Masks) (row col k : ℕ) (line : LineId)
     (premises : List Premise) : Type 0 where
   pub place : ℕ
@@ -176,7 +175,7 @@ pub record AreTold (lines : Texts) (had has : Option (List ℕ)) (m last : Machi
   pub replies : AreReplies m lines texts last
   pub went_out : Appends had has (concat texts)
 
--- The first lines, at most so many, are answered; of the text of the last one a prefix went out.
+-- The first lines are answered; of the last text a prefix went out.
 pub record AreToldInPart (lines : Texts) (had has : Option (List ℕ)) (m last : Machine) : Type 0 where
   pub answered : ℕ
   pub texts : Texts
