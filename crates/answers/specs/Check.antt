@@ -41,12 +41,12 @@ IsCheck (Ok document) (Ok cert) (Err fault) =
 abbrev pub IsCheckOf : List ℕ → Option Rgb → List ℕ → Result (List ℕ) ProgramFault → Type 0
 IsCheckOf file background cert shown = IsCheck (ppm_of file background) (cert_of cert) shown
 
--- What a call answers of what is to be shown: the text, or the error, or out of memory.
+-- What a call answers where this is to be shown: the text or the error, or out of memory.
 abbrev pub Answers : (Result (List ℕ) ProgramFault → Type 0) → Result (Vec ℕ Global) ProgramFault → Type 0
 Answers Is (Ok text) = Is (Ok text.items)
 Answers Is (Err fault) = (fault ≡ Memory) ⊎ Is (Err fault)
 
--- What a call wrote of what is to be shown: the text; after a write error a prefix of it; after any other error
+-- What a call wrote where this is to be shown: the text; after a write error a prefix of it; after any other error
 -- nothing.
 abbrev pub WritesBy : Option (List ℕ) → Option (List ℕ) → {X : Type 0} → Result X ProgramFault
     → (Result (List ℕ) ProgramFault → Type 0) → Type 0

@@ -28,13 +28,13 @@ two_colours = record { maxval = 255; triples = rgb 255 255 255 ∷ rgb 0 0 0 ∷
 abbrev pub black_on_white : Rows → Design
 black_on_white rows = design two_colours rows (marks_of (length rows) (width_of rows) no_cells)
 
--- what a call answers that looks for a picture with these clues
+-- the answer of a call that looks for a picture with these clues
 abbrev pub FindsPicture : Clues → Result Rows ProgramFault → Type 0
 FindsPicture clues (Ok rows) = FindsFirst clues (Some rows)
 FindsPicture clues (Err fault) = (fault ≡ Memory) ⊎ ((fault ≡ NoPicture) × FindsFirst clues None)
 
--- A puzzle with a goal is opened as the goal; one without as a
--- picture that was found and has the clues, or there is none.
+-- A puzzle with a goal is opened as the goal; one without, as a
+-- picture that was found to have the clues, if there is one.
 abbrev pub OpensPuzzle : Clues → Option Rows → Result Design ProgramFault → Type 0
 OpensPuzzle clues (Some goal) opened = opened ≡ Ok (black_on_white goal)
 OpensPuzzle clues None (Ok d) = (rows : Rows) × (FindsFirst clues (Some rows) × (d ≡ black_on_white rows))
@@ -60,7 +60,7 @@ OpensAs false file background opened = OpensPpm file background opened
 abbrev pub OpensFile : List ℕ → Options → Result Design ProgramFault → Type 0
 OpensFile file options opened = OpensAs options.non file options.background opened
 
--- what a call answers that opens something: that, or out of memory
+-- the answer of a call that opens what `Opens` says, or out of memory
 abbrev pub Opened : (Result Design ProgramFault → Type 0) → Result Document ProgramFault → Type 0
 Opened Opens (Ok document) = Opens (Ok (design_of document))
 Opened Opens (Err fault) = (fault ≡ Memory) ⊎ Opens (Err fault)

@@ -36,11 +36,11 @@ ambiguous_text = codes "ambiguous\n"
 abbrev pub undecided_text : List ℕ
 undecided_text = codes "undecided\n"
 
--- what is shown for a proof: its text, where it can be written
+-- what is shown for a proof: its text, if it can be written, or `undecided`
 abbrev pub IsProofShown : ProofLines → List ℕ → Type 0
 IsProofShown proof text = (CanBeWritten proof × (text ≡ proof_text proof)) ⊎ (text ≡ undecided_text)
 
--- and for what was made
+-- what is shown for what was made
 abbrev pub IsShownFor : Made → List ℕ → Type 0
 IsShownFor (Proof proof) text = IsProofShown proof text
 IsShownFor (Other other) text = text ≡ ambiguous_text

@@ -1,4 +1,4 @@
--- What the run without words shows for an input.
+-- What the program's run without arguments shows for an input.
 use Rattle.std.specs.Prelude.{◌≡◌, ◌⊎◌, ℕ, List, length, Option, None, Some, Result, Ok, Err}
 use Rattle.std.specs.Option.{option_map}
 use Rattle.std.specs.Io.KnownBytes.{Appends, Keeps}
@@ -19,7 +19,7 @@ use Rattle.program_options.specs.declared.fault.ProgramFault.TheVariants.{Edit a
 use Rattle.program_options.specs.Faults.{fault_of}
 use Rattle.report_text.specs.ClueText.{clues_text}
 
--- the document read, cell by cell
+-- the content that was read, as a document with marks for the givens
 abbrev pub design_read : Content → Design
 design_read d = design d.colours d.rows (marks_of (length d.rows) (width_of d.rows) d.givens)
 
@@ -28,7 +28,7 @@ abbrev pub edited_by : Option EditFault → Design → Result Design ProgramFaul
 edited_by None d = Ok d
 edited_by (Some fault) d = Err (Refused fault)
 
--- the document that was read, after an edit where one is asked
+-- the document that was read, after an edit where one is asked for
 abbrev pub after_edit : Option Edit → Result Content PpmFault → Result Design ProgramFault
 after_edit edit (Err fault) = Err (fault_of fault)
 after_edit None (Ok d) = Ok (design_read d)

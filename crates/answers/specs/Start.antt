@@ -14,7 +14,7 @@ pub record IsStarted (file : List ℕ) (options : Options) (fresh : Seen) : Type
   pub begins : Begins document options.history 0 fresh
   pub audited : IsAudited fresh
 
--- what a call answers that starts a bench: that, or why the file is refused, or out of memory
+-- the answer of a call to start a bench: it, or why the file is refused, or out of memory
 abbrev pub Starts : List ℕ → Options → Result Seen ProgramFault → Type 0
 Starts file options (Ok fresh) = IsStarted file options fresh
 Starts file options (Err fault) = (fault ≡ Memory) ⊎ OpensFile file options (Err fault)

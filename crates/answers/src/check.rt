@@ -16,11 +16,11 @@ use report_text::push_number;
 use std::alloc::{AllocError, Global};
 use std::io::Write;
 
-/// Checks a certificate of the picture that a P3 text gives, with a background of its own where one is passed, and
+/// Checks a certificate of the picture of a P3 text, whose background is the one that is passed, or else white, and
 /// writes `certificate accepted`, with the number of givens where there are some.
 ///
 /// Where the answer is Ok, the picture is the only one of its size with its clues and its colours in the certificate's
-/// givens. The answer is else the error of the first that refuses: the reader of the picture, the reader of the
+/// givens. Otherwise the answer is the error of the first that refuses: the reader of the picture, the reader of the
 /// certificate, the checker. After a write error a prefix of the line was written, and after any other error nothing.
 pub fn run_check<W: Write>(
     alloc: Global,
@@ -39,7 +39,7 @@ pub fn run_check<W: Write>(
     Ok(send(&text, writer)?)
 }
 
-// The line for a certificate that is accepted.
+// The line for a certificate that is accepted, or the first error.
 fn checked_text(
     alloc: Global,
     file: &[u8],
@@ -78,7 +78,7 @@ fn accepted_text(alloc: Global, cert: &Cert) -> Result<Vec<u8>, AllocError>
     Ok(text)
 }
 
-// How many cells are given, where there are some.
+// Appends how many cells are given, where there are some.
 pub(crate) fn push_givens(text: &mut Vec<u8>, givens: &[CellNumber]) -> Result<(), AllocError>
     ensures { OnOk result (text.new.items ≡ text.old.items ++ givens_count_text givens.now) }
 {

@@ -1,5 +1,5 @@
-//! What a file is answered: the clues of a picture as text, its proof by lemmas, whether a certificate or such a proof shows
-//! that a picture is unique, and a bench that starts with it.
+//! What the program answers about a file: its clues, a proof by lemmas, the check of a certificate or a proof, and a
+//! bench that opens it.
 #![tactic(auto)]
 
 mod check;

@@ -29,7 +29,7 @@ const BLACK: Rgb = Rgb { r: 0, g: 0, b: 0 };
 
 /// A bench with the document that a file is opened as, and an empty history of the depth that the options ask for.
 ///
-/// A file that is refused is answered with its error.
+/// The error is that of the reader, `NoPicture` where no picture has the clues, or out of memory.
 pub fn start_bench(
     alloc: Global,
     file: &[u8],
@@ -43,8 +43,8 @@ pub fn start_bench(
     Ok(Bench::start(alloc, document, options.history, engine, InOrder::make())?)
 }
 
-// The document that a file is opened as: what its P3 text gives, or, of a .non text, the goal in black on white, and
-// without a goal the first picture found that has the clues.
+// The document that a file is opened as. A P3 text is read as one. A .non text is opened as its goal in black on
+// white, or, without a goal, as the first picture found that has the clues.
 fn open_file(alloc: Global, file: &[u8], options: &Options) -> Result<Document, ProgramFault>
     ensures { Opened (OpensFile file.now options.now) result }
 {

@@ -14,13 +14,13 @@ use program_options::ProgramFault;
 use std::alloc::{AllocError, Global};
 use std::io::Write;
 
-/// Makes a proof by lemmas of the picture that a P3 text gives, with a background of its own where one is passed, and writes
-/// its text. Writes `ambiguous` where another picture was found that has the clues, and `undecided` where neither came
-/// within the bounds of the search.
+/// Makes a proof by lemmas of the picture of a P3 text, whose background is the one that is passed, or else white, and
+/// writes its text. Writes `ambiguous` where another picture was found that has the clues, and `undecided` where neither was
+/// found within the bounds of the search.
 ///
-/// A text that is neither of these lines is read as a proof: the picture is the only one with its clues. The answer is Ok
-/// in all three cases, and else the error of the reader of the picture. After a write error a prefix of the text was
-/// written, and after any other error nothing.
+/// Any other text is read as a proof, so the picture is the only one with its clues. The answer is Ok in all three cases,
+/// and otherwise the error of the picture's reader, or out of memory. After a write error a prefix of the text was written,
+/// and after any other error nothing.
 pub fn run_prove<W: Write>(
     alloc: Global,
     file: &[u8],
@@ -56,7 +56,7 @@ fn made_text(alloc: Global, picture: &Picture) -> Result<Vec<u8>, AllocError>
     Ok(text)
 }
 
-// Puts what is shown for what was made into an empty text.
+// Appends to an empty text what is shown for what was made.
 fn push_made(text: &mut Vec<u8>, made: &Made) -> Result<(), AllocError>
     requires { text.old.items ≡ [] }
     ensures { OnOk result (IsShownFor made.now text.new.items) }
@@ -68,7 +68,7 @@ fn push_made(text: &mut Vec<u8>, made: &Made) -> Result<(), AllocError>
     }
 }
 
-// The text of a proof where it can be written, and else that none was found.
+// The text of a proof if it can be written, and otherwise `undecided`.
 fn push_proof(text: &mut Vec<u8>, proof: &LemmaProof) -> Result<(), AllocError>
     requires { text.old.items ≡ [] }
     ensures { OnOk result (IsProofShown proof.now text.new.items) }

@@ -1,4 +1,4 @@
-//! The run without words.
+//! The program's run without arguments: it shows the clues of its input.
 
 ghost use Rattle.picture.specs.Readers.{Gives};
 ghost use Rattle.ppm_text.specs.Ppm.{ppm_of};
@@ -14,8 +14,8 @@ use report_text::clues_text;
 use std::alloc::Global;
 use std::io::Write;
 
-/// Writes the clues of the picture that a P3 text gives, with one cell painted first where that is asked. The paint is
-/// a row, a column and a colour, all from 0. After a write error a prefix of the clues was written, and after any other
+/// Writes the clues of the picture that a P3 text gives. With `paint`, a row, a column and a colour, all from 0, that
+/// cell is painted first. After a write error a prefix of the clues was written, and after any other
 /// error nothing.
 pub fn run_clues<W: Write>(
     alloc: Global,
@@ -40,7 +40,7 @@ fn answer_text(alloc: Global, bytes: &[u8], edit: Option<Edit>) -> Result<Vec<u8
     Ok(clues_text(alloc, &book)?)
 }
 
-// The document that the text gives, after an edit where one is asked.
+// The document that the text gives, after an edit where one is asked for.
 fn edited_document(
     alloc: Global,
     bytes: &[u8],

@@ -19,12 +19,12 @@ use program_options::ProgramFault;
 use std::alloc::{AllocError, Global};
 use std::io::Write;
 
-/// Checks a proof by lemmas of the picture that a P3 text gives, with a background of its own where one is passed, and
+/// Checks a proof by lemmas of the picture of a P3 text, whose background is the one that is passed, or else white, and
 /// writes `proof accepted`, with the number of givens where there are some.
 ///
-/// Where the answer is Ok, the picture is the only one of its size with its clues and its colours in the proof's givens. The
-/// answer is else the error of the first that refuses: the reader of the picture, the reader of the proof, the checker. After
-/// a write error a prefix of the line was written, and after any other error nothing.
+/// Where the answer is Ok, the picture is the only one of its size with its clues and its colours in the proof's givens.
+/// Otherwise the answer is the error of the first that refuses: the reader of the picture, the reader of the proof, the
+/// checker. After a write error a prefix of the line was written, and after any other error nothing.
 pub fn run_verify<W: Write>(
     alloc: Global,
     file: &[u8],
@@ -42,7 +42,7 @@ pub fn run_verify<W: Write>(
     Ok(send(&text, writer)?)
 }
 
-// The line for a proof that is accepted.
+// The line for a proof that is accepted, or the first error.
 fn verified_text(
     alloc: Global,
     file: &[u8],

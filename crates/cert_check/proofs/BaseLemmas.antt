@@ -1,4 +1,4 @@
--- The facts that givens say, cell by cell.
+-- The facts of givens, cell by cell.
 use Rattle.std.proofs.Common.{◌≡◌, ◌⊎◌, ℕ, ◌+◌, ◌-◌, ◌^◌, ◌<◌, List, [], ◌∷◌, length, ap, subst, sym, ◌∙◌, arith, inl, inr}
 use Rattle.std.specs.Prelude.{IsBitSet}
 use Rattle.std.specs.List.{AllByRecursion, Contains}
@@ -13,7 +13,7 @@ use Rattle.cert_text.specs.declared.tree_line.CellNumber.{CellNumber}
 use Rattle.cert_check.proofs.AmongLemmas.{among_cases, among_first, among_rest}
 use Rattle.cert_check.specs.Puzzle.{HasCellNumber, numbered, with_givens}
 
--- a colour is left inside the grid alone
+-- a colour is left only inside the grid
 pub left_inside : (facts : Masks) (row col k : ℕ) → Leaves facts row col k → (row < length facts) × (col < length (row_at facts row))
 left_inside facts row col k l = elim (cases_lt row (length facts)) [
   | inr p ↦ absurd (no_bit k (rw (get_or_past facts row [] p) at l))
@@ -23,11 +23,11 @@ left_inside facts row col k l = elim (cases_lt row (length facts)) [
   ]
 ]
 
--- one given held
+-- the facts with one given's cell held to the picture's colour
 abbrev once : Rows → Masks → CellNumber → List (List ℕ)
 once picture facts cell = with_given picture facts (cell.row - 1) (cell.col - 1)
 
--- a place is a cell's, or it is not
+-- a place is that of a cell, or it is not
 pub at_or_off : (r c : ℕ) (cell : CellNumber) → ((r ≡ cell.row - 1) × (c ≡ cell.col - 1)) ⊎ ((r ≡ cell.row - 1) × (c ≡ cell.col - 1) → ⊥)
 at_or_off r c cell = elim (cases_eq r (cell.row - 1)) [
   | inr n ↦ inr (λ p. n p.0)

@@ -153,7 +153,7 @@ split_stands picture facts others cell branches trees has p q = record {
       rw l.1 (record { trees = join branches trees; written_is = sym (joined_written branches trees); proves = joined_proves picture (split_at facts cell) others branches trees p q });
 }
 
--- the same where the lines are told by an equation
+-- the same for lines that an equation names
 told : (picture : Rows) (facts : Masks) (others : List Masks) (line x : CertLine) (lines xs : List CertLine) → line ∷ lines ≡ x ∷ xs → Stands picture facts others x xs
     → Stands picture facts others line lines
 told picture facts others line x lines xs e s =

@@ -11,7 +11,7 @@ use Rattle.cert_text.specs.Cert.{AreOrdered}
 use Rattle.cert_check.specs.Puzzle.{HasCellNumber, with_givens}
 use Rattle.cert_check.specs.FirstFault.{FirstFaultBehind}
 
--- the first i givens are held: what is first after the others is first after all
+-- the first i givens are held: the first error of the others is the first error of all
 pub record BaseSoFar (picture : Rows) (start facts : Masks) (i : ℕ) (givens : List CellNumber) : Type 0 where
   pub goes : (lines : List CertLine) (fault : Option CertFault) → FirstFaultBehind picture facts (2 + i) (drop i givens) lines fault → FirstFaultBehind picture start 2 givens lines fault
   pub held : with_givens picture (drop i givens) facts ≡ with_givens picture givens start

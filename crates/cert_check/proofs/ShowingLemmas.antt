@@ -1,4 +1,4 @@
--- Masks with one colour alone.
+-- Masks with only one colour.
 use Rattle.std.proofs.Common.{◌≡◌, ℕ, ◌*◌, ◌%◌, ◌^◌, ◌<◌, ◌↔◌, subst, ◌∙◌, arith, inl, inr, bit_and}
 use Rattle.std.specs.Prelude.{IsBitSet}
 use Rattle.std.specs.Int.{bit_not, w16}
@@ -6,7 +6,7 @@ use Rattle.std.proofs.lemmas.Bool.{cases_eq}
 use Rattle.picture.proofs.BitLaws.{no_bit, power_has, same_bits}
 use Rattle.line_facts.proofs.MaskLaws.{shifted, without_bit}
 
--- no bit is left beside one exactly where every bit is that one
+-- no bit but one is left exactly where every bit is that one
 pub only_bit : (left colour low : ℕ) → left < 2 ^ 16 → colour < 16 → low ≡ 1 * 2 ^ colour % 65536 → (bit_and left (bit_not w16 low) ≡ 0) ↔ ((k : ℕ) → IsBitSet left k → k ≡ colour)
 only_bit left colour low q c e =
     let is : low ≡ 2 ^ colour = e ∙ shifted colour c in

@@ -65,7 +65,7 @@ fits_line picture facts other line rival has k =
           rw (cell_on other line j) (rw (cell_on facts line j) left);
     })
 
--- a cell of a line, told by the line
+-- the colour of a cell, found in a line through it
 pub at_place : (rows : Rows) (line : LineId) (row col : ℕ) (on : IsOn line row col) → cell_at rows row col ≡ get_or (line_of rows line) on.0 0
 at_place rows line row col on = ap (λ r. cell_at rows r col) on.1 ∙ (ap (λ c. cell_at rows (row_on line.axis line.at on.0) c) on.2 ∙ sym (cell_on rows line on.0))
 
@@ -85,7 +85,7 @@ can_have picture facts other line row col on rival has k left =
       has = sym (at_place other line row col on);
     }
 
--- what a line forces leaves the picture
+-- what a line forces does not exclude the picture
 pub forced_keeps : (picture : Rows) (facts gained : Masks) (other : Rows) (line : LineId) → IsRival picture other → HasLine facts line
     → IsForced picture facts line gained → Keeps facts other → Keeps gained other
 forced_keeps picture facts gained other line rival has g k = record {
@@ -99,7 +99,7 @@ forced_keeps picture facts gained other line rival has g k = record {
       ];
 }
 
--- what a line forces excludes no less than before
+-- what a line forces excludes all that was excluded before
 pub forced_within : (picture : Rows) (facts gained : Masks) (line : LineId) → IsForced picture facts line gained → IsWithin facts gained
 forced_within picture facts gained line f = record {
   same_shape = f.same_shape;

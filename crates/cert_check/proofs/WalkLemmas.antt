@@ -1,4 +1,4 @@
--- The walk over the lines: what a call needs to know, and what is first from the beginning.
+-- The walk over the lines: what its calls need, and the first error from the beginning.
 use Rattle.std.proofs.Common.{◌≡◌, ℕ, ◌+◌, ◌-◌, ◌<◌, ◌↔◌, List, [], ◌∷◌, Bool, true, false, Option, None, Some, is_some, Ok, Err, IsTrue, length, get_or, drop, drop-cons, add-one, refl, sym, ap}
 use Rattle.std.proofs.Common.{subst, ◌∙◌, arith, inl, inr}
 use Rattle.line_facts.specs.Masks.{Masks}
@@ -61,7 +61,7 @@ forced_takes picture old new clues longest clue number found n can shape h e c f
 
 -- ---- the next branch
 
--- what waited after is what waits where a trail goes on
+-- where a trail goes on to the next branch, all that waited after the last one waits
 pub goes_on : (old new : Trailed) (found : Option Cell) → GoesOn old new found → waiting (is_some found) new ≡ old.behind
 goes_on old new (Some cell) g = sym g.0
 goes_on old new None g = sym g
@@ -80,7 +80,7 @@ pub trailing_first : (picture : Rows) (start : List Masks) (trail : Trailed) (go
 trailing_first picture start trail going first i lines so_far l e =
     so_far.goes (Some (Trailing (first + i))) (rw (e, here lines i Done l) refl)
 
--- from a line that is at hand
+-- from the line that comes next
 at_line : (picture : Rows) (start : List Masks) (trail : Trailed) (going : Bool) (first i : ℕ) (lines : List CertLine) (line d : CertLine)
     → FirstSoFar picture start (waiting going trail) first (first + i) lines (drop i lines) → i < length lines → going ≡ true → line ≡ get_or lines i d → (fault : Option CertFault)
     → FirstFault picture (trail.at_hand ∷ trail.behind) (first + i) (line ∷ drop (i + 1) lines) fault → FirstFault picture start first lines fault

@@ -13,7 +13,7 @@ use Rattle.cert_text.specs.Cert.{Certificate}
 use Rattle.cert_check.specs.Puzzle.{HasCellNumber, HasLineNumber, IsDead, IsForced, ShowsOnly, line_id}
 use Rattle.cert_check.specs.Puzzle.{split_at}
 
--- the facts of the branches that a line which stands leads to
+-- the line is valid, and leads to branches with these facts
 abbrev pub Leads : Rows → Masks → CertLine → List Masks → Type 0
 Leads picture facts (Line number) next =
     HasLineNumber picture number
@@ -32,7 +32,7 @@ HasFault picture facts (Dead number) n fault =
     ⊎ (HasLineNumber picture number × (IsDead picture facts (line_id number) → ⊥) × (fault ≡ NotDead n))
 HasFault picture facts Done n fault = (ShowsOnly picture facts → ⊥) × (fault ≡ NotDone n)
 
--- The first error of lines, of which the first has number n, where branches with these facts wait to be written.
+-- The first error of lines, which are numbered from n, where branches with these facts are still to be proved.
 abbrev pub FirstFault : Rows → List (List (List ℕ)) → ℕ → List CertLine → Option CertFault → Type 0
 FirstFault picture [] n [] fault = fault ≡ None
 FirstFault picture (facts ∷ others) n [] fault = fault ≡ Some (Ended n)
@@ -41,8 +41,8 @@ FirstFault picture (facts ∷ others) n (line ∷ lines) fault =
     ((found : CertFault) × (HasFault picture facts line n found × (fault ≡ Some found)))
     ⊎ ((next : List Masks) × (Leads picture facts line next × FirstFault picture (next ++ others) (n + 1) lines fault))
 
--- The first error of givens, the first of them on line n, and of the lines after them, from the facts that earlier
--- givens say.
+-- The first error of givens, the first of them on line n, and of the lines after them. The facts are those that
+-- earlier givens leave.
 abbrev pub FirstFaultBehind : Rows → Masks → ℕ → List CellNumber → List CertLine → Option CertFault → Type 0
 FirstFaultBehind picture facts n [] lines fault = FirstFault picture (facts ∷ []) n lines fault
 FirstFaultBehind picture facts n (cell ∷ cells) lines fault =

@@ -1,4 +1,4 @@
--- What a certificate speaks of: a picture, its clues, and facts on its cells.
+-- What a certificate is about: a picture, its clues, and facts about its cells.
 use Rattle.std.specs.Prelude.{◌≡◌, ℕ, ◌+◌, ◌-◌, ◌<◌, ◌≤◌, ◌↔◌, List, length, slice_index}
 use Rattle.std.specs.Prelude.{IsBitSet}
 use Rattle.std.specs.List.{Contains, fold}
@@ -35,17 +35,17 @@ numbered row col = record { row = row + 1; col = col + 1 }
 abbrev pub IsNamed : List CellNumber → ℕ → ℕ → Type 0
 IsNamed cells row col = Contains cells (numbered row col)
 
--- ---- what lines say of facts, for the clues of a picture
+-- ---- what lines do to facts, by the clues of a picture
 
--- The facts gain all that a line forces: its cells have exactly the colours that some list that fits has there, and the
--- other cells stay as they were.
+-- The facts with all that a line forces: its cells have exactly the colours that some list of colours that fits has
+-- there (none if no list fits), and the other cells are as they were.
 pub record IsForced (picture : Rows) (facts : Masks) (line : LineId) (more : Masks) : Type 0 where
   pub same_shape : SameShape facts more
   pub exact : (i k : ℕ) → IsBitSet (slice_index (line_of more line) i) k
       ↔ CanHave (clue_at (clues_of picture) line) (line_of facts line) i k
   pub elsewhere : (row col : ℕ) → (IsOn line row col → ⊥) → cell_at more row col ≡ cell_at facts row col
 
--- no list fits a line
+-- no list of colours fits a line
 abbrev pub IsDead : Rows → Masks → LineId → Type 0
 IsDead picture facts line = CanFit (clue_at (clues_of picture) line) (line_of facts line) → ⊥
 
@@ -53,17 +53,17 @@ IsDead picture facts line = CanFit (clue_at (clues_of picture) line) (line_of fa
 abbrev pub split_at : Masks → CellNumber → List (List (List ℕ))
 split_at facts cell = branches facts (cell.row - 1) (cell.col - 1) (cell_at facts (cell.row - 1) (cell.col - 1))
 
--- no colour is left anywhere but the picture's
+-- no colour is left anywhere but the picture's; a cell may have none left
 abbrev pub ShowsOnly : Rows → Masks → Type 0
 ShowsOnly picture facts = (row col k : ℕ) → Leaves facts row col k → k ≡ cell_at picture row col
 
 -- ---- givens
 
--- the facts with the picture's colour alone left in each given
+-- the facts with only the picture's colour left in each given
 abbrev pub with_givens : Rows → List CellNumber → Masks → Masks
 with_givens picture givens facts = fold (λ fs cell. with_given picture fs (cell.row - 1) (cell.col - 1)) facts givens
 
--- the facts that the givens say, where nothing else is excluded: the root of a tree
+-- the facts of the givens, where nothing else is excluded: the root of a tree
 abbrev pub base_of : Rows → List CellNumber → Masks
 base_of picture givens = with_givens picture givens (nothing_excluded (length picture) (width_of picture))
 

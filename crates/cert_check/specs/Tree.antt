@@ -1,4 +1,4 @@
--- Trees of lines, and what it is that a tree proves.
+-- Trees of lines, and what a tree proves.
 use Rattle.std.specs.Prelude.{◌≡◌, ℕ, List, [], ◌∷◌, ◌++◌}
 use Rattle.std.specs.List.{AllByRecursion}
 use Rattle.line_facts.specs.Masks.{Masks}
@@ -22,7 +22,7 @@ mutual
     none : Trees
     more : Tree → Trees → Trees
 
--- the lines of a tree from its root, each branch whole before the next
+-- the lines of a tree from its root, each branch complete before the next
 abbrev mutual
   pub written : Tree → List CertLine
   written done = Done ∷ []
@@ -34,8 +34,9 @@ abbrev mutual
   each_written none = []
   each_written (more tree trees) = written tree ++ each_written trees
 
--- A tree proves a picture from facts. At `done` no other colour is left. At `dead` no list fits the line. After a
--- `line` the rest proves it with all that the line forces. At a `split` each branch proves it.
+-- A tree proves a picture from facts. At `done` no colour but the picture's is left. At `dead` no list of colours fits
+-- the line. After a `line` the rest proves it with all that the line forces. At a `split` each branch proves it: one
+-- for each colour that is left in the cell.
 abbrev mutual
   pub Proves : Rows → Masks → Tree → Type 0
   Proves picture facts done = ShowsOnly picture facts
@@ -51,7 +52,7 @@ abbrev mutual
   EachProves picture (facts ∷ others) (more tree trees) = Proves picture facts tree × EachProves picture others trees
   EachProves picture _ _ = ⊥
 
--- The givens lie in the picture, and the lines are a tree that proves it from what the givens say.
+-- The givens lie in the picture, and the lines are a tree that proves it from the facts of the givens.
 pub record IsProof (picture : Rows) (cert : Certificate) : Type 0 where
   pub inside : AllByRecursion (HasCellNumber picture) cert.givens
   pub tree : Tree

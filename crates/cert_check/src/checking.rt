@@ -18,10 +18,10 @@ use line_facts::{Facts, LineEngine};
 use picture::Picture;
 use std::alloc::Global;
 
-// The line below which the givens stand.
+// The number of the certificate's line with the first given.
 const FIRST_LINES: usize = 2;
 
-/// Holds each given to the picture's colour: of facts without an exclusion this makes the root of a certificate's tree. The
+/// Leaves only the picture's colour in each given. Facts without an exclusion become the root of a certificate's tree. The
 /// first given that lies outside the picture is the error `Place`, with its line in the certificate.
 pub fn set_givens(
     picture: &Picture,
@@ -47,11 +47,12 @@ pub fn set_givens(
 }
 
 #[tactic(auto, using(crate::proofs::Exactness::answering))]
-/// Checks a certificate of a picture: whether no other picture has its clues and, in the certificate's givens, its colours.
+/// Checks a certificate of a picture: whether it proves that no other picture of that size has its clues and, in the
+/// certificate's givens, its colours.
 /// No line of the picture may be longer than the engine takes.
 ///
-/// The answer is Ok exactly where the givens lie in the picture and the lines are a tree that proves it; else it is the
-/// first error from the top with its line, and a refused allocation is answered as `Memory`. How much memory is taken
+/// The answer is Ok exactly where the givens lie in the picture and the lines are a tree that proves it. Otherwise it is
+/// the first error from the top with its line, or `Memory` where an allocation is refused. How much memory is taken
 /// is not promised. The engine is called at most once for each line of the certificate, and not at all where a given
 /// lies outside the picture.
 pub fn check_cert<E: LineEngine>(
@@ -69,6 +70,7 @@ pub fn check_cert<E: LineEngine>(
     ensures work { E.calls engine.new ≤ E.calls engine.old + length cert.now.lines }
     ensures idle { (AllByRecursion (HasCellNumber picture.now) cert.now.givens → ⊥)
         → E.calls engine.new ≡ E.calls engine.old }
+    ensures calls { E.calls engine.old ≤ E.calls engine.new }
     ensures same_longest { E.longest engine.new ≡ E.longest engine.old }
 {
     let clues = ClueBook::of(alloc, picture)?;

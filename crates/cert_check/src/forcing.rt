@@ -1,4 +1,4 @@
-//! Line solving on the facts at hand of a trail, which notes each change.
+//! Line solving on a trail's current facts, those at hand. The trail records each change.
 
 ghost use Rattle.std.specs.Prelude.{◌≡◌, ◌<◌, ◌≤◌, ◌↔◌, length, slice_index, OnOk, IsTrue};
 ghost use Rattle.picture.specs.Rows.{HasLine, line_of, with_cell};
@@ -14,7 +14,7 @@ use picture::{LineId, MAX_SIDE};
 use std::alloc::AllocError;
 use trail::{Cell, Trail};
 
-// No line has more cells.
+// The most cells of a line.
 const MOST_CELLS: usize = MAX_SIDE as usize;
 
 // Finds which colours the cells of a line can have by its clue, in one call of the engine.
@@ -54,7 +54,7 @@ pub fn is_dead<E: LineEngine>(engine: &mut E, facts: &Facts, clue: &Clue, line: 
 }
 
 #[tactic(auto, using(line_facts::proofs::AlongLaws::places))]
-// Gives the cells of a line of the facts at hand other colours.
+// Sets the candidates of a line's cells in the facts at hand.
 fn hold_line(trail: &mut Trail, line: LineId, masks: &[u16]) -> Result<(), AllocError>
     requires line { HasLine trail.old.at_hand line }
     requires whole { length masks.now ≡ length (line_of trail.old.at_hand line) }
@@ -71,7 +71,7 @@ fn hold_line(trail: &mut Trail, line: LineId, masks: &[u16]) -> Result<(), Alloc
     Ok(())
 }
 
-/// Adds to the facts at hand all that a line forces by its clue, in one call of the engine.
+/// Adds to the trail's facts at hand all that a line's clue forces, in one call of the engine.
 pub fn force<E: LineEngine>(
     engine: &mut E,
     trail: &mut Trail,

@@ -1,4 +1,4 @@
-//! The checker of certificates, apart from all that searches: whether a certificate proves that a picture is the only solution.
+//! The checker of certificates, without any search: whether a certificate proves that a picture is the only solution.
 #![tactic(auto)]
 
 mod checking;

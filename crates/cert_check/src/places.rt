@@ -7,7 +7,7 @@ use cert_text::{CellNumber, LineNumber};
 use picture::{LineId, Picture};
 use trail::Cell;
 
-/// The line that a number names, where the picture has it.
+/// The line that a number names, or None where the picture does not have it.
 pub fn line_at(picture: &Picture, line: LineNumber) -> Option<LineId>
     ensures { MatchOption
         result
@@ -24,7 +24,7 @@ pub fn line_at(picture: &Picture, line: LineNumber) -> Option<LineId>
     })
 }
 
-/// The cell that two numbers name, where the picture has it.
+/// The cell that two numbers name, or None outside the picture.
 pub fn cell_in(picture: &Picture, cell: CellNumber) -> Option<Cell>
     ensures { MatchOption
         result

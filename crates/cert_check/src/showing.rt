@@ -1,4 +1,4 @@
-//! Whether facts leave the colours of the picture alone, as `done` claims.
+//! Whether facts leave no colours but the picture's, as `done` claims.
 
 ghost use Rattle.std.specs.Prelude.{◌≡◌, ℕ, ◌<◌, ◌↔◌, length, IsBitSet, IsTrue};
 ghost use Rattle.picture.specs.Rows.{cell_at};
@@ -9,7 +9,7 @@ use line_facts::Facts;
 use picture::Picture;
 
 #[tactic(auto, using(crate::proofs::ShowingLemmas::one_mask))]
-// Whether a mask has no colour but one.
+// Whether a mask has no colour but this one. It may be empty.
 fn has_only(left: u16, colour: u8) -> bool
     requires { colour < 16 }
     ensures { IsTrue result ↔ ((k : ℕ) → IsBitSet left k → k ≡ colour) }
@@ -32,7 +32,7 @@ fn row_shows_only(facts: &Facts, picture: &Picture, row: u8) -> bool
     true
 }
 
-/// Whether no colour is left anywhere but the picture's.
+/// Whether no cell has a colour left other than the picture's.
 pub fn shows_only(facts: &Facts, picture: &Picture) -> bool
     requires same_shape { SameShape picture.now facts.now }
     ensures { IsTrue result ↔ ShowsOnly picture.now facts.now }

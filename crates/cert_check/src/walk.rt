@@ -1,4 +1,4 @@
-//! One step of the checker: what a line of the certificate does to the branch at hand.
+//! The checker's walk: what each line of the certificate does to the current branch, the one at hand.
 
 ghost use Rattle.std.specs.Prelude.{◌≡◌, ℕ, ◌+◌, ◌<◌, ◌≤◌, ◌^◌, ◌∷◌, [], length, IfErr, IfOk, Option};
 ghost use Rattle.cert_check.specs.FirstFault.{AnswersFirst, FirstFault};
@@ -22,7 +22,7 @@ pub struct Claim<'a> {
     pub clues: &'a ClueBook,
 }
 
-// Takes a line with its number, and says whether a branch is at hand after it.
+// Takes a line with its number, and returns whether a branch is left after it.
 pub(crate) fn take_line<E: LineEngine>(
     engine: &mut E,
     claim: &Claim,
@@ -35,7 +35,10 @@ pub(crate) fn take_line<E: LineEngine>(
     ensures takes { Takes claim.now.picture.now trail.old trail.new line number result }
     ensures same_longest { E.longest engine.new ≡ E.longest engine.old }
     ensures work { E.calls engine.new ≤ E.calls engine.old + 1 }
+    ensures calls { E.calls engine.old ≤ E.calls engine.new }
 {
+    // The count is below 2^64, so one call more does not make it fall.
+    let _ = engine.calls();
     let picture = claim.picture;
     match line {
         // The branch goes on with what the line forces.
@@ -46,7 +49,7 @@ pub(crate) fn take_line<E: LineEngine>(
             force(engine, trail, claim.clues.clue(line), line)?;
             Ok(true)
         }
-        // The branch of the cell's lowest colour begins.
+        // The branch of the cell's lowest colour begins, if one is left.
         CertLine::Split(at) => {
             let Some(cell) = cell_in(picture, at) else {
                 return Err(CertFault::Place(number));
@@ -74,7 +77,7 @@ pub(crate) fn take_line<E: LineEngine>(
 }
 
 #[tactic(auto, using(crate::proofs::WalkLemmas::goes_on))]
-// Leaves the branch at hand for the next that waits. False where there is none.
+// Ends the branch at hand and begins the next that waits. False where none does.
 fn go_on(trail: &mut Trail) -> Result<bool, CertFault>
     ensures waits { IfOk result (λ going. waiting going trail.new ≡ trail.old.behind) }
     ensures same_shape { IfOk result (λ _. SameShape trail.old.at_hand trail.new.at_hand) }
@@ -83,7 +86,7 @@ fn go_on(trail: &mut Trail) -> Result<bool, CertFault>
     Ok(trail.advance()?.is_some())
 }
 
-// Takes the lines from the root on, of which the first has a number, and answers the first error.
+// Takes the lines, which are numbered from `first`, from the root on, and returns the first error.
 pub(crate) fn walk<E: LineEngine>(
     alloc: Global,
     engine: &mut E,
@@ -98,6 +101,7 @@ pub(crate) fn walk<E: LineEngine>(
     ensures first { AnswersFirst
         (FirstFault claim.now.picture.now (facts ∷ []) first lines.now) result }
     ensures work { E.calls engine.new ≤ E.calls engine.old + length lines.now }
+    ensures calls { E.calls engine.old ≤ E.calls engine.new }
     ensures same_longest { E.longest engine.new ≡ E.longest engine.old }
 {
     let mut trail = Trail::start(alloc, facts);

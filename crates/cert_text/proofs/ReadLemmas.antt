@@ -16,7 +16,7 @@ use Rattle.cert_text.specs.Text.{cert_line, given_line, given_lines, take_given,
 
 -- ---- the lines
 
--- what is read where these lines come first
+-- what is read where these lines come before the others
 abbrev lines_behind : List CertLine → Result (List CertLine) CertFault → Result (List CertLine) CertFault
 lines_behind front read = read >>= λ rest. Ok (front ++ rest)
 
@@ -90,7 +90,7 @@ givens_start lines = record { is = none_before (given_lines 2 0 lines); ordered 
 not_below : (a b : ℕ) → b < a → nat_le a b ≡ false
 not_below a b l = elim (leb_tells a b) [ inl p ↦ absurd (let q = p.1 in omega arith) | inr p ↦ p.0 ]
 
--- the first line, by what it gives
+-- the first line, by whether it is a given
 by_first : (front : List CellNumber) (text : List ℕ) (n least : ℕ) (lines rest : List (List ℕ)) (whole : Read) (o : Option CellNumber) → lines ≡ text ∷ rest → o ≡ given_line text
     → GivensLeft front n least lines whole → givens_behind front (take_given n least (text ∷ rest) o (λ from. given_lines (n + 1) from rest)) ≡ whole
 unfolding given_lines

@@ -123,7 +123,7 @@ named_first word line is l rest =
 abbrev pub given_of_three : Option (List ℕ × List ℕ × List ℕ) → Option CellNumber
 given_of_three words = option_and_then (λ (t : List ℕ × List ℕ × List ℕ). cond (is_word t.0 (codes "given")) (cell_named t.1 t.2) None) words
 
--- what a line written comes to
+-- a line that is written, and read again
 record Again (line : CertLine) (text : List ℕ) : Type 0 where
   first : (rest : List ℕ) → lines_of (line_text line ++ rest) ≡ text ∷ lines_of rest
   reads : cert_line text ≡ Some line
@@ -182,7 +182,7 @@ given_again cell l m =
     is_given : IsWord (codes "given")
     is_given = record { no_space = refl; no_feed = refl }
 
--- no line that gives a cell stands first in a text
+-- a text does not begin with a given
 pub record HasNoGiven (text : List ℕ) : Type 0 where
   pub none : (n least : ℕ) → given_lines n least (lines_of text) ≡ Ok ([], lines_of text)
 

@@ -13,7 +13,7 @@ pub record Certificate : Type 0 where
 abbrev pub certificate : ℕ → List CellNumber → List CertLine → Certificate
 certificate version givens lines = record { version = version; givens = givens; lines = lines }
 
--- the numbers of a line are as they can be written: of at most three digits
+-- the numbers of a line can be written: they have at most three digits
 abbrev pub IsWritable : CertLine → Type 0
 IsWritable (Line line) = line.number < 1000
 IsWritable (Split cell) = (cell.row < 1000) × (cell.col < 1000)
@@ -24,7 +24,7 @@ IsWritable Done = Unit {0}
 abbrev pub rank : CellNumber → ℕ
 rank cell = cell.row * 1000 + cell.col
 
--- cells with numbers of at most three digits, in the order of rows, none twice, and each after a rank
+-- cells with numbers of at most three digits, in the order of rows, none twice, and all from a rank on
 abbrev pub AreOrdered : ℕ → List CellNumber → Type 0
 AreOrdered least [] = Unit {0}
 AreOrdered least (cell ∷ cells) =

@@ -20,7 +20,7 @@ use Rattle.cert_text.specs.Cert.{Certificate, certificate, rank}
 
 -- ---- lines and words
 
--- the pieces between line feeds are the lines: the last one where it has a byte
+-- the pieces between line feeds are the lines, but the last one only where it has a byte
 abbrev pub lines_of_pieces : List (List ℕ) → List (List ℕ)
 lines_of_pieces [] = []
 lines_of_pieces (piece ∷ []) = if has_byte piece then piece ∷ [] else []
@@ -33,7 +33,7 @@ lines_of text = lines_of_pieces (slice_split (λ b. b == 10) text)
 abbrev pub words_of : List ℕ → List (List ℕ)
 words_of line = slice_split (λ b. b == 32) line
 
--- the bytes are these
+-- the bytes are exactly this word
 abbrev pub is_word : List ℕ → List ℕ → Bool
 is_word bytes word = pointwise nat_eq bytes word
 
@@ -72,7 +72,7 @@ cell_named first second = option_and_then (λ row. option_map (cell_number row) 
 
 -- ---- the lines of a certificate
 
--- what a word and the two that name a line or a cell say
+-- the line of three words: the first says what is done, the others name a line or a cell
 abbrev pub line_by : List ℕ × List ℕ × List ℕ → Option CertLine
 line_by t =
     if is_word t.0 (codes "line") then option_map Line (line_named t.1 t.2)
@@ -105,7 +105,7 @@ take_given n least lines (Some cell) rest =
     if nat_le least (rank cell) then (rest (rank cell + 1) >>= λ read. Ok (cell ∷ read.0, read.1))
     else Err (BadLine n)
 
--- The givens that stand first, of which the first line has number n,
+-- The givens at the beginning of lines that are numbered from n,
 -- in the order of rows and from a rank on; and the lines below them.
 unfoldable pub given_lines : ℕ → ℕ → List (List ℕ) → Result (List CellNumber × List (List ℕ)) CertFault
 given_lines n least [] = Ok ([], [])
@@ -127,14 +127,14 @@ cert_of_lines (first ∷ lines) =
 abbrev pub cert_of : List ℕ → Result Certificate CertFault
 cert_of text = cert_of_lines (lines_of text)
 
--- ---- what functions that cut a text answer
+-- ---- the answers of functions that cut a text
 
 -- the first line of a text, and a shorter text with the others
 abbrev pub IsFirstLine : List ℕ → Option (Bor (List ℕ) × Bor (List ℕ)) → Type 0
 IsFirstLine text None = lines_of text ≡ []
 IsFirstLine text (Some x) = (lines_of text ≡ x.0.now ∷ lines_of x.1.now) × (length x.1.now < length text)
 
--- the first word of a line, and the others; or the line is a word
+-- the first word of a line, and the others; or the line is a single word
 abbrev pub IsCut : List ℕ → Option (Bor (List ℕ) × Bor (List ℕ)) → Type 0
 IsCut line None = words_of line ≡ line ∷ []
 IsCut line (Some x) = words_of line ≡ x.0.now ∷ words_of x.1.now

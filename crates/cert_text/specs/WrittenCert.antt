@@ -16,7 +16,7 @@ abbrev pub axis_text : Axis → List ℕ
 axis_text Across = codes "r "
 axis_text Down = codes "c "
 
--- a line of a text that names a line
+-- a line of a text that names a row or a column
 abbrev pub named_text : List ℕ → LineNumber → List ℕ
 named_text word line = word ++ (axis_text line.axis ++ number_text line.number 10)
 

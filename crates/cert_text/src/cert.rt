@@ -37,7 +37,7 @@ impl Cert {
         }
     }
 
-    /// 1 or 2.
+    /// The version of the format, 1 or 2.
     pub fn version(&self) -> u8
         ensures value { result ≡ self.now.version }
         ensures cert { IsCert self.now }

@@ -14,7 +14,7 @@ pub enum CertFault {
     /// The first line is not that of the format.
     #[error("line {0}: not a certificate")]
     NotCert(usize),
-    /// The line has another form than the format's lines, or a given stands where it may not.
+    /// The line has none of the format's forms, or a given is where it may not be.
     #[error("line {0}: not a line of a certificate")]
     BadLine(usize),
     /// A row or a column is named that the picture doesn't have.
@@ -23,11 +23,11 @@ pub enum CertFault {
     /// A lemma is named that is not kept. No certificate has this error.
     #[error("line {0}: no such lemma")]
     NoLemma(usize),
-    /// A lemma begins, or is dropped, where a branch waits; or a colour is denied after no lemma's beginning. No
-    /// certificate has this error.
+    /// A lemma begins, or is dropped, while a branch waits; or colours are denied elsewhere than at the beginning
+    /// of a lemma. No certificate has this error.
     #[error("line {0}: not here")]
     Misplaced(usize),
-    /// The lemmas kept would have too many literals. No certificate has this error.
+    /// The lemmas that are kept would have too many literals. No certificate has this error.
     #[error("line {0}: too many literals")]
     Full(usize),
     /// Some list of colours fits the line that is called dead, or some literal of the lemma has a colour left.
@@ -36,13 +36,13 @@ pub enum CertFault {
     /// Some cell has a colour left other than the picture's.
     #[error("line {0}: not done")]
     NotDone(usize),
-    /// The lines end before the tree is whole. The number is that of the line that is missing.
+    /// The lines end before the tree is complete. The number is that of the line that is missing.
     #[error("line {0}: the certificate ends too early")]
     Ended(usize),
-    /// A line follows the whole tree.
+    /// A line comes after the end of the tree.
     #[error("line {0}: behind the end")]
     Trailing(usize),
-    /// A growth was refused.
+    /// An allocation was refused.
     #[error("out of memory")]
     Memory,
 }
@@ -55,14 +55,14 @@ impl CertFault {
         self.told().0
     }
 
-    /// The number of the line in error, counted from 1.
+    /// The number of the line in error, counted from 1. None for `Memory`.
     pub fn place(&self) -> Option<usize>
         ensures { result ≡ place_of self.now }
     {
         self.told().1
     }
 
-    // The name, and the place.
+    // The error's name and place.
     fn told(&self) -> (&'static str, Option<usize>)
         ensures name { result.0.now ≡ name_of self.now }
         ensures place { result.1 ≡ place_of self.now }

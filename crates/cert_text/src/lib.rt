@@ -1,4 +1,4 @@
-//! A certificate as a value, and its text: reading and writing.
+//! Certificates as values, and their text: reading and writing.
 #![tactic(auto)]
 
 mod cert;

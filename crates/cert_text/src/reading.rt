@@ -13,7 +13,7 @@ use crate::words::{first_line, is_word, number_in, three_words};
 use picture::Axis;
 use std::alloc::Global;
 
-/// The line that two words name.
+/// The row or column that two words name, as `r 3`. None for other words.
 pub fn line_named(first: &[u8], second: &[u8]) -> Option<LineNumber>
     ensures value { result ≡ line_named first.now second.now }
     ensures short { IfSome result (λ line. line.number < 1000) }
@@ -27,7 +27,7 @@ pub fn line_named(first: &[u8], second: &[u8]) -> Option<LineNumber>
     Some(LineNumber { axis, number })
 }
 
-/// The cell that two words name.
+/// The cell that two words name, as `3 4`. None for other words.
 pub fn cell_named(first: &[u8], second: &[u8]) -> Option<CellNumber>
     ensures value { result ≡ cell_named first.now second.now }
     ensures short { IfSome result (λ cell. (cell.row < 1000) × (cell.col < 1000)) }
@@ -75,7 +75,7 @@ fn given_in(line: &[u8]) -> Option<CellNumber>
 const SECOND_LINE: usize = 2;
 
 #[tactic(auto, using(crate::proofs::ReadLemmas::given_reading))]
-/// The givens that a text begins with, below a first line that is not passed, and the text below them.
+/// Reads the givens at the beginning of a text whose first line was cut off. Returns them and the text below them.
 pub fn read_givens(alloc: Global, text: &[u8]) -> Result<(Vec<CellNumber>, &[u8]), CertFault>
     requires few { SECOND_LINE + length text.now < 2 ^ 64 }
     ensures value { Gives CertFault.Memory givens_seen result
@@ -104,7 +104,7 @@ pub fn read_givens(alloc: Global, text: &[u8]) -> Result<(Vec<CellNumber>, &[u8]
 }
 
 #[tactic(auto, using(crate::proofs::ReadLemmas::line_reading))]
-// The lines below the givens, of which the first has a number.
+// The lines below the givens, which are numbered from `first`.
 fn read_lines(alloc: Global, text: &[u8], first: usize) -> Result<Vec<CertLine>, CertFault>
     requires few { first + length text.now < 2 ^ 64 }
     ensures value { Gives CertFault.Memory (λ lines. lines.items) result
@@ -131,7 +131,7 @@ fn read_lines(alloc: Global, text: &[u8], first: usize) -> Result<Vec<CertLine>,
 /// `NotCert` at line 1. In version 2 lines `given R C` may follow, each after the one before in the order of rows. Each
 /// further line is `line r N`, `line c N`, `split R C`, `dead r N`, `dead c N` or `done`, with single spaces and
 /// numbers of one to three digits without leading zeros; `docs/FORMATS.md` says what they mean. Any other line is
-/// `BadLine`. Whether a picture has the lines and cells is not looked at. Out of memory is answered where it comes,
+/// `BadLine`. Whether a picture has the lines and cells is not checked. Out of memory is answered where it occurs,
 /// before any later error.
 pub fn read_cert(alloc: Global, bytes: &[u8]) -> Result<Cert, CertFault>
     ensures { Gives CertFault.Memory (λ cert. cert) result (cert_of bytes.now) }

@@ -21,13 +21,13 @@ pub struct CellNumber {
     pub col: u16,
 }
 
-/// A line of a certificate, below its givens. The lines are a tree written from its root, each branch whole before the
-/// next.
+/// A line of a certificate, below its givens. The lines are a tree written from its root, each branch complete before
+/// the next.
 #[derive(Clone, Copy, Debug, PartialEq, Eq)]
 pub enum CertLine {
-    /// What the row or column forces is excluded, and the branch goes on.
+    /// All that the row or column forces is added to the facts, and the branch goes on.
     Line(LineNumber),
-    /// A branch for each colour left in the cell, in ascending order, in which the cell has that colour alone.
+    /// A branch begins for each colour left in the cell, in ascending order. In it the cell has only that colour.
     Split(CellNumber),
     /// No list of colours fits the row or column, and the branch ends.
     Dead(LineNumber),

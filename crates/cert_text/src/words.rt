@@ -6,7 +6,7 @@ ghost use Rattle.cert_text.specs.Text.{IsCut, IsFirstLine, is_word, number_of, t
 use picture::{short_number_in, split_first};
 
 #[tactic(auto, using(crate::proofs::WordLemmas::first_lines))]
-/// The first line, and the text after it.
+/// The first line, and the text after it. None for an empty text.
 pub fn first_line(text: &[u8]) -> Option<(&[u8], &[u8])>
     ensures { IsFirstLine text.now result }
 {
@@ -18,14 +18,14 @@ pub fn first_line(text: &[u8]) -> Option<(&[u8], &[u8])>
     }
 }
 
-/// Whether bytes are a word.
+/// Whether these bytes are exactly this word.
 pub fn is_word(bytes: &[u8], word: &[u8]) -> bool
     ensures { result ≡ is_word bytes.now word.now }
 {
     bytes == word
 }
 
-/// The first word, and what follows the space after it.
+/// The first word, and what follows the space after it. None without a space.
 pub fn cut_word(bytes: &[u8]) -> Option<(&[u8], &[u8])>
     ensures { IsCut bytes.now result }
 {
@@ -33,7 +33,7 @@ pub fn cut_word(bytes: &[u8]) -> Option<(&[u8], &[u8])>
     Some((word, behind?))
 }
 
-// The words of a line that has three.
+// The words of a line that has exactly three.
 pub(crate) fn three_words(line: &[u8]) -> Option<(&[u8], &[u8], &[u8])>
     ensures { option_map three_seen result ≡ three_of (words_of line.now) }
 {

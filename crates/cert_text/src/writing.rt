@@ -22,7 +22,7 @@ fn axis_word(axis: Axis) -> &'static [u8]
 }
 
 #[tactic(auto, using(picture::proofs::SendingLaws::sending))]
-/// Writes a line that names a line, or after an error a prefix of it.
+/// Writes a line of a text: a word, and the row or column that is named. After an error a prefix of it was written.
 pub fn send_named<W: Write>(word: &[u8], line: LineNumber, writer: &mut W) -> Result<(), WriteFault>
     ensures ok { OnOk result
         (Appends (W.contents writer.old) (W.contents writer.new) (named_text word.now line)) }
@@ -35,7 +35,7 @@ pub fn send_named<W: Write>(word: &[u8], line: LineNumber, writer: &mut W) -> Re
 }
 
 #[tactic(auto, using(picture::proofs::SendingLaws::sending))]
-// Writes a line that names a cell.
+// Writes a line of a text: a word, and the cell that is named.
 fn send_cell<W: Write>(word: &[u8], cell: CellNumber, writer: &mut W) -> Result<(), WriteFault>
     ensures ok { OnOk result
         (Appends (W.contents writer.old) (W.contents writer.new) (cell_text word.now cell)) }
@@ -63,7 +63,7 @@ fn send_line<W: Write>(line: CertLine, writer: &mut W) -> Result<(), WriteFault>
 }
 
 #[tactic(auto, using(picture::proofs::SendingLaws::pieces))]
-/// Writes the lines of givens, or after an error a prefix of them.
+/// Writes a line of a text for each given. After an error a prefix of them was written.
 pub fn send_givens<W: Write>(givens: &[CellNumber], writer: &mut W) -> Result<(), WriteFault>
     ensures ok { OnOk result
         (Appends (W.contents writer.old) (W.contents writer.new) (flat_map given_text givens.now)) }
@@ -105,7 +105,7 @@ fn version_word(version: u8) -> &'static [u8]
 
 #[tactic(auto, using(picture::proofs::SendingLaws::sending))]
 /// Writes a certificate as a text, each line with a line feed: the version, the givens and the lines. `read_cert` reads
-/// it as the same certificate. Nothing is kept in memory, and after an error a prefix of the text is written.
+/// it as the same certificate. No memory is taken, and after an error a prefix of the text was written.
 pub fn write_cert<W: Write>(cert: &Cert, writer: &mut W) -> Result<(), WriteFault>
     ensures ok { OnOk result
         (Appends (W.contents writer.old) (W.contents writer.new) (cert_text cert.now)) }

@@ -17,7 +17,7 @@ blank_left picture row col k h w l =
     ap (λ (r : List ℕ). get_or r col 0) (blank_row picture row h) ∙ get_or-replicate (width_of picture) col 65535 0 w in
     bit_below 65535 16 k (omega arith) (rw e at l)
 
--- the root of a certificate with exactly the cells of a set is the base of that set
+-- the root of a certificate whose givens are exactly a set's is the base of the set
 pub bases_are_one : BasesAreOne
 bases_are_one picture givens cells is names = record {
   same_shape = givens_shape picture (nothing_excluded (length picture) (width_of picture)) cells (full_shape picture is);

@@ -1,4 +1,4 @@
--- What is made: a certificate, or there is another picture.
+-- What the maker answers: a certificate, or that there is another picture.
 use Rattle.std.proofs.Common.{◌≡◌, ℕ, ◌+◌, ◌↔◌, true, List, [], ◌∷◌, Option, None, Some, is_some, Ok, length, sym, ap, subst, ◌∙◌, arith}
 use Rattle.picture.specs.CellSet.{HasCell}
 use Rattle.picture.specs.Document.{AreInside}

@@ -32,7 +32,7 @@ use Rattle.cert_check.proofs.Exactness.{same_gains}
 use Rattle.cert_check.proofs.Soundness.{forced_within}
 use Rattle.cert_check.proofs.WalkLemmas.{gains_force}
 
--- ---- what waits excludes no less than the facts at the root
+-- ---- what waits excludes all that the facts at the root exclude
 
 abbrev EachWithin : Masks → List (List (List ℕ)) → Type 0
 EachWithin start [] = Unit {0}

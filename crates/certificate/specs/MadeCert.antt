@@ -1,4 +1,4 @@
--- Certificates that are made.
+-- The certificates that the makers make.
 use Rattle.std.specs.Prelude.{◌≡◌, ℕ, ◌↔◌, List, [], ◌∷◌, ◌++◌, Option, None, Some}
 use Rattle.std.specs.List.{AllByRecursion}
 use Rattle.std.proofs.Common.{Vec, Global}
@@ -22,8 +22,8 @@ use Rattle.lemma_proof.specs.Naming.{NamesGivens}
 
 -- ---- the lines
 
--- A `line` excludes something: the facts with all that it forces are
--- others. A `split` is of a cell in which not just one colour is left.
+-- A `line` excludes something: what it forces changes the facts. A
+-- `split` is of a cell that does not have exactly one colour left.
 abbrev pub ExcludesSome : Rows → Masks → CertLine → Type 0
 ExcludesSome picture facts (Line number) = (gained : Masks) → IsForced picture facts (line_id number) gained
     → gained ≡ facts → ⊥
@@ -56,14 +56,14 @@ WritesTree picture start (Some lines) =
 
 -- ---- the certificate
 
--- the facts at the root of a certificate with exactly the cells of a set are the base of that set
+-- the facts at the root of a certificate whose givens are exactly a set's are the base of that set
 abbrev pub BasesAreOne : Type 0
 BasesAreOne = (picture : Rows) (givens : List ℕ) (cells : List CellNumber) → IsPicture picture
     → NamesGivens picture givens cells → IsBase givens picture (base_of picture cells)
 
 -- A certificate with exactly these givens that has no error: so it proves the picture, and there is no other with its
--- givens or, which is the same, those of the set. It can be written and is read as itself. It has version 1 exactly
--- where there are no givens. Each `line` excludes something, and no `split` is of a settled cell.
+-- givens or, which is the same, those of the set. It can be written and is read as the same certificate. It has
+-- version 1 exactly where there are no givens. Each `line` excludes something, and no `split` is of a settled cell.
 pub record IsMade (picture : Rows) (givens : List ℕ) (cert : Certificate) : Type 0 where
   pub is_cert : IsCert cert
   pub accepted : CertFirstFault picture cert None

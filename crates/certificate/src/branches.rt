@@ -1,4 +1,4 @@
-//! The lines of a tree told as those of a proof by lemmas. Nothing is promised of them, so they are checked.
+//! The lines of a tree as those of a proof by lemmas. Nothing is promised of them, so they are checked.
 
 use cert_text::{CellNumber, CertLine};
 use clues::{Clue, ClueBook};
@@ -6,8 +6,8 @@ use lemma_text::{LemmaLine, Literal};
 use picture::{Axis, LineId, MAX_COLOURS};
 use std::alloc::{AllocError, Global};
 
-/// The lines of a tree as those of a proof by lemmas. None where it splits a cell that can have more than two colours by its
-/// clues.
+/// The lines of a tree as those of a proof by lemmas. None where it splits a cell whose two clues do not have
+/// exactly two colours in common, the background included.
 pub(crate) fn told_lines(
     alloc: Global,
     clues: &ClueBook,
@@ -29,7 +29,7 @@ pub(crate) fn told_lines(
     Ok(Some(lines))
 }
 
-// The split of a cell between two colours: the branch at hand loses the higher one. None where its clues have more colours.
+// The split of a cell between two colours: its first branch excludes the higher one. None where there are not exactly two.
 fn split_told(clues: &ClueBook, cell: CellNumber) -> Option<Literal> {
     let row = colours_along(clues, Axis::Across, cell.row)?;
     let column = colours_along(clues, Axis::Down, cell.col)?;
@@ -42,7 +42,7 @@ fn split_told(clues: &ClueBook, cell: CellNumber) -> Option<Literal> {
     }
 }
 
-// The colours that a cell of a line can have by its clue, for a number from 1.
+// The colours in a line's clue, with the background. Lines are numbered from 1.
 fn colours_along(clues: &ClueBook, axis: Axis, number: u16) -> Option<u16> {
     let at = u8::try_from(number.checked_sub(1)?).ok()?;
     if at < clues.line_count(axis) {

@@ -4,7 +4,7 @@ ghost use Rattle.certificate.specs.MadeCert.{BasesAreOne};
 
 pub use cert_text::laws::round_trip;
 
-/// The facts at the root of a certificate with exactly the cells of a set are the base of that set.
+/// The facts at the root of a certificate whose givens are exactly a set's are the base of the set.
 pub fn bases_are_one()
     ensures { BasesAreOne }
 {}

@@ -1,4 +1,4 @@
-//! The makers of certificates of uniqueness and of proofs by lemmas, and beside them what reads, writes and checks them.
+//! Makes certificates and proofs by lemmas. It also exports what reads, writes and checks them.
 #![tactic(auto)]
 
 mod branches;

@@ -20,8 +20,8 @@ use second_search::{BOUNDS, Bounds, Decided, Ladder, Lines, Scene, climb, find_n
 use std::alloc::{AllocError, Global};
 
 #[tactic(auto, using(crate::proofs::MakeLemmas::writing_trees))]
-// The lines of a tree that proves the picture of a scene from its facts on. There is none exactly where another picture fills the
-// facts. The picture is held on to, and the lines are kept.
+// The lines of a tree that proves the picture of a scene from its facts. None exactly where another picture fits the facts and
+// the clues. The search is guided by the known picture, and the lines are kept.
 fn write_tree<E: LineEngine>(
     alloc: Global,
     engine: &mut E,
@@ -49,7 +49,7 @@ fn write_tree<E: LineEngine>(
     }
 }
 
-// The certificate of a tree with these givens.
+// The certificate with these givens and the lines of a tree.
 fn with_version(givens: Vec<CellNumber>, lines: Vec<CertLine>) -> Cert
     requires givens { AreOrdered 0 givens.items }
     requires lines { AllByRecursion IsWritable lines.items }
@@ -62,8 +62,8 @@ fn with_version(givens: Vec<CellNumber>, lines: Vec<CertLine>) -> Cert
     Cert::new(version, givens, lines)
 }
 
-// Whether a scene that was not judged has another picture that differs in one window alone, where windows may split at all. There
-// may be others where it has not.
+// Whether another picture was found that differs only in one window. None is looked for after an earlier judgement, or where
+// windows may not split. Where the answer is false, there may be other pictures all the same.
 fn has_near_other<E: LineEngine>(
     alloc: Global,
     engine: &mut E,
@@ -87,11 +87,11 @@ fn has_near_other<E: LineEngine>(
 }
 
 /// Makes a certificate of a picture with exactly these givens: `check_cert` accepts it, so there is no other picture with the
-/// clues and, in the givens, the colours. It has version 1 exactly where there are none. The answer is None exactly where there
-/// is another picture. No line of the picture may be longer than the engine takes.
+/// clues and, in the givens, the colours. It has version 1 exactly where there are no givens. The answer is None exactly where
+/// there is another picture. No line of the picture may be longer than the engine takes.
 ///
-/// Near pictures are looked for first. The tree is written while it is searched, and a refused growth is answered as the error.
-/// Nothing is said of its length. The engine's calls do not fall; how many lines are evaluated is not said.
+/// Another picture near this one is looked for first. The tree is written while it is searched for, and a refused allocation is
+/// the error. Nothing is promised of its length. The engine's calls do not fall; how many lines are evaluated is not promised.
 pub fn make_cert<E: LineEngine>(
     alloc: Global,
     engine: &mut E,
@@ -109,9 +109,9 @@ pub fn make_cert<E: LineEngine>(
 }
 
 #[tactic(auto, using(crate::proofs::MadeLemmas::making))]
-/// Makes a certificate as `make_cert` does, within other bounds than the program's; those of the fixed order are not looked at.
-/// Where the picture was judged before by so many evaluations, no near one is looked for, and trees that were broken off are not
-/// begun again. What is promised is the same whatever these are.
+/// Makes a certificate as `make_cert` does, within other bounds than the program's; only `window_splits` and `first_bound` are
+/// used. `judged` is how many evaluations an earlier judgement made: then no near picture is looked for, and trees that it seems
+/// to have broken off are not begun again. What is promised is the same whatever these are.
 pub fn make_cert_within<E: LineEngine>(
     alloc: Global,
     engine: &mut E,

@@ -22,7 +22,7 @@ use picture::{CellSet, Picture};
 use second_search::{BOUNDS, Decided, Ladder, Lines, Scene, find_near_other, take_turn};
 use std::alloc::{AllocError, Global};
 
-// The facts at the root: in each given the picture's colour alone.
+// The facts at the root: in each given only the picture's colour is left.
 fn base_facts(alloc: Global, picture: &Picture, givens: &CellSet) -> Result<Facts, AllocError>
     requires inside { AreInside givens.now picture.now }
     ensures { IfOk result (λ facts.
@@ -36,7 +36,7 @@ fn base_facts(alloc: Global, picture: &Picture, givens: &CellSet) -> Result<Fact
     }
 }
 
-// Another picture that differs in one window alone. There may be others where the answer is None.
+// Another picture that differs only in one window. There may be others where the answer is None.
 fn near_other<E: LineEngine>(
     alloc: Global,
     engine: &mut E,
@@ -63,7 +63,7 @@ fn near_other<E: LineEngine>(
     find_near_other(alloc, engine, &scene, BOUNDS.window_splits)
 }
 
-// The lines of a tree that evaluates few lines, where there is one. The known picture is held on to.
+// The lines of a tree that evaluates few lines, if one is found. The search is guided by the known picture.
 fn small_tree<E: LineEngine>(
     alloc: Global,
     engine: &mut E,
@@ -86,7 +86,7 @@ fn small_tree<E: LineEngine>(
     }
 }
 
-// A proof that tells a small tree, where there is one whose splits are between two colours each.
+// A proof with the lines of a small tree, if one is found whose splits are between two colours each.
 fn tree_proof<E: LineEngine>(
     alloc: Global,
     engine: &mut E,
@@ -125,7 +125,7 @@ fn tree_proof<E: LineEngine>(
     )
 }
 
-// How long the text of a proof is. What is none is longer than any.
+// The length of a proof's text in bytes. What is no proof, or cannot be written, counts as longer than any.
 fn text_length(alloc: Global, made: &Made) -> Result<usize, AllocError> {
     let Made::Proof(proof) = made else {
         return Ok(usize::MAX);
@@ -138,9 +138,9 @@ fn text_length(alloc: Global, made: &Made) -> Result<usize, AllocError> {
     Ok(text.len())
 }
 
-/// Makes a proof by lemmas with exactly these givens, or finds another picture, as `make_proof` does. Near pictures are looked for
-/// first; and where a small tree proves the picture by a shorter text than the lemmas that were learnt, its lines are the proof. No line
-/// of the picture may be longer than the engine takes. The engine's calls do not fall.
+/// Makes a proof by lemmas with exactly these givens, or finds another picture, as `make_proof` does. Pictures near this one are
+/// tried first. Where a small tree proves the picture by a shorter text than the lemmas that were learnt, its lines are the proof.
+/// No line of the picture may be longer than the engine takes. The engine's calls do not fall.
 pub fn find_proof<E: LineEngine>(
     alloc: Global,
     engine: &mut E,

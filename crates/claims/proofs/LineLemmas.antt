@@ -1,4 +1,4 @@
--- A session over bytes that are its whole input replies to their lines, and until a write fails to the first of them.
+-- A session over bytes that are its whole input replies to all their lines, or to the first of them where a write fails.
 use Rattle.std.proofs.Common.{◌≡◌, ◌∙◌, ◌+◌, ℕ, List, [], ◌∷◌, ◌++◌, length, take, Option, Some, Result, Ok, Err, IfErr, ap, append-nil, subst, sym, refl, inl, inr}
 use Rattle.std.specs.List.{concat}
 use Rattle.std.specs.Io.KnownBytes.{Appends}

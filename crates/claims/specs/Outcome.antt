@@ -1,4 +1,4 @@
--- What a run of the program comes to, for arguments that ask for a task or for none.
+-- What comes of a run of the program, for arguments that ask for a task or for none.
 use Rattle.std.specs.Prelude.{◌≡◌, ◌⊎◌, ℕ, List, [], ◌∷◌, Option, None, Result, Ok, IfSome, string_bytes, take}
 use Rattle.std.specs.Io.KnownBytes.{Appends}
 use Rattle.picture.specs.declared.rgb.Rgb.{Rgb}
@@ -31,7 +31,7 @@ files_of (Help text) = []
 
 -- ---- a task that is done
 
--- the clues of the picture that is the whole input went out
+-- the clues of the picture that is the whole input were written
 pub record HasShown (before after : World) : Type 0 where
   pub input : List ℕ
   pub is_input : IfSome before.input (λ bytes. input ≡ bytes)
@@ -39,7 +39,7 @@ pub record HasShown (before after : World) : Type 0 where
   pub shows : shown input None ≡ Ok text
   pub went_out : Appends before.output after.output text
 
--- to each line of the input a true text went out, from the document on that the file holds
+-- for each line of the input a true text was written, beginning with the document in the file
 pub record HasAnswered (held : Held) (options : Options) (before after : World) : Type 0 where
   pub file : List ℕ
   pub content : IsContent held file
@@ -49,8 +49,8 @@ pub record HasAnswered (held : Held) (options : Options) (before after : World) 
   pub truth : TellsTruth before.input after.input before.output after.output
       (machine fresh.history fresh.allowance) last (Ok tt)
 
--- no other picture of that size has the clues and the givens' colours of the picture
--- in the first file, with the givens of the certificate in the second one; and its line went out
+-- no other picture of that size has the clues of the picture in the first file and its colours
+-- in the givens of the certificate in the second one; and the line of the check was written
 pub record HasChecked (picture certificate : Held) (background : Option Rgb) (before after : World) : Type 0 where
   pub file : List ℕ
   pub content : IsContent picture file
@@ -61,7 +61,7 @@ pub record HasChecked (picture certificate : Held) (background : Option Rgb) (be
   pub shows : IsCheckOf file background cert (Ok line)
   pub went_out : Appends before.output after.output line
 
--- a proof for the picture in the file went out, or word that there is none
+-- a proof for the picture in the file was written, or `ambiguous`, or `undecided`
 pub record HasMade (picture : Held) (background : Option Rgb) (before after : World) : Type 0 where
   pub file : List ℕ
   pub content : IsContent picture file
@@ -69,8 +69,8 @@ pub record HasMade (picture : Held) (background : Option Rgb) (before after : Wo
   pub shows : IsProveOf file background (Ok text)
   pub went_out : Appends before.output after.output text
 
--- no other picture of that size has the clues and the givens' colours of the picture in the first
--- file, with the givens of the proof by lemmas in the second one; and its line went out
+-- no other picture of that size has the clues of the picture in the first file and its colours
+-- in the givens of the proof by lemmas in the second one; and the line of the check was written
 pub record HasVerified (picture proved : Held) (background : Option Rgb) (before after : World) : Type 0 where
   pub file : List ℕ
   pub content : IsContent picture file
@@ -93,7 +93,7 @@ IsDone held before after (Help text) = Appends before.output after.output (strin
 
 -- ---- a run
 
--- No file was opened, and the status is not 0; or the first files of a task that
+-- No file was opened, and the status is not 0; or the first `count` files of a task that
 -- the arguments ask for were opened, and with status 0 the task is done.
 abbrev pub Opens : Texts → (List ℕ → Held) → World → World → ℕ → Type 0
 Opens arguments held before after status =
@@ -101,7 +101,7 @@ Opens arguments held before after status =
     ⊎ ((task : Task) × (IsTask arguments (Ok task) × ((count : ℕ)
     × (Names before.opened after.opened (take count (files_of task)) × (status ≡ 0 → IsDone held before after task)))))
 
--- that, with the status of what came of it: 0 without an error, else the error's
+-- a run that opens files in this way, with the status of its outcome: 0 without an error, else the error's
 pub record Comes (arguments : Texts) (held : List ℕ → Held) (before after : World) (status : ℕ) : Type 0 where
   pub outcome : Result (Unit {0}) ProgramFault
   pub right_status : status ≡ status_after outcome

@@ -1,4 +1,4 @@
--- What a session writes: to all lines of a text that is its whole input, or until a write fails.
+-- What a session writes: replies to all lines of its whole input, or a part of them where a write fails.
 use Rattle.std.specs.Prelude.{◌≡◌, ◌⊎◌, ℕ, List, Option, take}
 use Rattle.std.specs.List.{concat}
 use Rattle.std.specs.Io.KnownBytes.{Appends, Consumes}
@@ -13,7 +13,7 @@ pub record AnswersAll (lines : Texts) (text : List ℕ) (m last : Machine) : Typ
   pub text_is : text ≡ concat texts
   pub replies : AreReplies m lines texts last
 
--- What went out is a prefix of such replies, to the first of the lines.
+-- What was written is a prefix of the replies to the first `count` lines.
 pub record AnswersFront (lines : Texts) (had has : Option (List ℕ)) (m last : Machine) : Type 0 where
   pub count : ℕ
   pub texts : Texts
@@ -21,7 +21,7 @@ pub record AnswersFront (lines : Texts) (had has : Option (List ℕ)) (m last : 
   pub front : ℕ
   pub went_out : Appends had has (take front (concat texts))
 
--- what went out is a prefix of replies to the lines that were read, with the last one or without, which no feed ended
+-- what was written is a prefix of replies to the lines that were read, or to those of them that a line feed ends
 pub record AnswersRead (had have held holds : Option (List ℕ)) (m last : Machine) : Type 0 where
   pub read : List ℕ
   pub consumes : Consumes had have read

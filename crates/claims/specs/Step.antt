@@ -1,4 +1,4 @@
--- What a designer's step is to the history of a document.
+-- A designer's step, as a stroke of the history.
 use Rattle.claims.specs.declared.stroke.Step.{Step}
 use Rattle.claims.specs.declared.stroke.Step.TheVariants.{Edit, Undo, Redo}
 use Rattle.live_audit.specs.Stroke.{Edits, Redoes, Stroke, Undoes}

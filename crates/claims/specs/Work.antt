@@ -11,8 +11,8 @@ lines_in map = length map + width_of map
 abbrev pub cells_in : Masks → ℕ
 cells_in map = length map * width_of map
 
--- Under an allowance of splits: so many for each part of the map. Its lines and sixteen
--- colours for each of its cells are counted once, and once more for each colour of a split.
+-- Under an allowance of splits, for each part of the map: the map's lines and sixteen colours
+-- for each of its cells, counted once, and sixteen times more for each of the splits.
 abbrev pub most_evaluations : Seen → ℕ → ℕ
 most_evaluations s splits =
     length s.kept * ((1 + 16 * splits) * (lines_in s.book.facts + 16 * cells_in s.book.facts))

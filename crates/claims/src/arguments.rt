@@ -14,8 +14,8 @@ use session::laws::sessions_are_true;
 use std::alloc::Global;
 use std::io::{Read, Write};
 
-/// The whole program for arguments that ask for no task: no file is opened, nothing is read or written but the error's line, and
-/// the status is not 0.
+/// The whole program for arguments that ask for no task: no file is opened, nothing is read, nothing but an error message is
+/// written, and the exit status is not 0.
 pub fn run_refused<F: Files, R: Read, W: Write, V: Write>(
     alloc: Global,
     arguments: Vec<String>,
@@ -34,10 +34,10 @@ pub fn run_refused<F: Files, R: Read, W: Write, V: Write>(
     run(alloc, Ok(arguments), files, reader, writer, errors)
 }
 
-/// The whole program: it opens only the first of the files that a task names for which the arguments ask. Its status is that of
-/// what came of it. With status 0 there is such a task, and it is done: the clues went out; or a true text to each line of the
-/// input; or a proof, or word that there is none; or the line of a check, and the picture of the first file is the only one of
-/// its size with its clues and its colours in the givens of the certificate or proof.
+/// The whole program. Of the files that the task of its arguments names, it opens all, or only the first ones. Its exit status
+/// is that of its outcome. With status 0 there is such a task, and it is done: the clues or help were written; or a true text
+/// for each line of the input; or a proof, `ambiguous` or `undecided`; or the line of a check, and the picture of the first
+/// file is the only one of its size with its clues and its colours in the givens of the certificate or proof.
 pub fn run_asked<F: Files, R: Read, W: Write, V: Write>(
     alloc: Global,
     arguments: Vec<String>,

@@ -1,4 +1,4 @@
-//! What the README claims, as calls of the crates below prove it: each function here is a caller that sees only their clauses.
+//! What the README claims, proved by calls of the other crates: each function here is a caller that sees only their clauses.
 #![tactic(auto)]
 
 mod arguments;

@@ -13,7 +13,7 @@ use session::run_session;
 use std::alloc::Global;
 use std::io::{Read, Write};
 
-/// What a session answers whose whole input is a text: one answer after the other, each true of the document that the lines
+/// What a session answers to a text that is its whole input: an answer for each line, true of the document that the lines
 /// before it lead to.
 pub fn answered<E: LineEngine + Drop, A: Agenda + Drop>(
     alloc: Global,
@@ -30,7 +30,7 @@ pub fn answered<E: LineEngine + Drop, A: Agenda + Drop>(
     Ok(text)
 }
 
-/// What a session answers on any writer. Where a write fails, a prefix of the right answers went out.
+/// Runs a session with any reader and writer. Where a write fails, a prefix of the right answers was written.
 pub fn answered_until<R: Read, W: Write, E: LineEngine + Drop, A: Agenda + Drop>(
     alloc: Global,
     bench: &mut Bench<E, A>,

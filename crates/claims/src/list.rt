@@ -1,4 +1,4 @@
-//! What a bench has after calls is that of the present picture.
+//! After any calls, the clues, the map and the verdict of a bench are those of its present picture.
 
 ghost use Rattle.std.specs.Prelude.{◌≡◌, ℕ, List, true, false, Some, Ok, OnOk};
 ghost use Rattle.clues.specs.ClueBook.{clues_of};
@@ -15,7 +15,7 @@ use live_audit::{Bench, MAX_ALLOWANCE};
 use propagate::Agenda;
 use std::alloc::AllocError;
 
-/// What can be asked of a bench and changes it, or what is known of its picture.
+/// A call that changes a bench, or what it knows of its picture.
 #[derive(Drop)]
 pub enum Call {
     Step(Step),
@@ -24,7 +24,7 @@ pub enum Call {
     Certify,
 }
 
-/// Makes two edits. Where both are accepted, the document is that of the two.
+/// Makes two edits. Where both are accepted, the document is the old one with both edits.
 pub fn edit_twice<E: LineEngine + Drop, A: Agenda + Drop>(
     bench: &mut Bench<E, A>,
     first: &Edit,
@@ -49,7 +49,7 @@ pub fn edit_and_undo<E: LineEngine + Drop, A: Agenda + Drop>(
     bench.undo()
 }
 
-/// Makes calls one after the other, without those that are refused. After any list of them the clues are those of the present
+/// Makes calls one after the other, also after a refused one. After any list of them the clues are those of the present
 /// picture, and the map is the least one closed under line deductions that excludes what its givens exclude.
 pub fn call_all<E: LineEngine + Drop, A: Agenda + Drop>(bench: &mut Bench<E, A>, calls: &[Call])
     ensures clues { bench.new.clues ≡ clues_of bench.new.history.document.rows }
@@ -78,7 +78,7 @@ fn make_call<E: LineEngine + Drop, A: Agenda + Drop>(bench: &mut Bench<E, A>, ca
     }
 }
 
-/// Makes calls as above, and asks for the verdict: it is that of the picture that is then present.
+/// Makes calls as `call_all` does, and asks for the verdict, which is that of the picture after them.
 pub fn verdict_after<E: LineEngine + Drop, A: Agenda + Drop>(
     bench: &mut Bench<E, A>,
     calls: &[Call],

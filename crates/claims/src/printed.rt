@@ -1,4 +1,4 @@
-//! Pairs that `write ppm` and `certify` print pass a check.
+//! The pair that `write ppm` and `certify` print passes a check.
 
 ghost use Rattle.std.specs.Prelude.{◌≡◌, ◌⊎◌, Some, IfErr};
 ghost use Rattle.program_options.specs.declared.fault.ProgramFault.TheVariants.{Memory, Write as Unwritten};

@@ -10,7 +10,7 @@ use line_facts::LineEngine;
 use live_audit::Bench;
 use propagate::Agenda;
 
-/// What a designer does to a picture.
+/// A stroke: an edit, an undo or a redo.
 #[derive(Drop)]
 pub enum Step {
     Edit(Edit),

@@ -1,4 +1,4 @@
-//! How much work a stroke takes, and a verdict under an allowance.
+//! How many lines are evaluated for a stroke, and for a verdict under an allowance.
 
 ghost use Rattle.std.specs.Prelude.{◌≡◌, ◌≤◌, ℕ, Some, IfOk};
 ghost use Rattle.claims.specs.Step.{stroke_of};
@@ -14,7 +14,7 @@ use live_audit::laws::strokes_evaluate_few;
 use propagate::Agenda;
 use std::alloc::AllocError;
 
-/// Makes a step, and says how many lines were evaluated for it: at most the dirty lines, and the cells on which new steps draw.
+/// Makes a step, and returns how many lines were evaluated: at most one per dirty line and per cell each new step narrows.
 pub fn evaluations_of<E: LineEngine + Drop, A: Agenda + Drop>(
     bench: &mut Bench<E, A>,
     step: &Step,
@@ -32,7 +32,7 @@ pub fn evaluations_of<E: LineEngine + Drop, A: Agenda + Drop>(
     Ok(bench.work().edit.evaluations)
 }
 
-/// Asks for the verdict, and says how many lines were evaluated for it: under an allowance, at most what this allows for each part.
+/// Asks for the verdict, and returns how many lines were evaluated: under an allowance, at most what it allows for all parts.
 pub fn evaluations_of_verdict<E: LineEngine + Drop, A: Agenda + Drop>(
     bench: &mut Bench<E, A>,
 ) -> Result<u64, AllocError>

@@ -32,7 +32,7 @@ drop_replicate : (n x : ℕ) (rest : List ℕ) → drop n (replicate n x ++ rest
 drop_replicate zero x rest = refl
 drop_replicate (suc n) x rest = drop_replicate n x rest
 
--- ---- blocks that stand from a place on
+-- ---- blocks that are placed from a place on
 
 pub record StandFrom (line : List ℕ) (from : ℕ) (blocks : List Placed) : Type 0 where
   pub starts : All (λ (p : Placed). from ≤ p.start) blocks

@@ -1,4 +1,4 @@
--- A clue as blocks that stand on a line. Cells are counted from 0, and past the line's end there is background.
+-- A clue as blocks that are placed on a line. Cells are counted from 0, and past its end there is background.
 use Rattle.std.specs.Prelude.{◌≡◌, ◌≢◌, ◌↔◌, ℕ, ◌+◌, ◌<◌, ◌≤◌, List, get_or, map}
 use Rattle.std.specs.List.{All, AllPairs, Any}
 use Rattle.clues.specs.declared.block.Block.{Block}
@@ -17,13 +17,13 @@ pub record Covers (cell : ℕ) (placed : Placed) : Type 0 where
   pub from : placed.start ≤ cell
   pub below : cell < end_of placed
 
--- A block covers a cell, and each cell that it covers has its colour, which is not the background.
+-- A block covers at least one cell, and each cell that it covers has its colour, which is not the background.
 pub record StandsOn (line : List ℕ) (placed : Placed) : Type 0 where
   pub has_cells : 0 < placed.block.len
   pub has_colour : placed.block.colour ≢ 0
   pub cells : (cell : ℕ) → Covers cell placed → get_or line cell 0 ≡ placed.block.colour
 
--- One block ends before another begins; there is a cell between them if they have one colour.
+-- One block ends before another begins; there is a cell between them if they have the same colour.
 pub record AreApart (one other : Placed) : Type 0 where
   pub in_order : end_of one ≤ other.start
   pub has_gap : one.block.colour ≡ other.block.colour → end_of one < other.start

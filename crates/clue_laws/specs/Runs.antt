@@ -8,8 +8,8 @@ abbrev pub HasEnded : ℕ → List ℕ → Type 0
 HasEnded colour [] = Unit {0}
 HasEnded colour (next ∷ cells) = next ≢ colour
 
--- A line's first run is a block: before it there is background, it has a cell,
--- its colour is not the background, and the rest does not go on in its colour.
+-- A line's first run is a block: before it there is background, it has at least one
+-- cell, its colour is not the background, and the rest does not begin with its colour.
 pub record IsFirstRun (line : List ℕ) (run : Block) (rest : List ℕ) : Type 0 where
   pub gap : ℕ
   pub cells : line ≡ replicate gap 0 ++ (replicate run.len run.colour ++ rest)

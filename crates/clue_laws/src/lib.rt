@@ -1,4 +1,4 @@
-//! What a clue is, said without the function that computes it: laws of clues.
+//! Laws of clues: what a clue is, without the function that computes it.
 #![tactic(auto)]
 
 ghost use Rattle.clue_laws.specs.Placement.{CluesCanBePlaced};
@@ -11,8 +11,8 @@ pub fn clues_are_maximal_runs()
     ensures { CluesAreMaximalRuns }
 {}
 
-/// A list of blocks is the clue of a line exactly if the blocks can be placed on it: in order, with a cell between two of one
-/// colour, each over cells of its colour alone, so that only background is left.
+/// A list of blocks is the clue of a line exactly if the blocks can be placed on it: in order, with a cell between two of
+/// the same colour, each over cells of its colour alone, so that only background is left.
 pub fn clues_can_be_placed()
     ensures { CluesCanBePlaced }
 {}

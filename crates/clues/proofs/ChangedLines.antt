@@ -1,4 +1,4 @@
--- Lines of a new picture that are no old lines, and those that are.
+-- Lines of a new picture that are not images of old lines with the same cells, and those that are.
 use Rattle.std.proofs.Common.{◌≡◌, ◌≢◌, ℕ, ◌^◌, ◌<◌, ◌⊎◌, inl, inr, Option, Some, None, option_map, length, get_or, refl, sym, ap, subst, ◌∙◌, arith, IsBitSet}
 use Rattle.std.specs.Int.Bits.{and_zero_l}
 use Rattle.std.proofs.lemmas.Bool.Decides.{nat_tests}
@@ -52,7 +52,7 @@ image_from_place moves line from (Some at) place e =
 pub image_of-origin : (moves : Moves) (line from : LineId) → origin_of moves line ≡ Some from → image_of moves from ≡ Some line
 image_of-origin moves line from e = image_from_place moves line from (old_place (places_along line.axis moves) line.at) refl e
 
--- a line that is new has no old line, and one of another length has other cells
+-- an inserted line is not an image, and a line whose length changes has other cells
 new_has_no_origin : (places : Places) (from at : ℕ) → IsNewAt places at → new_place places from ≡ Some at → ⊥
 new_has_no_origin Kept from at n e = n
 new_has_no_origin (Inserted place) from at n e = grind (arith, nat_tests)

@@ -17,7 +17,7 @@ pub first_clues-more : (axis : Axis) (picture : Rows) (n : ℕ) → first_clues 
 unfolding first_clues
 first_clues-more axis picture n = map-range_with_len_more (λ at. clue_of (line_along axis at picture)) 0 n n (zero-add n)
 
--- a list of clues that is that of the lines so far, and one that goes on with the clue of the next line
+-- a list of clues that begins with those of the lines so far, and with that of the next line after them
 pub first_clues-take : (axis : Axis) (picture : Rows) (clues : List (List Block)) (at : ℕ) (clue : List Block) → at < length clues → clue ≡ get_or clues at clue
     → clue_of (line_along axis at picture) ≡ clue → first_clues axis picture at ≡ take at clues → first_clues axis picture (at + 1) ≡ take (at + 1) clues
 first_clues-take axis picture clues at clue within read same before =
@@ -25,7 +25,7 @@ first_clues-take axis picture clues at clue within read same before =
     ∙ (ap (λ c. first_clues axis picture at ++ c ∷ []) (same ∙ read)
     ∙ (ap (λ cs. cs ++ get_or clues at clue ∷ []) before ∙ sym (take_more clues at clue within)))
 
--- a list of clues that is that of all lines
+-- a list of clues that has those of all lines, and no more
 pub all_first_clues : (axis : Axis) (picture : Rows) (clues : List (List Block)) (n : ℕ) → n ≡ lines_along axis picture → length clues ≡ n → first_clues axis picture n ≡ take n clues
     → clues_along axis (clues_of picture) ≡ clues
 all_first_clues axis picture clues n all long is =

@@ -1,4 +1,4 @@
--- Lines that an edit moves: where they stand before and after.
+-- Lines that an edit moves: their places before and after.
 use Rattle.std.proofs.Common.{◌≡◌, ℕ, ◌<◌, Option, Some, None, arith, option_map, refl, sym, ap, ◌∙◌}
 use Rattle.std.proofs.lemmas.Bool.Decides.{nat_tests}
 use Rattle.clues.specs.declared.places.Places.{Places}
@@ -18,14 +18,14 @@ old_place-new_place (Inserted place) at to e = grind (arith, nat_tests)
 old_place-new_place (Deleted place) at to e = grind (arith, nat_tests)
 old_place-new_place (Swapped first second) at to e = grind (arith, nat_tests)
 
--- a line keeps among the others
+-- the new place of a line is among the new lines
 pub new_place-among : (places : Places) (count at to : ℕ) → AreAmong places count → at < count → new_place places at ≡ Some to → to < count_after places count
 new_place-among Kept count at to among within e = grind arith
 new_place-among (Inserted place) count at to among within e = grind (arith, nat_tests)
 new_place-among (Deleted place) count at to among within e = grind (arith, nat_tests)
 new_place-among (Swapped first second) count at to among within e = grind (arith, nat_tests)
 
--- the line that an old line is came from it
+-- the origin of an image is its old line
 origin_from_place : (moves : Moves) (from line : LineId) (to : Option ℕ) → new_place (places_along from.axis moves) from.at ≡ to → option_map (line_at from.axis) to ≡ Some line
     → origin_of moves line ≡ Some from
 origin_from_place moves from line None place e = absurd (cc e)
@@ -36,7 +36,7 @@ origin_from_place moves from line (Some to) place e =
 pub origin_of-image : (moves : Moves) (from line : LineId) → image_of moves from ≡ Some line → origin_of moves line ≡ Some from
 origin_of-image moves from line e = origin_from_place moves from line (new_place (places_along from.axis moves) from.at) refl e
 
--- where untouched lines have the cells of the lines that they were, those lines' clues are there and stand
+-- where untouched lines have the cells of the lines that they were, the clues of those lines are there and right
 pub can_refresh : (change : Changes) (old new : Rows) → Follows change old new → CanRefresh (clues_of old) new change
 can_refresh change old new follows = record {
   sizes = follows.sizes;

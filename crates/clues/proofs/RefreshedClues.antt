@@ -60,7 +60,7 @@ touched_or_not change line =
           ]
     ]
 
--- the line that an untouched line was has a clue, which is copied
+-- the old line that an untouched line was has a clue, which is copied
 pub can_copy : (clues : Clues) (picture : Rows) (change : Changes) (line old : LineId) → CanRefresh clues picture change → HasLine picture line → (IsTouched change line → ⊥)
     → origin_of change.moves line ≡ Some old → HasClue clues old
 can_copy clues picture change line old can has untouched e =
@@ -119,7 +119,7 @@ pub both_sizes : (picture : Rows) (rows columns : List (List Block)) → length 
 both_sizes picture rows columns across down Across = across
 both_sizes picture rows columns across down Down = down
 
--- where the clues that are copied are the picture's, the book is
+-- where the copied clues are the picture's, the new book is that of the picture
 same_clue : (old new : Clues) (picture : Rows) (change : Changes) (line : LineId) → CanRefresh old picture change → KeepsClues change old (clues_of picture) → KeepsClues change old new
     → CountsClues change picture new → HasLine picture line → HasClue new line → clue_at new line ≡ clue_at (clues_of picture) line
 same_clue old new picture change line can stand copied counted has has_clue =

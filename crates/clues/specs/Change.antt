@@ -1,4 +1,4 @@
--- What an edit changes: which line of the new picture is which line of the old one, and which lines have other cells.
+-- What an edit changes: which line of the new picture each old line becomes, and which lines may have other cells.
 use Rattle.std.specs.Prelude.{◌≡◌, ℕ, ◌<◌, ◌≤◌, ◌⊎◌, List, [], length, slice_index, slice_index_or, Option, Some}
 use Rattle.std.specs.Prelude.{option_map}
 use Rattle.picture.specs.declared.line_id.Axis.{Axis}
@@ -16,14 +16,14 @@ use Rattle.clues.specs.declared.block.Block.{Block}
 use Rattle.clues.specs.Clue.{clue_of}
 use Rattle.clues.specs.ClueBook.{Clues, clue_at, HasClue}
 
--- the sizes before, and where the rows and the columns go
+-- the sizes of the old picture, and how its rows and its columns move
 pub record Moves : Type 0 where
   pub height : ℕ
   pub width : ℕ
   pub rows : Places
   pub columns : Places
 
--- the moves, and the lines that were touched besides
+-- the moves, and the lines of the new picture that are marked as touched
 pub record Changes : Type 0 where
   pub moves : Moves
   pub marked : Lines
@@ -36,7 +36,7 @@ abbrev pub places_along : Axis → Moves → Places
 places_along Across moves = moves.rows
 places_along Down moves = moves.columns
 
--- how many lines there were, and are
+-- how many lines along an axis the old picture has, and the new one
 abbrev pub lines_before : Axis → Moves → ℕ
 lines_before Across moves = moves.height
 lines_before Down moves = moves.width
@@ -44,11 +44,11 @@ lines_before Down moves = moves.width
 abbrev pub lines_after : Axis → Moves → ℕ
 lines_after axis moves = count_after (places_along axis moves) (lines_before axis moves)
 
--- which new line an old line is, if it is still there
+-- the line of the new picture that an old line becomes, if it is not deleted
 abbrev pub image_of : Moves → LineId → Option LineId
 image_of moves line = option_map (line_at line.axis) (new_place (places_along line.axis moves) line.at)
 
--- which old line a new line is, if it was there before
+-- the line of the old picture that a line of the new one was, if it is not inserted
 abbrev pub origin_of : Moves → LineId → Option LineId
 origin_of moves line = option_map (line_at line.axis) (old_place (places_along line.axis moves) line.at)
 
@@ -56,7 +56,7 @@ origin_of moves line = option_map (line_at line.axis) (old_place (places_along l
 abbrev pub Stays : Moves → Axis → ℕ → Type 0
 Stays moves axis position = image_of moves (line_at (crossing axis) position) ≡ Some (line_at (crossing axis) position)
 
--- the line is new, or has another length, or was touched
+-- the line is inserted, or its length changes, or it is marked
 abbrev pub IsTouched : Changes → LineId → Type 0
 IsTouched change line =
     IsNewAt (places_along line.axis change.moves) line.at
@@ -74,7 +74,7 @@ abbrev pub moved_along : Axis → Places → ℕ → ℕ → Moves
 moved_along Across places height width = moves_from height width places Kept
 moved_along Down places height width = moves_from height width Kept places
 
--- the sizes are 1 to 120 before and after, and what moves is among the lines
+-- the sizes are 1 to 120 before and after, and the places in `rows` and `columns` are among the lines
 pub record AreMoves (moves : Moves) : Type 0 where
   pub some_before : (axis : Axis) → 0 < lines_before axis moves
   pub fit_before : (axis : Axis) → lines_before axis moves ≤ MAX_SIDE
@@ -82,12 +82,12 @@ pub record AreMoves (moves : Moves) : Type 0 where
   pub fit_after : (axis : Axis) → lines_after axis moves ≤ MAX_SIDE
   pub among : (axis : Axis) → AreAmong (places_along axis moves) (lines_before axis moves)
 
--- what moves the lines back
+-- the moves of the lines back to their old places
 abbrev pub back : Moves → Moves
 back moves =
     moves_from (lines_after Across moves) (lines_after Down moves) (reversed moves.rows) (reversed moves.columns)
 
--- the size of a picture
+-- a height and a width that a picture can have
 pub record IsSize (height width : ℕ) : Type 0 where
   pub has_row : 0 < height
   pub rows_fit : height ≤ MAX_SIDE
@@ -105,24 +105,24 @@ pub record HaveSizes (moves : Moves) (old new : Rows) : Type 0 where
   pub before : (axis : Axis) → lines_along axis old ≡ lines_before axis moves
   pub after : (axis : Axis) → lines_along axis new ≡ lines_after axis moves
 
--- the line of the new picture has the cells of the old line that it is
+-- the line of the new picture is the image of an old line with the same cells
 abbrev pub IsOldLine : Moves → Rows → Rows → LineId → Type 0
 IsOldLine moves old new line =
     (from : LineId) × HasLine old from × (image_of moves from ≡ Some line) × (line_of new line ≡ line_of old from)
 
 -- the new picture has the sizes that the change gives, and
--- untouched lines have the cells of the old lines that they are
+-- untouched lines have the cells of the old lines that they were
 pub record Follows (change : Changes) (old new : Rows) : Type 0 where
   pub sizes : (axis : Axis) → lines_along axis new ≡ lines_after axis change.moves
   pub untouched : (line : LineId) → HasLine new line → (IsTouched change line → ⊥) → IsOldLine change.moves old new line
 
--- no line is touched that has the cells of the old line that it is
+-- no line is touched that has the cells of the old line that it was
 abbrev pub TouchesChanged : Changes → Rows → Rows → Type 0
 TouchesChanged change old new =
     (line : LineId) → HasLine new line → IsTouched change line → IsOldLine change.moves old new line → ⊥
 
--- The change from one picture to another: it has their sizes, and exactly those lines are touched that were not there,
--- or have other cells than the old lines that they are.
+-- The change from one picture to another: it has their sizes, and exactly those lines are touched that are inserted,
+-- or have other cells than the old lines that they were.
 pub record IsChangeOf (change : Changes) (old new : Rows) : Type 0 where
   pub sizes : HaveSizes change.moves old new
   pub follows : Follows change old new
@@ -133,36 +133,36 @@ pub record AgreesOff (line : LineId) (old new : Rows) : Type 0 where
   pub has_line : HasLine new line
   pub off_line : line_deleted new line ≡ old
 
--- a line that crosses lines of an axis has the same cell in two of them
+-- if the line crosses the lines along this axis, its cells in the first and in the second have the same colour
 abbrev pub CrossesAlike : Axis → ℕ → ℕ → Rows → LineId → Type 0
 CrossesAlike axis first second picture line =
     line.axis ≡ crossing axis → slice_index (line_of picture line) first ≡ slice_index (line_of picture line) second
 
--- after an exchange exactly those lines have the cells of the old lines
--- that they are which cross the two in the same cells, or don't cross them
+-- after an exchange, the lines with the cells of the old lines that they were
+-- are those along the axis, and those that cross both lines in the same colour
 pub record FollowsSwap (axis : Axis) (first second : ℕ) (moves : Moves) (old new : Rows) : Type 0 where
   pub sizes : HaveSizes moves old new
   pub alike : (line : LineId) → HasLine new line → CrossesAlike axis first second old line
       → IsOldLine moves old new line
   pub only : (line : LineId) → HasLine new line → IsOldLine moves old new line → CrossesAlike axis first second old line
 
--- where no line moves, exactly those lines are the old ones that have the same cells as before
+-- where no line moves, `IsOldLine` holds of exactly the lines that have the same cells as before
 pub record FollowsCells (moves : Moves) (old new : Rows) : Type 0 where
   pub sizes : HaveSizes moves old new
   pub same : (line : LineId) → HasLine new line → line_of new line ≡ line_of old line → IsOldLine moves old new line
   pub only : (line : LineId) → HasLine new line → IsOldLine moves old new line → line_of new line ≡ line_of old line
 
--- the line of the new picture is an old line, which has a clue
+-- the line of the new picture is the image of an old line that has a clue
 abbrev pub HasOldClue : Moves → Clues → LineId → Type 0
 HasOldClue moves clues line = (from : LineId) × HasClue clues from × (image_of moves from ≡ Some line)
 
--- the picture has the sizes that the change gives, and the old lines that untouched lines are have clues
+-- the picture has the sizes that the change gives, and the old lines that untouched lines were have clues
 pub record CanRefresh (clues : Clues) (picture : Rows) (change : Changes) : Type 0 where
   pub sizes : (axis : Axis) → lines_along axis picture ≡ lines_after axis change.moves
   pub untouched : (line : LineId) → HasLine picture line → (IsTouched change line → ⊥)
       → HasOldClue change.moves clues line
 
--- where the line is untouched, the clue is that of the old line that it is
+-- where the line is untouched, the clue is that of the old line that it was
 abbrev pub IsOldClue : Changes → Clues → LineId → List Block → Type 0
 IsOldClue change clues line clue =
     (IsTouched change line → ⊥) → (from : LineId) → image_of change.moves from ≡ Some line → clue ≡ clue_at clues from
@@ -171,7 +171,7 @@ IsOldClue change clues line clue =
 abbrev pub IsNewClue : Changes → Rows → LineId → List Block → Type 0
 IsNewClue change picture line clue = IsTouched change line → clue ≡ clue_of (line_of picture line)
 
--- each untouched line has the clue that the old line which it is had before
+-- each untouched line has the clue of the old line that it was
 abbrev pub KeepsClues : Changes → Clues → Clues → Type 0
 KeepsClues change old new = (line : LineId) → HasClue new line → IsOldClue change old line (clue_at new line)
 
@@ -179,6 +179,6 @@ KeepsClues change old new = (line : LineId) → HasClue new line → IsOldClue c
 abbrev pub CountsClues : Changes → Rows → Clues → Type 0
 CountsClues change picture new = (line : LineId) → HasClue new line → IsNewClue change picture line (clue_at new line)
 
--- something holds of each line along an axis and its clue
+-- P holds of each line along an axis with its clue
 abbrev pub EachAlong : Axis → List (List Block) → (LineId → List Block → Type 0) → Type 0
 EachAlong axis clues P = (at : ℕ) → at < length clues → P (line_at axis at) (slice_index_or clues at [])

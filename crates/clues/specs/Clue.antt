@@ -29,7 +29,7 @@ two_colours = refl
 one_colour : clue_of (1 ∷ 0 ∷ 1 ∷ []) ≡ block 1 1 ∷ block 1 1 ∷ []
 one_colour = refl
 
--- a block has a cell, and a colour from 1 to 15
+-- a block has at least one cell, and a colour from 1 to 15
 pub record IsBlock (b : Block) : Type 0 where
   pub has_cells : 0 < b.len
   pub has_colour : 0 < b.colour

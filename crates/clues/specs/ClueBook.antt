@@ -37,7 +37,7 @@ columns_of picture = map (λ j. map (λ row. slice_index row j) picture) (range_
 abbrev pub clues_of : Rows → Clues
 clues_of picture = record { rows = map clue_of picture; columns = map clue_of (columns_of picture) }
 
--- what the clues in a clue book are: of 1 to 120 rows and columns
+-- what holds of the clues in a clue book: they are of 1 to 120 rows and columns
 pub record IsBook (clues : Clues) : Type 0 where
   pub has_row : 0 < length clues.rows
   pub rows_fit : length clues.rows ≤ MAX_SIDE

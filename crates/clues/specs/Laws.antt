@@ -10,13 +10,13 @@ use Rattle.clues.specs.ClueBook.{Clues, HasClue, clue_at, clues_along, clues_of}
 use Rattle.clues.specs.Change.{AgreesOff, AreMoves, CanRefresh, Changes, Follows, IsTouched, KeepsClues, Moves}
 use Rattle.clues.specs.Change.{back, image_of, lines_after, lines_before}
 
--- the clues of a picture are one for each line, that of its cells
+-- the clues of a picture have one for each line, which is the clue of its cells
 pub record CluesAreOfLines : Type 0 where
   pub sizes : (picture : Rows) (axis : Axis) → length (clues_along axis (clues_of picture)) ≡ lines_along axis picture
   pub clues : (picture : Rows) (line : LineId) → HasLine picture line
       → clue_at (clues_of picture) line ≡ clue_of (line_of picture line)
 
--- clue books of one size with the same clue for each line are one
+-- clue books of the same size with the same clue for each line are equal
 abbrev pub BooksAreTheirClues : Type 0
 BooksAreTheirClues =
     (one other : Clues)
@@ -24,7 +24,7 @@ BooksAreTheirClues =
     → ((line : LineId) → HasClue one line → clue_at one line ≡ clue_at other line)
     → one ≡ other
 
--- No two lines have one image, an image lies among the new lines
+-- No two lines have the same image, an image is a line of the new picture
 -- along the same axis, and each untouched line is an image.
 pub record ImagesAreLines : Type 0 where
   pub one_to_one : (moves : Moves) (one other to : LineId) → image_of moves one ≡ Some to
@@ -36,21 +36,21 @@ pub record ImagesAreLines : Type 0 where
       → line.at < lines_after line.axis change.moves → (IsTouched change line → ⊥)
       → (from : LineId) × (from.at < lines_before from.axis change.moves) × (image_of change.moves from ≡ Some line)
 
--- what moves the lines back takes each image to its line, and nothing else
+-- the reversed moves take each image back to its line, and take nothing else to a line
 pub record MovesGoBack : Type 0 where
   pub back_to_line : (moves : Moves) (line to : LineId) → image_of moves line ≡ Some to
       → image_of (back moves) to ≡ Some line
   pub back_from_line : (moves : Moves) (line to : LineId) → image_of (back moves) to ≡ Some line
       → image_of moves line ≡ Some to
 
--- where each untouched line has the cells of the old line that it is, the
--- old picture's clue book can be refreshed, and what it copies stands
+-- where each untouched line has the cells of the old line that it was, the
+-- old picture's clue book can be refreshed, and its clues for those lines are right
 pub record UntouchedCluesStand : Type 0 where
   pub can_refresh : (change : Changes) (old new : Rows) → Follows change old new → CanRefresh (clues_of old) new change
   pub stand : (change : Changes) (old new : Rows) → Follows change old new
       → KeepsClues change (clues_of old) (clues_of new)
 
--- a cell lies on a line
+-- a cell is on a line
 abbrev pub IsAtPlace : Axis → ℕ → ℕ → ℕ → Type 0
 IsAtPlace Across at row column = row ≡ at
 IsAtPlace Down at row column = column ≡ at
@@ -58,8 +58,8 @@ IsAtPlace Down at row column = column ≡ at
 abbrev pub IsOnLine : LineId → ℕ → ℕ → Type 0
 IsOnLine line row column = IsAtPlace line.axis line.at row column
 
--- A picture with a line inserted agrees with the old one off that line, and so it does after any of the line's cells
--- was set.
+-- A picture with a line inserted is the old one but for that line,
+-- and still is after any of the line's cells is set.
 pub record InsertedLinesAgree : Type 0 where
   pub inserted : (picture : Rows) (line : LineId) → IsPicture picture → line.at ≤ lines_along line.axis picture
       → AgreesOff line picture (line_inserted picture line)

@@ -3,7 +3,7 @@ use Rattle.std.specs.Prelude.{◌≡◌, ℕ, ◌+◌, ◌-◌, ◌<◌, ◌≤�
 use Rattle.clues.specs.declared.places.Places.{Places}
 use Rattle.clues.specs.declared.places.Places.TheVariants.{Kept, Inserted, Deleted, Swapped}
 
--- where the exchange of two lines moves the line at a place
+-- the new place of the line at a place when two lines are exchanged
 abbrev pub exchanged : ℕ → ℕ → ℕ → ℕ
 exchanged first second at = if at == first then second else (if at == second then first else at)
 
@@ -14,7 +14,7 @@ new_place (Inserted place) at = Some (if nat_lt at place then at else (at + 1))
 new_place (Deleted place) at = if at == place then None else Some (if nat_lt at place then at else (at - 1))
 new_place (Swapped first second) at = Some (exchanged first second at)
 
--- what moves the lines back
+-- what moves the lines back to their old places
 abbrev pub reversed : Places → Places
 reversed Kept = Kept
 reversed (Inserted place) = Deleted place
@@ -32,21 +32,21 @@ count_after (Inserted place) count = count + 1
 count_after (Deleted place) count = count - 1
 count_after (Swapped first second) count = count
 
--- the places are among that many lines
+-- the places are among that many lines, or after the last for an inserted line
 abbrev pub AreAmong : Places → ℕ → Type 0
 AreAmong Kept count = ⊤
 AreAmong (Inserted place) count = place ≤ count
 AreAmong (Deleted place) count = place < count
 AreAmong (Swapped first second) count = (first < count) × (second < count)
 
--- a new line stands at the place
+-- a line is inserted at the place
 abbrev pub IsNewAt : Places → ℕ → Type 0
 IsNewAt Kept at = ⊥
 IsNewAt (Inserted place) at = at ≡ place
 IsNewAt (Deleted place) at = ⊥
 IsNewAt (Swapped first second) at = ⊥
 
--- the lines that cross have another length afterwards
+-- the lines that cross these change their length
 abbrev pub ChangesLength : Places → Type 0
 ChangesLength Kept = ⊥
 ChangesLength (Inserted place) = ⊤

@@ -1,11 +1,11 @@
--- Solutions of a puzzle, which is clues, the cells that are given, and a picture with the colours that the givens have.
+-- Solutions of a puzzle, which has clues, cells that are given, and a known picture with the givens' colours.
 use Rattle.std.specs.Prelude.{◌≡◌, ℕ, length}
 use Rattle.picture.specs.Picture.{IsPicture}
 use Rattle.picture.specs.Rows.{cell_at, row_at, Rows}
 use Rattle.clues.specs.ClueBook.{Clues, clues_of}
 
--- A solution: a picture of the size of the known one that has the clues, and in each given
--- the known picture's colour. Where the known picture has the clues it is a solution itself.
+-- A solution: a picture of the size of the known one that has the clues and, in each given,
+-- the known picture's colour. If the known picture has the clues, it is a solution itself.
 pub record Solves (clues : Clues) (Given : ℕ → ℕ → Type 0) (picture other : Rows) : Type 0 where
   pub is_picture : IsPicture other
   pub rows : length other ≡ length picture

@@ -1,4 +1,4 @@
-//! What an edit changes: which lines it moves, and which lines have other cells afterwards.
+//! What an edit changes: which lines it moves, and the cells of which lines may differ afterwards.
 
 ghost use Rattle.std.specs.Prelude.{◌≡◌, ℕ, ◌<◌, ◌≤◌, ◌⊎◌, ◌↔◌, List, Some, IfNone, IfSome, OnSome, IsTrue};
 ghost use Rattle.picture.specs.declared.line_id.LineId.{LineId};
@@ -15,8 +15,8 @@ use crate::places::Places;
 use picture::{Axis, LineId, LineSet, MAX_SIDE};
 use std::marker::Model;
 
-/// Which lines of a picture an edit moves, and which lines of the new picture it touches. A line is touched where
-/// it was not there before, or where its cells may differ from those of the old line that it is.
+/// Which lines of a picture an edit moves, and which lines of the new picture it touches. A line is touched if it
+/// was inserted, or if its cells may differ from those of the old line that it was before the edit.
 #[derive(Drop)]
 pub struct Change {
     height: u8,
@@ -38,7 +38,7 @@ impl Model for Change {
 
 #[tactic(auto, using(crate::proofs::MovedLines::moving, crate::proofs::EditedPictures::following, crate::proofs::ChangedLines::changed, crate::proofs::Insertions::inserting, crate::proofs::TouchedLines::touching))]
 impl Change {
-    /// The change of cells alone, in a picture of 1 to 120 rows and columns. Each line stays, and none is touched yet.
+    /// The change where no line moves, in a picture of 1 to 120 rows and columns. No line is touched yet.
     pub fn cells(height: u8, width: u8) -> Change
         requires { IsSize height width }
         ensures moves { result.moves ≡ still height width }
@@ -109,7 +109,7 @@ impl Change {
         Change::along(axis, Places::Swapped(first, second), height, width)
     }
 
-    // The change that moves lines along one axis, and touches no line besides.
+    // The change that moves the lines along one axis as `places` says, with no line marked.
     fn along(axis: Axis, places: Places, height: u8, width: u8) -> Change
         requires { AreMoves (moved_along axis places height width) }
         ensures change { result
@@ -129,7 +129,7 @@ impl Change {
         }
     }
 
-    /// Touches a line of the new picture.
+    /// Marks a line of the new picture as touched.
     pub fn touch(&mut self, line: LineId)
         requires { line.at < lines_after line.axis self.old.moves }
         ensures moves { self.new.moves ≡ self.old.moves }
@@ -141,7 +141,7 @@ impl Change {
         self.marked.put(line);
     }
 
-    /// Which line of the new picture a line of the old one is, if it is still there. No two lines are the same one.
+    /// The line of the new picture that a line of the old one becomes, or `None` if it is deleted. No two become one.
     pub fn image(&self, line: LineId) -> Option<LineId>
         requires { line.at < lines_before line.axis self.now.moves }
         ensures image { result ≡ image_of self.now.moves line }
@@ -154,7 +154,7 @@ impl Change {
         Some(LineId { at, ..line })
     }
 
-    /// Which line of the old picture a line of the new one is, if it was there.
+    /// The line of the old picture that a line of the new one was, or `None` if it was inserted.
     pub fn origin(&self, line: LineId) -> Option<LineId>
         requires { line.at < lines_after line.axis self.now.moves }
         ensures origin { result ≡ origin_of self.now.moves line }
@@ -167,7 +167,7 @@ impl Change {
         Some(LineId { at, ..line })
     }
 
-    /// Whether a position along the lines of an axis stays: the line that crosses there is its own image.
+    /// Whether a position on the lines along an axis stays the same: the line that crosses there is its own image.
     pub fn stays(&self, axis: Axis, position: u8) -> bool
         requires { position < lines_before (crossing axis) self.now.moves }
         ensures { IsTrue result ↔ Stays self.now.moves axis position }
@@ -186,7 +186,7 @@ impl Change {
             || self.marked.has(line)
     }
 
-    // Which line of the old picture a line of the new one is, if it is untouched.
+    // The line of the old picture that an untouched line of the new one was, or `None` if the line is touched.
     pub(crate) fn kept_from(&self, line: LineId) -> Option<LineId>
         requires { line.at < lines_after line.axis self.now.moves }
         ensures origin { IfSome result (λ old. origin_of self.now.moves line ≡ Some old) }

@@ -8,7 +8,7 @@ use smallvec::SmallVec;
 use std::alloc::{AllocError, Global};
 use std::marker::Model;
 
-/// The blocks of a line, from the left or from the top. Most clues are short and lie in the value itself.
+/// The clue of a line: its blocks, from the left or from the top. Up to 8 blocks need no heap memory.
 #[derive(Drop)]
 pub struct Clue {
     blocks: SmallVec<Block, 8>,
@@ -51,7 +51,7 @@ impl Clue {
         self.blocks() == other.blocks()
     }
 
-    /// The same clue once more, in memory of its own.
+    /// A copy of the clue, or an error if out of memory.
     pub fn copy(&self) -> Result<Clue, AllocError>
         ensures { IfOk result (λ clue. clue ≡ self.now) }
     {

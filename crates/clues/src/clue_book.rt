@@ -14,7 +14,7 @@ use picture::{Axis, LineId, MAX_SIDE, Picture};
 use std::alloc::{AllocError, Global};
 use std::marker::Model;
 
-/// The clue of each row, from the top, and of each column, from the left. There are 1 to 120 of both.
+/// The clues of a picture: of each row, from the top, and of each column, from the left. There are 1 to 120 of each.
 #[derive(Drop)]
 pub struct ClueBook {
     rows: Vec<Clue>,
@@ -42,7 +42,7 @@ impl ClueBook {
         Ok(ClueBook::from_parts(rows, columns))
     }
 
-    /// The clue book with these clues, of the rows from the top and of the columns from the left. No memory is taken.
+    /// The clue book with these clues, of the rows from the top and of the columns from the left. Allocates nothing.
     pub fn from_parts(rows: Vec<Clue>, columns: Vec<Clue>) -> ClueBook
         requires { IsBook (clues_from rows.items columns.items) }
         ensures { result ≡ clues_from rows.items columns.items }
@@ -50,7 +50,7 @@ impl ClueBook {
         ClueBook { rows, columns }
     }
 
-    /// The same clues once more, in memory of their own.
+    /// A copy of the clue book, or an error if out of memory.
     pub fn copy(&self) -> Result<ClueBook, AllocError>
         ensures { IfOk result (λ book. book ≡ self.now) }
     {
@@ -59,7 +59,7 @@ impl ClueBook {
         Ok(ClueBook::from_parts(rows, columns))
     }
 
-    /// Whether these are the clues of a picture, which may have another size. No memory is taken.
+    /// Whether these are the clues of a picture, which may have any size. Allocates nothing.
     pub fn has_clues(&self, picture: &Picture) -> bool
         ensures { IsTrue result ↔ (clues_of picture.now ≡ self.now) }
     {
@@ -67,9 +67,9 @@ impl ClueBook {
             && are_clues(&self.columns, picture, Axis::Down)
     }
 
-    /// The clue book of a picture after a change. Touched lines are counted. Each untouched line gets the clue that
-    /// this book has for the old line that it is, right or wrong: it is copied and not counted again. Where the clues
-    /// that are copied are those of the picture's lines, the book is the picture's.
+    /// The clue book of a picture after a change. Touched lines are counted. Each untouched line gets a copy of the
+    /// clue that this book has for the old line that it was, right or wrong: its cells are not counted again. If the
+    /// copied clues are right for the picture's lines, the result is the picture's clue book.
     pub fn refresh(&self, picture: &Picture, change: &Change) -> Result<ClueBook, AllocError>
         requires { CanRefresh self.now picture.now change.now }
         ensures sizes { IfOk result (λ book.
@@ -186,7 +186,7 @@ fn clues_along(alloc: Global, picture: &Picture, axis: Axis) -> Result<Vec<Clue>
     Ok(clues)
 }
 
-// Each clue once more, in memory of its own.
+// Copies of the clues, in order.
 fn copies(clues: &Vec<Clue>) -> Result<Vec<Clue>, AllocError>
     ensures { IfOk result (λ copies. copies.items ≡ clues.now.items) }
 {

@@ -34,7 +34,7 @@ pub fn clue_of(alloc: Global, line: LineView<'_>) -> Result<Clue, AllocError>
 }
 
 #[tactic(auto, using(crate::proofs::Runs::finishing))]
-// Puts a run that has ended after the blocks before it, unless it is background, and counts them.
+// Appends a run that has ended, unless it is background, and returns the new count of blocks.
 fn finish(blocks: &mut Blocks, count: usize, run: Block) -> usize
     requires { run.colour ≢ 0 → count < MAX_SIDE }
     ensures blocks { take result blocks.new

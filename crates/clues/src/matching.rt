@@ -1,4 +1,4 @@
-//! Whether a line has a clue, with no memory taken.
+//! Whether a clue is that of a line, decided without allocating memory.
 
 ghost use Rattle.std.specs.Prelude.{◌≡◌, ◌≢◌, ◌↔◌, ◌++◌, List, IsTrue, IfSome, IfNone};
 ghost use Rattle.clues.specs.declared.block.Block.{Block};
@@ -31,7 +31,7 @@ pub(crate) fn is_clue_of(clue: &Clue, line: LineView<'_>) -> bool
     rest.is_empty()
 }
 
-/// The blocks after a run that has ended, where it stands first among them. A run of background needs no block.
+/// The blocks after a run that has ended, or `None` if the first is not that run. Background takes no block.
 pub fn without_run(blocks: &[Block], run: Block) -> Option<&[Block]>
     ensures some { IfSome result (λ rest. blocks.now ≡ blocks_of run.len run.colour ++ rest.now) }
     ensures none { IfNone result

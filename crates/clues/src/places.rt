@@ -10,9 +10,9 @@ use picture::MAX_SIDE;
 pub enum Places {
     /// Each line keeps its place.
     Kept,
-    /// A new line stands at this place, and those from there on move up by one.
+    /// A line is inserted at this place, from 0; the places of the lines from there on increase by one.
     Inserted(u8),
-    /// The line at this place is gone, and those after it move down by one.
+    /// The line at this place is deleted; the places of the lines after it decrease by one.
     Deleted(u8),
     /// The lines at these places are exchanged.
     Swapped(u8, u8),
@@ -41,21 +41,21 @@ impl Places {
         self.reversed().new_place(at)
     }
 
-    // Whether a new line stands at the place.
+    // Whether a line is inserted at the place.
     pub(crate) fn is_new(self, at: u8) -> bool
         ensures { IsTrue result ↔ IsNewAt self at }
     {
         matches!(self, Places::Inserted(place) if place == at)
     }
 
-    // Whether the lines that cross have another length afterwards.
+    // Whether the lines that cross these change their length.
     pub(crate) fn changes_length(self) -> bool
         ensures { IsTrue result ↔ ChangesLength self }
     {
         matches!(self, Places::Inserted(_) | Places::Deleted(_))
     }
 
-    // What moves the lines back.
+    // What moves the lines back to their old places.
     fn reversed(self) -> Places
         ensures { result ≡ reversed self }
     {
@@ -67,7 +67,7 @@ impl Places {
     }
 }
 
-// Where the exchange of two lines moves the line at a place.
+// The new place of the line at a place when two lines are exchanged.
 fn exchanged(first: u8, second: u8, at: u8) -> u8
     ensures { result ≡ exchanged first second at }
 {

@@ -44,7 +44,7 @@ command_made top work first check second prove third verify (Ok c) t a b d h l m
     let all : app_of c ≡ program_app f.0 = h.shape n ∙ ap (λ (x : App). with_subcommand x (shape_of verify)) more ∙ ap (λ (x : Shape). with_subcommand three x) v in
     (f.0, (f.1.0, all))
 
--- what an app's parse fails by
+-- the errors by which a parse of the words fails
 abbrev Fails : List Text → Result ArgMatches Error → App → Type 0
 Fails words r x = is_simple_and_free x ≡ true → FailsBy (fault_of x words) r
 

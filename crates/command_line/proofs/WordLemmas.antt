@@ -1,4 +1,4 @@
--- The words of the command line, as the parser's contract has them.
+-- The words of the command line, by the contract of the parser.
 use Rattle.std.proofs.Common.{◌≡◌, ◌≢◌, ◌⊎◌, ◌↔◌, ◌≤◌, ℕ, Bool, List, [], ◌∷◌, get_or, codes, Option, None, Some, Result, Ok, Err, IsTrue, option_map, true, false, true≢false, refl, sym, ap}
 use Rattle.std.proofs.Common.{subst, eqb, eq-eqb, ◌∙◌, arith, inl, inr, ⊎_elim}
 use Rattle.std.specs.Str.Parse.{ParsesUnsigned}
@@ -122,7 +122,7 @@ asked_verify entered rows r name is asked = record {
 
 -- ---- the history
 
--- a number that a text reads as, where the text writes that number
+-- the number that is read from a text is the one that the text writes
 pub depth_read : {E : Type 0} (n : ℕ) (text : Text) (found : Option ℕ) (gives : List ℕ → Result ℕ E → Type 0) → ((t : List ℕ) (r : Result ℕ E) → gives t r → ParsesUnsigned 16 10 t r) → n ≤ 1000
     → Spells text n → ReadsOne gives text found → found ≡ Some n
 depth_read {E} n text (Some m) gives parses few spells reads = ap Some ((parses text (Ok m) reads).1 ∙ spells.value)

@@ -16,7 +16,7 @@ IsByDefault path (Work file options) = (file.now ≡ path) × (options ≡ defau
 IsByDefault path (Help text) = Unit {0}
 IsByDefault path _ = ⊥
 
--- So it is where the words are `work` and a path alone, which does not begin with a hyphen (45).
+-- this holds where the words are `work` and a path alone that does not begin with a hyphen (45)
 abbrev pub DefaultsAreKnown : Type 0
 DefaultsAreKnown = (first : ℕ) (rest : Text) (task : Task) → (first ≡ 45 → ⊥)
     → IsTaskOf (codes "work" ∷ (first ∷ rest) ∷ []) (Ok task) → IsByDefault (first ∷ rest) task

@@ -13,7 +13,7 @@ use Rattle.clap.specs.declared.builder.value_parser.ValueParser.TheVariants as p
 
 -- ---- the values
 
--- a word that has to be there
+-- a required argument without a flag
 abbrev pub word_rule : Text → Rule
 word_rule name = record (new_rule name) { value_names = 1; required = true }
 
@@ -87,9 +87,9 @@ AreFormats _ = ⊥
 abbrev pub IsLocal : Command → Type 0
 IsLocal c = (out-Command c).has_globals ≡ false
 
--- What a parse of the program's words comes to: they have no error, and the parse has the name and the rows of the
--- subcommand that they name; or its error is of a kind of their error, or memory ran out, which it did where the
--- definition takes them.
+-- What a parse of the program's words gives. Where they have no error, it has the name and the rows of the
+-- subcommand that they name. Else its error is of a kind of their error, or memory ran out; where the definition
+-- takes the words, only memory can have run out.
 abbrev pub ParsesAs : ValueParser → List Text → Result ArgMatches Error → Type 0
 ParsesAs formats words (Ok m) =
     (fault_of (program_app formats) words ≡ []) × (subcommand_rows_of m ≡ subcommand_of (program_app formats) words)

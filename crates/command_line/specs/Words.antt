@@ -25,7 +25,7 @@ IsLawfulTask _ = Unit {0}
 
 -- ---- the values of a subcommand
 
--- the text of each, where it has one
+-- the text of each argument, where it has one
 pub record Given : Type 0 where
   pub file : Option Text
   pub cert : Option Text
@@ -33,7 +33,7 @@ pub record Given : Type 0 where
   pub background : Option Text
   pub history : Option Text
 
--- as the rows of a parse have them
+-- these texts in the rows of a parse
 abbrev pub given_in : List Row → Given
 given_in rows = record {
   file = first_of (codes "file") rows;
@@ -43,7 +43,7 @@ given_in rows = record {
   history = one_of (codes "history") rows;
 }
 
--- and as its entries have them
+-- these texts in the entries of a subcommand
 abbrev pub given_of : Found → Given
 given_of f = record {
   file = first_value f (codes "file");
@@ -64,7 +64,7 @@ abbrev pub background_asked : Option Text → Result (Option Rgb) ProgramFault
 background_asked None = Ok None
 background_asked (Some text) = background_named (background_of text)
 
--- a text of decimal digits, with a plus in front of them or none, and the number that they write; zeros may lead
+-- a text of decimal digits, with or without a leading plus, and the number that they write; it may have leading zeros
 pub record Spells (text : Text) (n : ℕ) : Type 0 where
   pub numeral : IsNumeral 10 (without_leading_plus text)
   pub value : digits_value 10 (without_leading_plus text) ≡ n
@@ -136,7 +136,7 @@ is_shown DisplayHelp = true
 is_shown DisplayVersion = true
 is_shown _ = false
 
--- What an error of a kind comes to: help or the version is shown; or the words are refused; or memory ran out.
+-- What comes of an error of this kind: help or the version is shown; or the words are refused; or memory ran out.
 abbrev pub IsUntaken : ErrorKind → Result Task ProgramFault → Type 0
 IsUntaken kind (Ok (Help text)) = is_shown kind ≡ true
 IsUntaken kind (Ok _) = ⊥
@@ -145,8 +145,8 @@ IsUntaken kind (Err e) = e ≡ fault.Memory
 
 -- ---- words
 
--- What words come to, by the kinds of error that they have. With none they name one of the subcommands, and the
--- task is what it asks for. Else the definition does not take them, and what comes of them is by one of the kinds.
+-- What comes of words, by the kinds of error that they have. Without an error they name one of the subcommands, and
+-- the task is what it asks for. Else the definition does not take them, and the result is that of one of the kinds.
 abbrev pub IsTaskBy : Kinds → App → List Text → Result Task ProgramFault → Type 0
 IsTaskBy [] app words r = IsNamed (subcommand_of app words) × IsAsked (subcommand_of app words) r
 IsTaskBy (first ∷ more) app words r =
@@ -159,7 +159,7 @@ IsTaskOf words r = (r ≡ Err fault.Memory) ⊎ ((formats : ValueParser)
 
 -- ---- worked by hand
 
--- zeros may lead, and a plus
+-- leading zeros and a leading plus are taken
 five : digits_value 10 (without_leading_plus (codes "05")) ≡ 5
 five = refl
 

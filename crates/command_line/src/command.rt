@@ -1,4 +1,4 @@
-//! The command line that the parser of words takes, and what it makes of words.
+//! The definition of the command line for the parser `clap`, and the parse of words by it.
 
 ghost use Rattle.std.specs.Prelude.{◌≡◌, [], false, IfOk};
 ghost use Rattle.clap.specs.Walk.{texts};
@@ -9,10 +9,10 @@ use clap::{Arg, ArgMatches, Command, Error, value_parser};
 use program_options::VERSION;
 use std::alloc::{AllocError, Global};
 
-// What a file can be.
+// The formats that the file of a session can have: a P3 text or a .non text.
 static FORMATS: [&str; 2] = ["ppm", "non"];
 
-// What the parser makes of the words after the program's own name.
+// Parses the words after the program's own name.
 pub(crate) fn parsed<'a>(
     alloc: Global,
     words: &'a [&str],
@@ -23,7 +23,7 @@ pub(crate) fn parsed<'a>(
     Ok(command(alloc)?.try_get_matches_from(words))
 }
 
-// The words that are taken. Each stands in a function of its own, since the parser's values are long to prove about.
+// The whole definition. Each part is built in its own function, since proofs about the parser's values are long.
 fn command<'a>(alloc: Global) -> Result<Command<'a>, AllocError>
     ensures { IfOk result (λ c. (formats : _)
         × (AreFormats formats × (app_of c ≡ program_app formats))) }
@@ -87,7 +87,7 @@ fn file_command<'a>(alloc: Global) -> Result<Command<'a>, AllocError>
         ))
 }
 
-// The words of the check.
+// The command `check`, which checks a certificate.
 fn check_command<'a>(alloc: Global) -> Result<Command<'a>, AllocError>
     ensures shape { IfOk result (λ c. shape_of c ≡ check_shape) }
     ensures local { IfOk result IsLocal }
@@ -100,7 +100,7 @@ fn check_command<'a>(alloc: Global) -> Result<Command<'a>, AllocError>
         .arg(background(alloc))
 }
 
-// The words of the making of a proof by lemmas.
+// The command `prove`, which makes a proof by lemmas.
 fn prove_command<'a>(alloc: Global) -> Result<Command<'a>, AllocError>
     ensures shape { IfOk result (λ c. shape_of c ≡ prove_shape) }
     ensures local { IfOk result IsLocal }
@@ -112,7 +112,7 @@ fn prove_command<'a>(alloc: Global) -> Result<Command<'a>, AllocError>
         .arg(background(alloc))
 }
 
-// The words of the check of a proof by lemmas.
+// The command `verify`, which checks a proof by lemmas.
 fn verify_command<'a>(alloc: Global) -> Result<Command<'a>, AllocError>
     ensures shape { IfOk result (λ c. shape_of c ≡ verify_shape) }
     ensures local { IfOk result IsLocal }
@@ -125,7 +125,7 @@ fn verify_command<'a>(alloc: Global) -> Result<Command<'a>, AllocError>
         .arg(background(alloc))
 }
 
-// A word that has to be there.
+// A required argument without a flag, with what help shows for its value and its meaning.
 fn word<'a>(alloc: Global, name: &'a str, value: &'a str, help: &'a str) -> Arg<'a>
     ensures rule { rule_of result ≡ word_rule name.entry.now }
     ensures local { result.global ≡ false }

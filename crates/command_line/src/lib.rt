@@ -1,4 +1,4 @@
-//! The command line: what its words ask the program for.
+//! The command line: what its arguments ask the program for.
 #![tactic(auto)]
 
 mod command;

@@ -1,4 +1,4 @@
-//! The words of the command line.
+//! Reads the words of the command line: the task that they ask for.
 
 ghost use Rattle.std.specs.Prelude.{◌≡◌, ◌↔◌, ◌<◌, ◌≤◌, ◌≢◌, ℕ, Some, [], codes, true, IfOk};
 ghost use Rattle.clap.specs.Walk.{texts};
@@ -24,7 +24,7 @@ pub enum Task<'a> {
         file: &'a str,
         options: Options,
     },
-    /// A yes where a certificate proves that a picture is the only one with its clues.
+    /// A check whether a certificate proves that a picture is the only one with its clues.
     Check {
         file: &'a str,
         cert: &'a str,
@@ -35,20 +35,20 @@ pub enum Task<'a> {
         file: &'a str,
         background: Option<Rgb>,
     },
-    /// A yes where a proof by lemmas shows that a picture is the only one with its clues.
+    /// A check whether a proof by lemmas shows that a picture is the only one with its clues.
     Verify {
         file: &'a str,
         proof: &'a str,
         background: Option<Rgb>,
     },
-    /// Help, or the version: this text of the parser.
+    /// The parser's text for help or the version, which is to be shown.
     Help(String),
 }
 
 // How many edits can be undone where no number is given.
 const DEPTH: u16 = 100;
 
-/// Reads the words after the program's own name. Without a word the clues are asked for.
+/// Reads the words after the program's own name. No words at all ask for the clues.
 ///
 /// File, certificate, format, background and history are those of the words, as the parser reads them. Help and version
 /// are a task. The errors are `Words`, which carries the parser's text, `Background`, `BackgroundOfNon` and `Memory`.
@@ -98,7 +98,7 @@ fn check_of<'a>(matches: &ArgMatches<'a>) -> Result<Task<'a>, ProgramFault>
     })
 }
 
-// The making of a proof by lemmas that words ask for.
+// The proof by lemmas that words ask for.
 fn prove_of<'a>(matches: &ArgMatches<'a>) -> Result<Task<'a>, ProgramFault>
     ensures prove { IsProve (given_of (found_of matches.now)) result }
     ensures lawful { IfOk result IsLawfulTask }
@@ -164,7 +164,7 @@ fn background_of(matches: &ArgMatches<'_>) -> Result<Option<Rgb>, ProgramFault>
     }
 }
 
-// How many edits can be undone. The parser lets no other number through.
+// How many edits can be undone. The parser refuses a number that is not from 1 to 1,000.
 fn history_of(matches: &ArgMatches<'_>) -> u16
     ensures some { 0 < result }
     ensures fits { result ≤ MAX_DEPTH }
@@ -174,7 +174,7 @@ fn history_of(matches: &ArgMatches<'_>) -> u16
     depth_or_default(matches.get_one::<u16>("history"))
 }
 
-// A depth from 1 to 1,000 is taken as it is.
+// The depth where it is from 1 to 1,000, else the default.
 fn depth_or_default(depth: Option<u16>) -> u16
     ensures some { 0 < result }
     ensures fits { result ≤ MAX_DEPTH }
@@ -186,7 +186,7 @@ fn depth_or_default(depth: Option<u16>) -> u16
     }
 }
 
-// What the parser says where it takes no words: why it refuses them, or the help that they ask for.
+// What comes of an error of the parser: memory ran out, the words are refused, or they ask for help or the version.
 fn untaken<'a>(alloc: Global, error: &Error) -> Result<Task<'a>, ProgramFault>
     ensures said { IsUntaken (kind_of error.now) result }
     ensures lawful { IfOk result IsLawfulTask }

@@ -32,7 +32,7 @@ feed_found bytes end e = (
 
 -- ---- lines
 
--- the lines that pieces make, but for the last piece, and with it where it has a byte
+-- the lines of pieces: of all but the last piece; and with the last one, where it has a byte
 abbrev ended_pieces : Texts → Texts
 ended_pieces pieces = map strip_carriage_return (take (length pieces - 1) pieces)
 
@@ -76,7 +76,7 @@ lines_last raw p some = ap all_pieces (slice_split_none is_feed raw p) ∙ last 
 
 -- ---- the front that is kept of a line
 
--- the front of a front and more bytes
+-- the first n bytes stay the same if a front is cut to n bytes before more come
 pub take_front : (n : ℕ) (front piece : List ℕ) → take n (take n front ++ piece) ≡ take n (front ++ piece)
 take_front zero front piece = refl
 take_front (suc n) [] piece = refl
@@ -106,7 +106,7 @@ front_by raw false is = ap (λ (line : List ℕ). request_of (strip_carriage_ret
 pub front_decides : (raw : List ℕ) → request_of (strip_carriage_return (take 202 raw)) ≡ request_of (strip_carriage_return raw)
 front_decides raw = front_by raw (nat_lt 202 (length raw)) refl
 
--- ---- pieces come to a line
+-- ---- pieces that are added to a line
 
 min_swap : (a b : ℕ) → min a b ≡ min b a
 min_swap a b = omega arith
@@ -114,7 +114,7 @@ min_swap a b = omega arith
 front_of : (piece : List ℕ) (n count : ℕ) → count ≡ min (length piece) n → take count piece ≡ take n piece
 front_of piece n count is = ap (λ k. take k piece) (is ∙ min_swap (length piece) n) ∙ take_min n piece
 
--- more bytes, of which those are kept for which there is room
+-- more bytes are added, as far as there is room
 pub kept_more : (bytes had piece : List ℕ) (len count : ℕ) → take len bytes ≡ had → len ≤ 202 → length bytes ≡ 202 → count ≡ min (length piece) (202 - len)
     → take (len + count) (put_mid len (len + count - len) bytes (take count piece)) ≡ take 202 (had ++ piece)
 kept_more bytes had piece len count view fits room is =
@@ -126,7 +126,7 @@ kept_more bytes had piece len count view fits room is =
     ∙ ap (λ (rest : List ℕ). had ++ rest) (front_of piece (202 - len) count is)
     ∙ sym (ap (λ n. take n (had ++ piece)) all ∙ take-append-add had piece (202 - len))
 
--- bytes that are let go
+-- bytes that are dropped
 pub skipped : (room now : List ℕ) (start end count : ℕ) → take (end - start) (drop start room) ≡ now → count ≤ length now → take (end - (start + count)) (drop (start + count) room) ≡ drop count now
 skipped room now start end count view fits =
     let len : length now ≤ end - start = let e = ap length view in let m = length-take (end - start) (drop start room) in omega (arith, e, m) in
@@ -161,7 +161,7 @@ drafts_wait had mid have old now new draft more d w = record {
   steps = omega (arith, w.steps, d.steps);
 }
 
--- what came to the line is no longer than what waited
+-- a line grows by no more bytes than waited
 piece_steps : (old now new : Lines) (draft more : List ℕ) → steps_left now + length draft ≤ steps_left old → TakesPiece now new draft more false → new.reads ≡ now.reads
     → steps_left new + length more ≤ steps_left old
 piece_steps old now new draft more before t r =
@@ -171,7 +171,7 @@ piece_steps old now new draft more before t r =
     let same : 1048576 - new.reads ≡ 1048576 - now.reads = ap (λ n. 1048576 - n) r in
     omega (arith, before, len, none, same)
 
--- and all that waited came to the line
+-- all that waited is added to the line
 pub drafts_piece : (had have : Option (List ℕ)) (old now new : Lines) (draft more : List ℕ) → Drafts had have old now draft → TakesPiece now new draft more false → new.ended ≡ now.ended
     → new.reads ≡ now.reads → Drafts had have old new more
 drafts_piece had have old now new draft more d t e r = record {
@@ -216,7 +216,7 @@ at_end had have old now draft d none rest end =
     sym (append_assoc old.inbox d.came rest) ∙ ap (λ (xs : List ℕ). (old.inbox ++ d.came) ++ xs) end ∙ append-nil (old.inbox ++ d.came) ∙ d.cut ∙ ap (λ (xs : List ℕ). d.raw ++ xs) none
     ∙ append-nil d.raw
 
--- the bytes of the line are as many as are kept, up to 202
+-- a line has a byte where one is kept
 some_kept : (draft raw : List ℕ) → draft ≡ take 202 raw → 0 < length draft → 0 < length raw
 some_kept draft [] e some = absurd (omega (arith, ap length e, some))
 some_kept draft (b ∷ raw) e some = omega arith

@@ -9,7 +9,7 @@ use Rattle.std.proofs.lemmas.List.Splits.{slice_split-cons_yes}
 use Rattle.picture.proofs.SplitLaws.{none_before, none_passes, split_found, split_none}
 use Rattle.command_text.specs.Words.{has_byte, is_blank, is_no_blank, words_of}
 
--- blanks that stand first make no word
+-- blanks at the beginning make no word
 past_blanks : (front rest : List ℕ) → All (λ b. is_no_blank b ≡ false) front → words_of (front ++ rest) ≡ words_of rest
 unfolding words_of
 past_blanks [] rest all = refl

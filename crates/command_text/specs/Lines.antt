@@ -16,18 +16,20 @@ use Rattle.command_text.specs.Words.{Texts, has_byte, words_of}
 
 -- ---- lines
 
+-- the byte ends a line
 abbrev pub is_feed : ℕ → Bool
 is_feed b = b == 10
 
--- what stands between line feeds
+-- the pieces between line feeds
 abbrev pub pieces_of : List ℕ → Texts
 pieces_of bytes = slice_split (λ b. b == 10) bytes
 
--- The lines of bytes whose line feed has come: all pieces but the last, each without the carriage return at its end.
+-- The lines of bytes that end with a line feed: all pieces but the last, each without a carriage return at its end.
 unfoldable pub ended_lines_of : List ℕ → Texts
 ended_lines_of bytes = map strip_carriage_return (take (length (pieces_of bytes) - 1) (pieces_of bytes))
 
--- The lines of an input that was read to its end: with these the last piece too, where it has a byte.
+-- The lines of an input that was read to its end: these, and the last piece, where it has a byte, without a carriage
+-- return at its end.
 unfoldable pub lines_of : List ℕ → Texts
 lines_of bytes = ended_lines_of bytes
     ++ map strip_carriage_return (filter has_byte (drop (length (pieces_of bytes) - 1) (pieces_of bytes)))
@@ -42,12 +44,12 @@ abbrev pub request_by : Result Command CommandFault → Request
 request_by (Ok command) = request.Command command
 request_by (Err fault) = request.Refused fault
 
--- no word asks for nothing, and words for the command that the first one begins
+-- without a word nothing is asked for; otherwise the command that the first word begins
 abbrev pub request_of_words : Texts → Request
 request_of_words [] = request.Nothing
 request_of_words (first ∷ words) = request_by (read_by commands (first ∷ words))
 
--- a line has at most 200 bytes
+-- what a line asks for: it may have at most 200 bytes
 unfoldable pub request_of : List ℕ → Request
 request_of line = if nat_lt 200 (length line) then request.Refused LongLine else request_of_words (words_of line)
 
@@ -67,15 +69,15 @@ AsksBounded request.Nothing = Unit {0}
 AsksBounded (request.Command c) = IsBounded c
 AsksBounded (request.Refused fault) = Unit {0}
 
--- ---- what a call of the reader leaves
+-- ---- what a call of `Lines::next` leaves
 
--- what may come after the bytes that were read: nothing, once the end was met
+-- what may come after the bytes that were read: nothing, once the end was reached
 abbrev pub MayCome : Lines → List ℕ → Type 0
 MayCome l rest = l.ended ≡ true → rest ≡ []
 
--- The bytes that came in a call. Of those that waited before, the ones that came and whatever may come after them, the
--- first lines are these, and the others are those of the bytes that wait now and what comes. So it is for lines whose
--- line feed has come, too. A call does not take the end for met unless it was, and after the end nothing comes.
+-- The bytes that came in a call. Take the bytes that waited before, those that came, and whatever may come after them:
+-- their first lines are `front`, and the others are those of the bytes that wait now and of what comes. Before the end,
+-- the same holds for lines with a line feed. A call notes the end only where it was reached; after it nothing comes.
 pub record Cuts (had have : Option (List ℕ)) (old new : Lines) (front : Texts) : Type 0 where
   pub came : List ℕ
   pub read : Consumes had have came
@@ -92,20 +94,20 @@ pub record CutsOne (had have : Option (List ℕ)) (old new : Lines) (asked : Req
   pub cuts : Cuts had have old new (line ∷ [])
   pub asks : asked ≡ request_of line
 
--- no line is left, and the end was met
+-- no line is left, and the end was reached
 pub record CutsNone (had have : Option (List ℕ)) (old new : Lines) : Type 0 where
   pub cuts : Cuts had have old new []
   pub waiting : new.inbox ≡ []
   pub met : new.ended ≡ true
 
--- a read failed before the end was met, and of the bytes that waited and those that came no line's end has come
+-- a read failed before the end was reached, and the bytes that waited and those that came have no line feed
 pub record BreaksOff (had have : Option (List ℕ)) (old : Lines) : Type 0 where
   pub came : List ℕ
   pub read : Consumes had have came
   pub unfinished : ended_lines_of (old.inbox ++ came) ≡ []
   pub unended : old.ended ≡ false
 
--- what the reader answers
+-- what `Lines::next` answers
 abbrev pub Hands : Option (List ℕ) → Option (List ℕ) → Lines → Lines → {E : Type 0} → Result (Option Request) E → Type 0
 Hands had have old new (Ok (Some asked)) = CutsOne had have old new asked
 Hands had have old new (Ok None) = CutsNone had have old new
@@ -113,11 +115,11 @@ Hands had have old new (Err e) = BreaksOff had have old
 
 -- ---- the steps of a call
 
--- how many steps a call may take: each read and each byte that waits is one
+-- how many steps a call may take: one for each byte that waits, and 4097 for each read that may be made
 abbrev pub steps_left : Lines → ℕ
 steps_left l = 4097 * (1048576 - l.reads) + length l.inbox
 
--- Bytes wait, or none came after a read and the end was met.
+-- Bytes wait; or none do, and the end was reached.
 pub record Waits (had have : Option (List ℕ)) (old new : Lines) (more : Bool) : Type 0 where
   pub came : List ℕ
   pub read : Consumes had have came
@@ -128,13 +130,13 @@ pub record Waits (had have : Option (List ℕ)) (old new : Lines) (more : Bool) 
   pub some : more ≡ true → 0 < length new.inbox
   pub none : more ≡ false → (new.inbox ≡ []) × (new.ended ≡ true)
 
--- The bytes up to a line feed, which is taken too, or all bytes that wait, which have none, come to the line.
+-- The line gets the bytes up to a line feed, which is taken too; or all bytes that wait, where they have no line feed.
 abbrev pub TakesPiece : Lines → Lines → List ℕ → List ℕ → Bool → Type 0
 TakesPiece old new had draft true =
     (piece : List ℕ) × ((old.inbox ≡ piece ++ 10 ∷ new.inbox) × (NoFeed piece × (draft ≡ take 202 (had ++ piece))))
 TakesPiece old new had draft false = (new.inbox ≡ []) × (NoFeed old.inbox × (draft ≡ take 202 (had ++ old.inbox)))
 
--- the bytes of a line so far: they waited or came, none of them is a line feed, and their front is kept
+-- the bytes of a line so far: they waited or came, none of them is a line feed, and the first 202 are kept
 pub record Drafts (had have : Option (List ℕ)) (old now : Lines) (draft : List ℕ) : Type 0 where
   pub came : List ℕ
   pub read : Consumes had have came

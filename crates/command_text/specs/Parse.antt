@@ -1,4 +1,4 @@
--- The command of words, or the first error.
+-- The command that words name, or the first error.
 use Rattle.std.specs.Prelude.{ℕ, ◌<◌, IfSome, List, [], ◌∷◌, length, codes, Option, None, Some, Result, Ok, Err}
 use Rattle.std.specs.Prelude.{option_map, ◌==◌, if◌then◌else◌}
 use Rattle.std.specs.Borrow.{Bor}
@@ -20,7 +20,7 @@ use Rattle.command_text.specs.Words.{Texts, is_word, words_of}
 
 -- ---- values, word by word from the left
 
--- what reads a value from the words: the value and the words after it, or the first error
+-- a reader of the first words: a value and the words after it, or the first error
 abbrev pub Reader : Type 0 → Type 0
 Reader X = Texts → Result (X × Texts) CommandFault
 
@@ -65,23 +65,23 @@ rgb_at words = both (both sample_at sample_at) sample_at words
 
 -- ---- all words that are left
 
--- what reads all the words: what they say, or the first error
+-- a reader of all the words: what they say, or the first error
 abbrev pub Meaning : Type 0 → Type 0
 Meaning X = Texts → Result X CommandFault
 
--- as many words as are wanted
+-- the words, where there are exactly `count`
 abbrev pub counted : ℕ → Meaning Texts
 counted count words = if length words == count then Ok words else Err WordCount
 
--- a value of so many words, with nothing after it
+-- a value of `count` words, with nothing after it
 abbrev pub exactly : {X : Type 0} → ℕ → Reader X → Meaning X
 exactly count read words = counted count words >>= read >>= λ x. Ok x.0
 
--- what is made of what is read
+-- what `make` gives for what is read
 abbrev pub made : {X Y : Type 0} → (X → Y) → Meaning X → Meaning Y
 made make read words = read words >>= λ x. Ok (make x)
 
--- what a table says of the next word, by the words after that
+-- the reader that a table has for the next word, on the words after that
 abbrev pub read_by : {X : Type 0} → List (List ℕ × Meaning X) → Meaning X
 read_by table words = field_at (λ word. lookup (is_word word) table) UnknownWord words >>= λ read. read.0 read.1
 
@@ -157,7 +157,7 @@ commands =
     ∷ (codes "report", bare_at command.Report)
     ∷ (codes "allow", made command.Allow (exactly 1 (field_at allowance_of BadNumber))) ∷ []
 
--- ---- what functions that read words answer
+-- ---- the answers of functions that read words
 
 -- a word, and the words that are left
 abbrev pub word_seen : Bor (List ℕ) × Bor (List ℕ) → List ℕ × Texts

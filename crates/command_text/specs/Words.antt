@@ -22,11 +22,11 @@ is_no_blank b = not (is_blank b)
 unfoldable pub words_of : List ℕ → Texts
 words_of line = filter has_byte (slice_split is_blank line)
 
--- the bytes are these
+-- the bytes are exactly this word
 abbrev pub is_word : List ℕ → List ℕ → Bool
 is_word bytes word = pointwise nat_eq bytes word
 
--- ---- what functions that cut a line answer
+-- ---- the answers of functions that cut a line
 
 -- the first word of a line and what follows it, if the line has a word
 abbrev pub IsFirstWord : List ℕ → Option (Bor (List ℕ) × Bor (List ℕ)) → Type 0

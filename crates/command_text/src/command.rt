@@ -2,20 +2,20 @@
 
 use edits::Edit;
 
-/// One command of a session. Rows, columns and the places of lines count from 0, and a colour is its number.
+/// One command of a session. Rows, columns and the places of lines count from 0, and colours are 0 to 15.
 #[derive(Clone, Copy, Debug, PartialEq, Eq)]
 pub enum Command {
     /// Edits the document.
     Edit(Edit),
     /// Takes the last edit back.
     Undo,
-    /// Makes an edit that was taken back again.
+    /// Makes the edit again that was taken back last.
     Redo,
     /// Shows the clues.
     Clues,
-    /// Shows what lines settle.
+    /// Shows the map: what lines settle.
     Map,
-    /// Asks whether another picture has the same clues.
+    /// Asks whether another picture has the same clues and givens.
     Verdict,
     /// Asks why a cell does not have a colour.
     Why { row: u8, col: u8, colour: u8 },
@@ -25,8 +25,8 @@ pub enum Command {
     WritePpm,
     /// Shows the picture as a .non text.
     WriteNon,
-    /// Shows all of it.
+    /// Shows a report: the document, its clues, its map, the verdict and the history's lengths.
     Report,
-    /// Says how many splits the search of a part may make, or takes that bound off.
+    /// Sets how many splits the search of each part may make. None removes that bound.
     Allow(Option<u32>),
 }

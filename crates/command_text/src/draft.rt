@@ -1,4 +1,4 @@
-//! A line while its bytes come.
+//! A line of which more bytes may come.
 
 ghost use Rattle.std.specs.Prelude.{◌≡◌, ◌≤◌, ◌++◌, ◌==◌, [], length, take};
 ghost use Rattle.std.specs.Str.Lines.{strip_carriage_return};
@@ -10,7 +10,7 @@ use std::marker::Model;
 // How many bytes of a line are kept: those that it may have, a carriage return, and one more that shows it to be too long.
 const KEPT: usize = MOST_BYTES + 2;
 
-// The front of a line, which decides what the line asks for: further bytes are not kept.
+// The first bytes of a line, which decide what it asks for. Further bytes are not kept.
 #[derive(Drop)]
 pub(crate) struct Draft {
     bytes: [u8; KEPT],

@@ -1,11 +1,11 @@
-//! Why a line is no command.
+//! Why a line is not a command.
 
 ghost use Rattle.std.specs.Prelude.{◌≡◌};
 ghost use Rattle.command_text.specs.Faults.{name_of};
 
 use thiserror::Error;
 
-/// Why a line is no command: the first of these that holds, where the errors of words are looked for from the left.
+/// Why a line is not a command: the first of these errors that applies. Word errors are looked for from the left.
 #[derive(Clone, Copy, Debug, PartialEq, Eq, Error)]
 pub enum CommandFault {
     /// The line has more than 200 bytes.
@@ -14,10 +14,10 @@ pub enum CommandFault {
     /// No command begins with these words.
     #[error("no such command")]
     UnknownWord,
-    /// The command has another number of words.
+    /// The line has too few or too many words for its command.
     #[error("the command has another number of words")]
     WordCount,
-    /// A word is not a number that may stand in its place.
+    /// A word is not a number, or not in the range for its place.
     #[error("not a number that may stand here")]
     BadNumber,
     /// A word is not a colour's letter.

@@ -11,7 +11,7 @@ use crate::words::next_word;
 use picture::{Axis, LineId, Rgb};
 
 #[tactic(auto, using(crate::proofs::CountLemmas::counts))]
-// The words that are left, where they are as many as are wanted.
+// The same text, where it has exactly `count` words.
 pub(crate) fn counted(rest: &[u8], count: usize) -> Result<&[u8], CommandFault>
     ensures { Reads (λ rest. words_of rest.now) result (counted count (words_of rest.now)) }
 {

@@ -1,4 +1,4 @@
-//! The lines of a session as they come from a reader, and the commands that their words name.
+//! The lines of a session, as they come from a reader, and the commands that they name.
 #![tactic(auto)]
 
 mod command;

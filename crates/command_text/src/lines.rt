@@ -9,17 +9,17 @@ use crate::request::Request;
 use std::io::Read;
 use std::marker::Model;
 
-/// A read failed, or one more than 1,048,576 was wanted.
+/// A read failed, or more than 1,048,576 reads were needed.
 #[derive(Clone, Copy)]
 pub struct ReadFault;
 
-// How many reads a session makes at the most.
+// The most reads that a session makes.
 const MOST_READS: u32 = 1_048_576;
 
 // How many bytes one read has room for.
 const ROOM: usize = 4096;
 
-// The bytes of the last read that were not looked at yet.
+// The bytes of the last read that are still to be looked at.
 #[derive(Drop)]
 struct Inbox {
     room: [u8; ROOM],
@@ -54,7 +54,7 @@ impl Inbox {
         &self.room[self.start..self.end]
     }
 
-    // Lets the first bytes go.
+    // Drops the first bytes.
     fn skip(&mut self, count: usize)
         requires { count ≤ length self.old }
         ensures { self.new ≡ drop count self.old }
@@ -62,7 +62,7 @@ impl Inbox {
         self.start += count;
     }
 
-    // Reads once. What was not looked at is lost.
+    // Reads once. Bytes that were still to be looked at are lost.
     fn refill<R: Read>(&mut self, reader: &mut R) -> Result<(), ReadFault>
         ensures fits { OnOk result (length self.new ≤ 4096) }
         ensures read { OnOk result
@@ -76,7 +76,7 @@ impl Inbox {
     }
 }
 
-/// Cuts what a reader gives into lines. Lines may be cut anywhere by a read.
+/// Cuts what a reader gives into lines. A read may end anywhere in a line.
 #[derive(Drop)]
 pub struct Lines {
     inbox: Inbox,
@@ -101,8 +101,8 @@ impl Lines {
     /// What the next line asks for, or None at the end of the input.
     ///
     /// A line ends with a line feed, and a carriage return before that, or at the end of the last line, is dropped. The
-    /// last line needs no line feed where it has a byte. Of a line of any length at most 202 bytes are kept. An error
-    /// comes where a read fails, or one more than 1,048,576 is wanted; the line that was not finished is then lost.
+    /// last line needs no line feed where it has a byte. However long a line is, at most 202 bytes are kept. An error means
+    /// that a read failed, or that more than 1,048,576 reads were needed; the unfinished line is then lost.
     pub fn next<R: Read>(&mut self, reader: &mut R) -> Result<Option<Request>, ReadFault>
         ensures value { Hands (R.remaining reader.old) (R.remaining reader.new) self.old self.new
             result }
@@ -122,7 +122,7 @@ impl Lines {
         Ok(Some(draft.request()))
     }
 
-    // Whether a byte waits, after a read where none did. The end of the input is met once.
+    // Whether a byte waits. Where none did, it reads once, unless the end of the input was reached before.
     fn has_more<R: Read>(&mut self, reader: &mut R) -> Result<bool, ReadFault>
         ensures waits { IfOk result (λ more.
             Waits (R.remaining reader.old) (R.remaining reader.new) self.old self.new more) }
@@ -135,7 +135,7 @@ impl Lines {
         Ok(!self.inbox.as_slice().is_empty())
     }
 
-    // Reads once where none waits, and notes the end of the input.
+    // Reads once, where no byte waits, and notes the end of the input.
     fn read_on<R: Read>(&mut self, reader: &mut R) -> Result<(), ReadFault>
         ensures read { OnOk result
             (Consumes (R.remaining reader.old) (R.remaining reader.new) self.new.inbox) }
@@ -153,7 +153,7 @@ impl Lines {
         Ok(())
     }
 
-    // Moves what waits to the line, up to its end: whether that has come.
+    // Moves what waits to the line, up to a line feed, and returns whether there was one.
     fn take_piece(&mut self, draft: &mut Draft) -> bool
         ensures piece { TakesPiece self.old self.new draft.old draft.new result }
         ensures ended { self.new.ended ≡ self.old.ended }

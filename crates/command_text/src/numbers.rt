@@ -5,7 +5,7 @@ ghost use Rattle.command_text.specs.Numbers.{colour_of, number_of, place_named, 
 
 use picture::short_number_in;
 
-// How many digits a number has at the most.
+// The most digits of a number.
 const MOST_DIGITS: usize = 5;
 
 #[tactic(auto, unfolding(crate::specs::Numbers::number_of))]
@@ -17,7 +17,7 @@ pub(crate) fn number_in(word: &[u8]) -> Option<u32>
     short_number_in(word, MOST_DIGITS)
 }
 
-// A place from 1 to 256, counted from 0.
+// A place: a number from 1 to 256, returned as counted from 0.
 pub(crate) fn place_in(word: &[u8]) -> Option<u8>
     ensures { result ≡ place_named word.now }
 {

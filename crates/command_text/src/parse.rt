@@ -1,4 +1,4 @@
-//! The command of words.
+//! The command that words name.
 
 ghost use Rattle.std.specs.Prelude.{◌≡◌, [], ◌∷◌, codes, IfOk};
 ghost use Rattle.picture.specs.Readers.{Reads};
@@ -58,7 +58,7 @@ fn read_swap(rest: &[u8]) -> Result<Edit, CommandFault>
     })
 }
 
-// A colour added to the palette, or another triple for one of it.
+// A colour added to the palette, or a new triple for one of its colours.
 fn read_palette(rest: &[u8]) -> Result<Edit, CommandFault>
     ensures { Reads (λ e. e) result (palette_at (words_of rest.now)) }
 {

@@ -10,7 +10,7 @@ use crate::fault::CommandFault;
 use crate::parse::read_command;
 use crate::words::next_word;
 
-/// How many bytes a line has at the most, without its end.
+/// The most bytes of a line, without its line feed and a carriage return before that.
 pub const MOST_BYTES: usize = 200;
 
 /// What a line asks for.
@@ -20,7 +20,7 @@ pub enum Request {
     Nothing,
     /// A command.
     Command(Command),
-    /// No command: this is the first error.
+    /// It is not a command, and this is the first error.
     Refused(CommandFault),
 }
 
@@ -44,8 +44,8 @@ pub(crate) fn request_of(line: &[u8]) -> Request
 
 /// Reads the command of a line without its end, or answers the first error.
 ///
-/// Words stand between runs of spaces and TABs. A line of more than 200 bytes is `LongLine`; a first word with which no
-/// command begins is `UnknownWord`, and so is a second one that does not complete it; a missing second word and another
+/// Words are separated by spaces and TABs. A line of more than 200 bytes is `LongLine`; a first word with which no
+/// command begins is `UnknownWord`, and so is a second one that does not complete it; a missing second word and a wrong
 /// number of words are `WordCount`; then the first word from the left that is no number of one to five digits in its range
 /// is `BadNumber`, or no colour's letter `BadColour`. Rows, columns and lines are numbered from 1 in the text and from 0
 /// in the command. A line of at most 200 bytes without a word, which a session passes over, is `UnknownWord`.

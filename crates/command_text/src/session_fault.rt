@@ -10,7 +10,7 @@ use thiserror::Error;
 /// Why a session ended before its input did.
 #[derive(Clone, Copy, Debug, PartialEq, Eq, Error)]
 pub enum SessionFault {
-    /// A read failed, or one more than 1,048,576 was wanted.
+    /// A read failed, or more than 1,048,576 reads were needed.
     #[error("read failed")]
     Read,
     /// A write failed, or took no byte.

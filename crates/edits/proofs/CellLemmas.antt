@@ -73,7 +73,7 @@ joined_gap f a (suc b) le none =
           ∙ (append-nil (joined f b) ∙ joined_gap f a b below (λ i low high. none i low (omega arith)))
     ]
 
--- a cell that is as it is to be, or is still to be changed, once the first of the cells is changed
+-- after the first of the cells is changed, each cell is right, or is among the cells still to be changed
 still_right : (h w : ℕ) (c : Cell) (cells : List Cell) (old new : Rows) (i j : ℕ) → IsGrid h w old → (c.0 < h) × (c.1 < w) × (cell_at new c.0 c.1 ≡ c.2)
     → (cell_at old i j ≡ cell_at new i j) ⊎ Has (c ∷ cells) (i, j, cell_at new i j) → (cell_at (with_cell old c.0 c.1 c.2) i j ≡ cell_at new i j) ⊎ Has cells (i, j, cell_at new i j)
 still_right h w c cells old new i j is here was =

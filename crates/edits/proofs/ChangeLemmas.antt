@@ -27,7 +27,7 @@ use Rattle.edits.proofs.GridLemmas.{cell_at-grid, length-grid, width_of-grid}
 use Rattle.edits.proofs.ShiftLemmas.{swapped_sizes}
 use Rattle.edits.proofs.StepLemmas.{redelete_fits, reinsert_fits, reswap_fits, step_reverts}
 
--- where along a line a cell stands
+-- the position of a cell along a line
 abbrev position_of : Axis → ℕ → ℕ → ℕ
 position_of Across i j = j
 position_of Down i j = i
@@ -56,7 +56,7 @@ lines_same Down at old new is_old is_new count wide within same =
     let there : i < length old = omega (arith, count, here) in
     get_or-map cell new i [] 0 here ∙ (same i at there (omega (arith, wide)) refl ∙ sym (get_or-map cell old i [] 0 there)))
 
--- where the lines of the cells are touched in which two pictures differ
+-- a change is exact if it touches the lines of the cells in which two pictures differ
 pub cells_exact : (change : Changes) (old new : Rows) (cells : List Cell) → IsPicture old → IsPicture new → DifferIn cells old new → FollowsCells change.moves old new
     → ((line : LineId) → IsTouched change line ↔ IsCrossed (length cells) cells line) → IsChangeOf change old new
 cells_exact change old new cells is_old is_new differ follows by = record {
@@ -82,7 +82,7 @@ cells_exact change old new cells is_old is_new differ follows by = record {
       lines_differ line old new (nth_cell cells crossed.0).0 (nth_cell cells crossed.0).1 inside.0 differ.row_count crossed.2 (differ.differ crossed.0 crossed.1) (follows.only line has is);
 }
 
--- where the crossing lines are touched that have different cells in two exchanged lines
+-- a change is exact if it touches the crossing lines in which two exchanged lines have different cells
 crossed_cell : (axis : Axis) (at k : ℕ) (rows : Rows) → at < lines_along axis rows → get_or (line_along (crossing axis) k rows) at 0 ≡ cell_at rows (place_on axis at k).0 (place_on axis at k).1
 crossed_cell Across at k rows within = get_or-map (λ row. get_or row k 0) rows at [] 0 within
 crossed_cell Down at k rows within = refl

@@ -1,4 +1,4 @@
--- What a lawful edit meets, and when two documents are the same.
+-- What holds of a lawful edit, and when two documents are the same.
 use Rattle.std.proofs.Common.{◌≡◌, ◌≢◌, ℕ, Bool, true, false, cond, ◌&&◌, Option, Some, None, option_map, List, [], ◌∷◌, ◌++◌, eqb, refl, sym, ap, ◌∙◌}
 use Rattle.std.specs.List.{find}
 use Rattle.std.specs.Bool.{Decides}

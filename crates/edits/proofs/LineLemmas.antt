@@ -91,7 +91,7 @@ blanked_is_grid Down at h w rows is within = record {
   row_lengths = λ k in_rows. ap length (get_or-map (λ row. set row at 0) rows k [] [] (omega (arith, is.row_count))) ∙ (length-set (get_or rows k []) at 0 ∙ is.row_lengths k in_rows);
 }
 
--- whether a cell is on the line
+-- which line of an axis a cell is on
 abbrev along_line : Axis → ℕ → ℕ → ℕ
 along_line Across i j = i
 along_line Down i j = j
@@ -111,7 +111,7 @@ blanked_off Across at h w rows i j is in_rows off = ap (λ row. get_or row j 0) 
 blanked_off Down at h w rows i j is in_rows off =
     ap (λ row. get_or row j 0) (get_or-map (λ row. set row at 0) rows i [] [] (omega (arith, is.row_count))) ∙ get_or-set_other (get_or rows i []) at j 0 0 off
 
--- a place is on the line, and where along it
+-- the place of a cell, from its line and its position along it
 place_on_line : (axis : Axis) (at h w k : ℕ) → at < size_along axis h w → k < size_along (crossing axis) h w → ((place_on axis at k).0 < h) × ((place_on axis at k).1 < w)
 place_on_line Across at h w k within along = (within, along)
 place_on_line Down at h w k within along = (along, within)

@@ -1,4 +1,4 @@
--- Givens that move with their lines: one cell more, and the marks that they come to.
+-- Givens that move with their lines: one cell more, and the marks that they get.
 use Rattle.std.proofs.Common.{◌≡◌, ◌≢◌, ℕ, ◌+◌, ◌<◌, ◌≤◌, List, arith}
 use Rattle.picture.specs.CellSet.{HasCell, PutsCell}
 use Rattle.clues.specs.Change.{Moves}

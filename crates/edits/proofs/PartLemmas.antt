@@ -59,7 +59,7 @@ restored_document rows now cells places old new p d is inside blank same put =
     ∙ (ap (λ m. design p (with_cells rows cells) m) put
     ∙ ap (λ (x : Design). design x.colours (with_cells x.rows cells) (with_cells x.marks (map as_mark places))) blank)
 
--- the document that a picture with moved lines comes to
+-- the document that is made with a picture whose lines have moved
 pub moved_to : {E : Type 0} (r : Result Document E) (p : Colours) (now : Rows) (givens : List ℕ) (moves : Moves) (d : Design)
     → ((new : List ℕ) → AreMoved givens new moves (length now) (width_of now) → design p now (marks_of (length now) (width_of now) new) ≡ d) → IfOk r (λ x. x.palette ≡ p)
     → IfOk r (λ x. x.picture ≡ now) → IfOk r (λ x. AreMoved givens x.givens moves (length now) (width_of now)) → IfOk r (λ x. design_of x ≡ d)

@@ -22,7 +22,7 @@ use Rattle.edits.specs.Studio.{AreRings, notes_of, history_from, with_first, wit
 use Rattle.edits.proofs.HistoryLemmas.{split_last, take_front, last_of, length-future_from, length-past_from, step_entry, entry_step, past_from-last, past_from-push, past_from-drop, ArePast-push}
 use Rattle.edits.proofs.HistoryLemmas.{ArePast-drop, ArePast-pop}
 
--- a step back and a step forth, where there is one
+-- an undo and a redo, where there is one
 abbrev fault_if_empty : EditFault → List Turn → Option EditFault
 fault_if_empty fault turns = if length turns == 0 then Some fault else None
 
@@ -233,7 +233,7 @@ last_note d es are =
           ap (option_map note_of) some.1 ∙ (ap Some step.0.kept ∙ sym (ap (option_map (λ (u : Turn). note_for u.document u.edit)) (last_turn_is d es x some.1)))
     ]
 
--- why a step back or forth is refused, by what the ring answers
+-- why an undo or a redo is refused, by what the ring answers
 pub undo_refused : (d : Design) (past future : Buffer Entry) → last_item past.items ≡ None → unwrap_or (undo_fault (history_from d past future)) Memory ≡ UndoEmpty
 undo_refused d past future e =
     elim (last_cases past.items) [

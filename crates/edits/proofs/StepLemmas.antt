@@ -1,4 +1,4 @@
--- What an entry asks of the parts that make the document before its edit.
+-- For an entry, what is required by the functions that make the document before its edit.
 use Rattle.std.proofs.Common.{◌≡◌, ℕ, ◌<◌, ◌≤◌, length, sym, ap, subst, ◌∙◌, arith, Result, Ok, Err, IfOk}
 use Rattle.std.specs.List.{All}
 use Rattle.picture.specs.declared.picture.TheConstants.{MAX_SIDE}
@@ -28,7 +28,7 @@ step_reverts b n d step = grind (arith, edited, reverted, reverted-edited)
 pub step_coloured : (b : Design) (n : Note) (d : Design) → IsStep b n d → AreColoured (reverted d n).rows (reverted d n).colours
 step_coloured b n d step = subst (λ (x : Design). AreColoured x.rows x.colours) (sym (step_reverts b n d step)) step.is_design.is_coloured
 
--- a document made back is the one before
+-- the document that is given back is the one before the edit
 pub gives_before : (r : Result Document AllocError) (y d : Design) (n : Note) → reverted d n ≡ y → IfOk r (λ x. design_of x ≡ y)
     → IfOk r (λ x. (before : Design) → IsStep before n d → design_of x ≡ before)
 gives_before (Ok x) y d n is same = λ before step. same ∙ (sym is ∙ step_reverts before n d step)

@@ -11,7 +11,7 @@ use Rattle.edits.specs.Note.{place_on, cells_along}
 abbrev pub Leaves : Edit → Rows → ℕ → ℕ → Type 0
 Leaves e rows i j = colour_after e i j (cell_at rows i j) ≡ cell_at rows i j
 
--- the rows from top to before below, and the columns from left to before beyond, have all cells whose colours change
+-- the rows from `top` to before `below` and the columns from `left` to before `beyond` have all cells that change
 pub record IsArea (e : Edit) (rows : Rows) (top below left beyond : ℕ) : Type 0 where
   pub rows_fit : below ≤ length rows
   pub columns_fit : beyond ≤ width_of rows

@@ -43,12 +43,12 @@ pub record DifferIn (cells : List Cell) (old new : Rows) : Type 0 where
   pub only : (i j : ℕ) → i < length old → j < width_of old → cell_at new i j ≢ cell_at old i j
       → (k : ℕ) × (k < length cells) × ((nth_cell cells k).0 ≡ i) × ((nth_cell cells k).1 ≡ j)
 
--- the line crosses two lines of an axis, at a position before the n-th, in different cells
+-- the line crosses two lines of an axis, at a position below n, in cells of different colours
 abbrev pub CrossesApart : ℕ → Axis → ℕ → ℕ → Rows → LineId → Type 0
 CrossesApart n axis first second rows line =
     (line.axis ≡ crossing axis) × (line.at < n) × (SameAt axis first second rows line.at → ⊥)
 
--- an edit leads from one picture to the other; where it moves no line, they differ in the cells
+-- an edit leads from one picture to the other; where it moves no line, they differ in exactly these cells
 abbrev pub Leads : Edit → List Cell → Rows → Rows → Type 0
 Leads (InsertLine line) cells old new =
     (line.at ≤ lines_along line.axis old) × (lines_along line.axis old < MAX_SIDE) × AgreesOff line old new

@@ -1,4 +1,4 @@
--- The conditions of errors, each over all edits: what functions that read a lawful edit may take for granted.
+-- The conditions of errors, each over all edits: none of them holds for a lawful edit.
 use Rattle.std.specs.Prelude.{Bool, false, ◌&&◌, ◌||◌, not, nat_le, nat_lt, ◌==◌, length}
 use Rattle.std.specs.List.{list_any}
 use Rattle.picture.specs.declared.picture.TheConstants.{MAX_SIDE, MAX_COLOURS}
@@ -23,7 +23,7 @@ is_outside rows (Pin row col) = not (has_cell rows row col)
 is_outside rows (Unpin row col) = not (has_cell rows row col)
 is_outside rows e = false
 
--- the palette lacks a colour that is named
+-- the edit names a colour that the palette lacks
 abbrev pub lacks_colour : Colours → Edit → Bool
 lacks_colour colours (Paint row col colour) = is_unknown colours colour
 lacks_colour colours (Fill top left bottom right colour) = is_unknown colours colour
@@ -31,7 +31,7 @@ lacks_colour colours (Recolour source target) = is_unknown colours source || is_
 lacks_colour colours (SetColour colour rgb) = is_unknown colours colour
 lacks_colour colours e = false
 
--- a line is to be inserted where there are as many as there may be
+-- a line is to be inserted, but there are `MAX_SIDE` lines along its axis already
 abbrev pub has_no_room : Rows → Edit → Bool
 has_no_room rows (InsertLine line) = nat_le MAX_SIDE (lines_along line.axis rows)
 has_no_room rows e = false
@@ -47,18 +47,18 @@ is_over colours (AddColour rgb) = not (fits colours.maxval rgb)
 is_over colours (SetColour colour rgb) = not (fits colours.maxval rgb)
 is_over colours e = false
 
--- a colour is to be added where there are as many as there may be
+-- a colour is to be added, but the palette has `MAX_COLOURS` colours already
 abbrev pub is_full : Colours → Edit → Bool
 is_full colours (AddColour rgb) = nat_le MAX_COLOURS (length colours.triples)
 is_full colours e = false
 
--- the colour has another number
+-- the palette has the colour already, at another number
 abbrev pub is_there : Colours → Edit → Bool
 is_there colours (AddColour rgb) = list_any (rgb_eq rgb) colours.triples
 is_there colours (SetColour colour rgb) = stands_elsewhere colours.triples colour rgb
 is_there colours e = false
 
--- the background is to have another colour, or its own
+-- the colour of the background is to be set, even to what it is
 abbrev pub sets_background : Edit → Bool
 sets_background (SetColour colour rgb) = colour == 0
 sets_background e = false

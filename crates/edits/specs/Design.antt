@@ -24,7 +24,7 @@ design colours rows marks = record { colours = colours; rows = rows; marks = mar
 unfoldable pub grid : ℕ → ℕ → (ℕ → ℕ → ℕ) → Rows
 grid height width value = map (λ i. map (λ j. value i j) (range_with_len 0 width)) (range_with_len 0 height)
 
--- whether a set of cells, a mask for each row, has a cell
+-- 1 where a set of cells, a mask for each row, has a cell, else 0
 abbrev pub mark_at : List ℕ → ℕ → ℕ → ℕ
 mark_at masks i j = if bit_and (slice_index masks i) (2 ^ j) == 0 then 0 else 1
 
@@ -40,7 +40,7 @@ pub record IsGrid (height width : ℕ) (rows : Rows) : Type 0 where
   pub row_count : length rows ≡ height
   pub row_lengths : (i : ℕ) → i < height → length (row_at rows i) ≡ width
 
--- what every document is
+-- what holds of every document
 pub record IsDesign (d : Design) : Type 0 where
   pub is_palette : IsPalette d.colours
   pub is_picture : IsPicture d.rows

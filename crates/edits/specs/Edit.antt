@@ -16,7 +16,7 @@ colour_after (Fill top left bottom right colour) i j x =
 colour_after (Recolour source target) i j x = if x == source then target else x
 colour_after e i j x = x
 
--- the picture with these colours
+-- the picture with the colours that its cells have afterwards
 abbrev pub painted : Edit → Rows → Rows
 painted e rows = grid (length rows) (width_of rows) (λ i j. colour_after e i j (cell_at rows i j))
 

@@ -38,7 +38,8 @@ has_cell rows row col = nat_lt row (length rows) && nat_lt col (width_of rows)
 abbrev pub is_unknown : Colours → ℕ → Bool
 is_unknown colours colour = nat_le (length colours.triples) colour
 
--- the errors that an edit can meet, in order, each with its condition
+-- The errors that an edit can meet, in order, each with its condition; that nothing would change is not among them. A
+-- rectangle must lie in the picture, and its bottom must not be above its top, nor its right before its left.
 abbrev pub faults_of : Design → Edit → List (Bool × EditFault)
 faults_of d (Paint row col colour) = (not (has_cell d.rows row col), Place) ∷ (is_unknown d.colours colour, Colour) ∷ []
 faults_of d (Fill top left bottom right colour) =
@@ -67,7 +68,7 @@ same_design a b =
     (a.colours.maxval == b.colours.maxval && pointwise rgb_eq a.colours.triples b.colours.triples)
     && (pointwise (pointwise nat_eq) a.rows b.rows && pointwise (pointwise nat_eq) a.marks b.marks)
 
--- the first error whose condition holds, and the last one in order is that the edit would change nothing
+-- the first error whose condition holds; the last one in order is that the edit would change nothing
 abbrev pub edit_fault : Design → Edit → Option EditFault
 edit_fault d e =
     option_map (λ f. f.1) (find (λ f. f.0) (faults_of d e ++ (same_design (edited d e) d, NoChange) ∷ []))

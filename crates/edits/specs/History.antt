@@ -12,7 +12,7 @@ use Rattle.edits.specs.Edit.{edited}
 use Rattle.edits.specs.Fault.{edit_fault}
 use Rattle.edits.specs.Note.{Note, IsStep, note_for, reverted}
 
--- a whole document with an edit
+-- a whole document with an edit: in the past the edit that was made to it, in the future the one that gives it
 pub record Turn : Type 0 where
   pub document : Design
   pub edit : Edit
@@ -34,29 +34,31 @@ history d past future depth = record { document = d; past = past; future = futur
 abbrev pub after_edit : History → Edit → History
 after_edit h e = history (edited h.document e) (keep_last h.depth (h.past ++ turn h.document e ∷ [])) [] h.depth
 
--- the last one of the past becomes the present one, which goes to the front of the future
+-- the last document of the past becomes the present one, and the present one goes to the front of the future
 abbrev pub after_undo : History → Turn → History
 after_undo h t = history t.document (take (length h.past - 1) h.past) (turn h.document t.edit ∷ h.future) h.depth
 
--- the first one of the future becomes the present one, which goes to the end of the past
+-- the first document of the future becomes the present one, and the present one goes to the end of the past
 abbrev pub after_redo : History → Turn → History
 after_redo h t = history t.document (h.past ++ turn h.document t.edit ∷ []) (drop 1 h.future) h.depth
 
--- a step back and a step forth, where there is one
+-- after an undo, or the same where there is nothing to undo
 abbrev pub undone : History → History
 undone h = unwrap_or (option_map (after_undo h) (last_item h.past)) h
 
+-- after a redo, or the same where there is nothing to redo
 abbrev pub redone : History → History
 redone h = unwrap_or (option_map (after_redo h) (slice_get h.future 0)) h
 
--- why they are refused
+-- why an undo is refused, if it is
 abbrev pub undo_fault : History → Option EditFault
 undo_fault h = if length h.past == 0 then Some UndoEmpty else None
 
+-- why a redo is refused, if it is
 abbrev pub redo_fault : History → Option EditFault
 redo_fault h = if length h.future == 0 then Some RedoEmpty else None
 
--- how a history goes on: by an edit, with what is kept of it, or along the edits that it has
+-- a step of a history: an edit, with what is kept of it, an undo or a redo
 pub data Advance : Type 0 where
   ByEdit : Note → Advance
   ByUndo : Advance
@@ -72,19 +74,19 @@ advance_fault h (ByEdit n) = edit_fault h.document n.edit
 advance_fault h ByUndo = undo_fault h
 advance_fault h ByRedo = redo_fault h
 
--- what is kept of an edit is that of the present document
+-- what is kept of the edit, if it is one, is right for the present document
 abbrev pub IsKeptOf : Design → Advance → Type 0
 IsKeptOf d (ByEdit n) = n ≡ note_for d n.edit
 IsKeptOf d ByUndo = Unit {0}
 IsKeptOf d ByRedo = Unit {0}
 
--- the change moves the lines so, and it is that of the two pictures: the touched lines are those that have other cells
+-- the change has these moves, and is that of the two pictures: the touched lines are exactly those with other cells
 pub record IsChangeBy (moves : Moves) (old new : Rows) (change : Changes) : Type 0 where
   pub moved : change.moves ≡ moves
   pub are_moves : AreMoves change.moves
   pub exact : IsChangeOf change old new
 
--- how a history goes on, the document that it comes to, and what that changes
+-- a step of a history, the document after it, and what it changes in the picture
 pub record Plan : Type 0 where
   pub advance : Advance
   pub document : Design
@@ -93,7 +95,7 @@ pub record Plan : Type 0 where
 abbrev pub plan : Advance → Design → Changes → Plan
 plan advance document change = record { advance = advance; document = document; change = change }
 
--- the plan goes on so, from one document to the other
+-- the plan takes this step from one document to the other, with these moves of lines
 pub record IsMade (advance : Advance) (moves : Moves) (old new : Design) (p : Plan) : Type 0 where
   pub advances : p.advance ≡ advance
   pub gives : p.document ≡ new
@@ -120,12 +122,12 @@ abbrev pub future_from : Design → List Note → List Turn
 future_from d [] = []
 future_from d (n ∷ notes) = turn (edited d n.edit) n.edit ∷ future_from (edited d n.edit) notes
 
--- each note of the past is that of its edit
+-- each note of the past is what is kept of its edit
 abbrev pub ArePast : Design → List Note → Type 0
 ArePast d [] = Unit {0}
 ArePast d (n ∷ notes) = IsStep (before_all d (n ∷ notes)) n (before_all d notes) × ArePast d notes
 
--- each note of the future is that of its edit
+-- each note of the future is what is kept of its edit
 abbrev pub AreFuture : Design → List Note → Type 0
 AreFuture d [] = Unit {0}
 AreFuture d (n ∷ notes) = IsStep d n (edited d n.edit) × AreFuture (edited d n.edit) notes

@@ -19,7 +19,7 @@ use Rattle.edits.specs.Fault.{edit_fault}
 abbrev pub Cell : Type 0
 Cell = ℕ × ℕ × ℕ
 
--- an entry as its lists
+-- what is kept of an edit: an entry with its vectors as lists
 pub record Note : Type 0 where
   pub edit : Edit
   pub cells : List Cell
@@ -37,7 +37,7 @@ unfoldable pub joined : {X : Type 0} → (ℕ → List X) → ℕ → List X
 joined f zero = []
 joined f (suc n) = joined f n ++ f n
 
--- the cell, where its colour is another one afterwards
+-- the cell with its old colour, if the edit changes it
 abbrev pub changed_cell : Edit → Rows → ℕ → ℕ → List Cell
 changed_cell e rows i j =
     if colour_after e i j (cell_at rows i j) == cell_at rows i j then [] else ((i, j, cell_at rows i j) ∷ [])
@@ -92,7 +92,7 @@ givens_kept marks e = []
 abbrev pub note_for : Design → Edit → Note
 note_for d e = note e (cells_kept d.rows e) (triple_kept d.colours e) (givens_kept d.marks e)
 
--- the grid with each of these cells changed
+-- the grid with each of these cells set to its value
 abbrev pub with_cells : Rows → List Cell → Rows
 with_cells rows [] = rows
 with_cells rows (c ∷ cells) = with_cells (with_cell rows c.0 c.1 c.2) cells

@@ -23,7 +23,7 @@ pub record AreRings (d : Design) (past future : Buffer Entry) : Type 0 where
   pub room : length past.items + length future.items ≤ past.capacity
   pub same_room : future.capacity ≡ past.capacity
 
--- a ring with an entry more, where there is one, or with one less
+-- a ring with one entry more, if there is one to add, or with one less
 abbrev pub with_last : Buffer Entry → Option Entry → Buffer Entry
 with_last ring None = ring
 with_last ring (Some entry) = buffer (keep_last ring.capacity (ring.items ++ entry ∷ [])) ring.capacity

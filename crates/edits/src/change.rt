@@ -22,8 +22,8 @@ impl Entry {
     ghost use Rattle.edits.specs.Design.{design_of};
     ghost use Rattle.edits.specs.Note.{IsStep, note_of};
 
-    /// What the edit changes: which lines it moves, and which lines have other cells afterwards. The entry is that of
-    /// the edit that makes the document `after` of the document `before`.
+    /// What the edit changes: which lines it moves, and which lines have other cells afterwards. The entry must be that
+    /// of an edit that turns `before` into `after`.
     pub fn change(&self, before: &Document, after: &Document) -> Change
         requires { IsStep (design_of before.now) (note_of self.now) (design_of after.now) }
         ensures moves { result.moves ≡ moves_of self.now.edit before.now.picture }
@@ -33,8 +33,8 @@ impl Entry {
         change_by(self.edit, &self.cells, &before.picture, &after.picture)
     }
 
-    /// What taking the edit back changes. The entry is that of the edit that makes the document `after` of the document
-    /// `before`, and the change leads from `after` to `before`.
+    /// What undoing the edit changes. The entry must be that of an edit that turns `before` into `after`. The change
+    /// leads from `after` to `before`.
     pub fn change_back(&self, before: &Document, after: &Document) -> Change
         requires { IsStep (design_of before.now) (note_of self.now) (design_of after.now) }
         ensures moves { result.moves ≡ back (moves_of self.now.edit before.now.picture) }
@@ -57,8 +57,8 @@ fn reversed_edit(edit: Edit) -> Edit
     }
 }
 
-// The change between two pictures of which an edit leads from one to the other. Where it moves no line, they differ in
-// the cells.
+// The change from one picture to the other, to which an edit leads. Where it moves no line, `cells` are those in which
+// the pictures differ.
 fn change_by(edit: Edit, cells: &[Cell], old: &Picture, new: &Picture) -> Change
     requires { Leads edit cells.now old.now new.now }
     ensures moves { result.moves ≡ moves_of edit old.now }

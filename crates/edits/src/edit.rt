@@ -24,11 +24,11 @@ pub enum Edit {
         source: u8,
         target: u8,
     },
-    /// Puts a line of background at a place, which may be the one after the last line. Later lines move up by one.
+    /// Inserts a line of background at a place, at most that after the last line. Later lines move one place on.
     InsertLine {
         line: LineId,
     },
-    /// Takes a line out. Later lines move down by one.
+    /// Deletes a line, which may not be the only one of its axis. Later lines move one place back.
     DeleteLine {
         line: LineId,
     },
@@ -42,7 +42,7 @@ pub enum Edit {
     AddColour {
         rgb: Rgb,
     },
-    /// Gives a number of the palette another colour.
+    /// Gives a number of the palette, other than that of the background, another colour.
     SetColour {
         colour: u8,
         rgb: Rgb,

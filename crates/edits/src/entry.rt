@@ -20,7 +20,7 @@ pub struct Entry {
     /// The row, the column and the old colour of each cell that a paint, a fill or a recolouring changed, or that a
     /// deleted line had, in row order.
     pub cells: Vec<(u8, u8, u8)>,
-    /// The colour that another one took the place of.
+    /// The old colour of the palette's number that the edit set, if it set one.
     pub triple: Option<Rgb>,
     /// The row and the column of each given that a deleted line had, in row order.
     pub givens: Vec<(u8, u8)>,
@@ -49,7 +49,7 @@ impl Entry {
         })
     }
 
-    /// The document after the edit. The entry is that of the edit and the document.
+    /// The document after the edit. The entry must be that of an edit of this document.
     pub fn apply(&self, document: &Document) -> Result<Document, AllocError>
         requires { IsEntry (design_of document.now) (note_of self.now) }
         ensures { IfOk result (λ d. design_of d ≡ edited (design_of document.now) self.now.edit) }
@@ -72,7 +72,7 @@ impl Entry {
         }
     }
 
-    /// The document before the edit. The entry is that of an edit which gives this document.
+    /// The document before the edit. The entry must be that of an edit that gave this document.
     pub fn revert(&self, document: &Document) -> Result<Document, AllocError>
         requires { (before : Design) × IsStep before (note_of self.now) (design_of document.now) }
         ensures { IfOk result (λ d.

@@ -4,7 +4,7 @@ ghost use Rattle.edits.specs.Design.{design_of, IsDesign};
 
 use picture::Document;
 
-/// Tells a proof what a document is: its palette, its picture and its marks.
+/// Lets proofs know that a document's palette, picture and marks are valid.
 #[tactic(auto, using(crate::proofs::DesignLemmas::marking))]
 pub(crate) fn know(document: &Document)
     ensures { IsDesign (design_of document.now) }

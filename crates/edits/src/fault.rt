@@ -7,20 +7,20 @@ ghost use Rattle.edits.specs.Fault.{fault_name};
 use std::alloc::AllocError;
 use thiserror::Error;
 
-/// Why an edit, an undo or a redo is refused. The first of these that holds is answered, and out of memory only where
-/// no other does.
+/// Why an edit, an undo or a redo is refused. The answer is the first of these, in this order, that holds. It is
+/// `Memory` only where no other holds.
 #[derive(Clone, Copy, Debug, PartialEq, Eq, Error)]
 pub enum EditFault {
     /// A cell or a line lies outside the picture, or a rectangle has no cell.
     #[error("outside the picture")]
     Place,
-    /// The palette does not have the colour's number.
+    /// The palette has no colour of that number.
     #[error("no such colour")]
     Colour,
-    /// A line more would be too many.
+    /// The axis has 120 lines already, so none can be inserted.
     #[error("the picture has 120 such lines already")]
     TooLarge,
-    /// The picture has no other line along that axis.
+    /// The line is the only one of its axis, so it cannot be deleted.
     #[error("the only line of its axis")]
     LastLine,
     /// A sample is above the palette's maxval.
@@ -29,10 +29,10 @@ pub enum EditFault {
     /// The palette has 16 colours already.
     #[error("the palette has 16 colours already")]
     PaletteFull,
-    /// The colour has another number.
+    /// The palette has the colour already, at another number.
     #[error("the colour stands at another number")]
     DuplicateColour,
-    /// The background keeps its colour.
+    /// The colour of the background cannot be set.
     #[error("the background keeps its colour")]
     Background,
     /// The document would be the same.

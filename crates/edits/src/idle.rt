@@ -55,7 +55,7 @@ fn are_alike(document: &Document, axis: Axis, first: u8, second: u8) -> bool
     true
 }
 
-// Whether two lines of an axis have the same cell at a position, and a given there or not.
+// Whether two lines of an axis have the same colour at a position, and both or no given there.
 fn are_alike_at(document: &Document, axis: Axis, first: u8, second: u8, position: u8) -> bool
     requires first_in { first < lines_along axis document.now.picture }
     requires second_in { second < lines_along axis document.now.picture }

@@ -45,7 +45,7 @@ fn cells_of_line(alloc: Global, picture: &Picture, line: LineId) -> Result<Vec<C
     Ok(cells)
 }
 
-/// The colour that another one takes the place of.
+/// The old colour of the palette's number that an edit sets, if it sets one.
 pub fn kept_triple(palette: &Palette, edit: &Edit) -> Option<Rgb>
     requires { lacks_colour palette.now edit.now ≡ false }
     ensures { result ≡ triple_kept palette.now edit.now }
@@ -56,7 +56,7 @@ pub fn kept_triple(palette: &Palette, edit: &Edit) -> Option<Rgb>
     }
 }
 
-/// The givens of a deleted line, in row order.
+/// The givens of the line that an edit deletes, if it deletes one, in row order.
 pub fn kept_givens(alloc: Global, document: &Document, edit: &Edit) -> Result<Givens, AllocError>
     requires { is_outside document.now.picture edit.now ≡ false }
     ensures { IfOk result (λ givens.

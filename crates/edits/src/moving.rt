@@ -26,7 +26,7 @@ pub(crate) fn moved_givens(givens: &CellSet, back: &Change, height: u8, width: u
     moved
 }
 
-// Whether the cell that a new cell was is given.
+// Whether a cell of the new picture was a given at its old place.
 fn was_given(givens: &CellSet, back: &Change, row: u8, col: u8) -> bool
     requires row { row < lines_before Axis.Across back.now.moves }
     requires column { col < lines_before Axis.Down back.now.moves }

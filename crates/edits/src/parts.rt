@@ -18,7 +18,7 @@ use clues::Change;
 use picture::{Axis, Document, LineId, MAX_SIDE, Picture, Rgb};
 use std::alloc::AllocError;
 
-/// The document with the cells of a list painted.
+/// The document with the cells of a list painted by an edit.
 pub fn painted(document: &Document, edit: &Edit, cells: &[Cell]) -> Result<Document, AllocError>
     requires picture { IsPicture document.now.picture }
     requires cells { All (IsCellIn document.now.picture) (map (repainted edit.now) cells.now) }
@@ -34,7 +34,7 @@ pub fn painted(document: &Document, edit: &Edit, cells: &[Cell]) -> Result<Docum
     Ok(after)
 }
 
-/// The document with the cells of a list given back.
+/// The document with each cell of a list set to its colour in the list.
 pub fn with_cells(document: &Document, cells: &[Cell]) -> Result<Document, AllocError>
     requires picture { IsPicture document.now.picture }
     requires cells { All (IsCellIn document.now.picture) cells.now }
@@ -120,7 +120,7 @@ pub fn swapped(
     moved(document, picture, &back)
 }
 
-/// The document with a cell that is a given.
+/// The document with a cell made a given.
 pub fn pinned(document: &Document, row: u8, col: u8) -> Result<Document, AllocError>
     requires picture { IsPicture document.now.picture }
     requires in_rows { row < length document.now.picture }
@@ -134,7 +134,7 @@ pub fn pinned(document: &Document, row: u8, col: u8) -> Result<Document, AllocEr
     Ok(after)
 }
 
-/// The document with a cell that is no given.
+/// The document with a cell that is no longer a given.
 pub fn unpinned(document: &Document, row: u8, col: u8) -> Result<Document, AllocError>
     requires picture { IsPicture document.now.picture }
     requires in_rows { row < length document.now.picture }
@@ -155,7 +155,7 @@ pub fn added(document: &Document, rgb: Rgb) -> Result<Document, AllocError>
         (design_of document.now).marks) }
 {
     let mut after = document.copy()?;
-    // The edit was lawful, so only memory can be wanting.
+    // The edit was lawful, so the only error is out of memory.
     after.palette.add(rgb).map_err(|_| AllocError)?;
     Ok(after)
 }
@@ -168,7 +168,7 @@ pub fn recoloured(document: &Document, colour: u8, rgb: Rgb) -> Result<Document,
         (design_of document.now).marks) }
 {
     let mut after = document.copy()?;
-    // The edit was lawful, so only memory can be wanting.
+    // The edit was lawful, so the only error is out of memory.
     after.palette.set(colour, rgb).map_err(|_| AllocError)?;
     Ok(after)
 }
@@ -186,7 +186,7 @@ pub fn without_last(document: &Document) -> Result<Document, AllocError>
     Ok(after)
 }
 
-/// The document with a deleted line given back.
+/// The document with a deleted line put back, with its cells and its givens.
 pub fn restored(
     document: &Document,
     line: LineId,

@@ -18,7 +18,7 @@ use picture::Document;
 use std::alloc::{AllocError, Global};
 use std::marker::Model;
 
-/// How a history goes on: by an edit, with what is kept of it, or along the edits that it has.
+/// A step of a history: an edit, with what is kept of it, an undo or a redo.
 #[derive(Debug, Drop)]
 pub(crate) enum Step {
     Edit(Entry),
@@ -26,7 +26,7 @@ pub(crate) enum Step {
     Redo,
 }
 
-/// What an edit, an undo or a redo comes to, made beside the studio.
+/// An edit, an undo or a redo that can be committed: the document after it, and what it changes.
 #[derive(Drop)]
 pub struct Prepared {
     pub(crate) document: Document,
@@ -45,7 +45,7 @@ impl Model for Prepared {
 }
 
 impl Prepared {
-    /// The document that it comes to.
+    /// The document after the step.
     pub fn document(&self) -> &Document
         ensures { design_of result.now ≡ self.now.document }
     {
@@ -60,7 +60,7 @@ impl Prepared {
     }
 }
 
-/// An edit of a document, and what is kept of it.
+/// Prepares an edit of a document, or answers the first error that refuses it.
 pub fn edit_of(alloc: Global, document: &Document, edit: &Edit) -> Result<Prepared, EditFault>
     ensures refused { IfErr result
         (λ fault. fault ≡ unwrap_or (edit_fault (design_of document.now) edit.now) Memory) }
@@ -80,7 +80,7 @@ pub fn edit_of(alloc: Global, document: &Document, edit: &Edit) -> Result<Prepar
     })
 }
 
-/// The document before an edit that was made, from the one after it and what was kept of the edit.
+/// Prepares an undo: the document before an edit, from the one after it and what is kept of it.
 pub fn undo_of(document: &Document, entry: &Entry) -> Result<Prepared, AllocError>
     requires { (before : Design) × IsStep before (note_of entry.now) (design_of document.now) }
     ensures { IfOk result (λ p.
@@ -97,7 +97,7 @@ pub fn undo_of(document: &Document, entry: &Entry) -> Result<Prepared, AllocErro
     })
 }
 
-/// The document after an edit that was undone, and is made again.
+/// Prepares a redo: the document after an edit, from the one before it and what is kept of it.
 pub fn redo_of(document: &Document, entry: &Entry) -> Result<Prepared, AllocError>
     requires { IsEntry (design_of document.now) (note_of entry.now) }
     ensures { IfOk result (λ p. IsMade ByRedo (moves_of entry.now.edit document.now.picture)

@@ -74,7 +74,7 @@ fn has_cell(picture: &Picture, row: u8, col: u8) -> bool
     row < picture.height() && col < picture.width()
 }
 
-// The palette lacks a colour that is named.
+// The edit names a colour that the palette lacks.
 fn lacks_colour(palette: &Palette, edit: &Edit) -> bool
     ensures { result ≡ lacks_colour palette.now edit.now }
 {
@@ -87,7 +87,7 @@ fn lacks_colour(palette: &Palette, edit: &Edit) -> bool
     }
 }
 
-// A line is to be inserted where there are as many as there may be.
+// A line is to be inserted, but there are `MAX_SIDE` lines along its axis already.
 fn has_no_room(picture: &Picture, edit: &Edit) -> bool
     ensures { result ≡ has_no_room picture.now edit.now }
 {
@@ -114,14 +114,14 @@ fn is_over(palette: &Palette, edit: &Edit) -> bool
     }
 }
 
-// A colour is to be added where there are as many as there may be.
+// A colour is to be added, but the palette has `MAX_COLOURS` colours already.
 fn is_full(palette: &Palette, edit: &Edit) -> bool
     ensures { result ≡ is_full palette.now edit.now }
 {
     matches!(*edit, Edit::AddColour { .. } if palette.len() >= MAX_COLOURS)
 }
 
-// The colour has another number.
+// The palette has the colour already, at another number.
 fn is_there(palette: &Palette, edit: &Edit) -> bool
     requires { lacks_colour palette.now edit.now ≡ false }
     ensures { result ≡ is_there palette.now edit.now }
@@ -133,7 +133,7 @@ fn is_there(palette: &Palette, edit: &Edit) -> bool
     }
 }
 
-// The background is to have another colour, or its own.
+// The colour of the background is to be set, even to what it is.
 fn sets_background(edit: &Edit) -> bool
     ensures { result ≡ sets_background edit.now }
 {

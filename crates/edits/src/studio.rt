@@ -24,8 +24,8 @@ use std::marker::Model;
 /// The most edits that a studio can be asked to keep.
 pub const MAX_DEPTH: u16 = 1000;
 
-/// A document, the edits that led to it, and those that were undone. It keeps what each edit changed and no other
-/// document than the present one.
+/// A document, the edits that led to it, and those that were undone. It keeps what each edit changed, and no document
+/// but the present one.
 #[derive(Drop)]
 pub struct Studio {
     document: Document,
@@ -46,8 +46,8 @@ impl Model for Studio {
 }
 
 impl Studio {
-    /// A studio with a document and no history. Its depth, 1 to `MAX_DEPTH`, is how many edits it keeps. It takes the
-    /// memory for that many at once; what is kept of an edit takes memory where the edit is prepared.
+    /// A studio with a document and no history. Its depth, 1 to `MAX_DEPTH`, is how many edits it keeps. Room for that
+    /// many entries is allocated here; the lists of an entry are allocated when its edit is prepared.
     pub fn start(alloc: Global, document: Document, depth: u16) -> Result<Studio, AllocError>
         requires { (0 < depth) × (depth ≤ MAX_DEPTH) }
         ensures { IfOk result (λ s. s ≡ history (design_of document) [] [] depth) }
@@ -73,14 +73,14 @@ impl Studio {
         self.past.len()
     }
 
-    /// How many edits can be done again.
+    /// How many edits can be redone.
     pub fn future_len(&self) -> usize
         ensures { result ≡ length self.now.future }
     {
         self.future.len()
     }
 
-    /// What is kept of the last edit that can be undone.
+    /// What is kept of the edit that an undo would take back, if there is one.
     pub fn last_entry(&self) -> Option<&Entry>
         ensures { option_map note_of (option_copied result)
             ≡ option_map (λ turn. note_for turn.document turn.edit) (last_item self.now.past) }
@@ -88,7 +88,7 @@ impl Studio {
         self.past.back()
     }
 
-    /// What an edit comes to, or the first error that refuses it. The studio stays as it is.
+    /// Prepares an edit, or answers the first error that refuses it. The studio stays as it is.
     pub fn prepare(&self, alloc: Global, edit: &Edit) -> Result<Prepared, EditFault>
         ensures refused { IfErr result
             (λ fault. fault ≡ unwrap_or (edit_fault self.now.document edit.now) Memory) }
@@ -104,7 +104,7 @@ impl Studio {
         edit_of(alloc, &self.document, edit)
     }
 
-    /// What taking back the last edit comes to. `UndoEmpty` where there is none. The studio stays as it is.
+    /// Prepares to undo the last edit, or answers `UndoEmpty` where there is none. The studio stays as it is.
     pub fn prepare_undo(&self) -> Result<Prepared, EditFault>
         ensures refused { IfErr result (λ fault. fault ≡ unwrap_or (undo_fault self.now) Memory) }
         ensures lawful { IfOk result (λ _. undo_fault self.now ≡ None) }
@@ -121,7 +121,7 @@ impl Studio {
         Ok(undo_of(&self.document, entry)?)
     }
 
-    /// What making the edit again that was undone last comes to. `RedoEmpty` where there is none. The studio stays as
+    /// Prepares to redo the edit that was undone last, or answers `RedoEmpty` where there is none. The studio stays as
     /// it is.
     pub fn prepare_redo(&self) -> Result<Prepared, EditFault>
         ensures refused { IfErr result (λ fault. fault ≡ unwrap_or (redo_fault self.now) Memory) }
@@ -139,9 +139,9 @@ impl Studio {
         Ok(redo_of(&self.document, entry)?)
     }
 
-    /// Takes a step that was prepared from the state in which the studio is. It takes no memory and cannot fail. The
-    /// oldest edit is forgotten where the past has as many as the depth already, and an edit forgets those that were
-    /// undone.
+    /// Commits a step that was prepared from the studio's present state. It takes no memory and cannot fail. An edit
+    /// forgets the edits that were undone, and the oldest edit of the past where there are as many as the depth
+    /// already.
     pub fn commit(&mut self, prepared: Prepared)
         requires { IsPlanFor self.old prepared }
         ensures { self.new ≡ advanced self.old prepared.advance }

@@ -1,4 +1,4 @@
--- The facts that leave a picture alone, and the pictures that facts allow.
+-- The facts that leave only one picture, and the pictures that facts allow.
 use Rattle.std.proofs.Common.{◌≡◌, ℕ, ◌^◌, ◌<◌, ◌≤◌, List, [], length, get_or, map, refl, sym, ap, subst, ◌∙◌, arith, inl, inr}
 use Rattle.std.specs.Prelude.{IsBitSet}
 use Rattle.std.proofs.lemmas.Bool.{cases_lt}
@@ -66,7 +66,7 @@ along_inside Down at i picture is h l =
     let r = is.rectangular i (omega arith) in
     omega arith
 
--- a line of the picture fits that line of the facts that leave it alone
+-- a line of the picture fits that line of the facts that leave only the picture
 own_line : (picture : Rows) → IsPicture picture → (line : LineId) → HasLine picture line → Fits (clue_at (clues_of picture) line) (line_of (only picture) line) (line_of picture line)
 own_line picture is line has =
     let len = same_line_length picture (only picture) line (only_shape picture) in
@@ -93,7 +93,7 @@ only_closed picture is line has i k s =
       has = cell_on picture line i ∙ sym own.own;
     }
 
--- facts leave a picture exactly where they lie inside those that leave it alone
+-- what facts that leave a picture exclude, those that leave only the picture exclude too
 within_only : (picture : Rows) (facts : Masks) → SameShape picture facts → LeavesPicture picture facts → IsWithin facts (only picture)
 within_only picture facts shape leaves = record {
   same_shape = shape_trans (shape_sym shape) (only_shape picture);
@@ -128,7 +128,7 @@ fills_closed clues facts picture f = let P : Clues → Type 0 = λ c. IsClosed c
 fills_within : (clues : Clues) (facts : Masks) (picture : Rows) → Fills clues facts picture → IsWithin facts (only picture)
 fills_within clues facts picture f = within_only picture facts f.same_shape f.leaves
 
--- what fills facts fills all that lie inside the same closed facts, and all that exclude less
+-- a picture that fills facts fills all facts of that shape that exclude none of its colours
 fills_more : (clues : Clues) (base facts : Masks) (picture : Rows) → SameShape base facts → IsWithin facts (only picture) → Fills clues base picture → Fills clues facts picture
 fills_more clues base facts picture shape w f = record {
   is_picture = f.is_picture;
@@ -137,7 +137,7 @@ fills_more clues base facts picture shape w f = record {
   leaves = leaves_within picture facts w;
 }
 
--- each line of a picture fits the facts that leave it alone
+-- each line of a picture fits the facts that leave only the picture
 fits_only : (clues : Clues) (facts : Masks) (picture : Rows) (line : LineId) → Fills clues facts picture → HasLine facts line → CanFit (clue_at clues line) (line_of (only picture) line)
 fits_only clues facts picture line f has =
     rw (← f.has_clues) (line_of picture line, own_line picture f.is_picture line (same_has_line facts picture line (shape_sym f.same_shape) has))

@@ -146,7 +146,7 @@ unfolding sum_to
 sum_first f zero = omega arith
 sum_first f (suc n) = let r = sum_first f n in omega arith
 
--- a mask has no more bits than they are allowed below n, where it has none from n on
+-- a mask whose bit k is at most `f k`, and 0 from n on, has no more bits than the sum of `f` below n
 ones_at_most : (n mask : ℕ) (f : ℕ → ℕ) → ((k : ℕ) → bit_at mask k ≤ f k) → ((k : ℕ) → n ≤ k → bit_at mask k ≡ 0) → count_ones mask ≤ sum_to f n
 unfolding sum_to
 ones_at_most zero mask f low high =

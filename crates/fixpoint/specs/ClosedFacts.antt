@@ -31,7 +31,7 @@ pub record IsQuietLine (clue : List Block) (left : List ℕ) : Type 0 where
 abbrev pub QuietOutside : Clues → List (List ℕ) → Lines → Type 0
 QuietOutside = EachOutside IsQuietLine
 
--- a line that no list fits, whichever closed facts hold the base
+-- a line that no list fits under any closed facts that hold the base
 pub record HasDeadLine (clues : Clues) (base : Masks) : Type 0 where
   pub line : LineId
   pub has : HasLine base line
@@ -39,7 +39,7 @@ pub record HasDeadLine (clues : Clues) (base : Masks) : Type 0 where
       → CanFit (clue_at clues line) (line_of others line) → ⊥
 
 -- Narrowed leaves the least closed facts, and some list fits each line under them; Dead says that under them
--- some line has no list that fits. Either way what then stands lies inside all closed facts that hold the base.
+-- some line has no list that fits. Either way the new facts lie inside all closed facts that hold the base.
 pub record Closes (clues : Clues) (base facts : Masks) (outcome : Outcome) : Type 0 where
   pub holds : IsWithin base facts
   pub inside : (others : Masks) → IsClosed clues others → IsWithin base others → IsWithin facts others
@@ -69,7 +69,7 @@ pub record PutsCrossing (line : LineId) (before after : List ℕ) (old new : Lin
 
 -- ---- the work
 
--- one line evaluated, which draws on so many cells
+-- one line is evaluated, and `cells` of its cells change
 pub record Evaluates (clues : Clues) (old new : Masks) (cells : ℕ) : Type 0 where
   pub line : LineId
   pub has : HasLine old line
@@ -77,20 +77,20 @@ pub record Evaluates (clues : Clues) (old new : Masks) (cells : ℕ) : Type 0 wh
   pub gains : Gains (clue_at clues line) line old new outcome
   pub draws : cells ≡ changes (line_of old line) (line_of new line) (length (line_of old line))
 
--- the facts come about by so many evaluations, which draw on so
--- many cells, each counted once for every line that draws on it
+-- a number of evaluations lead from the old facts to the new ones, and `cells` cells
+-- change in them, each counted once for every evaluation that changes it
 abbrev pub Draws : Clues → Masks → Masks → ℕ → ℕ → Type 0
 Draws clues old new zero cells = (old ≡ new) × (cells ≡ 0)
 Draws clues old new (suc n) cells =
     (between : Masks) × ((before : ℕ) × ((last : ℕ)
     × (Draws clues old between n before × (Evaluates clues between new last × (cells ≡ before + last)))))
 
--- a meter of so many evaluations alone
+-- a meter that has counted evaluations, and no trial
 abbrev pub evaluated : ℕ → Meter
 evaluated count = record { evaluations = count; trials = 0 }
 
--- The work of closing: at most the lines of the set and the cells drawn on along the way, and at least the
--- lines of the set where the outcome is Narrowed. Where the set has a line, at least one is evaluated.
+-- The evaluations of closing: at most one for each line of the set and each change of a cell, and at least one
+-- for each line of the set where the outcome is Narrowed. Where the set has a line, at least one is evaluated.
 pub record Works (clues : Clues) (dirty : Lines) (base facts : Masks) (outcome : Outcome) (old new : Meter)
     (before after : ℕ) : Type 0 where
   pub evaluations : ℕ

@@ -18,6 +18,6 @@ pub record Fills (clues : Clues) (facts : Masks) (picture : Rows) : Type 0 where
   pub has_clues : clues_of picture ≡ clues
   pub leaves : LeavesPicture picture facts
 
--- the facts that leave one picture alone: in each cell only its colour
+-- the facts that leave only one picture: in each cell only its colour
 unfoldable pub only : Rows → List (List ℕ)
 only picture = map (λ (row : List ℕ). map (λ (colour : ℕ). 2 ^ colour) row) picture

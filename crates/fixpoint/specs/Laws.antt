@@ -11,7 +11,7 @@ use Rattle.fixpoint.specs.ClosedFacts.{Closes, HasDeadLine}
 use Rattle.fixpoint.specs.Fillings.{Fills, LeavesPicture, only}
 use Rattle.fixpoint.specs.LineNames.{AllLines}
 
--- the names of all lines are as many as the rows and the columns together
+-- a set with the names of all lines has one for each row and each column
 abbrev pub AllNamesAreCounted : Type 0
 AllNamesAreCounted = (facts : Masks) (lines : Lines) → AllLines facts lines
     → name_count lines ≡ length facts + width_of facts
@@ -21,8 +21,8 @@ abbrev pub PictureStays : Type 0
 PictureStays = (picture : Rows) (base facts : Masks) → IsPicture picture → SameShape picture base
     → LeavesPicture picture base → IsLeast (clues_of picture) base facts → LeavesPicture picture facts
 
--- The facts that leave a picture alone: they leave in each of its cells its own colour and no other, they are
--- closed for its clues, and other facts leave the picture exactly where all that they exclude is excluded here.
+-- The facts that leave only a picture: in each of its cells they leave the picture's colour and no other; they are
+-- closed for its clues; and other facts leave the picture exactly where these exclude all that those exclude.
 pub record OnlyIsClosed : Type 0 where
   pub same_shape : (picture : Rows) → SameShape picture (only picture)
   pub leaves : (picture : Rows) (row col k : ℕ)
@@ -31,8 +31,8 @@ pub record OnlyIsClosed : Type 0 where
   pub within : (picture : Rows) (facts : Masks) → SameShape picture facts
       → LeavesPicture picture facts ↔ IsWithin facts (only picture)
 
--- Closing loses no picture and finds none anew: what fills the facts passed is what fills those that then stand. Where
--- some line is dead, as Dead says, nothing fills the facts passed.
+-- Closing neither loses nor adds a picture: a picture fills the facts before closing exactly if it fills those after.
+-- Where some line is dead, as Dead says, no picture fills the facts before.
 pub record ClosingKeepsFillings : Type 0 where
   pub stays : (clues : Clues) (base facts : Masks) (outcome : Outcome) (picture : Rows)
       → Closes clues base facts outcome → Fills clues base picture ↔ Fills clues facts picture

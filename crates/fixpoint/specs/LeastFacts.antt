@@ -17,7 +17,7 @@ Settles clues base (Ok facts) = IsLeast clues base facts × EachFits clues facts
 Settles clues base (Err fault.Dead) = HasDeadLine clues base
 Settles clues base (Err fault.Memory) = Unit {0}
 
--- The work is that of closing with all lines waiting. Where memory is wanting, none was done.
+-- The work is that of closing with all lines waiting. Where memory ran out, none was done.
 abbrev pub SettlingWorks : Clues → Masks → Result (List (List ℕ)) CloseFault → Meter → Meter → ℕ → ℕ → Type 0
 SettlingWorks clues base (Ok facts) old new before after =
     (lines : Lines) × (AllLines base lines × Works clues lines base facts Narrowed old new before after)

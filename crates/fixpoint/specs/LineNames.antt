@@ -14,7 +14,7 @@ AreLinesOf facts lines = (line : LineId) → HasName lines line → HasLine fact
 abbrev pub AllLines : Masks → Lines → Type 0
 AllLines facts lines = (line : LineId) → HasName lines line ↔ HasLine facts line
 
--- the first so many names along an axis are put into a set
+-- the names of the first `count` lines along an axis are put into a set
 abbrev pub PutsFirst : Lines → Lines → Axis → ℕ → Type 0
 PutsFirst old new axis count = (line : LineId)
     → HasName new line ↔ (HasName old line ⊎ ((line.axis ≡ axis) × (line.at < count)))

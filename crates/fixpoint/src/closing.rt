@@ -9,8 +9,8 @@ use line_facts::{Facts, LineEngine, Meter, Outcome, force_crossing};
 use picture::LineSet;
 use worklist::Agenda;
 
-/// What closing facts came to, the lines in which it may have changed them, and how many lines were evaluated, a count that stays
-/// at the largest number.
+/// The result of closing facts: the outcome, the lines in which facts may have changed, and how many lines were evaluated. The
+/// count stays at the largest number instead of overflowing.
 #[derive(Clone, Copy)]
 pub struct Closed {
     pub outcome: Outcome,
@@ -20,8 +20,8 @@ pub struct Closed {
 
 /// Excludes in the facts what any line forces, until no line forces more. Every line that is not in `dirty` has to be
 /// quiet already: it forces nothing new, and some list fits it. Narrowed leaves the least closed facts that hold the
-/// ones passed. Dead says that under these some line has no list that fits; what then stands is for throwing away. The
-/// lines that the agenda had are forgotten. No memory is taken.
+/// ones passed. Dead says that under these some line has no list that fits; the facts should then be dropped. The agenda
+/// is cleared first. No memory is allocated.
 pub fn close_facts<E: LineEngine, A: Agenda>(
     engine: &mut E,
     agenda: &mut A,
@@ -44,8 +44,8 @@ pub fn close_facts<E: LineEngine, A: Agenda>(
     closed.outcome
 }
 
-/// Closes facts in the same way, and names the lines of `dirty` and those that cross a line where it changed: each other line is
-/// as it was.
+/// Closes facts as `close_facts` does. The result names the lines of `dirty` and those that cross a line at a cell that changed;
+/// each other line is as it was.
 pub fn close_naming<E: LineEngine, A: Agenda>(
     engine: &mut E,
     agenda: &mut A,

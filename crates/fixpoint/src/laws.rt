@@ -3,26 +3,26 @@
 ghost use Rattle.fixpoint.specs.Laws.{AllNamesAreCounted, ClosingKeepsFillings, OnlyIsClosed, PictureStays};
 
 #[tactic(auto, using(crate::proofs::NameLemmas::all_names))]
-/// The names of all lines of facts are as many as the rows and the columns together.
+/// A set with the names of all lines of facts has one for each row and each column.
 pub fn all_names_are_counted()
     ensures { AllNamesAreCounted }
 {}
 
 #[tactic(auto, using(crate::proofs::PictureLemmas::laws))]
-/// Line logic never excludes the colours of a picture that has the clues, where the base doesn't.
+/// Where the base leaves the colours of a picture that has the clues, line logic never excludes them.
 pub fn picture_stays()
     ensures { PictureStays }
 {}
 
 #[tactic(auto, using(crate::proofs::PictureLemmas::laws))]
-/// The facts that leave a picture alone are closed for its clues.
+/// The facts that leave only the colours of a picture are closed for its clues.
 pub fn only_is_closed()
     ensures { OnlyIsClosed }
 {}
 
 #[tactic(auto, using(crate::proofs::PictureLemmas::laws))]
-/// The pictures with the clues that the facts handed to `close_facts` allow are those that the facts it leaves allow,
-/// and where it answers Dead there is none. The same holds of the least closed facts.
+/// Before and after `close_facts`, the facts allow the same pictures that have the clues, and where it answers Dead
+/// there is none. The same holds of the least closed facts.
 pub fn closing_keeps_fillings()
     ensures { ClosingKeepsFillings }
 {}

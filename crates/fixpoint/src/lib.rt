@@ -1,4 +1,4 @@
-//! Facts propagated to the fixpoint of all lines: the least closed facts that hold a base.
+//! Propagation of facts to the fixpoint of all lines: the least closed facts that include a base.
 #![tactic(auto)]
 
 mod closing;

@@ -1,4 +1,4 @@
-//! The names of all lines of some facts, as a worklist begins with.
+//! The names of all lines of some facts, with which a worklist begins.
 
 ghost use Rattle.std.specs.Prelude.{◌≡◌, ◌+◌, ◌<◌, ◌≤◌, length};
 ghost use Rattle.picture.specs.LineSet.{HasName, name_count};
@@ -9,7 +9,7 @@ use line_facts::Facts;
 use picture::{Axis, LineId, LineSet, MAX_SIDE};
 
 #[tactic(auto, using(crate::proofs::NameLemmas::all_names))]
-/// The names of all lines of the facts: the rows, and the columns. No memory is taken.
+/// The names of all lines of the facts: the rows and the columns. Allocates no memory.
 pub fn all_lines(facts: &Facts) -> LineSet
     ensures lines { AllLines facts.now result }
     ensures count { name_count result ≡ length facts.now + width_of facts.now }
@@ -20,7 +20,7 @@ pub fn all_lines(facts: &Facts) -> LineSet
     lines
 }
 
-// Puts the names of the first lines along an axis into a set.
+// Puts the names of the first `count` lines along an axis into a set.
 fn put_first(lines: &mut LineSet, axis: Axis, count: u8)
     requires { count ≤ MAX_SIDE }
     ensures { PutsFirst lines.old lines.new axis count }

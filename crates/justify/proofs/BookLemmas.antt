@@ -1,4 +1,4 @@
--- Books with one step more.
+-- Books with one more step.
 use Rattle.std.proofs.Common.{◌≡◌, ℕ, ◌+◌, ◌<◌, ◌≤◌, ◌⊎◌, List, [], ◌∷◌, ◌++◌, length, get_or, sym, subst, arith, inl, inr, length-append}
 use Rattle.std.proofs.Math.ListN.{get_or-append}
 use Rattle.std.proofs.Math.Seq.{get_or-append_seam}
@@ -87,7 +87,7 @@ account_more base steps old new step is can g = record {
   behind = behind_more base steps step old new is.behind g;
 }
 
--- what the step that was added draws lies on its line of the facts
+-- what the step that was added draws is on its line of the facts
 pub drawn_lies_inside : (base : Masks) (steps : List Step) (facts : Masks) (step : Step) → IsAccount (account base steps facts) → CanAdd (account base steps facts) step → (i : ℕ)
     → Mentions step.drawn i → i < length (line_of facts step.line)
 drawn_lies_inside base steps facts step is can i m =
@@ -95,7 +95,7 @@ drawn_lies_inside base steps facts step is can i m =
     let l = can.drawn_inside i m in
     omega arith
 
--- what follows all steps is the one that was put there
+-- the item after all steps is the step that was appended
 pub found_last : (steps items : List Step) (step found : Step) (n : ℕ) → n ≡ length steps → items ≡ steps ++ step ∷ [] → found ≡ get_or items n found → found ≡ step
 found_last steps items step found n at e here = grind (arith, get_or, get_or-append_seam, length)
 

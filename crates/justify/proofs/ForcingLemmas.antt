@@ -1,4 +1,4 @@
--- Lists that fit the masks of a line, and lists that keep to what is said.
+-- Lists that fit the masks of a line, and lists that avoid what is said to be excluded.
 use Rattle.std.proofs.Common.{◌≡◌, ℕ, ◌<◌, List, length, sym, ◌∙◌, arith, get_or}
 use Rattle.std.specs.Prelude.{IsBitSet}
 use Rattle.std.proofs.lemmas.List.{get_or_past}

@@ -119,7 +119,7 @@ trimmed_new clues book line step is n = grind (arith, clue_at, length, line_of, 
 pub new_derive : NewStepsDerive
 new_derive = record { forced = forced_new; trimmed = trimmed_new }
 
--- ---- one step more
+-- ---- one more step
 
 -- what holds of each old step and of the new one holds of each
 each_more : (R : Step → Type 0) (old : List Step) (step : Step) → ((n : ℕ) → n < length old → R (step_at old n)) → R step → (n : ℕ) → n < length (old ++ step ∷ []) → R (step_at (old ++ step ∷ []) n)

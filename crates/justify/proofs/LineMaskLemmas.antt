@@ -1,4 +1,4 @@
--- Masks of a line made from premises, turned, and compared.
+-- Masks of a line made from premises, complemented, and compared.
 use Rattle.std.proofs.Common.{◌≡◌, Bool, not, nat_eq, ne_eqb, ℕ, ◌+◌, ◌-◌, ◌<◌, ◌≤◌, ◌^◌, ◌↔◌, List, length, refl, sym, ap, ◌∙◌, subst, arith, inl, inr, get_or, set, bit_and, bit_or, get_or-set_same}
 use Rattle.std.proofs.Common.{get_or-set_other}
 use Rattle.std.specs.Prelude.{IsBitSet}
@@ -52,11 +52,11 @@ both_bits a b k =
       (λ p. let f = set_bit a k p.0 in let g = set_bit b k p.1 in bit_is_set (bit_and a b) k (omega arith)),
     )
 
--- masks are empty together where each is
+-- the union of masks is empty where each mask is
 pub empty_more : (masks : List ℕ) (seen n : ℕ) → ((seen ≡ 0) ↔ ((i : ℕ) → i < n → get_or masks i 0 ≡ 0)) → (bit_or seen (get_or masks n 0) ≡ 0) ↔ ((i : ℕ) → i < n + 1 → get_or masks i 0 ≡ 0)
 empty_more masks seen n so_far = grind (arith, bit_or, get_or, le_or_l, le_or_r)
 
--- one mask more of those that are kept
+-- one more mask of those that are kept
 pub lost_more : (masks : List ℕ) (seen lost n : ℕ) → n < length masks → ((seen ≡ 0) ↔ ((i : ℕ) → i < n → get_or masks i 0 ≡ 0))
     → (bit_or seen lost ≡ 0) ↔ ((i : ℕ) → i < n + 1 → get_or (set masks n lost) i 0 ≡ 0)
 lost_more masks seen lost n room so_far =
@@ -79,7 +79,7 @@ lost_so_far before old masks n room same done i l = elim (cases_eq i n) [
   | inr other ↦ get_or-set_other masks n i _ 0 other ∙ done i (omega arith)
 ]
 
--- some are left where not each mask is empty
+-- some colours are lost where not all masks are empty
 pub any_lost : (masks : List ℕ) (seen n : ℕ) → length masks ≤ n → ((seen ≡ 0) ↔ ((i : ℕ) → i < n → get_or masks i 0 ≡ 0))
     → MatchBool (not (nat_eq seen 0)) (All (λ mask. mask ≡ 0) masks → ⊥) (All (λ mask. mask ≡ 0) masks)
 any_lost masks seen n all so_far = elim (cases_eq seen 0) [

@@ -43,7 +43,7 @@ clue_along Down at rows clues r c h = omega arith
 pub has_clue : (rows : Rows) (line : LineId) (clues : Clues) → length rows ≡ length clues.rows → width_of rows ≡ length clues.columns → HasLine rows line → HasClue clues line
 has_clue rows line clues r c h = clue_along line.axis line.at rows clues r c h
 
--- the place of a premise lies where all that are mentioned do
+-- where all places of the premises are on the line, that of each item is
 pub place_inside : (items premises : List Premise) (n cells : ℕ) → items ≡ premises → ((i : ℕ) → Mentions premises i → i < cells) → n < length items → (premise_at items n).at < cells
 place_inside items premises n cells e inside l =
     inside (premise_at items n).at (subst (λ (ps : List Premise). Mentions ps (premise_at items n).at) e (record { which = n; within = l; here = refl }))

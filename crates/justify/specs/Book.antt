@@ -8,7 +8,7 @@ use Rattle.justify.specs.declared.step.Step.{Step}
 use Rattle.justify.specs.Premises.{Mentions, Says}
 use Rattle.justify.specs.Steps.{step_at, Draws, IsForcedStep, IsTrimmed}
 
--- what a book is seen as: the exclusions that were given, the steps, and the exclusions that are known after them
+-- the model of a book: its base, the steps, and the facts, which are the exclusions that are known after them
 pub record Account : Type 0 where
   pub base : Masks
   pub steps : List Step
@@ -27,7 +27,7 @@ pub record IsDrawnBefore (steps : List Step) (n row col k : ℕ) : Type 0 where
 abbrev pub IsKnownBefore : Masks → List Step → ℕ → ℕ → ℕ → ℕ → Type 0
 IsKnownBefore base steps n row col k = Excludes base row col k ⊎ IsDrawnBefore steps n row col k
 
--- Step n of a book: it lies on a line of the base and draws something; each
+-- Step n of a book: it is of a line of the base and draws something; each
 -- premise is known before it, and nothing that it draws was drawn before.
 pub record CanFollow (base : Masks) (steps : List Step) (n : ℕ) (step : Step) : Type 0 where
   pub has_line : HasLine base step.line
@@ -45,7 +45,7 @@ pub record AreFactsBehind (base : Masks) (steps : List Step) (n : ℕ) (facts : 
   pub leaves : (row col k : ℕ)
       → Leaves facts row col k ↔ (Leaves base row col k × (IsDrawnBefore steps n row col k → ⊥))
 
--- what a book keeps: each step can follow the ones before it, and the facts are those after all steps
+-- the invariant of a book: each step can follow the ones before it, and the facts are those after all steps
 pub record IsAccount (book : Account) : Type 0 where
   pub base_facts : IsFacts book.base
   pub follows : (n : ℕ) → n < length book.steps → CanFollow book.base book.steps n (step_at book.steps n)
@@ -60,7 +60,7 @@ pub record GainDrawn (step : Step) (old new : Masks) : Type 0 where
   pub same_shape : SameShape old new
   pub leaves : (row col k : ℕ) → Leaves new row col k ↔ (Leaves old row col k × (Draws step row col k → ⊥))
 
--- the book with one step more
+-- the book with one more step
 pub record Adds (old : Account) (step : Step) (new : Account) : Type 0 where
   pub base : new.base ≡ old.base
   pub steps : new.steps ≡ old.steps ++ step ∷ []

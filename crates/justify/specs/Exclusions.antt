@@ -3,7 +3,7 @@ use Rattle.std.specs.Prelude.{◌≡◌, ℕ, ◌<◌, List, length, slice_index
 use Rattle.clues.specs.declared.block.Block.{Block}
 use Rattle.clues.specs.Clue.{clue_of}
 
--- A list of colours that a line of so many cells can have by its clue, with no colour where it is said to be excluded.
+-- A list of colours that a line of `cells` cells can have by its clue, none of which `said` excludes in its cell.
 pub record FitsWithout (clue : List Block) (cells : ℕ) (said : ℕ → ℕ → Type 0) (line : List ℕ) : Type 0 where
   pub same_length : length line ≡ cells
   pub has_clue : clue_of line ≡ clue

@@ -13,6 +13,6 @@ pub record Gathered (masks : List ℕ) (n : ℕ) (found : List Premise) (count :
   pub rising : (m p : ℕ) → m < p → p < count → (premise_at found m).at < (premise_at found p).at
   pub each : (i : ℕ) → i < n → 0 < slice_index masks i → (m : ℕ) × (m < count) × ((premise_at found m).at ≡ i)
 
--- bit j of a number is set where the cell j places after one has colours, up to an end
+-- bit j of a number is set exactly where the cell at `place + j` is before `end` and has colours
 pub record AreColoured (masks : List ℕ) (place end bits : ℕ) : Type 0 where
   pub each : (j : ℕ) → (bit_at bits j ≡ 1) ↔ ((place + j < end) × (0 < slice_index masks (place + j)))

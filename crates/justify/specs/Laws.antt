@@ -18,8 +18,8 @@ abbrev pub FactsAreWhatIsKnown : Type 0
 FactsAreWhatIsKnown = (base facts : Masks) (steps : List Step) (n : ℕ) → AreFactsBehind base steps n facts
     → (row col k : ℕ) → Excludes facts row col k ↔ IsKnownBefore base steps n row col k
 
--- A new step of a line can be added to the book that it was made from. Adding it is forcing the
--- line: the facts gain all that the line forces and nothing else, and the line is closed then.
+-- A new step of a line can be added to the book that it was made from. Then the facts gain
+-- all that the line forces and nothing else, and the line is closed.
 pub record NewStepsFollow : Type 0 where
   pub can_add : (book : Account) (clue : List Block) (line : LineId) (step : Step) → IsAccount book
       → HasLine book.facts line
@@ -40,7 +40,7 @@ pub record NewStepsDerive : Type 0 where
       → IsNewStep (clue_at clues line) line (line_of book.facts line) step
       → IsTrimmed (clue_at clues step.line) (length (line_of book.base step.line)) step
 
--- a book with one step more is a derivation where the old one was and the step is forced, and so for trimmed
+-- a book with one more step is a derivation if the old one is and the step is forced, and trimmed if both are
 pub record DerivationsGrow : Type 0 where
   pub derives : (clues : Clues) (old new : Account) (step : Step) → IsAccount old → Adds old step new
       → IsForcedStep (clue_at clues step.line) (length (line_of old.base step.line)) step → IsDerivation clues old
@@ -49,7 +49,7 @@ pub record DerivationsGrow : Type 0 where
       → IsTrimmed (clue_at clues step.line) (length (line_of old.base step.line)) step → AreTrimmed clues old
       → AreTrimmed clues new
 
--- the facts of a derivation hold the base, and lie inside all closed facts that hold it
+-- the facts of a derivation contain the base, and all closed facts that contain the base contain them
 pub record DerivationsStayInside : Type 0 where
   pub holds : (book : Account) → IsAccount book → IsWithin book.base book.facts
   pub inside : (clues : Clues) (book : Account) → IsAccount book → IsDerivation clues book

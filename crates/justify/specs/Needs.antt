@@ -5,7 +5,7 @@ use Rattle.justify.specs.declared.premise.Premise.{Premise}
 use Rattle.justify.specs.Premises.{ArePremises, Mentions, Says, SaysBut}
 use Rattle.justify.specs.Exclusions.{CanHaveWithout, ForcesFrom}
 
--- without the premises of one cell, something that the masks draw is not forced
+-- without the premises of one cell, something that the masks `drawn` have is not forced
 pub record DrawsLess (clue : List Block) (cells : ℕ) (drawn : List ℕ) (premises : List Premise)
     (cell : ℕ) : Type 0 where
   pub place : ℕ
@@ -13,8 +13,8 @@ pub record DrawsLess (clue : List Block) (cells : ℕ) (drawn : List ℕ) (premi
   pub is_drawn : IsBitSet (slice_index drawn place) colour
   pub can_have : CanHaveWithout clue cells (SaysBut premises cell) place colour
 
--- where these masks are left on a line: each premise has all colours that are excluded in its
--- cell, together they force all that the masks draw, and none of their cells can be left out
+-- the premises for a line with the masks `left`: each has all colours that are excluded in its
+-- cell, together they force all that `drawn` has, and none of their cells can be left out
 pub record AreNeeded (clue : List Block) (left drawn : List ℕ) (premises : List Premise) : Type 0 where
   pub are : ArePremises premises
   pub inside : (i : ℕ) → Mentions premises i → i < length left

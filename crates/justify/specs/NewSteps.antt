@@ -11,13 +11,13 @@ use Rattle.justify.specs.declared.step.Step.{Step}
 use Rattle.justify.specs.Premises.{Mentions, Says}
 use Rattle.justify.specs.Steps.{IsForcedStep, IsTrimmed}
 
--- a line that forces nothing new, while some list fits it
+-- a line that forces nothing new, and that some list of colours fits
 pub record DrawsNothing (clue : List Block) (left : List ℕ) : Type 0 where
   pub closed : IsClosedLine clue left
   pub fits : CanFit clue left
 
--- A step with all that a line newly forces where these colours are left, which is something: what it draws was left and
--- is forced, and each colour that was left and is not drawn can be had. Its premises force all that is drawn, each of
+-- A step with all that a line newly forces where these colours are left, at least one: what it draws was left and is
+-- forced, and each colour that was left and is not drawn is possible. Its premises force all that is drawn, each of
 -- them has all colours that are excluded in its cell, and none of their cells can be left out. Some list fits the line.
 pub record IsNewStep (clue : List Block) (line : LineId) (left : List ℕ) (step : Step) : Type 0 where
   pub of_line : step.line ≡ line
@@ -32,7 +32,7 @@ pub record IsNewStep (clue : List Block) (line : LineId) (left : List ℕ) (step
   pub trimmed : IsTrimmed clue (length left) step
   pub fits : CanFit clue left
 
--- nothing where the line draws nothing new, Dead where no list fits it, and else the new step
+-- no step where the line draws nothing new, Dead where no list fits it, and else the new step
 abbrev pub Makes : List Block → LineId → List ℕ → Result (Option Step) StepFault → Type 0
 Makes clue line left (Ok None) = DrawsNothing clue left
 Makes clue line left (Ok (Some step)) = IsNewStep clue line left step

@@ -12,12 +12,12 @@ use Rattle.justify.specs.Exclusions.{CanHaveWithout, ForcesFrom}
 use Rattle.justify.specs.Steps.{step_at, Draws}
 use Rattle.justify.specs.Book.{Account, IsDrawnBefore}
 
--- the step that draws an exclusion, or none does
+-- the place of a step that draws the exclusion, or none where no step does
 abbrev pub Finds : List Step → ℕ → ℕ → ℕ → Option ℕ → Type 0
 Finds steps row col k None = IsDrawnBefore steps (length steps) row col k → ⊥
 Finds steps row col k (Some n) = (n < length steps) × Draws (step_at steps n) row col k
 
--- premises of a step, at ascending places, that a line needs to force one exclusion, and no more than it needs
+-- premises of a step, at ascending places, from which a line forces one exclusion, and no more than it needs
 pub record Supports (clue : List Block) (cells : ℕ) (all : List Premise) (place colour : ℕ)
     (premises : List Premise) : Type 0 where
   pub are : ArePremises premises

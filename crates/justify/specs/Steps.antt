@@ -8,7 +8,7 @@ use Rattle.justify.specs.declared.step.Step.{Step}
 use Rattle.justify.specs.Premises.{Mentions, Says, SaysBut}
 use Rattle.justify.specs.Exclusions.{CanHaveWithout, ForcesFrom}
 
--- the step at a place of a list, and one that draws nothing past its end
+-- the step at a place of a list, or one that draws nothing past its end
 abbrev pub step_at : List Step → ℕ → Step
 step_at steps n = slice_index_or steps n (record { line = record { axis = Across; at = 0 }; premises = []; drawn = [] })
 
@@ -19,7 +19,7 @@ pub record Draws (step : Step) (row col k : ℕ) : Type 0 where
   pub in_column : col ≡ col_on step.line.axis step.line.at place
   pub says : Says step.drawn place k
 
--- its line, of so many cells, forces all that it draws from its premises alone
+-- its line, of `cells` cells, forces all that it draws from its premises alone
 abbrev pub IsForcedStep : List Block → ℕ → Step → Type 0
 IsForcedStep clue cells step = (i k : ℕ) → Says step.drawn i k → ForcesFrom clue cells (Says step.premises) i k
 

@@ -33,15 +33,15 @@ impl Model for Book {
 }
 
 impl Book {
-    /// The book without a step, over the exclusions that are given. Its facts are a copy of them, for which memory may be
-    /// refused.
+    /// The book without steps over a base: the exclusions that need no reason. Its facts are a copy of the base, so this
+    /// can run out of memory.
     pub fn start(alloc: Global, base: Facts) -> Result<Book, AllocError>
         ensures { IfOk result (λ book. book ≡ account base [] base) }
     {
         Book::with_room(alloc, base, 0)
     }
 
-    /// The same, with room for so many steps before a further one asks for memory.
+    /// As `start`, with room for `steps` steps before a further one allocates memory.
     pub fn with_room(alloc: Global, base: Facts, steps: usize) -> Result<Book, AllocError>
         ensures { IfOk result (λ book. book ≡ account base [] base) }
     {
@@ -51,7 +51,7 @@ impl Book {
         Ok(Book { base, facts, steps })
     }
 
-    /// What was given: the exclusions that need no reason.
+    /// The base: the exclusions that need no reason.
     pub fn base(&self) -> &Facts
         ensures value { result.now ≡ self.now.base }
         ensures account { IsAccount self.now }
@@ -75,12 +75,12 @@ impl Book {
         &self.steps
     }
 
-    // What its steps are allocated by.
+    // The allocator of the steps.
     pub(crate) fn allocator(&self) -> Global {
         *self.steps.allocator()
     }
 
-    /// The same book once more, in memory of its own.
+    /// A copy of the book, or an error if out of memory.
     pub fn copy(&self) -> Result<Book, AllocError>
         ensures { IfOk result (λ book. book ≡ self.now) }
     {
@@ -90,9 +90,9 @@ impl Book {
         Ok(Book { base, facts, steps })
     }
 
-    /// Puts a step after all others, and the facts gain what it draws. Its line is one of the base, each of its
-    /// premises is in the base or drawn already, it draws something, and no step has drawn any of that before. On an
-    /// error the book is as it was, and the step is dropped.
+    /// Appends a step, and the facts gain what it draws. Its line must be one of the base, each of its premises in the
+    /// base or drawn already, and it must draw something, none of which a step has drawn before. If out of memory, the
+    /// book is as it was, and the step is dropped.
     pub fn add_step(&mut self, step: Step) -> Result<(), AllocError>
         requires { CanAdd self.old step }
         ensures ok { OnOk result (Adds self.old step self.new) }
@@ -104,7 +104,7 @@ impl Book {
         Ok(())
     }
 
-    /// The step that drew that a colour from 0 to 15 is not in a cell, by its place from 0. None where no step did: the
+    /// The place, from 0, of the step that drew that a colour from 0 to 15 is not in a cell. None where no step did: the
     /// colour is left, or only the base excludes it, or there is no such cell.
     pub fn reason(&self, row: u8, col: u8, colour: u8) -> Option<usize>
         requires { colour < 16 }
@@ -116,7 +116,7 @@ impl Book {
     }
 }
 
-// Each step once more, in memory of its own.
+// Copies of the steps, in order.
 fn copies(steps: &Vec<Step>) -> Result<Vec<Step>, AllocError>
     ensures { IfOk result (λ copies. copies.items ≡ steps.now.items) }
 {

@@ -14,7 +14,7 @@ pub fn facts_are_what_is_known()
 {}
 
 #[tactic(auto, using(crate::proofs::LawLemmas::new_follow))]
-/// A new step can be added to the book that it was made from, and adding it is forcing the line.
+/// A new step can be added to the book that it was made from, and adds all that the line forces.
 pub fn new_steps_follow()
     ensures { NewStepsFollow }
 {}
@@ -26,13 +26,13 @@ pub fn new_steps_derive()
 {}
 
 #[tactic(auto, using(crate::proofs::LawLemmas::derivations_grow))]
-/// A derivation with a forced step more is a derivation, and trimmed where both are.
+/// A derivation with one more forced step is a derivation, and is trimmed where both are.
 pub fn derivations_grow()
     ensures { DerivationsGrow }
 {}
 
 #[tactic(auto, using(crate::proofs::LawLemmas::stay_inside))]
-/// The facts of a derivation hold its base and lie inside all closed facts that hold it.
+/// A derivation's facts contain its base, and are contained in all closed facts that contain it.
 pub fn derivations_stay_inside()
     ensures { DerivationsStayInside }
 {}

@@ -16,11 +16,11 @@ use line_facts::{LineEngine, Meter, Outcome};
 use picture::LineId;
 
 impl Book {
-    /// The step that a line gives next, with all that its clue newly forces there. None where it forces nothing new, Dead
-    /// where no list of colours fits the line. Each premise has all colours that are excluded in its cell, and none of
-    /// their cells can be left out. Of several such choices the contract names none; tests see that it is the one that
-    /// leaving out cell after cell from the line's start comes to. The line is evaluated once, also where memory is
-    /// refused, and nothing is tried.
+    /// The next step of a line, with all that its clue newly forces there. None where it forces nothing new, Dead where
+    /// no list of colours fits the line. Each premise has all colours that are excluded in its cell, and none of their
+    /// cells can be left out. The contract allows any such choice; tests check that it is the one found by leaving out
+    /// cell after cell from the line's start. The line is evaluated once, even where memory runs out, and premises are
+    /// left out without trials.
     pub fn make_step<E: LineEngine>(
         &self,
         engine: &mut E,

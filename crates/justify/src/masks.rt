@@ -12,8 +12,8 @@ use std::simd::prelude::*;
 // No line has more cells.
 pub(crate) const MOST_CELLS: usize = MAX_SIDE as usize;
 
-// Gathers the cells in which the masks of a line have colours, and says how many there are. Eight cells are looked at
-// together, since mostly few have colours.
+// Writes the cells in which the masks of a line have colours to `found`, and returns how many there are. Eight cells are
+// tested together, since usually few have colours.
 pub(crate) fn gather(masks: &[u16], found: &mut [Premise]) -> usize
     requires room { length masks.now ≤ length found.old }
     requires short { length masks.now ≤ MOST_CELLS }
@@ -37,7 +37,7 @@ pub(crate) fn gather(masks: &[u16], found: &mut [Premise]) -> usize
     count
 }
 
-// The same for eight cells, where `before` are gathered in front of them.
+// As `gather`, for the eight cells from `first` on, where `before` are gathered already.
 fn gather_eight(masks: &[u16], first: usize, found: &mut [Premise], before: usize) -> usize
     requires eight { first + 8 ≤ length masks.now }
     requires room { length masks.now ≤ length found.old }
@@ -63,7 +63,7 @@ fn gather_eight(masks: &[u16], first: usize, found: &mut [Premise], before: usiz
 }
 
 #[inline]
-// How many cells from a place on come before the first with colours, where the bits of those that have some are not 0.
+// How many cells from `place` on precede the first with colours. `rest` has the bits of those that have some, at least one.
 fn empty_before(masks: &[u16], place: usize, end: usize, rest: u64) -> usize
     requires coloured { AreColoured masks.now place end rest }
     requires some { rest ≢ 0 }
@@ -104,7 +104,7 @@ fn has_colour(mask: u16, colour: u8) -> bool
     mask & (1 << colour) != 0
 }
 
-// Makes the masks of a line all sixteen colours but those that are said.
+// Sets the masks of a line to all sixteen colours but those of the premises.
 pub(crate) fn leave_rest(premises: &[Premise], left: &mut [u16])
     requires premises { ArePremises premises.now }
     requires inside { (i : ℕ) → Mentions premises.now i → i < length left.old }
@@ -116,7 +116,7 @@ pub(crate) fn leave_rest(premises: &[Premise], left: &mut [u16])
     }
 }
 
-// Turns the masks of a line into those of the other colours.
+// Replaces each mask of a line by that of the other colours.
 pub(crate) fn complement(masks: &mut [u16])
     ensures { IsComplement masks.old masks.new }
 {
@@ -125,7 +125,7 @@ pub(crate) fn complement(masks: &mut [u16])
     }
 }
 
-// Makes the masks those of the colours that were there before and are no more, and says whether there are any.
+// Sets each mask to the colours that `before` has there and it has not, and returns whether there are any.
 pub(crate) fn keep_lost(before: &[u16], masks: &mut [u16]) -> bool
     requires { length before.now ≡ length masks.old }
     ensures kept { KeepsLost before.now masks.old masks.new }
@@ -141,7 +141,7 @@ pub(crate) fn keep_lost(before: &[u16], masks: &mut [u16]) -> bool
     seen != 0
 }
 
-// Whether no cell of a line has a colour that is said there.
+// Whether no mask of a line has a colour that the premise at its place has.
 pub(crate) fn has_none(premises: &[Premise], left: &[u16]) -> bool
     requires { (i : ℕ) → Mentions premises.now i → i < length left.now }
     ensures { MatchBool result (HasSaid premises.now left.now → ⊥) (HasSaid premises.now left.now) }
@@ -154,7 +154,7 @@ pub(crate) fn has_none(premises: &[Premise], left: &[u16]) -> bool
     true
 }
 
-// Makes the masks of a line empty but for one colour in one cell.
+// Clears the masks of a line, and sets one colour in one cell.
 pub(crate) fn mark(masks: &mut [u16], place: u8, colour: u8)
     requires place { place < length masks.old }
     requires in_colours { colour < 16 }

@@ -10,8 +10,8 @@ use clues::Clue;
 use line_settle::leave_out;
 use std::alloc::{AllocError, Global};
 
-// The premises that a line needs to force all that is drawn, of those by which these colours are left. The masks are used
-// up. It stays a function of its own, for a profiler.
+// The premises that a line needs to force all that `drawn` has, of all colours that the masks `left` exclude. It
+// overwrites `left`. It is not inlined, so that a profiler can see it.
 #[inline(never)]
 pub(crate) fn needed_for(
     alloc: Global,

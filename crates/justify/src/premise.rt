@@ -8,7 +8,7 @@ use smallvec::SmallVec;
 use std::alloc::{AllocError, Global};
 use std::marker::Model;
 
-// A line of at most so many cells has a small table.
+// A line of at most this many cells uses a small table.
 const FEW_CELLS: usize = 32;
 
 /// Colours that are excluded in one cell of a line: bit k stands for colour k.
@@ -19,8 +19,8 @@ pub struct Premise {
     pub colours: u16,
 }
 
-/// Colours that are excluded along a line, at ascending places and with some colours in each. Most steps have few, and
-/// keep them in the value itself.
+/// Colours that are excluded in cells of a line, at ascending places, with at least one colour each. Up to 8 cells
+/// need no heap memory.
 #[derive(Drop)]
 pub struct Premises {
     list: SmallVec<Premise, 8>,
@@ -39,7 +39,7 @@ impl Model for Premises {
 }
 
 impl Premises {
-    /// These premises, which stand at ascending places and have some colours each.
+    /// These premises, which must be at ascending places and have at least one colour each.
     pub fn from_slice(alloc: Global, premises: &[Premise]) -> Result<Premises, AllocError>
         requires { ArePremises premises.now }
         ensures { IfOk result (λ p. p ≡ premises.now) }
@@ -48,7 +48,7 @@ impl Premises {
         Ok(Premises { list })
     }
 
-    // The premises that say what the masks of a line have.
+    // The premises with the colours that the masks of a line have.
     pub(crate) fn from_masks(alloc: Global, masks: &[u16]) -> Result<Premises, AllocError>
         requires { length masks.now ≤ MOST_CELLS }
         ensures { IfOk result (Gathers masks.now) }
@@ -60,7 +60,7 @@ impl Premises {
         }
     }
 
-    // The same by a small table, since a function empties its table first.
+    // As `from_masks`, with a small table, since a function clears its table first.
     fn from_few(alloc: Global, masks: &[u16]) -> Result<Premises, AllocError>
         requires { length masks.now ≤ FEW_CELLS }
         ensures { IfOk result (Gathers masks.now) }
@@ -70,7 +70,7 @@ impl Premises {
         Premises::from_slice(alloc, &found[..count])
     }
 
-    // The same for any line.
+    // As `from_masks`, for any line.
     fn from_many(alloc: Global, masks: &[u16]) -> Result<Premises, AllocError>
         requires { length masks.now ≤ MOST_CELLS }
         ensures { IfOk result (Gathers masks.now) }
@@ -80,7 +80,7 @@ impl Premises {
         Premises::from_slice(alloc, &found[..count])
     }
 
-    // What they are allocated by.
+    // The allocator of the premises.
     pub(crate) fn allocator(&self) -> Global {
         *self.list.allocator()
     }
@@ -100,7 +100,7 @@ impl Premises {
         self.as_slice().is_empty()
     }
 
-    /// The same premises once more, in memory of their own.
+    /// A copy of the premises, or an error if out of memory.
     pub fn copy(&self) -> Result<Premises, AllocError>
         ensures { IfOk result (λ p. p ≡ self.now) }
     {

@@ -34,8 +34,8 @@ struct Exclusion {
 }
 
 impl Book {
-    /// Why a colour from 0 to 15 is not in a cell, where the base leaves it: the step of the book that drew it, and what of
-    /// its premises is needed for this exclusion alone. None where the colour is still left. The book has to be a
+    /// Why a colour from 0 to 15 that the base leaves is not in a cell: the step of the book that drew it, and those of its
+    /// premises that are needed for this exclusion alone. None where the colour is still left. The book has to be a
     /// derivation from the clues. No line is evaluated.
     pub fn trimmed(
         &self,
@@ -69,7 +69,7 @@ impl Book {
     }
 }
 
-// The premises of a step, on a line of so many cells, that are needed for one of the exclusions that it draws.
+// The premises of a step, on a line of `cells` cells, that are needed for one of the exclusions that it draws.
 fn needed(clue: &Clue, step: &Step, cells: u8, exclusion: Exclusion) -> Result<Premises, AllocError>
     requires short { cells ≤ MOST_CELLS }
     requires inside { (i : ℕ) → Mentions step.now.premises i → i < cells }
@@ -93,7 +93,7 @@ fn needed(clue: &Clue, step: &Step, cells: u8, exclusion: Exclusion) -> Result<P
     )
 }
 
-// The same, in buffers of as many cells.
+// As `needed`, with buffers of `cells` masks.
 fn needed_on(
     clue: &Clue,
     cells: u8,

@@ -13,9 +13,9 @@ use clues::{Clue, ClueBook};
 use line_facts::LineEngine;
 
 impl Book {
-    /// Whether the book is a derivation from these clues, which may be of another size: whether each step's line forces by
+    /// Whether the book is a derivation from these clues, which may be of any size: whether each step's line forces by
     /// its clue all that the step draws, from the step's premises alone. Each step is evaluated once, up to the first that
-    /// is not forced. No memory is taken.
+    /// is not forced. Allocates nothing.
     pub fn stands<E: LineEngine>(&self, engine: &mut E, clues: &ClueBook) -> bool
         requires wide { width_of self.now.base ≤ E.longest engine.old }
         requires tall { length self.now.base ≤ E.longest engine.old }
@@ -37,7 +37,7 @@ impl Book {
     }
 }
 
-// Whether a line of so many cells forces all that a step draws from its premises alone.
+// Whether a line of `cells` cells forces all that a step draws from its premises alone.
 fn is_forced<E: LineEngine>(engine: &mut E, clue: &Clue, cells: u8, step: &Step) -> bool
     requires long { cells ≤ E.longest engine.old }
     requires short { cells ≤ MOST_CELLS }
@@ -59,7 +59,7 @@ fn is_forced<E: LineEngine>(engine: &mut E, clue: &Clue, cells: u8, step: &Step)
     )
 }
 
-// The same, in buffers of as many cells.
+// As `is_forced`, with buffers of `cells` masks.
 fn is_forced_on<E: LineEngine>(
     engine: &mut E,
     clue: &Clue,

@@ -9,7 +9,7 @@ use crate::premise::Premises;
 use picture::{Axis, LineId};
 use std::alloc::AllocError;
 
-/// A line draws exclusions from premises on its own cells: what is excluded before it, and what it excludes.
+/// A derivation step: a line that draws exclusions (`drawn`) from exclusions in its own cells (`premises`).
 #[derive(Drop)]
 pub struct Step {
     pub line: LineId,
@@ -18,14 +18,14 @@ pub struct Step {
 }
 
 impl Step {
-    /// The same step once more, in memory of its own.
+    /// A copy of the step, or an error if out of memory.
     pub fn copy(&self) -> Result<Step, AllocError>
         ensures { IfOk result (λ step. step ≡ self.now) }
     {
         self.moved_to(self.line)
     }
 
-    /// The same premises and the same exclusions on another line.
+    /// A copy of the step on another line, with the same premises and exclusions.
     pub fn moved_to(&self, line: LineId) -> Result<Step, AllocError>
         ensures { IfOk result (λ step. step ≡ record self.now { line = line }) }
     {

@@ -1,4 +1,4 @@
--- What the clauses of the calls below come to for an audit.
+-- What the clauses of the calls below mean for an audit.
 use Rattle.std.proofs.Common.{◌≡◌, ℕ, ◌<◌, ◌≤◌, List, [], length, inl, inr, Ok, Err, refl, sym, ap, subst, ◌∙◌, arith}
 use Rattle.std.proofs.lemmas.Bool.{cases_lt}
 use Rattle.std.proofs.lemmas.List.{get_or_past}
@@ -96,7 +96,7 @@ same_as_fresh d facts clues kept book e closed least =
     let here : IsLeast clues book.base facts = subst (λ c. IsLeast c book.base facts) (sym e) least in
     one_least clues book.base book.facts facts (subst (λ b. IsLeast clues b book.facts) (sym closed.grows.base) closed.least) here
 
--- only out of memory is left of the errors, since a picture's own clues never come to a dead line
+-- the only error is out of memory, since a picture's own clues never lead to a dead line
 pub no_fault_but_memory : (d : Design) (base : Masks) (clues : Clues) (kept : Account) (fault : CloseFault) → IsPicture d.rows → clues ≡ clues_of d.rows → IsBaseFor d base → kept.base ≡ base
     → ClosesBook clues kept (Err fault) → fault ≡ Memory
 no_fault_but_memory d base clues kept Dead is e of_base over dead =

@@ -25,7 +25,7 @@ pub record AreGivens (d : Design) (base : Masks) : Type 0 where
   pub left : (row col k : ℕ) → row < length d.rows → col < width_of d.rows
       → Leaves base row col k ↔ ((k < 16) × (cell_at d.marks row col ≡ 1 → k ≡ cell_at d.rows row col))
 
--- facts that the givens of a document exclude alone, which leave each colour of its picture
+-- facts that exclude just what the givens of a document exclude, and leave each colour of its picture
 pub record IsBaseFor (d : Design) (base : Masks) : Type 0 where
   pub givens : AreGivens d base
   pub leaves : LeavesPicture d.rows base
@@ -49,21 +49,21 @@ pub record IsAuditOf (d : Design) (clues : Clues) (book : Account) : Type 0 wher
 abbrev pub nothing_done : Meter
 nothing_done = record { evaluations = 0; trials = 0 }
 
--- So many evaluations, which the meter and the engine counted alike,
--- close a book over lines that wait, with steps added. Nothing is tried.
+-- Some evaluations, counted alike by the meter and the engine, close a book over lines that wait, with steps added.
+-- There are no trials.
 pub record ClosesBy (waiting : Lines) (added : List Step) (start end : Meter) (before after : ℕ) : Type 0 where
   pub evaluations : ℕ
   pub counts : Counts evaluations 0 start end before after
   pub suffice : SufficeToClose waiting added evaluations
 
--- the work of an audit made anew: all lines wait, and each step is added
+-- the work of an audit made from scratch: all lines wait, and each step is added
 pub record IsAnew (base : Masks) (book : Account) (start end : Meter) (before after : ℕ) : Type 0 where
   pub lines : Lines
   pub all_lines : AllLines base lines
   pub work : ClosesBy lines book.steps start end before after
 
--- The work of an audit that goes on from an old one. The steps that stand are kept and come first in the new book; the
--- dirty lines wait; the other steps are added.
+-- The work of an audit that goes on from an old one. The steps that are still valid are kept and come first in the new
+-- book; the dirty lines wait; the other steps are added.
 pub record GoesOn (moves : Moves) (old new : Clues) (before after : Account) (start end : Meter)
     (calls_before calls_after : ℕ) : Type 0 where
   pub kept : Account

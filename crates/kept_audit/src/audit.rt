@@ -1,4 +1,4 @@
-//! The audit of a document (clues and closed book), made anew or kept over a change.
+//! The audit of a document (clues and closed book), made from scratch or from the audit before a change.
 
 ghost use Rattle.std.specs.Prelude.{◌≡◌, ◌≤◌, ℕ, List, length, IfOk, IfErr};
 ghost use Rattle.picture.specs.Rows.{width_of};
@@ -17,15 +17,15 @@ use propagate::{Agenda, CloseFault, all_lines, close};
 use retract::{Kept, keep};
 use std::alloc::{AllocError, Global};
 
-/// The clues of a picture, and the closed book of what its lines draw.
+/// The clues of a picture, and the closed book: the steps that exclude all that its lines force.
 #[derive(Drop)]
 pub struct Audit {
     pub clues: ClueBook,
     pub book: Book,
 }
 
-/// A step of a history: the document before it with its audit, the document after it, and the change of its picture. All four
-/// are only lent.
+/// A step of a history: the document before it with its audit, the document after it, and the change of its picture. All four are
+/// borrowed.
 #[derive(Clone, Copy, Drop)]
 pub struct Revision<'a> {
     pub audit: &'a Audit,
@@ -34,8 +34,8 @@ pub struct Revision<'a> {
     pub change: &'a Change,
 }
 
-/// Audits a document anew: counts its picture's clues, and closes the book without a step over what its givens exclude. It
-/// tells the work too.
+/// Audits a document from scratch: computes its picture's clues, and closes the empty book over what its givens exclude. Also
+/// returns the work. The only error is out of memory.
 pub fn audit_anew<E: LineEngine, A: Agenda>(
     alloc: Global,
     engine: &mut E,
@@ -63,9 +63,10 @@ pub fn audit_anew<E: LineEngine, A: Agenda>(
     Ok((Audit { clues, book }, work))
 }
 
-/// Audits a document again after a change, from the audit of the one before it: its clues are refreshed, the steps that stand
+/// Audits a document after a change, from the audit of the document before: its clues are refreshed, the steps that are still valid
 /// over what its givens exclude are kept, and the book is closed again from the dirty lines alone. The result is an audit of the
-/// new document like one made anew, and its facts are those of a fresh audit. It tells the work too. The audit before stays.
+/// new document, with the same facts as one made from scratch. Also returns the work. The old audit is not changed. The only error
+/// is out of memory.
 pub fn audit_again<E: LineEngine, A: Agenda>(
     alloc: Global,
     engine: &mut E,
@@ -103,7 +104,7 @@ pub fn audit_again<E: LineEngine, A: Agenda>(
     Ok((Audit { clues, book }, work))
 }
 
-// What the givens of a document exclude. It stays a function of its own, for a profiler.
+// What the givens of a document exclude. It is not inlined, so that a profiler shows it.
 #[inline(never)]
 fn base_of(alloc: Global, document: &Document) -> Result<Facts, AllocError>
     ensures { IfOk result (IsBaseFor (design_of document.now)) }

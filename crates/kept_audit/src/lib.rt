@@ -1,5 +1,5 @@
-//! A picture kept audited by line logic: its clues, and the book of what follows from them, audited anew or again after a
-//! change.
+//! The audit of a document by line logic: its clues and the book of what follows from them, made from scratch or from an older
+//! audit after a change.
 #![tactic(auto)]
 
 mod audit;

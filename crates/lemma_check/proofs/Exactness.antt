@@ -1,4 +1,4 @@
--- The first error is one: where there is none, there is no other; and what follows for a proof.
+-- There is one first error: if it is None, no other error is first; and what follows for a proof.
 use Rattle.std.proofs.Common.{◌≡◌, ℕ, ◌+◌, ◌-◌, ◌<◌, ◌≤◌, true, false, List, [], ◌∷◌, length, Option, None, Some, Result, Ok, Err, refl, sym, ap, subst, ◌∙◌, arith, inl, inr}
 use Rattle.std.specs.Prelude.{IfErr, OnOk}
 use Rattle.std.specs.List.{AllByRecursion}
@@ -19,7 +19,7 @@ use Rattle.lemma_check.specs.FirstFault.{FirstFault, GivenFault, HasFault, IsLem
 use Rattle.lemma_check.specs.Walk.{Walk, at_facts, root}
 use Rattle.lemma_check.proofs.Soundness.{proof_is_unique}
 
--- ---- a line stands, or has an error, and leads to one walk
+-- ---- a line with an error leads to no walk, and any other line to one at most
 
 not_both : (picture : Rows) (walk : Walk) (line : LemmaLine) (next : Option Walk) (n : ℕ) (fault : CertFault) → Leads picture walk line next → HasFault picture walk line n fault → ⊥
 not_both picture walk (Line number) next n fault l h = h.0 l.0

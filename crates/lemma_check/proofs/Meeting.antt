@@ -80,7 +80,7 @@ module _ (facts : Masks) (other : Rows) (keeps : Keeps facts other) where
       mask_keeps row col (bit_and (cell_at facts row col) (bit_not w16 literal.colours)) inside
       (without_has (cell_at facts row col) literal.colours (cell_at other row col) c small (keeps.leaves row col inside) n)
 
-  -- of literals of which the picture meets one, it meets one that is open
+  -- if the picture meets one of the literals, it meets one that is open
   open_met : (literals : List Literal) → MeetsSome other literals → MeetsSome other (still_open facts literals)
   open_met [] s = absurd s
   open_met (literal ∷ literals) (inl m) =
@@ -103,7 +103,7 @@ module _ (facts : Masks) (other : Rows) (keeps : Keeps facts other) where
   pub none_open : (literals : List Literal) → MeetsSome other literals → still_open facts literals ≡ [] → ⊥
   none_open literals s e = subst (MeetsSome other) e (open_met literals s)
 
--- a literal of the picture's lies in each of its rivals
+-- a literal of a picture's cell lies in each rival of the picture
 pub lies_inside : (picture other : Rows) (literal : Literal) → IsRival picture other → HasCellNumber picture literal.cell → literal.cell.col - 1 < length (row_at other (literal.cell.row - 1))
 lies_inside picture other literal rival has =
     let rows = rival.same_shape.rows in
@@ -121,7 +121,7 @@ parts picture facts other literal rival has keeps =
       | inr n ↦ inl (held_off_keeps facts other keeps literal inside (rival.is_picture.colours (literal.cell.row - 1) (literal.cell.col - 1)) has.1 n)
     ]
 
--- what is held off leaves nothing new
+-- a cell that is held off has no new colours
 pub off_within : (facts : Masks) (literal : Literal) → IsWithin facts (held_off facts literal)
 off_within facts literal =
     let row = literal.cell.row - 1 in
@@ -144,7 +144,7 @@ off_within facts literal =
 
 -- ---- lemmas
 
--- a lemma stands for a picture: where it is kept, the picture meets one of its literals
+-- a lemma holds of a picture: if it is kept, the picture meets one of its literals
 abbrev pub Stands : Rows → Kept → Type 0
 Stands other lemma = lemma.kept ≡ true → MeetsSome other lemma.literals
 
@@ -215,7 +215,7 @@ module _ (other : Rows) where
         → MeetsSome other (numbered (with_literal lemmas literal) (newest (with_literal lemmas literal))).literals
     some_grown some s = let P : Kept → Type 0 = λ lemma. MeetsSome other lemma.literals in subst P (sym (newest_grown some)) s
 
-    -- where the picture meets the new literal, or met one before
+    -- if the picture meets the new literal, or met one before
     pub met_by_literal : 0 < length lemmas → MeetsAll other lemmas → Meets other literal → MeetsAll other (newest_kept (with_literal lemmas literal))
     met_by_literal some all m =
         meets_kept (with_literal lemmas literal) (meets_grown all) (some_grown some (some_last other (numbered lemmas (newest lemmas)).literals literal m))

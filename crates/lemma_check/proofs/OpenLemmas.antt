@@ -27,7 +27,7 @@ open_first facts literal literals l = ap (λ (t : Bool). cond t (literal ∷ sti
 pub closed_first : (facts : Masks) (literal : Literal) (literals : List Literal) → left_of facts literal ≡ 0 → still_open facts (literal ∷ literals) ≡ still_open facts literals
 closed_first facts literal literals e = ap (λ (t : Bool). cond t (literal ∷ still_open facts literals) (still_open facts literals)) (is_closed facts literal e)
 
--- told of the literals from the first, and the last of them
+-- how many are open, counted from the first literal, and then with one more at the end
 told_none : (literals : List Literal) → told_open literals ≡ Nothing → literals ≡ []
 told_none [] e = refl
 told_none (literal ∷ []) e = cc
@@ -38,7 +38,7 @@ told_more [] rest literal n = absurd (n refl)
 told_more (one ∷ []) rest literal n = refl
 told_more (one ∷ next ∷ literals) rest literal n = refl
 
--- told so far
+-- how many are open among the literals so far
 abbrev pub ToldSoFar : Masks → List Literal → ℕ → Open → Type 0
 ToldSoFar facts literals i seen = seen ≡ told_open (still_open facts (take i literals))
 

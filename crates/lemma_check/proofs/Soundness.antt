@@ -24,7 +24,7 @@ use Rattle.lemma_check.proofs.Meeting.{off_within, parts, used_keeps}
 
 -- ---- what is to be shown of a walk
 
--- the lemmas that the last facts stand for: with the newest, where one is refuted
+-- the lemmas that are kept once the last facts are at hand: with the newest, if it is being proved
 abbrev lasting : Stage → List Kept → List Kept
 lasting Free lemmas = lemmas
 lasting Denying lemmas = newest_kept lemmas
@@ -40,7 +40,7 @@ module _ (picture other : Rows) where
   abbrev Is : List Kept → Masks → Type 0
   Is lemmas facts = MeetsAll other lemmas → Keeps facts other → other ≡ picture
 
-  -- of each of the facts that wait, the last with the lasting lemmas
+  -- the same for all facts that wait, for the last of them with the lasting lemmas
   abbrev AreIt : List Kept → List Kept → List (List (List ℕ)) → Type 0
   AreIt lemmas last [] = Unit {0}
   AreIt lemmas last (facts ∷ []) = Is last facts
@@ -120,7 +120,7 @@ module _ (picture other : Rows) where
   unsettled walk is = subst (λ last. AreIt walk.lemmas last (walk.at_hand ∷ walk.behind)) (untaken walk.stage walk.lemmas) is
 
   module _ (rival : IsRival picture other) where
-    -- a line that is no literal
+    -- a line that is not a `deny`
     settled_led : (walk : Walk) (line : LemmaLine) (next : Option Walk) → Leads picture walk line next → ((literal : Literal) → line ≡ Deny literal → ⊥) → Holds next → Holds (Some walk)
     settled_led walk (Line number) next l n is =
         let g = rw l.1.1.1 at is in

@@ -1,4 +1,4 @@
--- The walk over the lines: whatever error is first from here is first from the beginning.
+-- The walk over the lines: the first error from here on is the first from the beginning.
 use Rattle.std.proofs.Common.{◌≡◌, ℕ, ◌+◌, ◌<◌, List, [], ◌∷◌, Bool, true, false, Option, None, Some, Ok, Err, length, get_or, drop, drop-cons, add-one, refl, sym, ap, subst, ◌∙◌, arith, inl, inr}
 use Rattle.picture.specs.Rows.{Rows}
 use Rattle.cert_text.specs.declared.fault.CertFault.{CertFault}

@@ -15,7 +15,7 @@ use Rattle.lemma_text.specs.declared.lemma_line.LemmaLine.{LemmaLine}
 use Rattle.lemma_text.specs.declared.lemma_line.LemmaLine.TheVariants.{Line, Use, Dead, Broken, Done, Part, Lemma, Deny}
 use Rattle.lemma_text.specs.declared.lemma_line.LemmaLine.TheVariants.{Forget}
 use Rattle.lemma_text.specs.Proof.{ProofLines}
-use Rattle.lemma_check.specs.declared.store.TheConstants.{MAX_LITERALS}
+use Rattle.lemma_text.specs.declared.lemma_line.TheConstants.{MAX_LITERALS}
 use Rattle.lemma_check.specs.declared.machine.Stage.TheVariants.{Denying}
 use Rattle.lemma_check.specs.Walk.{HasLiteral, IsCounted, Machined, Walk, at_facts, begun, denied, dropped, ended}
 use Rattle.lemma_check.specs.Walk.{numbered, parted, root, settled, still_open, used}
@@ -27,7 +27,7 @@ IsKept walk n = (numbered walk.lemmas n).kept ≡ true
 abbrev pub IsLost : Walk → ℕ → Type 0
 IsLost walk n = (numbered walk.lemmas n).kept ≡ false
 
--- where a line that stands leads to: another walk, or the proof is whole
+-- where a line without an error leads: to another walk, or to None, the end of the proof
 abbrev pub Leads : Rows → Walk → LemmaLine → Option Walk → Type 0
 Leads picture walk (Line number) next =
     HasLineNumber picture number × ((gained : Masks)
@@ -67,12 +67,12 @@ HasFault picture walk (Deny literal) n fault =
 HasFault picture walk (Forget lemma) n fault =
     ((walk.behind ≡ [] → ⊥) × (fault ≡ Misplaced n)) ⊎ ((walk.behind ≡ []) × IsLost walk lemma × (fault ≡ NoLemma n))
 
--- the walk as a line finds it: only a literal leaves a lemma open for more
+-- the walk as a line finds it: any line but a `deny` ends the literals of the lemma that begins
 abbrev pub found_by : Walk → LemmaLine → Walk
 found_by walk (Deny literal) = walk
 found_by walk line = settled walk
 
--- The first error of lines, of which the first has number n, where a walk is on, or is over.
+-- The first error of lines, of which the first has number n, from a walk on, or after the end of the proof (None).
 abbrev pub FirstFault : Rows → Option Walk → ℕ → List LemmaLine → Option CertFault → Type 0
 FirstFault picture None n [] fault = fault ≡ None
 FirstFault picture (Some walk) n [] fault = fault ≡ Some (Ended n)
@@ -82,7 +82,7 @@ FirstFault picture (Some walk) n (line ∷ lines) fault =
     ⊎ ((next : Option Walk)
     × (Leads picture (found_by walk line) line next × FirstFault picture next (n + 1) lines fault))
 
--- the first given, of which the first is line n, that lies outside the picture
+-- the error of the first given that lies outside the picture, where the first given is line n
 abbrev pub GivenFault : Rows → ℕ → List CellNumber → CertFault → Type 0
 GivenFault picture n [] fault = ⊥
 GivenFault picture n (cell ∷ cells) fault =
@@ -96,18 +96,18 @@ ProofFirstFault picture proof fault =
     ⊎ (AllByRecursion (HasCellNumber picture) proof.givens
     × FirstFault picture (Some (root (base_of picture proof.givens))) (2 + length proof.givens) proof.lines fault)
 
--- a proof by lemmas: no line has an error, and the walk over its lines is whole
+-- a proof by lemmas: no given and no line has an error, and the proof is complete at the last line
 abbrev pub IsLemmaProof : Rows → ProofLines → Type 0
 IsLemmaProof picture proof = ProofFirstFault picture proof None
 
 -- ---- what the checker's functions do
 
--- the walk where it is on, and none where it is over
+-- the walk if it goes on, and None if it is over
 abbrev pub reached : Bool → Walk → Option Walk
 reached true walk = Some walk
 reached false walk = None
 
--- A line taken: where it stands, the walk is where it leads to; else its error is answered.
+-- A line taken: Ok, and the new walk is where the line leads; or the line's error is answered, or Memory.
 abbrev pub Takes : Rows → Walk → Machined → LemmaLine → ℕ → Result Bool CertFault → Type 0
 Takes picture old new line n (Ok going) =
     (going ≡ true → IsCounted new)

@@ -17,7 +17,7 @@ use Rattle.lemma_check.specs.declared.opening.Open.TheVariants.{Nothing, One, Mo
 abbrev pub HasLiteral : Rows → Literal → Type 0
 HasLiteral picture literal = HasCellNumber picture literal.cell × (literal.colours < 2 ^ 16)
 
--- what is left in the literal's cell
+-- the colours that are left in the literal's cell
 abbrev pub cell_left : Masks → Literal → ℕ
 cell_left facts literal = cell_at facts (literal.cell.row - 1) (literal.cell.col - 1)
 
@@ -37,13 +37,13 @@ held_off facts literal = with_cell facts (literal.cell.row - 1) (literal.cell.co
 abbrev pub still_open : Masks → List Literal → List Literal
 still_open facts literals = filter (λ literal. nat_lt 0 (left_of facts literal)) literals
 
--- how many there are: none, one, or more
+-- how many literals are open: none, this one, or more
 abbrev pub told_open : List Literal → Open
 told_open [] = Nothing
 told_open (literal ∷ []) = One literal
 told_open (literal ∷ next ∷ literals) = More
 
--- what one of some literals says of facts: where just one is open, its cell is held to it
+-- what follows from some literals of which one must hold: if just one is open, its cell is held to it
 abbrev pub held_by : Masks → Open → List (List ℕ)
 held_by facts (One literal) = held_to facts literal
 held_by facts _ = facts
@@ -83,8 +83,8 @@ newest_kept lemmas = set lemmas (newest lemmas) (lemma_of (numbered lemmas (newe
 
 -- ---- the walk
 
--- The facts at hand, and those that wait after them; the lemmas, from number 0, which is none; how many literals those
--- kept have; and whether the newest lemma is still refuted: then the last facts that wait are for when it is kept.
+-- The facts at hand, and those that wait after them; the lemmas, from number 0, which is none; how many literals they
+-- have; and whether the newest lemma is still being proved: then the last facts that wait are at hand once it is kept.
 pub record Walk : Type 0 where
   pub at_hand : List (List ℕ)
   pub behind : List (List (List ℕ))
@@ -113,12 +113,12 @@ taken Refuting = Refuting
 abbrev pub settled : Walk → Walk
 settled walk = walk_of walk.at_hand walk.behind walk.lemmas walk.literals (taken walk.stage)
 
--- The last facts that wait come to hand: a lemma that was refuted is kept.
+-- The last facts that wait are at hand: a lemma whose denial was refuted is kept.
 abbrev pub last_at : Walk → Masks → Stage → Walk
 last_at walk facts Free = walk_of facts [] walk.lemmas walk.literals Free
 last_at walk facts _ = walk_of facts [] (newest_kept walk.lemmas) walk.literals Free
 
--- the branch at hand ends, and the next that waits comes to hand, where one does
+-- the branch at hand ends, and the next that waits is at hand, if there is one
 abbrev pub next_at : Walk → List (List (List ℕ)) → Option Walk
 next_at walk [] = None
 next_at walk (facts ∷ []) = Some (last_at walk facts walk.stage)
@@ -132,7 +132,7 @@ abbrev pub parted : Walk → Literal → Walk
 parted walk literal = walk_of (held_off walk.at_hand literal)
     (held_to walk.at_hand literal ∷ walk.behind) walk.lemmas walk.literals walk.stage
 
--- a lemma begins, without literals; the facts wait for when it is kept
+-- a lemma begins, without literals; the facts wait until it is kept
 abbrev pub begun : Walk → Walk
 begun walk = walk_of walk.at_hand (walk.at_hand ∷ []) (walk.lemmas ++ no_lemma ∷ []) walk.literals Denying
 
@@ -156,7 +156,7 @@ pub record Machined : Type 0 where
 abbrev pub machined : Walk → ℕ → Machined
 machined walk waiting = record { walk = walk; waiting = waiting }
 
--- the number is right, and there is a lemma: number 0
+-- the number of facts that wait is right, and there is a lemma: number 0
 pub record IsCounted (machine : Machined) : Type 0 where
   pub waiting : machine.waiting ≡ length machine.walk.behind
   pub some_lemma : 0 < length machine.walk.lemmas

@@ -19,10 +19,10 @@ use line_facts::{Facts, LineEngine};
 use picture::Picture;
 use std::alloc::Global;
 
-// The line below which the givens stand.
+// The line of the first given.
 const FIRST_LINES: usize = 2;
 
-// Takes the lines from the root on, of which the first has a number, and answers the first error.
+// Takes the lines from the root on, and answers the first error. The first line has the number `first` in the text.
 fn walk<E: LineEngine>(
     alloc: Global,
     engine: &mut E,
@@ -55,8 +55,8 @@ fn walk<E: LineEngine>(
 }
 
 #[tactic(auto, using(crate::proofs::Exactness::answering))]
-/// Checks a proof by lemmas of a picture: whether no other picture has its clues and, in the proof's givens, its colours. No
-/// line of the picture may be longer than the engine takes.
+/// Checks a proof by lemmas of a picture: whether it proves that no other picture of that size has its clues and, in the
+/// proof's givens, its colours. No line of the picture may be longer than the engine takes.
 ///
 /// The answer is Ok exactly where the givens lie in the picture and the lines are a proof; else it is the first error
 /// from the top with its line, and a refused allocation is answered as `Memory`. The engine is called at most once for

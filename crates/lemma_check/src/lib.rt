@@ -1,4 +1,4 @@
-//! The checker of proofs by lemmas, apart from all that searches: whether a proof shows that a picture is the only solution.
+//! The checker of proofs by lemmas, without any search: whether a proof shows that a picture is the only solution.
 #![tactic(auto)]
 
 mod checking;

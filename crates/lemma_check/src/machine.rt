@@ -7,16 +7,16 @@ ghost use Rattle.lemma_check.specs.FirstFault.{Takes, found_by, reached};
 ghost use Rattle.lemma_check.specs.Walk.{IsCounted, at_facts, ended, held_to, last_at, left_of, machined, root, settled};
 
 use crate::opening::{Open, cell_of, open_in};
-use crate::store::{Lemma, MAX_LITERALS, kept_lemma};
+use crate::store::{Lemma, kept_lemma};
 use cert_check::{Claim, cell_in, force, is_dead, line_at, shows_only};
 use cert_text::{CertFault, LineNumber};
-use lemma_text::{LemmaLine, Literal};
+use lemma_text::{LemmaLine, Literal, MAX_LITERALS};
 use line_facts::{Facts, LineEngine};
 use std::alloc::{AllocError, Global};
 use std::marker::Model;
 use trail::Trail;
 
-// How far the newest lemma is: no lemma is refuted, its literals are denied, or its denial is refuted.
+// How far the newest lemma is: none is being proved, its literals are being denied, or its denial is being refuted.
 #[derive(Clone, Copy, PartialEq, Eq)]
 pub(crate) enum Stage {
     Free,
@@ -24,7 +24,7 @@ pub(crate) enum Stage {
     Refuting,
 }
 
-// A walk over the lines of a proof. After out of memory it is only for throwing away.
+// A walk over the lines of a proof. Once memory ran out it must not be used any more.
 #[derive(Drop)]
 pub(crate) struct Machine {
     trail: Trail,
@@ -59,7 +59,7 @@ impl Machine {
         })
     }
 
-    // Takes a line with its number, and says whether a branch is at hand after it.
+    // Takes a line with its number, and answers whether a branch is at hand after it.
     pub(crate) fn step<E: LineEngine>(
         &mut self,
         engine: &mut E,
@@ -85,7 +85,7 @@ impl Machine {
         }
     }
 
-    // Takes no more literals for the lemma that begins.
+    // Ends the literals of the lemma that begins, if one does.
     fn settle(&mut self)
         ensures { self.new ≡ machined (settled self.old.walk) self.old.waiting }
     {
@@ -94,7 +94,7 @@ impl Machine {
         }
     }
 
-    // Takes a line that is no literal.
+    // Takes any line but a `deny`, once the stage is settled.
     fn settled_step<E: LineEngine>(
         &mut self,
         engine: &mut E,
@@ -232,7 +232,7 @@ impl Machine {
         Ok(true)
     }
 
-    // A lemma begins. The facts as they are wait for when it is kept.
+    // A lemma begins. The facts as they are wait until it is kept.
     fn begin(&mut self, claim: &Claim, number: usize) -> Result<bool, CertFault>
         requires counted { IsCounted self.old }
         requires same_shape { SameShape claim.now.picture.now self.old.walk.at_hand }
@@ -308,7 +308,7 @@ impl Machine {
         Ok(())
     }
 
-    // Leaves the branch at hand for the next that waits. False where there is none.
+    // Leaves the branch at hand for the next one that waits. False if there is none.
     fn go_on(&mut self) -> Result<bool, CertFault>
         requires { IsCounted self.old }
         ensures ended { IfOk result (λ going. reached going self.new.walk ≡ ended self.old.walk) }
@@ -326,7 +326,7 @@ impl Machine {
         Ok(true)
     }
 
-    // Keeps the lemma that was refuted, where one was.
+    // Keeps the lemma whose denial was refuted, if there is one.
     fn keep_newest(&mut self)
         requires counted { IsCounted self.old }
         requires alone { self.old.walk.behind ≡ [] }

@@ -1,4 +1,4 @@
-//! What facts leave of literals.
+//! Which colours of literals are left by facts.
 
 ghost use Rattle.std.specs.Prelude.{◌≡◌, ◌-◌, ◌<◌, length, MatchOption};
 ghost use Rattle.picture.specs.Rows.{width_of};
@@ -17,7 +17,7 @@ pub(crate) enum Open {
     More,
 }
 
-// The cell of a literal, where the facts have it. Elsewhere no colour is left.
+// The cell of a literal, if the facts have it; else no colour is left there.
 pub(crate) fn cell_of(facts: &Facts, literal: Literal) -> Option<Cell>
     ensures { MatchOption
         result

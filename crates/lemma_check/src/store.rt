@@ -7,10 +7,7 @@ use lemma_text::Literal;
 use std::alloc::{AllocError, Global};
 use std::marker::Model;
 
-/// How many literals the lemmas that are kept at once may have, together with the one that is refuted.
-pub const MAX_LITERALS: usize = 65_536;
-
-// A lemma: its literals, and whether it is kept. One that is refuted is not kept yet.
+// A lemma: its literals, and whether it is kept. One that is being proved is not kept yet.
 #[derive(Drop)]
 pub(crate) struct Lemma {
     literals: Vec<Literal>,

@@ -1,4 +1,4 @@
--- What is made is a proof without another picture, or another picture.
+-- What is made is a proof that there is no other picture, or another picture.
 use Rattle.std.proofs.Common.{◌≡◌, ℕ, ◌<◌, ◌≤◌, List, length, ap, sym, ◌∙◌, arith, inl, inr}
 use Rattle.std.proofs.lemmas.Bool.{cases_lt}
 use Rattle.std.proofs.lemmas.List.{get_or_past}
@@ -17,7 +17,7 @@ use Rattle.lemma_check.specs.FirstFault.{IsLemmaProof}
 use Rattle.lemma_proof.specs.Naming.{NamesGivens}
 use Rattle.lemma_proof.specs.Making.{AgreesIn, IsMadeProof}
 
--- what no other picture has with the cells that are named, none has with those of the set
+-- if there is no other picture with the named cells as givens, there is none with those of the set
 pub unique_has_no_other : (picture : Rows) (givens : List ℕ) (cells : List CellNumber) → NamesGivens picture givens cells → IsUnique picture cells → (other : Rows)
     → IsOther (clues_of picture) (HasCell givens) picture other → ⊥
 unique_has_no_other picture givens cells names unique other o =

@@ -29,7 +29,7 @@ same_place r c row col e =
     let g : c + 1 ≡ col + 1 = ap (λ (cell : CellNumber). cell.col) e in
     ((let h : r ≡ row = omega arith in h), (let h : c ≡ col = omega arith in h))
 
--- a cell's number, told by its parts
+-- a cell's number has these parts
 pub same_number : (cell : CellNumber) (row col : ℕ) → cell.row ≡ row + 1 → cell.col ≡ col + 1 → cell ≡ numbered row col
 same_number cell row col e f =
     ap (λ (x : ℕ). let it : CellNumber = record { row = x; col = cell.col } in it) e ∙ ap (λ (y : ℕ). let it : CellNumber = record { row = row + 1; col = y } in it) f
@@ -41,7 +41,7 @@ none_named givens = record {
   real = λ cell h. absurd (none_among cell h);
 }
 
--- a given more
+-- one given more
 pub more_named : (givens : List ℕ) (row col : ℕ) (cells new : List CellNumber) → row < 120 → col < 120 → HasCell givens row col → new ≡ cells ++ (numbered row col ∷ [])
     → NamesUpTo givens row col cells → NamesUpTo givens row (col + 1) new
 more_named givens row col cells new h w has e n =
@@ -102,7 +102,7 @@ same_named givens row col cells none n = record {
   real = n.real;
 }
 
--- a row more
+-- one row more
 pub row_named : (picture : Rows) (givens : List ℕ) (row width : ℕ) (cells : List CellNumber) → AreInside givens picture → width ≡ width_of picture → width ≤ 120 → NamesUpTo givens row width cells
     → NamesUpTo givens (row + 1) 0 cells
 row_named picture givens row width cells inside wide few n = record {

@@ -1,4 +1,4 @@
-//! The maker of proofs by lemmas, which the checker has accepted.
+//! Makes proofs by lemmas, each of which the checker has accepted.
 #![tactic(auto)]
 
 mod making;

@@ -27,15 +27,15 @@ pub enum Made {
     Undecided,
 }
 
-// How far a search goes.
+// The bounds of the search of `make_proof`.
 const EFFORT: Effort = Effort {
     conflicts: 250_000,
     literals: 10_000_000,
 };
 
-/// Makes a proof by lemmas with exactly these givens: `check_proof` accepts it, so no other picture has the clues and, in the givens,
-/// the colours. Or finds another one. Neither may come within the bounds of the search, of which nothing is promised. No line of the
-/// picture may be longer than the engine takes. The engine's calls do not fall.
+/// Makes a proof by lemmas with exactly these givens: `check_proof` accepts it, so no other picture has the clues and, in the
+/// givens, the colours. Or it finds such a picture, or is undecided: what it finds within the bounds of its search is not
+/// promised. No line of the picture may be longer than the engine takes. The engine's calls do not fall.
 pub fn make_proof<E: LineEngine>(
     alloc: Global,
     engine: &mut E,
@@ -84,8 +84,8 @@ pub fn make_proof_within<E: LineEngine>(
     }
 }
 
-/// A proof with exactly these givens, where the checker accepts it, and else nothing. No line of the picture may be longer than the
-/// engine takes. The engine's calls do not fall.
+/// Gives a proof with exactly these givens if the checker accepts it, and else `Undecided`. No line of the picture may be longer
+/// than the engine takes. The engine's calls do not fall.
 pub fn check_made<E: LineEngine>(
     alloc: Global,
     engine: &mut E,
@@ -108,7 +108,7 @@ pub fn check_made<E: LineEngine>(
     }
 }
 
-// A picture that was found, where it is another one.
+// Gives a picture that was found if it is another one, and else `Undecided`.
 fn compared(clues: &ClueBook, givens: &CellSet, picture: &Picture, other: Picture) -> Made
     requires inside { AreInside givens.now picture.now }
     requires clues { clues.now ≡ clues_of picture.now }
@@ -121,7 +121,7 @@ fn compared(clues: &ClueBook, givens: &CellSet, picture: &Picture, other: Pictur
     }
 }
 
-// Whether a picture has the clues and the picture's colours in the givens, and is another one.
+// Whether `other` has the clues and, in the givens, the picture's colours, and differs from it.
 fn is_other(clues: &ClueBook, givens: &CellSet, picture: &Picture, other: &Picture) -> bool
     requires inside { AreInside givens.now picture.now }
     requires clues { clues.now ≡ clues_of picture.now }
@@ -133,7 +133,7 @@ fn is_other(clues: &ClueBook, givens: &CellSet, picture: &Picture, other: &Pictu
     agrees_in(givens, picture, other)
 }
 
-// Whether a picture has a picture's size, and its colours in some cells.
+// Whether two pictures have the same size, and the same colours in some cells.
 fn agrees_in(cells: &CellSet, picture: &Picture, other: &Picture) -> bool
     requires { AreInside cells.now picture.now }
     ensures { IsTrue result → AgreesIn cells.now picture.now other.now (length picture.now) }

@@ -1,11 +1,11 @@
-//! Colours of cells: one of them, and some of them.
+//! Atoms and literals: one colour of a cell, and some colours of a cell.
 
 ghost use Rattle.std.specs.Prelude.{◌<◌};
 
 use picture::MAX_COLOURS;
 use trail::Cell;
 
-// How many cells a row of a table has.
+// How many columns a table has.
 pub(crate) const STRIDE: usize = 128;
 
 /// The place of a cell in a table.
@@ -15,7 +15,7 @@ pub(crate) fn spot(cell: Cell) -> usize
     usize::from(cell.row) * STRIDE + usize::from(cell.col)
 }
 
-/// A colour of a cell.
+/// An atom: a cell and one colour.
 #[derive(Clone, Copy, Debug, PartialEq, Eq)]
 pub(crate) struct Atom {
     pub cell: Cell,
@@ -29,7 +29,7 @@ impl Atom {
     }
 }
 
-/// Some colours of a cell. As part of a lemma: the cell has one of them.
+/// A literal: a cell and some colours. It is true if the cell has one.
 #[derive(Clone, Copy, Debug, PartialEq, Eq)]
 pub(crate) struct Literal {
     pub cell: Cell,
@@ -37,7 +37,7 @@ pub(crate) struct Literal {
 }
 
 impl Literal {
-    /// The first of its colours that is in a mask.
+    /// The atom of the lowest of its colours that is in a mask.
     pub(crate) fn first_in(self, mask: u16) -> Atom {
         Atom {
             cell: self.cell,
@@ -45,7 +45,7 @@ impl Literal {
         }
     }
 
-    /// One of its colours.
+    /// The atom of its cell and a colour.
     pub(crate) fn atom(self, colour: u8) -> Atom {
         Atom {
             cell: self.cell,
@@ -74,7 +74,7 @@ pub(crate) fn is_settled(mask: u16) -> bool {
     mask.count_ones() == 1
 }
 
-/// A number as 32 bits, at most the largest.
+/// A number as a `u32`, or the largest `u32` if it is above.
 pub(crate) fn small(number: usize) -> u32 {
     u32::try_from(number).unwrap_or(u32::MAX)
 }

@@ -7,19 +7,19 @@ use std::alloc::{AllocError, Global};
 // How many states a set can have.
 const STATES: u32 = 128;
 
-/// The states of a clue's line. A state is how much of the clue's pattern is after: the cells of its blocks, and the
-/// background between two blocks of one colour. Bit n of a set stands for state n.
+/// The automaton of a clue. A state is how much of the clue's pattern is done: the cells of its blocks, and the
+/// background cell between two blocks of one colour. Bit n of a set stands for state n.
 #[derive(Drop)]
 pub(crate) struct Automaton {
-    // For each colour the states that it leads on from.
+    // For each colour the states from which it leads to the next state.
     moves: Vec<u128>,
-    // The states in which background can go on.
+    // The states that a background cell may leave as they are.
     rests: u128,
-    // The last state.
+    // The set of the last state, in which the whole clue is done.
     pub ends: u128,
 }
 
-/// The first state.
+/// The set of the first state, in which nothing is done.
 pub(crate) const START: u128 = 1;
 
 // The set of a state alone.
@@ -53,7 +53,7 @@ impl Automaton {
         Ok(made)
     }
 
-    // Lets a colour lead on from a state, and answers the next one.
+    // Lets a colour lead from a state to the next one, and answers that.
     fn lay(&mut self, colour: u8, at: u32) -> u32 {
         if let Some(moves) = self.moves.get_mut(usize::from(colour)) {
             *moves |= state(at);
@@ -61,12 +61,12 @@ impl Automaton {
         at.saturating_add(1)
     }
 
-    /// How many colours a cell of the line can have at most.
+    /// The first colour above all of the clue. Cells of the line have colours below it.
     pub(crate) fn colours(&self) -> u8 {
         self.moves.len().min(16) as u8
     }
 
-    // The states that some of the colours lead on from.
+    // The states from which at least one of the colours leads to the next state.
     fn moves_by(&self, colours: u16) -> u128 {
         let mut all = 0;
         let mut rest = colours;
@@ -79,7 +79,7 @@ impl Automaton {
         all
     }
 
-    // The states of a set in which the line can stay, where background is among the colours.
+    // The states of a set that a background cell may leave as they are, if background is among the colours.
     fn resting(&self, colours: u16, states: u128) -> u128 {
         if has(colours, 0) {
             states & self.rests
@@ -88,12 +88,12 @@ impl Automaton {
         }
     }
 
-    /// The states after a cell of some colours.
+    /// The states after a cell that has one of some colours.
     pub(crate) fn forward(&self, colours: u16, from: u128) -> u128 {
         ((from & self.moves_by(colours)) << 1) | self.resting(colours, from)
     }
 
-    /// The states before a cell of some colours.
+    /// The states before a cell that has one of some colours.
     pub(crate) fn backward(&self, colours: u16, to: u128) -> u128 {
         ((to >> 1) & self.moves_by(colours)) | self.resting(colours, to)
     }

@@ -12,7 +12,7 @@ use picture::{Axis, CellSet, LineId, MAX_SIDE, Picture};
 use std::alloc::{AllocError, Global};
 use trail::Cell;
 
-/// The masks of a line's cells, and of more after them.
+/// The masks of a line's cells. The places after them are unused.
 pub(crate) type Masks = [u16; 128];
 
 /// A picture with its givens, and the automata of its clues.
@@ -41,7 +41,7 @@ impl<'a> Board<'a> {
         })
     }
 
-    /// The facts before any line is looked at.
+    /// The facts before any line is evaluated.
     pub(crate) fn marks(&self, alloc: Global) -> Result<Marks, AllocError> {
         let mut marks = Marks::new(alloc, self.height())?;
         for row in 0..self.height() {
@@ -86,8 +86,8 @@ impl<'a> Board<'a> {
         }
     }
 
-    /// Leaves in the cells of a line the colours that some list that fits has there. A line that has no clue, or is longer than the
-    /// engine takes, stays as it is.
+    /// Narrows the masks of a line's cells to the colours that lists that fit its clue have there. If the line has no clue, or is
+    /// longer than the engine takes, the masks stay as they are.
     pub(crate) fn narrow<E: LineEngine>(
         &self,
         engine: &mut E,
@@ -108,7 +108,7 @@ impl<'a> Board<'a> {
         engine.narrow(&mut 0, clue, &left[..cells], &mut masks[..cells])
     }
 
-    /// The mask of the picture's colour in a cell.
+    /// The mask of the picture's colour in a cell, 0 outside the picture.
     pub(crate) fn own(&self, cell: Cell) -> u16 {
         let picture = self.picture;
         if cell.row < picture.height() && cell.col < picture.width() {
@@ -118,7 +118,7 @@ impl<'a> Board<'a> {
         }
     }
 
-    /// The colours that a cell can have before any line is looked at.
+    /// The colours that a cell can have before any line is evaluated.
     pub(crate) fn base(&self, cell: Cell) -> u16 {
         if cell.row < MAX_SIDE && cell.col < MAX_SIDE && self.givens.has(cell.row, cell.col) {
             self.own(cell)

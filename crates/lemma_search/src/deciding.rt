@@ -1,4 +1,4 @@
-//! What a search decides: the most active colour of an open cell.
+//! Decisions of a search: on the most active colour of an open cell.
 
 use crate::atom::{Atom, Literal, bit, has, is_settled};
 use crate::marks::Reason;
@@ -8,7 +8,7 @@ use std::alloc::{AllocError, Global};
 use trail::Cell;
 
 impl<'a> Search<'a> {
-    /// Begins with all open cells to decide, and prefers other colours than the picture's.
+    /// Puts the atoms that stand for the colours of open cells into the order, and prefers other colours than the picture's.
     pub(crate) fn begin(&mut self, alloc: Global) -> Result<(), AllocError> {
         self.first = Vec::from_slice(alloc, &self.marks.left)?;
         for row in 0..self.board.height() {
@@ -63,7 +63,7 @@ impl<'a> Search<'a> {
         }
     }
 
-    /// Decides. False where nothing can be decided.
+    /// Begins a level with a decision. False if there is nothing to decide.
     pub(crate) fn decide(&mut self) -> Result<bool, AllocError> {
         let Some(atom) = self.next_atom() else {
             return Ok(false);

@@ -65,8 +65,8 @@ impl Question {
     }
 }
 
-/// What is asked: why a reason excludes colours of a cell, or, where none is named, why it leaves nothing. What counts is what the
-/// events before a given one excluded; what the first events excluded needs no reason.
+/// What is asked: why a reason excludes colours of a cell, or, where `of` is None, why it is a conflict. Only what the events
+/// before `before` excluded counts, and what those before `root` excluded needs no reason.
 #[derive(Clone, Copy)]
 pub(crate) struct Why {
     pub reason: Reason,
@@ -103,7 +103,7 @@ pub(crate) fn explain(
     }
 }
 
-// Why the literals of a lemma are false, but for the one of the cell that is asked about.
+// Why the literals of a lemma are false, except that of the cell that is asked about.
 fn explain_lemma(
     lemma: &[Literal],
     marks: &Marks,

@@ -15,19 +15,19 @@ use line_facts::LineEngine;
 use picture::{CellSet, Picture};
 use std::alloc::{AllocError, Global};
 
-/// What a search found. Nothing of it is proved: whoever answers by it has the lines checked, and compares the picture with the clues.
+/// What a search found. None of it is proved: the caller has to check the lines, or to compare the picture with the clues.
 #[derive(Drop)]
 pub enum Found {
     /// The lines of a proof by lemmas.
     Proof(Vec<LemmaLine>),
     /// Another picture.
     Other(Picture),
-    /// The search came to its bounds, or to a lemma that it could not tell.
+    /// The search reached its bounds, or its steps gave no proof.
     Nothing,
 }
 
-/// Searches for another picture with the clues and the givens of a picture, and learns a lemma from each conflict. Where none is left,
-/// it answers the lines of a proof.
+/// Searches for another picture with the clues and the givens of a picture, and learns a lemma from each conflict. Where there is
+/// none, it answers the lines of a proof.
 pub fn learn<E: LineEngine>(
     alloc: Global,
     engine: &mut E,
@@ -48,8 +48,8 @@ pub fn learn<E: LineEngine>(
     }
 }
 
-// Tells the proof of a search that left nothing, and then tells what is left of it once more: lemmas that are used less may be told
-// inside, and more lines can be left out.
+// Tells the proof of a search that found no other picture, and then tells the lines that are left once more: a lemma with fewer
+// uses may now be told inside, and more lines can be left out.
 fn tell<E: LineEngine>(alloc: Global, engine: &mut E, search: &Search) -> Result<Found, AllocError>
     ensures calls { E.calls engine.old ≤ E.calls engine.new }
     ensures same_longest { E.longest engine.new ≡ E.longest engine.old }
@@ -66,7 +66,7 @@ fn tell<E: LineEngine>(alloc: Global, engine: &mut E, search: &Search) -> Result
     Ok(Found::Proof(lines))
 }
 
-// Tells a plan. None where a step does not give what it did in the search.
+// Tells a plan. None if a step is a conflict where it was none in the search, or the other way round.
 fn tell_plan<'a, E: LineEngine>(
     alloc: Global,
     engine: &mut E,

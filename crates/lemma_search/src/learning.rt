@@ -8,8 +8,8 @@ use picture::MAX_COLOURS;
 use std::alloc::AllocError;
 
 impl<'a> Search<'a> {
-    /// Learns a lemma from a conflict, goes back to where it holds a cell, and holds it. False where nothing was decided, so that there
-    /// is nothing to go back to.
+    /// Learns a lemma from a conflict, goes back to the level at which it holds a cell, and holds that. False if no decision led to
+    /// the conflict, so that there is no level to go back to.
     pub(crate) fn learn(&mut self, conflict: Reason) -> Result<bool, AllocError> {
         let Some(at) = self.resolve(conflict)? else {
             return Ok(false);
@@ -35,7 +35,7 @@ impl<'a> Search<'a> {
         Ok(true)
     }
 
-    // Finds why there is a conflict, or why the colours of an event that are needed were excluded.
+    // Collects the premises of a conflict, or of the exclusion of some colours.
     fn explain(
         &mut self,
         reason: Reason,
@@ -128,7 +128,7 @@ impl<'a> Search<'a> {
         Ok(None)
     }
 
-    // Notes the reason of an event, with the time at which it is used, the latest first.
+    // Notes the reason of an event, with the time at which it is used. The latest come first.
     fn use_reason(&mut self, at: u32, event: Event) -> Result<(), AllocError> {
         let time = match event.reason {
             Reason::Line(_) => event.since,
@@ -200,7 +200,7 @@ impl<'a> Search<'a> {
         count
     }
 
-    // Collects the literals of the lemma, that of an event first, and then one of the highest level of the others. Answers that level.
+    // Collects the literals of the lemma: first that of an event, then one of the highest level of the others. Answers that level.
     fn collect(&mut self, first: u32) -> Result<u32, AllocError> {
         self.learning.literals.clear();
         self.learning.levels.clear();
@@ -237,7 +237,7 @@ impl<'a> Search<'a> {
         Ok(highest)
     }
 
-    // Adds a literal, to that of its cell if there is one, and answers its place.
+    // Adds a literal, or its colours to the literal of its cell if there is one, and answers the place.
     fn add_literal(&mut self, literal: Literal) -> Result<usize, AllocError> {
         let literals = &mut self.learning.literals;
         for (place, other) in literals.iter_mut().enumerate() {

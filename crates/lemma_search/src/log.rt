@@ -1,11 +1,11 @@
-//! What was learnt, in order.
+//! The steps of a search that a proof may need, in order.
 
 use crate::marks::Reason;
 use crate::store::Span;
 use std::alloc::{AllocError, Global};
 
-/// A step of the search that a proof may need: a lemma, with the hints that refute its denial; a reason that gave something at the
-/// root; or the end, by a reason or since no colour but the picture's is left.
+/// A step of the search that a proof may need: a lemma, with the hints that refute its denial; a reason that excluded something at
+/// the root; or the end, by a conflict or since only the picture's colours are left.
 #[derive(Clone, Copy)]
 pub(crate) enum Step {
     Lemma(u32, Span),
@@ -22,7 +22,7 @@ pub(crate) struct Log {
 }
 
 impl Log {
-    /// Nothing yet.
+    /// An empty log.
     pub(crate) fn new(alloc: Global) -> Log {
         Log {
             steps: Vec::new(alloc),
@@ -30,7 +30,7 @@ impl Log {
         }
     }
 
-    /// Adds a lemma whose hints are those after a place.
+    /// Adds a lemma, whose hints are those from a place on.
     pub(crate) fn add_lemma(&mut self, number: u32, start: usize) -> Result<(), AllocError> {
         let end = self.hints.len();
         self.steps.push(Step::Lemma(number, Span { start, end }))?;

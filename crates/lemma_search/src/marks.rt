@@ -13,8 +13,8 @@ pub(crate) enum Reason {
     Lemma(u32),
 }
 
-/// The exclusion of some colours of a cell: why, how many came before what led to it, at which level, and which of the colours an
-/// explanation needs.
+/// The exclusion of some colours of a cell: why, how many events there were before the reason applied, at which level, and which
+/// of the colours an explanation needs.
 #[derive(Clone, Copy)]
 pub(crate) struct Event {
     pub gone: Literal,
@@ -24,7 +24,7 @@ pub(crate) struct Event {
     pub needed: u16,
 }
 
-/// When a colour that is left was excluded.
+/// The answer of `when` for a colour that is not excluded.
 pub(crate) const NEVER: u32 = u32::MAX;
 
 /// The colours left in each cell, and what excluded the others, in order. A level begins with each decision.
@@ -37,7 +37,7 @@ pub(crate) struct Marks {
 }
 
 impl Marks {
-    /// Nothing excluded, in a picture of so many rows.
+    /// Nothing excluded, in a picture with `height` rows.
     pub(crate) fn new(alloc: Global, height: u8) -> Result<Marks, AllocError> {
         let cells = usize::from(height) * STRIDE;
         Ok(Marks {
@@ -52,14 +52,14 @@ impl Marks {
         self.left.get(spot(cell)).copied().unwrap_or(0)
     }
 
-    /// Holds a cell to some colours from the start.
+    /// Sets the colours left in a cell, without an event.
     pub(crate) fn set_left(&mut self, cell: Cell, colours: u16) {
         if let Some(left) = self.left.get_mut(spot(cell)) {
             *left = colours;
         }
     }
 
-    /// The event that excluded a colour.
+    /// The place of the event that excluded a colour, or `NEVER`.
     pub(crate) fn when(&self, atom: Atom) -> u32 {
         self.when.get(atom.place()).copied().unwrap_or(NEVER)
     }
@@ -89,7 +89,7 @@ impl Marks {
         self.levels.first().copied().unwrap_or(self.count())
     }
 
-    /// How many events come before a level above a given one, where there is one.
+    /// How many events come before the level after a given one, if there is such a level.
     pub(crate) fn before_level(&self, level: u32) -> Option<u32> {
         self.levels.get(level as usize).copied()
     }
@@ -138,7 +138,7 @@ impl Marks {
         }
     }
 
-    /// Takes the newest event back.
+    /// Takes the newest event back, and answers what it excluded.
     pub(crate) fn take_back(&mut self) -> Option<Literal> {
         let gone = self.events.pop()?.gone;
         let left = self.left(gone.cell) | gone.colours;
@@ -147,7 +147,7 @@ impl Marks {
         Some(gone)
     }
 
-    /// Says which colours of an event are needed.
+    /// Sets which colours of an event are needed.
     pub(crate) fn set_needed(&mut self, at: u32, needed: u16) {
         if let Some(event) = self.events.get_mut(at as usize) {
             event.needed = needed;

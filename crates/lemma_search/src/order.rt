@@ -4,10 +4,10 @@ use crate::atom::{Atom, STRIDE, small};
 use picture::MAX_COLOURS;
 use std::alloc::{AllocError, Global};
 
-// Where an atom is not in the heap.
+// The place of an atom that is not in the heap.
 const ABSENT: u32 = u32::MAX;
 
-// Activities above this are all made smaller.
+// Once an activity is above this, all are made smaller.
 const MOST: f64 = 1e100;
 
 // By how much.
@@ -16,7 +16,7 @@ const SCALE: f64 = 1e-100;
 // By how much what happened before counts less after each conflict.
 const DECAY: f64 = 0.95;
 
-// No heap of 32 bits is higher.
+// A heap with places of 32 bits is not higher.
 const HEIGHT: u32 = 32;
 
 /// Atoms in a heap by how active they are.
@@ -29,7 +29,7 @@ pub(crate) struct Order {
 }
 
 impl Order {
-    /// None yet, of a picture of so many rows.
+    /// An empty heap, for a picture with `height` rows.
     pub(crate) fn new(alloc: Global, height: u8) -> Result<Order, AllocError> {
         let atoms = usize::from(height) * STRIDE * usize::from(MAX_COLOURS);
         Ok(Order {
@@ -82,7 +82,7 @@ impl Order {
         self.put_at(i, atom);
     }
 
-    // The more active one of the two below a place.
+    // The more active one of the two atoms below a place, and its place.
     fn busiest_below(&self, i: usize) -> Option<(usize, Atom)> {
         let first = i.saturating_mul(2).saturating_add(1);
         let second = first.saturating_add(1);

@@ -1,4 +1,4 @@
-//! Which lemmas a proof needs, how often, and how each is told.
+//! Which lemmas a proof needs, how often, and how each is told, that is, written as lines.
 
 use crate::atom::{Literal, small};
 use crate::log::{Log, Step};
@@ -7,8 +7,8 @@ use crate::store::{Span, Store};
 use picture::LineId;
 use std::alloc::{AllocError, Global};
 
-/// A line of a proof, in which lemmas have the search's numbers. As hints, a line may be found dead and a lemma broken, or not; and the
-/// hints after a part, up to the one that ends its branch, refute that the cell has none of the colours.
+/// A line of a proof, in which lemmas have the search's numbers. As hints, `Line` and `Dead` are tried alike, and so are `Use` and
+/// `Broken`; the hints after a `Part`, up to the one that ends its branch, refute that the cell has none of the colours.
 #[derive(Clone, Copy)]
 pub(crate) enum Told {
     Line(LineId),
@@ -19,7 +19,7 @@ pub(crate) enum Told {
     Part(Literal),
 }
 
-/// A step of a proof, with its hints: a lemma, something that is given at the root, or the end.
+/// A step of a proof, with its hints: a lemma, something that is excluded at the root, or the end.
 #[derive(Clone, Copy)]
 pub(crate) enum Stage {
     Lemma(u32, Span),
@@ -44,7 +44,7 @@ pub(crate) struct Known {
     pub way: Way,
 }
 
-/// What is told: the steps and their hints, the search's lemmas, and what is known of each.
+/// What is to be told: the steps and their hints, the search's lemmas, and what is known of each.
 #[derive(Drop)]
 pub(crate) struct Plan<'a> {
     pub stages: Vec<Stage>,
@@ -53,11 +53,11 @@ pub(crate) struct Plan<'a> {
     pub lemmas: Vec<Known>,
 }
 
-// Up to how often a lemma may be told inside.
+// How many times a lemma may be told inside at most.
 const FEW: u32 = 8;
 
-// About how many bytes the text of a hint, of a literal, and of the lines about a lemma have. Of the hints some are not needed where a
-// lemma is told inside.
+// About how many bytes a hint, a literal, and the other lines of a lemma have in the text. A hint counts less than its text, since
+// some hints are not needed where a lemma is told inside.
 const HINT: usize = 7;
 
 const LITERAL: usize = 11;
@@ -81,7 +81,7 @@ impl<'a> Plan<'a> {
         Ok(plan)
     }
 
-    /// The plan of what was told: its lines are the hints, where each stage has a span of them.
+    /// The plan for telling a proof once more: its lines are the hints, of which each stage has a span.
     pub(crate) fn again(
         alloc: Global,
         told: &Plan<'a>,
@@ -225,7 +225,7 @@ impl Stage {
     }
 }
 
-// How a lemma of so many literals is told.
+// How a lemma with `literals` literals is told.
 fn way_of(known: Known, literals: usize) -> Way {
     if known.uses == 0 {
         return Way::Left;

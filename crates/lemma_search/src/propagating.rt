@@ -1,4 +1,4 @@
-//! What lines and lemmas exclude, until none excludes more.
+//! Propagation: what lines and lemmas exclude, until none excludes more.
 
 ghost use Rattle.std.specs.Prelude.{◌≡◌, ◌≤◌};
 
@@ -14,7 +14,7 @@ use std::alloc::AllocError;
 use trail::Cell;
 
 impl<'a> Search<'a> {
-    /// Excludes what lines and lemmas exclude. Answers why nothing is left, where that is so.
+    /// Propagates to a fixpoint. Answers the reason of a conflict, if there is one.
     pub(crate) fn propagate<E: LineEngine>(
         &mut self,
         engine: &mut E,
@@ -97,7 +97,7 @@ impl<'a> Search<'a> {
         Ok(broken)
     }
 
-    // Notes a reason that gives something, where nothing is decided.
+    // Logs a reason that excludes something, if nothing is decided.
     fn note_root(&mut self, reason: Reason) -> Result<(), AllocError> {
         if self.marks.is_at_root() {
             self.log.add(Step::Root(reason))?;
@@ -114,7 +114,7 @@ impl<'a> Search<'a> {
         self.exclude(Literal { colours, ..literal }, reason, since)
     }
 
-    // Excludes what a line excludes.
+    // Evaluates a line, and excludes what it forces.
     fn evaluate<E: LineEngine>(
         &mut self,
         engine: &mut E,

@@ -24,7 +24,7 @@ impl Restarts {
         self.left = self.left.saturating_sub(1);
     }
 
-    /// Whether to restart now: then the count begins anew, up to the next term.
+    /// Whether to restart now. If so, the count begins again.
     pub(crate) fn is_due(&mut self) -> bool {
         if self.left != 0 {
             return false;

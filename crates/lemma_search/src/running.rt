@@ -9,14 +9,14 @@ use line_facts::LineEngine;
 use picture::{Axis, LineId, LineSet, MAX_SIDE, Picture};
 use std::alloc::{AllocError, Global};
 
-/// How far a search goes: how many conflicts it learns from, and how many literals its lemmas have together.
+/// The bounds of a search: how many conflicts it learns from, and how many literals its lemmas have in all.
 #[derive(Clone, Copy)]
 pub struct Effort {
     pub conflicts: u32,
     pub literals: usize,
 }
 
-/// How a search ended: it found no other picture, or it found this one, or it came to its bounds.
+/// How a search ended: there is no other picture, or it found this one, or it reached its bounds.
 #[derive(Drop)]
 pub(crate) enum Ended {
     Unique,
@@ -41,7 +41,7 @@ impl<'a> Search<'a> {
         Ok(Ended::Unique)
     }
 
-    /// Searches.
+    /// Searches until there is an answer, or the bounds are reached.
     pub(crate) fn run<E: LineEngine>(
         &mut self,
         alloc: Global,

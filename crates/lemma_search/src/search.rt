@@ -10,7 +10,7 @@ use picture::{Axis, LineId, LineSet, MAX_COLOURS, MAX_SIDE};
 use std::alloc::{AllocError, Global};
 use trail::Cell;
 
-/// A search.
+/// The state of a search.
 #[derive(Drop)]
 pub(crate) struct Search<'a> {
     pub board: &'a Board<'a>,
@@ -22,11 +22,11 @@ pub(crate) struct Search<'a> {
     pub due: LineSet,
     // The axis whose lines are evaluated first.
     pub axis: Axis,
-    // How many events the lemmas have been looked at for.
+    // For how many events the lemmas have been looked at.
     pub seen: u32,
     // The colours that were left in each cell before the first decision.
     pub first: Vec<u16>,
-    // Which atoms a decision chooses, and does not exclude.
+    // For each atom whether a decision on it chooses the colour; else it excludes it.
     pub prefers: Vec<bool>,
     // How many events exclude the picture's colour.
     pub differing: u32,
@@ -35,7 +35,7 @@ pub(crate) struct Search<'a> {
     pub learning: Learning,
 }
 
-/// What a conflict is explained with.
+/// Lists that are used while a conflict is explained.
 #[derive(Drop)]
 pub(crate) struct Learning {
     pub premises: Vec<Atom>,
@@ -149,7 +149,7 @@ impl<'a> Search<'a> {
         Ok(())
     }
 
-    // Takes the newest event back, and prefers what was there.
+    // Takes the newest event back, and prefers the colours that were there.
     fn take_back(&mut self) -> Result<(), AllocError> {
         let Some(event) = self.marks.last() else {
             return Ok(());

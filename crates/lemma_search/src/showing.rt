@@ -8,7 +8,7 @@ use std::alloc::{AllocError, Global};
 use trail::Cell;
 
 impl<'a> Search<'a> {
-    // The mask of what a cell shows: none where it is open, and the picture's colour is excluded.
+    // The mask of the colour shown in a cell: 0 if it is open and the picture's colour is excluded.
     fn shown(&self, cell: Cell) -> u16 {
         let left = self.marks.left(cell);
         if is_settled(left) {
@@ -30,7 +30,7 @@ impl<'a> Search<'a> {
         states & automaton.ends != 0
     }
 
-    // A line that does not have its clue, first of all the one that did not have it before.
+    // A line that does not have its clue. The one that was found before is tried first.
     fn broken_line(&self) -> Option<LineId> {
         if let Some(line) = self.broken
             && !self.has_clue(line)
@@ -48,7 +48,7 @@ impl<'a> Search<'a> {
         None
     }
 
-    /// The picture that is shown, where it differs from the known one, and each line has its clue.
+    /// The picture that is shown, if it differs from the known one and each line has its clue.
     pub(crate) fn other(&mut self, alloc: Global) -> Result<Option<Picture>, AllocError> {
         if self.differing == 0 {
             return Ok(None);

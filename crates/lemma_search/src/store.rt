@@ -21,14 +21,14 @@ pub(crate) struct Store {
     lemmas: Vec<Span>,
     // How deep each lemma is: from how many levels its literals come. It is 0 once the lemma is forgotten.
     depths: Vec<u32>,
-    // How many lemmas are to come before some are forgotten, and after how many in all.
+    // After how many new lemmas some are forgotten, and how many there are in all then.
     room: usize,
     full: usize,
     watching: Vec<Vec<u32>>,
 }
 
-/// What a lemma says once an atom is excluded: nothing yet, or that a cell is held, or that no literal is left. Where it was moved, it
-/// is watched elsewhere.
+/// What a lemma does once an atom is excluded: it no longer watches the atom, it says nothing yet, it holds a cell to a literal, or
+/// no literal is left.
 #[derive(Clone, Copy)]
 pub(crate) enum Watched {
     Moved,
@@ -37,19 +37,19 @@ pub(crate) enum Watched {
     Broken,
 }
 
-// Depths from this one on count as one less.
+// Depths are below this: larger ones count as the largest.
 const DEPTHS: usize = 128;
 
 // Lemmas up to this depth are never forgotten.
 const SHALLOW: u32 = 2;
 
-// After how many lemmas half are forgotten for the first time, and how many more come between each two times.
+// After how many lemmas half are forgotten for the first time, and by how much that number grows each time.
 const ROOM: usize = 2000;
 
 const MORE_ROOM: usize = 300;
 
 impl Store {
-    /// No lemma yet, of a picture of so many rows.
+    /// No lemma yet, for a picture with `height` rows.
     pub(crate) fn new(alloc: Global, height: u8) -> Result<Store, AllocError> {
         let atoms = usize::from(height) * STRIDE * usize::from(MAX_COLOURS);
         let mut watching = Vec::with_capacity(alloc, atoms)?;
@@ -96,8 +96,8 @@ impl Store {
         Ok(number)
     }
 
-    /// Forgets half of the lemmas that are deep, where enough new ones came: the deepest, and of equals the oldest. What is forgotten is
-    /// looked at no more; its literals stay for the proof.
+    /// Forgets half of the lemmas that are deep, where enough new ones came: the deepest, and of equals the oldest. What is
+    /// forgotten is no longer looked at; its literals stay for the proof.
     pub(crate) fn forget_some(&mut self) {
         if self.len() < self.full {
             return;
@@ -107,7 +107,7 @@ impl Store {
         self.full = self.len().saturating_add(self.room);
     }
 
-    // From which depth on half of the deep lemmas are, and how many more of the next depth make the half.
+    // From which depth on all lemmas are in the deeper half, and how many of the depth below are in it too.
     fn half(&self) -> (usize, u32) {
         let mut counts = [0u32; DEPTHS];
         let mut rest = 0u32;
@@ -149,7 +149,7 @@ impl Store {
         }
     }
 
-    /// Has a lemma looked at when an atom is excluded.
+    /// Lets a lemma watch an atom: it is looked at when the atom is excluded.
     pub(crate) fn watch(&mut self, atom: Atom, number: u32) -> Result<(), AllocError> {
         if let Some(list) = self.watching.get_mut(atom.place()) {
             list.push(number)?;
@@ -225,7 +225,7 @@ impl Store {
         })
     }
 
-    // Has a lemma watched at another of the literals that begin with the watched one, if one can be true.
+    // Lets a lemma watch another literal of a span that begins with the watched one, if one can be true.
     fn moves(
         &mut self,
         number: u32,

@@ -1,4 +1,4 @@
-//! The proof told: each step that gives something, and a lemma inside the branch that uses it, where that is its way.
+//! Telling a proof, that is, making its lines: each step that has an effect, and each lemma, kept or inside a branch.
 
 ghost use Rattle.std.specs.Prelude.{◌≡◌, ◌≤◌};
 
@@ -42,7 +42,7 @@ impl<'a> Teller<'a> {
         }
     }
 
-    /// Tells all steps, and leaves out the lines that are not needed. False where a step does not give what it did in the search.
+    /// Tells all steps, and leaves out unneeded lines. False if a step is a conflict where it was none in the search, or the reverse.
     pub(crate) fn tell<E: LineEngine>(&mut self, engine: &mut E) -> Result<bool, AllocError>
         ensures calls { E.calls engine.old ≤ E.calls engine.new }
         ensures same_longest { E.longest engine.new ≡ E.longest engine.old }
@@ -103,7 +103,7 @@ impl<'a> Teller<'a> {
         }
     }
 
-    // Adds a line, which is needed in any case or where something that it excludes is.
+    // Adds a line. It is needed in any case, or only if something that it excludes is needed.
     fn add(&mut self, told: Told, is_needed: bool) -> Result<(), AllocError> {
         self.lines.push(told)?;
         self.facts.add(is_needed)
@@ -174,7 +174,7 @@ impl<'a> Teller<'a> {
         Ok(Gained::Something)
     }
 
-    // Ends the branch at hand, where a reason leaves nothing, and goes on with what is left after it.
+    // Ends the branch at hand by a conflict, and holds the cell of the part that began it, if one did.
     fn end_branch(&mut self, branches: &mut Vec<Branch>, dead: Reason) -> Result<(), AllocError> {
         let Some(branch) = branches.pop() else {
             return Ok(());
@@ -186,7 +186,7 @@ impl<'a> Teller<'a> {
         }
     }
 
-    // Tells a hint of the branch at hand. Answers why nothing is left, where that is so.
+    // Tells a hint of the branch at hand. Answers the reason of a conflict, if there is one.
     fn tell_hint<E: LineEngine>(
         &mut self,
         engine: &mut E,
@@ -223,7 +223,7 @@ impl<'a> Teller<'a> {
         Ok(None)
     }
 
-    // Tells what a lemma says, or the lemma where it is used.
+    // Tells the use of a lemma: what the kept lemma says, or the lemma itself inside the branch.
     fn tell_use(
         &mut self,
         branches: &mut Vec<Branch>,
@@ -273,8 +273,8 @@ impl<'a> Teller<'a> {
         Ok(None)
     }
 
-    // Tells what is said by hints that refute the contrary: the cell that is held without these colours, by the hints, and then with
-    // these alone. Where no colour is left, the hints end the branch at hand.
+    // Tells what a lemma or a part says by hints that refute its denial: a branch in which the cell that is held has none of the
+    // colours, by the hints, and then one in which it has these alone. Where no colour is left, the hints end the branch at hand.
     fn tell_inside(
         &mut self,
         branches: &mut Vec<Branch>,

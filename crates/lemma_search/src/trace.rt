@@ -1,4 +1,4 @@
-//! Facts as a checker of the proof has them, which line of the proof excluded what, and which lines are needed.
+//! The facts as the checker has them at each line of the proof, which line excluded what, and which lines are needed.
 
 ghost use Rattle.std.specs.Prelude.{◌≡◌, ◌≤◌};
 
@@ -12,7 +12,7 @@ use picture::{Axis, LineId};
 use std::alloc::{AllocError, Global};
 use trail::Cell;
 
-/// What a step gives: nothing, or something, or that nothing is left.
+/// The effect of a step: nothing, an exclusion, or a conflict.
 #[derive(Clone, Copy, Debug, PartialEq, Eq)]
 pub(crate) enum Gained {
     Nothing,
@@ -60,7 +60,7 @@ pub(crate) struct Trace<'a> {
 // How many lines a picture has at most.
 const LINES: usize = 256;
 
-// From how many exclusions at the root on no line there is left out.
+// If there are more exclusions at the root, no line there is left out.
 const MOST_TRIMMED: u32 = 2500;
 
 fn line_place(line: LineId) -> usize {
@@ -105,7 +105,7 @@ impl<'a> Trace<'a> {
         self.needed.get(told).copied().unwrap_or(false)
     }
 
-    /// Adds a line of the proof, which is needed in any case or where something that it excludes is.
+    /// Adds a line of the proof. It is needed in any case, or only if something that it excludes is needed.
     pub(crate) fn add(&mut self, is_needed: bool) -> Result<(), AllocError> {
         self.needed.push(is_needed)?;
         Ok(())
@@ -133,7 +133,7 @@ impl<'a> Trace<'a> {
         self.used.clear();
     }
 
-    /// Begins a lemma, which may use all that stands at the root.
+    /// Begins a lemma, which may use all that is excluded at the root.
     pub(crate) fn begin_lemma(&mut self) -> Result<(), AllocError> {
         let told = self.told();
         self.lemmas.push(told)?;
@@ -145,7 +145,7 @@ impl<'a> Trace<'a> {
         self.take_back(self.root);
     }
 
-    /// Takes all events back but the first ones.
+    /// Takes all events back but the first `first`.
     pub(crate) fn take_back(&mut self, first: u32) {
         for _ in first..self.count() {
             let _ = self.marks.take_back();
@@ -185,7 +185,7 @@ impl<'a> Trace<'a> {
         self.exclude(Literal { colours, ..literal }, reason, since)
     }
 
-    /// What a lemma says.
+    /// What a lemma says of the facts.
     pub(crate) fn say(&self, lemma: &[Literal]) -> Said {
         let mut said = Said::Broken;
         for literal in lemma {
@@ -202,7 +202,7 @@ impl<'a> Trace<'a> {
         said
     }
 
-    /// Excludes what a line excludes.
+    /// Evaluates a line, and excludes what it forces.
     pub(crate) fn force<E: LineEngine>(
         &mut self,
         engine: &mut E,
@@ -238,7 +238,7 @@ impl<'a> Trace<'a> {
         })
     }
 
-    // Finds why a reason excludes colours, or leaves nothing.
+    // Collects the premises of the exclusion of some colours, or of a conflict.
     fn explain(
         &mut self,
         reason: Reason,
@@ -256,7 +256,7 @@ impl<'a> Trace<'a> {
         explain(self.board, self.store, &self.marks, why, &mut self.premises)
     }
 
-    // Forgets which lines of the picture are evaluated later.
+    // Forgets where lines of the picture are evaluated later.
     fn begin_trim(&mut self) {
         for next in self.next.iter_mut() {
             *next = NEVER;
@@ -281,8 +281,8 @@ impl<'a> Trace<'a> {
         }
     }
 
-    /// Ends the branch of the events after a given one, where nothing is left by a reason that the newest line of the proof tells. Marks
-    /// the lines of the branch that are needed for that, and takes its events back. Answers what the branch uses.
+    /// Ends the branch of the events from `start` on, by a conflict that the newest line of the proof tells. Marks the lines of the
+    /// branch that are needed for that, and takes its events back. Answers what the branch uses.
     pub(crate) fn end_branch(&mut self, start: u32, dead: Reason) -> Result<Span, AllocError> {
         let told = self.told().saturating_sub(1);
         let first = self.used.len();
@@ -334,7 +334,7 @@ impl<'a> Trace<'a> {
         self.use_premises(start, first, time)
     }
 
-    // Leaves out the lines of a branch, after which nothing is used of what it shows.
+    // Leaves out the lines of a branch, since nothing that it shows is used after it.
     fn leave_out(&mut self, noted: Noted) {
         for told in noted.told..noted.until {
             if let Some(needed) = self.needed.get_mut(told as usize) {
@@ -394,7 +394,7 @@ impl<'a> Trace<'a> {
         Ok(())
     }
 
-    /// Marks the lines at the root that are needed, where all that they exclude is. On a large picture that takes too long: all are.
+    /// Marks which lines at the root are needed for all that is excluded there; all lines, if there are too many exclusions.
     pub(crate) fn end(&mut self) -> Result<(), AllocError> {
         if self.count() > MOST_TRIMMED {
             self.need_root();
@@ -436,7 +436,7 @@ impl<'a> Trace<'a> {
         }
     }
 
-    // Where the first of the lemmas after a line of the proof begins, or where it ends.
+    // Where the first lemma after a line of the proof begins, or `last` if that is earlier.
     fn use_by_lemmas(&mut self, told: u32, last: u32) -> u32 {
         let mut first = last;
         for _ in 0..self.lemmas.len() {

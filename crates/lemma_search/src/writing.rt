@@ -6,18 +6,15 @@ use crate::plan::{Plan, Stage, Told, Way};
 use crate::store::Span;
 use crate::telling::Teller;
 use cert_text::{CellNumber, LineNumber};
-use lemma_text::LemmaLine;
+use lemma_text::{LemmaLine, MAX_LITERALS};
 use picture::LineId;
 use std::alloc::{AllocError, Global};
 
-// How many literals the lemmas that are kept can have together.
-const ROOM: usize = 65_536;
-
-// No use of a lemma.
+// The last use of a lemma that is not used.
 const NONE: u32 = u32::MAX;
 
-/// The lines of a proof so far, and for each lemma its number there and the step that uses it last. Some lemmas are kept, but used no
-/// more.
+/// The lines of a proof so far, and for each lemma its number there and the step that uses it last. `spent` are lemmas that are
+/// kept, but not used any more.
 #[derive(Drop)]
 pub(crate) struct Writer<'a> {
     plan: &'a Plan<'a>,
@@ -61,7 +58,7 @@ impl<'a> Writer<'a> {
         small(self.plan.stages.len())
     }
 
-    // What tells a step.
+    // The lines that tell a step.
     fn told(&self, at: u32) -> &'a [Told] {
         match self.spans.get(at as usize) {
             Some(span) => self.told.get(span.start..span.end).unwrap_or(&[]),
@@ -157,11 +154,11 @@ impl<'a> Writer<'a> {
         }
     }
 
-    // Makes room for more literals: of the lemmas that are used no more the newest are dropped first.
+    // Makes room for more literals: of the spent lemmas those that were spent last are dropped first.
     fn make_room(&mut self, more: usize) -> Result<(), AllocError> {
         self.literals = self.literals.saturating_add(more);
         for _ in 0..self.spent.len() {
-            if self.literals <= ROOM {
+            if self.literals <= MAX_LITERALS {
                 break;
             }
             let Some(number) = self.spent.pop() else {
@@ -175,7 +172,7 @@ impl<'a> Writer<'a> {
         Ok(())
     }
 
-    // Notes the lemmas that a step uses last.
+    // Notes the lemmas whose last use is in a step.
     fn note_spent(&mut self, at: u32) -> Result<(), AllocError> {
         for told in self.told(at) {
             if let Told::Use(number) | Told::Broken(number) = *told
@@ -188,7 +185,7 @@ impl<'a> Writer<'a> {
         Ok(())
     }
 
-    // A lemma is noted once.
+    // Forgets the last use of a lemma, so that it is noted once.
     fn forget(&mut self, number: u32) {
         if let Some(last) = self.last.get_mut(number as usize) {
             *last = NONE;

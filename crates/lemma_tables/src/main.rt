@@ -27,7 +27,7 @@ fn main(rt: HostRuntime) -> Result<()> {
     Ok(())
 }
 
-// Prints what is answered to the proof in a file, for the picture in another.
+// Checks the proof in a file for the picture in another, and prints the answer.
 fn tell(rt: &(impl AllocGlobal + Print + Files), file: &str, proof: &str) -> Result<()> {
     let text = fs::read(rt, file)?;
     let proof = fs::read(rt, proof)?;
@@ -78,7 +78,7 @@ fn print_proof(rt: &(impl AllocGlobal + Print), proof: &LemmaProof) -> Result<()
     Ok(())
 }
 
-// How many cells a proof gives, where it is accepted.
+// How many givens a proof has, if it is accepted.
 fn checked(alloc: Global, picture: &Picture, text: &[u8]) -> Result<usize, CertFault> {
     let proof = read_proof(alloc, text)?;
     let _ = picture.height();

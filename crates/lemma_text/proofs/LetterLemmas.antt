@@ -14,7 +14,7 @@ pub named_some : (word : List ℕ) → 0 < length word → colours_named word �
 named_some [] some = absurd (omega (arith, some))
 named_some (b ∷ word) some = refl
 
--- what is read so far leads to the same as the whole word
+-- reading on from here gives what reading the whole word gives
 abbrev SoFar : List ℕ → ℕ → ℕ → ℕ → Type 0
 SoFar word i colours least = colours_behind 0 0 word ≡ colours_behind colours least (drop i word)
 

@@ -1,10 +1,10 @@
--- Cells looked at one by one: they are in order so far.
+-- Cells that are checked one by one are in order so far.
 use Rattle.std.proofs.Common.{◌≡◌, ℕ, ◌+◌, ◌<◌, ◌≤◌, ◌↔◌, List, ◌∷◌, length, get_or, drop, drop-cons, add-one, sym, subst, arith}
 use Rattle.std.proofs.lemmas.List.{drop_all}
 use Rattle.cert_text.specs.Cert.{AreOrdered, rank}
 use Rattle.cert_text.specs.declared.tree_line.CellNumber.{CellNumber}
 
--- all are in order where those that are left are, after a rank
+-- all cells are in order exactly if those that are left are, from a rank on
 pub record OrderedSoFar (cells : List CellNumber) (i least : ℕ) : Type 0 where
   pub whole : AreOrdered 0 cells ↔ AreOrdered least (drop i cells)
 

@@ -12,7 +12,7 @@ use Rattle.lemma_text.specs.Text.{by_words, four_words, lemma_line, lemma_lines,
 
 -- ---- the lines
 
--- what is read where these lines come first
+-- what is read, with these lines before it
 abbrev lines_behind : List LemmaLine → Result (List LemmaLine) CertFault → Result (List LemmaLine) CertFault
 lines_behind front read = read >>= λ rest. Ok (front ++ rest)
 
@@ -57,7 +57,7 @@ lines_end front n lines whole e left = sym left.is ∙ (ap (λ (ls : List (List 
 
 pub ruleset line_reading = (lines_start, lines_more, lines_stop, lines_end)
 
--- ---- words, by what a line of so many words names
+-- ---- words: what a line names, by the number of its words
 
 module _ (line : List ℕ) (named : Option LemmaLine) where
   pub of_one : words_of line ≡ line ∷ [] → named ≡ one_word line → named ≡ lemma_line line

@@ -45,7 +45,7 @@ lemma_again n l =
 
 -- ---- colours
 
--- the part of a number from a bit on
+-- a number without the bits below a place
 from_bit : ℕ → ℕ → ℕ
 from_bit n k = n / 2 ^ k * 2 ^ k
 
@@ -73,7 +73,7 @@ none_from : (n k : ℕ) → n < 2 ^ k → from_bit n k ≡ 0
 unfolding from_bit
 none_from n k l = ap (λ (x : ℕ). x * 2 ^ k) (div-eq_of_lt l) ∙ zero-mul (2 ^ k)
 
--- a colour is not among some, or it is
+-- a mask has a colour or not
 has_bit : (n k : ℕ) → (((bit_and n (2 ^ k) == 0) ≡ true) × (bit_and n (2 ^ k) ≡ 0)) ⊎ (((bit_and n (2 ^ k) == 0) ≡ false) × (bit_and n (2 ^ k) ≡ 2 ^ k))
 has_bit n k = elim (cases_lt (bit_at n k) 1) [
   | inl none ↦
@@ -166,7 +166,7 @@ joined_lacks word (next ∷ words) are = lacks_append 10 word (32 ∷ joined nex
 
 -- ---- a line
 
--- what a line written comes to
+-- a line that is written is read as the same line
 record Again (line : LemmaLine) : Type 0 where
   text : List ℕ
   first : (rest : List ℕ) → lines_of (line_text line ++ rest) ≡ text ∷ lines_of rest

@@ -84,7 +84,7 @@ lemma_lines n (line ∷ lines) =
 abbrev pub below_givens : List CellNumber × List (List ℕ) → Result ProofLines CertFault
 below_givens read = lemma_lines (2 + length read.0) read.1 >>= λ lines. Ok (proof_lines read.0 lines)
 
--- the proof of lines, of which the first says the format, and the next may be givens
+-- the proof of lines: the first says the format, and the next may be givens
 abbrev pub proof_of_lines : List (List ℕ) → Result ProofLines CertFault
 proof_of_lines [] = Err (NotCert 1)
 proof_of_lines (first ∷ lines) =

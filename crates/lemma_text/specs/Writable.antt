@@ -10,12 +10,12 @@ use Rattle.lemma_text.specs.Proof.{ProofLines}
 use Rattle.lemma_text.specs.Text.{proof_of}
 use Rattle.lemma_text.specs.Writing.{proof_text}
 
--- a literal that names at least one of the sixteen colours, and a cell by short numbers
+-- a literal that names at least one of the sixteen colours, and a cell by numbers of at most three digits
 abbrev pub IsWritableLiteral : Literal → Type 0
 IsWritableLiteral literal =
     (literal.cell.row < 1000) × (literal.cell.col < 1000) × (0 < literal.colours) × (literal.colours < 2 ^ 16)
 
--- the numbers of a line are as they can be written
+-- the numbers and literals of a line are as a text can have them
 abbrev pub IsWritable : LemmaLine → Type 0
 IsWritable (Line line) = line.number < 1000
 IsWritable (Use lemma) = lemma < 2 ^ 16

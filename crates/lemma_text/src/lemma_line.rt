@@ -5,10 +5,13 @@ ghost use Rattle.lemma_text.specs.Writable.{IsWritable, IsWritableLiteral};
 
 use cert_text::{CellNumber, LineNumber};
 
-/// A cell and some of its colours. What it says of a picture: the cell has one of these colours.
+/// How many literals the lemmas that a checker keeps may have together, with the lemma that is being proved.
+pub const MAX_LITERALS: usize = 65_536;
+
+/// A literal: a cell and some colours. A picture meets it where the cell has one of them.
 #[derive(Clone, Copy, Debug, PartialEq, Eq)]
 pub struct Literal {
-    /// The cell by the numbers as written. Whether a picture has it is not said.
+    /// The cell, by its numbers as written, counted from 1. It may lie outside the picture.
     pub cell: CellNumber,
     /// Bit k stands for colour k.
     pub colours: u16,
@@ -24,13 +27,13 @@ impl Literal {
 }
 
 /// A line of a proof by lemmas, below its givens. A lemma is a list of literals, of which each other picture meets one.
-/// Lemmas are numbered from 1 as they begin. The branch at hand is some facts, which each line changes or ends; the
-/// others wait after it.
+/// Lemmas are numbered from 1 as they begin. Each line changes the facts of the branch at hand or ends it; the other
+/// branches wait.
 #[derive(Clone, Copy, Debug, PartialEq, Eq)]
 pub enum LemmaLine {
     /// What the row or column forces is excluded.
     Line(LineNumber),
-    /// Where just one literal of the lemma has a colour left in its cell, the cell is held to these colours.
+    /// Where just one literal of the lemma has a colour left in its cell, that cell is held to the literal's colours.
     Use(u16),
     /// No list of colours fits the row or column, and the branch ends.
     Dead(LineNumber),
@@ -40,12 +43,12 @@ pub enum LemmaLine {
     Done,
     /// Two branches: the cell without these colours, and then the cell with these alone.
     Part(Literal),
-    /// A lemma begins, where nothing waits: the branch at hand is to deny it, and the facts as they are wait after,
-    /// with the lemma kept.
+    /// A lemma begins, which is allowed only where nothing waits: the branch at hand will deny it, and the facts as
+    /// they are wait until it is kept.
     Lemma,
-    /// A literal of the lemma that begins: the branch at hand loses its colours.
+    /// A literal of the lemma that begins: its cell loses these colours.
     Deny(Literal),
-    /// The lemma is kept no longer, where nothing waits.
+    /// The lemma is no longer kept, which is allowed only where nothing waits.
     Forget(u16),
 }
 

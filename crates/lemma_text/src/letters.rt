@@ -8,7 +8,7 @@ ghost use Rattle.lemma_text.specs.Letters.{colour_at, colours_named, letter, let
 use picture::{MAX_COLOURS, WriteFault, send};
 use std::io::Write;
 
-// The number of a colour: `.` is the background, and `a` to `o` are 1 to 15.
+// The colour that a letter names: `.` is the background, and `a` to `o` are 1 to 15.
 fn colour_in(byte: u8) -> Option<u8>
     ensures value { result ≡ colour_at byte }
     ensures small { IfSome result (λ k. k < 16) }
@@ -20,7 +20,7 @@ fn colour_in(byte: u8) -> Option<u8>
     }
 }
 
-// The colours that a word names by their letters, which rise: at least one.
+// The mask of the colours that a word names by letters in ascending order, at least one.
 pub(crate) fn colours_in(word: &[u8]) -> Option<u16>
     ensures { result ≡ colours_named word.now }
 {
@@ -48,7 +48,7 @@ fn letter_of(colour: u8) -> u8
     if colour == 0 { b'.' } else { b'a' - 1 + colour }
 }
 
-// Writes the letter of a colour, where it is one of some.
+// Writes the letter of a colour, if a mask has it.
 fn send_letter<W: Write>(colours: u16, colour: u8, writer: &mut W) -> Result<(), WriteFault>
     requires { colour < 16 }
     ensures ok { OnOk result
@@ -64,7 +64,7 @@ fn send_letter<W: Write>(colours: u16, colour: u8, writer: &mut W) -> Result<(),
 }
 
 #[tactic(auto, using(picture::proofs::SendingLaws::pieces))]
-// Writes the letters of colours.
+// Writes the letters of the colours of a mask, in ascending order.
 pub(crate) fn send_letters<W: Write>(colours: u16, writer: &mut W) -> Result<(), WriteFault>
     ensures ok { OnOk result
         (Appends (W.contents writer.old) (W.contents writer.new) (letters_text colours)) }

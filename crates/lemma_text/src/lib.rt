@@ -1,4 +1,4 @@
-//! A proof by lemmas as a value, and its text: reading and writing.
+//! Proofs by lemmas as values, and their text: reading and writing.
 #![tactic(auto)]
 
 pub mod laws;
@@ -8,7 +8,7 @@ mod proof;
 mod reading;
 mod writing;
 
-pub use lemma_line::{LemmaLine, Literal};
+pub use lemma_line::{LemmaLine, Literal, MAX_LITERALS};
 pub use proof::LemmaProof;
 pub use reading::read_proof;
 pub use writing::write_proof;

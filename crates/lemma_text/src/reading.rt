@@ -109,7 +109,7 @@ fn line_in(line: &[u8]) -> Option<LemmaLine>
 const SECOND_LINE: usize = 2;
 
 #[tactic(auto, using(crate::proofs::ReadLemmas::line_reading))]
-// The lines below the givens, of which the first has a number.
+// The lines below the givens, of which the first has the number `first` in the text.
 fn read_lines(alloc: Global, text: &[u8], first: usize) -> Result<Vec<LemmaLine>, CertFault>
     requires few { first + length text.now < 2 ^ 64 }
     ensures { Gives CertFault.Memory (λ lines. lines.items) result
@@ -134,8 +134,8 @@ fn read_lines(alloc: Global, text: &[u8], first: usize) -> Result<Vec<LemmaLine>
 /// Lines end with a line feed, which the last may lack. The first is `nonolemma 1`, else the error is `NotCert` at line
 /// 1. Lines `given R C` may follow, each after the one before in the order of rows. Each further line is one of those
 /// that `docs/FORMATS.md` describes, with single spaces and numbers without leading zeros. Any other line is `BadLine`.
-/// Whether a picture has the lines and cells, and whether there are such lemmas, is not looked at. Out of memory is
-/// answered where it comes, before any later error.
+/// Whether a picture has the lines and cells, and whether there are such lemmas, is not checked. Out of memory is
+/// answered where it occurs, before any later error.
 pub fn read_proof(alloc: Global, bytes: &[u8]) -> Result<LemmaProof, CertFault>
     ensures { Gives CertFault.Memory (λ proof. proof) result (proof_of bytes.now) }
 {

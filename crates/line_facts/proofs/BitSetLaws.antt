@@ -50,7 +50,7 @@ pub shifted : (w s a i : ℕ) → 0 < 2 ^ s → s ≤ i → i < w → has (a * 2
 shifted w s a i p h l =
     has_bit (a * 2 ^ s % 2 ^ w) a i (i - s) (bit_low w (a * 2 ^ s) i l ∙ (ap (λ y. bit_at y i) (nothing_added (a * 2 ^ s)) ∙ bit_at_cat_high a s 0 i p h))
 
--- ---- s tests more in front of those that are gathered already
+-- ---- s more tests before those that are gathered already
 
 pub gathered_more : (w s : ℕ) (test : ℕ → Bool) (cells low here next : ℕ) → next ≡ here + s → low < 2 ^ s → ((j : ℕ) → j < s → has low j ≡ test (here + j))
     → ((j : ℕ) → j < w → has cells j ≡ test (next + j)) → (j : ℕ) → j < w → has (bit_or (cells * 2 ^ s % 2 ^ w) low) j ≡ test (here + j)

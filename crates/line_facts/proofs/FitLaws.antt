@@ -48,7 +48,7 @@ have_left {left = left} {i = i} h = let P : ℕ → Type 0 = λ c. IsBitSet (get
 pub narrowed_tighter : (clue : List Block) (left out : List ℕ) (outcome : Outcome) → Narrows clue left outcome out → IsTighter left out
 narrowed_tighter clue left out outcome n = record { same_length = n.same_length; leaves = λ i k s. have_left ((n.exact i k).0 s) }
 
--- a list that fits goes on to fit
+-- a list that fits still fits after narrowing
 pub fits_narrowed : (clue : List Block) (left line out : List ℕ) (outcome : Outcome) → Fits clue left line → Narrows clue left outcome out → Fits clue out line
 fits_narrowed clue left line out outcome f n = record {
   same_length = f.same_length ∙ sym n.same_length;

@@ -20,7 +20,7 @@ on_along Down at row col = elim (cases_eq col at) [ inl e ↦ inl (row, refl, e)
 pub on_or_not : (line : LineId) (row col : ℕ) → IsOn line row col ⊎ (IsOn line row col → ⊥)
 on_or_not line row col = on_along line.axis line.at row col
 
--- a cell of a line, told by the line
+-- what is left in a cell of a line is left at its place on the line
 on_line : (line : LineId) (facts : Masks) (row col k : ℕ) (on : IsOn line row col) → Leaves facts row col k → IsBitSet (get_or (line_of facts line) on.0 0) k
 on_line line facts row col k on s =
     let e : cell_at facts row col ≡ get_or (line_of facts line) on.0 0 = ap (λ r. cell_at facts r col) on.1

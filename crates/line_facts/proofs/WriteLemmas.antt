@@ -9,7 +9,7 @@ use Rattle.line_facts.proofs.AlongLaws.{Written, across_length, down_length, pla
 use Rattle.line_facts.proofs.GridLaws.{same_has_line, same_line_length}
 use Rattle.line_facts.proofs.FactLemmas.{are_masks_set, known_flat}
 
--- the first n masks stand along a line, and elsewhere all is as it was
+-- the first n masks are written along a line, and elsewhere all is as it was
 pub record IsWriting (height width : ℕ) (old cells : List ℕ) (line : LineId) (masks : List ℕ) (n : ℕ) : Type 0 where
   pub cells_are : AreMasks height width cells
   pub written : Written line (rows_of height width old) (rows_of height width cells) masks n
@@ -49,7 +49,7 @@ module _ (height width : ℕ) (old : List ℕ) (line : LineId) (masks : List ℕ
     pub place_in : (place : ℕ) → place ≡ row_on line.axis line.at i * width + col_on line.axis line.at i → place < length cells
     place_in place e = let p = place_inside height width (row_on line.axis line.at i) (col_on line.axis line.at i) on.0 on.1 in let c = w.cells_are.count in omega (arith, e, p, c)
 
--- where a cell of a row stands in the flat list, and one of a column
+-- the place of a cell of a row in the flat list, and of a cell of a column
 pub across_place : (line : LineId) (width i a b c : ℕ) → line.axis ≡ Across → a ≡ line.at → b ≡ width → c ≡ i → a * b + c ≡ row_on line.axis line.at i * width + col_on line.axis line.at i
 across_place line width i a b c e p q r = (λ k. p k * q k + r k) ∙ sym (ap (λ x. row_on x line.at i * width + col_on x line.at i) e)
 

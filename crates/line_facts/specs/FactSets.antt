@@ -13,10 +13,11 @@ use Rattle.line_facts.specs.declared.line_engine.Outcome.{Outcome}
 use Rattle.line_facts.specs.Fits.{CanHave}
 use Rattle.line_facts.specs.NarrowedLine.{Narrows}
 
--- colour k is left in a cell, or excluded there
+-- colour k is left in a cell
 abbrev pub Leaves : Masks → ℕ → ℕ → ℕ → Type 0
 Leaves facts row col k = IsBitSet (cell_at facts row col) k
 
+-- colour k is excluded in a cell
 abbrev pub Excludes : Masks → ℕ → ℕ → ℕ → Type 0
 Excludes facts row col k = Leaves facts row col k → ⊥
 
@@ -57,15 +58,15 @@ pub record IsBase (givens : List ℕ) (picture : Rows) (facts : Masks) : Type 0 
   pub left : (row col k : ℕ) → row < length picture → col < width_of picture
       → Leaves facts row col k ↔ IsOpen givens picture row col k
 
--- one row made what the givens say of it, and the other rows as they were
+-- in one row the colours are left that the givens alone leave, and the other rows are as they were
 pub record MakesBaseRow (givens : List ℕ) (picture : Rows) (old new : Masks) (row : ℕ) : Type 0 where
   pub same_shape : SameShape picture new
   pub left : (col k : ℕ) → col < width_of picture → Leaves new row col k ↔ IsOpen givens picture row col k
   pub elsewhere : (r col : ℕ) → (r ≡ row → ⊥) → cell_at new r col ≡ cell_at old r col
 
 -- A line forces an exclusion where no list that fits has the colour in that cell. Facts are closed for clues when they
--- hold every exclusion that a line forces from them. Told of what is left: each colour left on a line is had there by
--- some list that fits (`ClosedLinesHoldWhatTheyForce` joins the two).
+-- hold every exclusion that a line forces from them. Said of the colours that are left: for each of them, some list
+-- that fits has it in its cell (`ClosedLinesHoldWhatTheyForce` says that the two are equivalent).
 abbrev pub IsClosedLine : List Block → List ℕ → Type 0
 IsClosedLine clue left = (i k : ℕ) → IsBitSet (slice_index left i) k → CanHave clue left i k
 
@@ -78,15 +79,17 @@ pub record IsLeast (clues : Clues) (base facts : Masks) : Type 0 where
   pub holds : IsWithin base facts
   pub least : (others : Masks) → IsClosed clues others → IsWithin base others → IsWithin facts others
 
--- the cell at place i of a line
+-- the row of the cell at place i of a line
 abbrev pub row_on : Axis → ℕ → ℕ → ℕ
 row_on Across at i = at
 row_on Down at i = i
 
+-- the column of the cell at place i of a line
 abbrev pub col_on : Axis → ℕ → ℕ → ℕ
 col_on Across at i = i
 col_on Down at i = at
 
+-- a cell is on a line
 abbrev pub IsOn : LineId → ℕ → ℕ → Type 0
 IsOn line row col = (i : ℕ) × (row ≡ row_on line.axis line.at i) × (col ≡ col_on line.axis line.at i)
 
@@ -96,7 +99,7 @@ pub record Gains (clue : List Block) (line : LineId) (old new : Masks) (outcome 
   pub narrows : Narrows clue (line_of old line) outcome (line_of new line)
   pub elsewhere : (row col : ℕ) → (IsOn line row col → ⊥) → cell_at new row col ≡ cell_at old row col
 
--- what the masks of facts are, row after row
+-- masks of the facts of a size in one list, row after row: each of 16 bits
 pub record AreMasks (height width : ℕ) (masks : List ℕ) : Type 0 where
   pub has_row : 0 < height
   pub rows_fit : height ≤ MAX_SIDE

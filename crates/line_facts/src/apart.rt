@@ -19,8 +19,8 @@ fn sixteen_apart(before: &[u16], after: &[u16], first: usize) -> u64
     old.simd_ne(new).to_bitmask()
 }
 
-/// The places at which two lists of masks differ, which are all below `cells`. The lists reach to the end of the sixteen
-/// places in which the last of these lies.
+/// The places at which two lists of masks differ, as the bits of a number. All are below `cells`, and the lists have at
+/// least `cells` places, rounded up to a multiple of sixteen.
 pub fn places_apart(before: &[u16], after: &[u16], cells: usize) -> u128
     requires same_length { length after.now ≡ length before.now }
     requires room { 16 * ((cells + 15) / 16) ≤ length before.now }

@@ -10,7 +10,7 @@ use picture::laws::cells_are_members;
 use std::alloc::{AllocError, Global};
 
 impl Facts {
-    /// The facts that a document's givens say: at each given every colour but the picture's is excluded.
+    /// The facts of a document's givens alone: in each given every colour but the picture's is excluded.
     pub fn base(alloc: Global, document: &Document) -> Result<Facts, AllocError>
         ensures { IfOk result (λ f. IsBase document.now.givens document.now.picture f) }
     {
@@ -27,7 +27,7 @@ impl Facts {
     }
 }
 
-// Makes the cells of a row what the givens say of them.
+// Sets the masks of a row to the colours that the givens leave there.
 fn make_base_row(document: &Document, facts: &mut Facts, row: u8)
     requires same_shape { SameShape document.now.picture facts.old }
     requires in_rows { row < length document.now.picture }

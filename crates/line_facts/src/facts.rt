@@ -54,7 +54,7 @@ impl Facts {
         }
     }
 
-    /// The same facts once more, in memory of their own.
+    /// A copy of the facts, with the same allocator.
     pub fn copy(&self) -> Result<Facts, AllocError>
         ensures { IfOk result (λ f. f ≡ self.now) }
     {
@@ -110,7 +110,7 @@ impl Facts {
         self.set_left(row, col, left & !colours);
     }
 
-    /// The colour of a cell that has only one left.
+    /// The colour of a cell that has only one left, and `None` for other cells.
     pub fn shown(&self, row: u8, col: u8) -> Option<u8>
         requires in_rows { row < length self.now }
         requires in_columns { col < width_of self.now }
@@ -152,7 +152,7 @@ impl Facts {
         }
     }
 
-    /// Gives a cell another mask of colours left, in which bit k stands for colour k. So a search puts back what it noted.
+    /// Gives a cell another mask of colours left, in which bit k stands for colour k. A search uses it to backtrack.
     pub fn set_left(&mut self, row: u8, col: u8, mask: u16)
         requires in_rows { row < length self.old }
         requires in_columns { col < width_of self.old }

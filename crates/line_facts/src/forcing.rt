@@ -14,14 +14,14 @@ use crate::line_engine::{LineEngine, Outcome};
 use clues::Clue;
 use picture::{LineId, LineSet, MAX_SIDE};
 
-// No line has more cells. They are compared sixteen by sixteen.
+// No line has more cells. It is a multiple of 16, since cells are compared sixteen at a time.
 const MOST_CELLS: usize = 128;
 
-/// What forcing a line came to.
+/// The result of forcing a line.
 #[derive(Clone, Copy)]
 pub struct Forced {
     pub outcome: Outcome,
-    /// The lines that cross it at a cell that is not as it was.
+    /// The lines that cross it at a cell whose mask has changed.
     pub changed: LineSet,
 }
 
@@ -45,7 +45,7 @@ pub fn force<E: LineEngine>(
     force_crossing(engine, facts, clue, line, count).outcome
 }
 
-/// The same, and says which lines cross the line where it changed.
+/// Forces a line as `force` does, and says which lines cross it where it has changed.
 pub fn force_crossing<E: LineEngine>(
     engine: &mut E,
     facts: &mut Facts,
@@ -72,7 +72,7 @@ pub fn force_crossing<E: LineEngine>(
     Forced { outcome, changed }
 }
 
-// Gives the first cells of a line other masks where some differ from the old ones, and says which lines cross it there.
+// Writes the first `cells` masks to a line, if some differ from the old ones, and says which lines cross it at those.
 fn write_changes(
     facts: &mut Facts,
     line: LineId,

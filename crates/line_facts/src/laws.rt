@@ -36,8 +36,8 @@ pub fn one_line_decides()
     ensures { OneLineDecides }
 {}
 
-/// The base of givens leaves the picture's colour alone in each given and all sixteen elsewhere, and so there is one; a
-/// given more changes its own cell alone.
+/// The base of givens leaves only the picture's colour in each given and all sixteen elsewhere, so there is only one
+/// base; one more given changes only its own cell.
 pub fn base_is_cell_by_cell()
     ensures { BaseIsCellByCell }
 {}

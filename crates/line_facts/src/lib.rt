@@ -1,4 +1,4 @@
-//! What is known of the cells of a picture, and what one line adds to it: facts, the trait of line engines, and forcing.
+//! Facts, which are the candidates of each cell; the trait of line engines; and what one line forces.
 #![tactic(auto)]
 
 mod along;

@@ -15,17 +15,17 @@ pub enum Outcome {
     Dead,
 }
 
-/// Compares lines with their clues.
+/// A line solver: it finds which colours each cell of a line can still have by its clue.
 pub trait LineEngine {
     ghost longest: { Self → ℕ };
 
     ghost calls: { Self → ℕ };
 
-    /// How many cells a line may have.
+    /// The most cells that a line may have.
     fn longest(&self) -> u8
         ensures { result ≡ longest self.now };
 
-    /// How often `narrow` was called. At the largest `u64` it stays.
+    /// How often `narrow` was called. The count stays at the largest `u64` once it is there.
     fn calls(&self) -> u64
         ensures { result ≡ calls self.now };
 

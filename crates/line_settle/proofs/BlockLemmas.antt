@@ -1,4 +1,4 @@
--- Where the blocks of a clue stand in its pattern.
+-- The places of a clue's blocks in its pattern.
 use Rattle.std.proofs.Common.{◌≡◌, ◌≢◌, ℕ, zero, suc, ◌+◌, ◌-◌, ◌<◌, ◌≤◌, Bool, true, false, not, ◌&&◌, ◌||◌, List, [], ◌∷◌, ◌++◌, replicate, ◌==◌, nat_lt, refl, sym, ap, ◌∙◌, arith, eq-eqb, ne_eqb}
 use Rattle.std.proofs.Common.{inl, inr, length, get_or, drop}
 use Rattle.std.proofs.lemmas.Bool.Decides.{nat_tests}
@@ -12,7 +12,7 @@ use Rattle.line_settle.specs.LaidBlocks.{meets, gap_before, state_behind, state_
 use Rattle.line_settle.proofs.PatternLemmas.{first_is, rest_are}
 use Rattle.line_settle.proofs.StateLemmas.{waits_before}
 
--- the colour after which block j stands
+-- the colour before block j
 colour_before : ℕ → List Block → ℕ → ℕ
 colour_before last bs zero = last
 colour_before last [] (suc j) = last
@@ -127,7 +127,7 @@ gap_at pattern q x rest e = record {
   background = sym (get_or-drop q pattern 1 0) ∙ ap (λ xs. get_or xs 1 0) e;
 }
 
--- what stands in the pattern for block j
+-- the part of the pattern that block j adds: its gap, where it has one, and its cells
 pub record PieceAt (pattern : List ℕ) (q : ℕ) (m : Bool) (len colour : ℕ) : Type 0 where
   pub block_is : BlockAt pattern (q + gap_before m) len colour
   pub gap_is : m ≡ true → GapAt pattern q

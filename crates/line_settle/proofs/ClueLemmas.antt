@@ -93,7 +93,7 @@ apart_from_clue c (x ∷ f) h n = λ e.
     let i : first_colour (clue_of (c ∷ f)) ≡ c = ap first_colour b.is in
     n (ap (λ y. first_colour (clue_of (y ∷ f))) (sym e) ∙ i)
 
--- one equal cell in front changes two equal clues alike
+-- one equal cell before two lists with equal clues changes the clues alike
 pub clue_behind : (c x : ℕ) (f e : List ℕ) → clue_of (x ∷ f) ≡ clue_of (x ∷ e) → clue_of (c ∷ x ∷ f) ≡ clue_of (c ∷ x ∷ e)
 clue_behind zero x f e h = h
 clue_behind (suc c) x f e h = ap (λ bs. cond (suc c == x) (longer bs) (block 1 (suc c) ∷ bs)) h

@@ -1,4 +1,4 @@
--- Fitting a line, told by the tables over the pattern of its clue.
+-- Fitting a line, by the tables over the pattern of its clue.
 use Rattle.std.proofs.Common.{◌≡◌, ℕ, zero, suc, ◌+◌, ◌<◌, true, List, [], ◌∷◌, refl, subst, arith, length, get_or, eq-eqb}
 use Rattle.std.specs.Prelude.{IsBitSet}
 use Rattle.std.proofs.lemmas.Bool.{eqb-true}

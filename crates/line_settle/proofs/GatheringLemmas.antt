@@ -18,7 +18,7 @@ use Rattle.line_facts.proofs.BitSetLaws.{has_above, has_or, has_none}
 use Rattle.line_settle.proofs.PositionLemmas.{has_one}
 use Rattle.line_facts.proofs.BitSetLaws.{below_shifted, shifted, gathered_more, has_mask}
 
--- ---- s cells more in front of those that are gathered already
+-- ---- s more cells before those that are gathered already
 
 -- one cell more
 pub gathered_one : (w : ℕ) (left : List ℕ) (cells low colour here next : ℕ) (b : Bool) → next ≡ here + 1 → low ≡ bool_byte b → b ≡ allows (get_or left here 0) colour

@@ -1,4 +1,4 @@
--- Lists that have a drawn colour somewhere, told by the states that they go through.
+-- Lists that have a drawn colour somewhere, by the states that they go through.
 use Rattle.std.proofs.Common.{◌≡◌, ℕ, zero, suc, ◌<◌, ◌≤◌, ◌⊎◌, Bool, true, ◌||◌, List, [], ◌∷◌, bit_and, refl, sym, ap, subst, ◌∙◌, arith, inl, inr, length, get_or, drop, drop-cons}
 use Rattle.std.proofs.lemmas.Bool.{or_cases, or_left, or_right, false≢true, eqb-true}
 use Rattle.clues.specs.declared.block.Block.{Block}
@@ -196,7 +196,7 @@ joins_back pattern mask colours all marked later later_marked j = elim j [
   | inr m ↦ inr (later_left pattern all (finish_step pattern mask later_marked) (finish_step pattern colours later) (meets_back pattern mask all later_marked m))
 ]
 
--- the same in front of cell i of a line
+-- the same before cell i of a line
 abbrev pub JoinsAt : List ℕ → List ℕ → List ℕ → ℕ → Type 0
 JoinsAt pattern masks drawn i = Joins pattern (reaches pattern masks i) (reaches_marked pattern masks drawn i) (finishes pattern (drop i masks)) (finishes_marked pattern (drop i masks) (drop i drawn))
 

@@ -17,21 +17,21 @@ use Rattle.line_settle.proofs.NarrowLemmas.{zeros}
 use Rattle.line_settle.proofs.BlockLemmas.{BlockAt, GapAt, PieceAt, block_at, piece_of, state_next, state_at_end, gap_waits_not, inside_waits_not, waits_for_block}
 use Rattle.line_settle.proofs.MarkLemmas.{finish_on, none_left, step_back}
 
--- ---- coming to a state
+-- ---- entering a state
 
--- the first i cells come to state q by their last cell, or q is the first state and there is no cell
+-- the first i cells enter state q by their last cell, or q is the first state and there is no cell
 abbrev pub enters : List ℕ → List ℕ → ℕ → ℕ → Bool
 enters pattern masks zero q = q == 0
 enters pattern masks (suc i) q = nat_lt 0 q && (allows (get_or masks i 0) (get_or pattern q 0) && reaches pattern masks i (q - 1))
 
--- a set has the positions at which a line comes to state q and from which it can go to its end
+-- a set has the positions at which a line enters state q and from which it can go to its end
 abbrev pub IsEntry : List ℕ → List ℕ → ℕ → ℕ → Type 0
 IsEntry pattern left q from = (i : ℕ) → i ≤ length left → has from i ≡ (enters pattern left i q && finishes pattern (drop i left) q)
 
 alone : (x w r : Bool) → w ≡ false → (x || (w && r)) ≡ x
 alone x w r h = grind (arith, nat_tests)
 
--- a state that doesn't wait is only come to
+-- a state that doesn't wait is reached only by entering it
 reaches_enters : (pattern left : List ℕ) (i q : ℕ) → waits pattern q ≡ false → reaches pattern left i q ≡ enters pattern left i q
 reaches_enters pattern left zero q h = refl
 reaches_enters pattern left (suc i) q h = alone (enters pattern left (suc i) q) (waits pattern q) (allows (get_or left i 0) 0 && reaches pattern left i q) h
@@ -39,7 +39,7 @@ reaches_enters pattern left (suc i) q h = alone (enters pattern left (suc i) q) 
 one_less : (q n : ℕ) → q ≡ n + 1 → q - 1 ≡ n
 one_less q n e = omega arith
 
--- coming to a state by a cell
+-- entering a state by a cell
 enters_next : (pattern left : List ℕ) (i q n k : ℕ) → q ≡ n + 1 → get_or pattern q 0 ≡ k → enters pattern left (suc i) q ≡ (allows (get_or left i 0) k && reaches pattern left i n)
 enters_next pattern left i q n k e c =
     ap (λ t. t && (allows (get_or left i 0) (get_or pattern q 0) && reaches pattern left i (q - 1))) (lt-ltb 0 q (omega arith))
@@ -138,7 +138,7 @@ laid_at pattern left s here starts laid reached begins is i h =
 moved_one : (r l a f : Bool) → l ≡ true → (r && (l && (a && f))) ≡ ((a && r) && f)
 moved_one r l a f h = grind (arith, nat_tests)
 
--- after each cell of the block the line comes to the state after that cell
+-- after each cell of the block the line enters the state after that cell
 block_entries : (pattern left : List ℕ) (s len c laid : ℕ) → BlockAt pattern s len c → IsLaid pattern left s laid → (t : ℕ) → t < len → (i : ℕ) → i ≤ length left
     → moved laid (suc t) i ≡ (enters pattern left i (s + suc t) && finishes pattern (drop i left) (s + suc t))
 block_entries pattern left s len c laid b is t l zero h = sym (enters_not pattern left (s + suc t) (finishes pattern left (s + suc t)) (omega arith))

@@ -1,4 +1,4 @@
--- A row of truths that is stepped in place, from one end to the other.
+-- A row of truth values that is stepped in place, from one end to the other.
 use Rattle.std.proofs.Common.{◌≡◌, ◌≢◌, ℕ, ◌+◌, ◌-◌, ◌<◌, ◌≤◌, Bool, false, List, refl, sym, subst, ◌∙◌, arith, inl, inr, length, get_or-set_other, get_or-set_same}
 use Rattle.std.proofs.Math.ListN.{set}
 use Rattle.std.proofs.lemmas.Bool.{cases_eq}

@@ -166,7 +166,7 @@ back_states w pattern mask behind moves later by is = record {
 
 -- ---- the moves of a mask
 
--- of the colours of a mask those that are left have not been taken yet
+-- `advancing` has the states that the colours of a mask follow, except for the colours of `rest`
 pub record Taken (next : List ℕ) (colours rest advancing : ℕ) : Type 0 where
   pub from : (q : ℕ) → has advancing q ≡ true → (k : ℕ) × (allows colours k ≡ true) × (has (get_or next k 0) q ≡ true)
   pub all : (k q : ℕ) → allows colours k ≡ true → has (get_or next k 0) q ≡ true → (has advancing q ≡ true) ⊎ (allows rest k ≡ true)

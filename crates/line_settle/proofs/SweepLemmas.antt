@@ -118,7 +118,7 @@ either_shares a b c d = (
   ]),
 )
 
--- the same as they are put together
+-- the same for both pairs together, as the code tests it
 pub meets_is : (a b c d x y z : ℕ) (none : Bool) → x ≡ bit_and a b → y ≡ bit_and c d → z ≡ bit_or x y → none ≡ (z == 0) → (not none ≡ true) ↔ (Shares a b ⊎ Shares c d)
 meets_is a b c d x y z none e f g h =
     let P : ℕ → Type 0 = λ n. (n ≢ 0) ↔ (Shares a b ⊎ Shares c d) in
@@ -554,7 +554,7 @@ last_out w sets drawn plain marked old left from on i l e none t ons none_shared
       (λ m. none_shared ((test_last w sets pattern old left drawn plain marked i on are (omega arith) l e (drop_more left old i n s.behind) none (tables i (omega arith)) (ons pattern are)).1 m));
 }
 
--- whether two sets share a state, as it is told
+-- whether two sets share a state, as the code tests it
 pub share_test : (a b both : ℕ) (none : Bool) → both ≡ bit_and a b → none ≡ (both == 0) → (none ≡ false → Shares a b) × (none ≡ true → Shares a b → ⊥)
 share_test a b both none e f = (
   (λ no. some_shared a b (let n = eqb-false both 0 (sym f ∙ no) in λ z. n (e ∙ z))),
@@ -574,7 +574,6 @@ leaves_out clue drawn old new b f swept =
       needed = λ i l n. marked_misses clue (set new i 65535) drawn b (s.needed i l n);
     }
 
--- a line without room for the blocks forces everything
 -- where all sixteen colours are left everywhere, nothing can be left out
 pub leaves_open : (clue : List Block) (drawn left : List ℕ) → ForcesAll clue left drawn → All (λ (mask : ℕ). mask ≡ all_sixteen) left → LeavesOut clue drawn left left
 leaves_open clue drawn left forced full = record {
@@ -584,6 +583,7 @@ leaves_open clue drawn left forced full = record {
   needed = λ i l n. absurd (n (All-get_or (λ (mask : ℕ). mask ≡ all_sixteen) left i 0 l full));
 }
 
+-- a line without room for the blocks forces everything, so all is left out
 pub leaves_all : (clue : List Block) (drawn old new : List ℕ) → IsClue clue → new ≡ replicate (length old) 65535 → length old + 1 < length (pattern_of clue) → LeavesOut clue drawn old new
 leaves_all clue drawn old new b e l =
     let n : length new ≡ length old = ap length e ∙ length-replicate (length old) 65535 in

@@ -132,7 +132,7 @@ rest_of_masks masks j h = drop-cons masks j 0 h
 inside_rest : {pattern : List ℕ} {start : ℕ → Bool} (masks : List ℕ) (j i : ℕ) {k : ℕ} → Through pattern start (drop j masks) i k → j + i < length masks
 inside_rest masks j i t = let w = t.inside in omega (arith, length-drop j masks)
 
--- the states reached after j cells say all that the line before says of the cells to come
+-- of the cells before, only the states that they reach matter for the cells to come
 to_cell : (pattern masks : List ℕ) (i j n k : ℕ) → j + i ≡ n → Through pattern (reaches pattern masks j) (drop j masks) i k → Through pattern (reaches pattern masks n) (drop n masks) 0 k
 to_cell pattern masks zero j n k e t =
     let P : ℕ → Type 0 = λ m. Through pattern (reaches pattern masks m) (drop m masks) 0 k in

@@ -7,7 +7,7 @@ use Rattle.line_settle.specs.Patterns.{pattern_of, finishes, advances, reaches, 
 use Rattle.line_facts.specs.BitSets.{has}
 use Rattle.line_settle.specs.Positions.{IsCellsWith}
 
--- from position i on, n cells of a set lead to a position of another set
+-- the n cells from position i on are in `cells`, and the position after them is in `ends`
 abbrev pub lays : ℕ → ℕ → ℕ → ℕ → Bool
 lays cells ends zero i = has ends i
 lays cells ends (suc n) i = has cells i && lays cells ends n (i + 1)
@@ -23,7 +23,7 @@ abbrev pub covers : ℕ → ℕ → ℕ → Bool
 covers starts zero i = false
 covers starts (suc n) i = covers starts n i || moved starts n i
 
--- block j has the colour of the block before it; `last` stands before the first
+-- block j has the colour of the block before it; `last` is the colour before the first
 abbrev pub meets : ℕ → List Block → ℕ → Bool
 meets last [] j = false
 meets last (b ∷ bs) zero = b.colour == last
@@ -43,29 +43,29 @@ state_behind last (b ∷ bs) (suc j) = gap_before (b.colour == last) + b.len + s
 abbrev pub state_before : List Block → ℕ → ℕ
 state_before blocks j = state_behind 0 blocks j + gap_before (meets 0 blocks j)
 
--- such sets as `IsCellsWith` for the background and the colour of each block, by colour
+-- `allowed` has, by colour, the cells in which the background is left, and those in which each block's colour is left
 pub record IsAllowed (blocks : List Block) (left allowed : List ℕ) : Type 0 where
   pub background : IsCellsWith left 0 (slice_index allowed 0)
   pub each : All (λ b. IsCellsWith left b.colour (slice_index allowed b.colour)) blocks
 
--- a set has the positions from which a line can go from state q to its end
+-- a set has exactly the positions from which a line that is in state q can go to its end
 abbrev pub IsBack : List ℕ → List ℕ → ℕ → ℕ → Type 0
 IsBack pattern left q places = (i : ℕ) → i ≤ length left → has places i ≡ finishes pattern (drop i left) q
 
--- a set has those from which it can go to its end by taking the pattern's next cell at once
+-- a set has exactly those from which it can do so by reading the pattern's next cell at once
 abbrev pub IsStart : List ℕ → List ℕ → ℕ → ℕ → Type 0
 IsStart pattern left q places = (i : ℕ) → i ≤ length left
     → has places i ≡ advances pattern (slice_index left i) (finishes pattern (drop (i + 1) left)) q
 
--- for each block the sets of positions from which the line can go on by laying it, and by waiting for it or laying it;
--- after the last block the set of those from which it can only wait
+-- for each block the positions from which a line can go to its end by laying the block there, and those from which it
+-- can by laying it there or later; after the last block, those from which background can fill the line to its end
 pub record AreMarked (blocks : List Block) (left starting waiting : List ℕ) : Type 0 where
   pub starts : (j : ℕ) → j < length blocks
       → IsStart (pattern_of blocks) left (state_before blocks j) (slice_index starting j)
   pub waits : (j : ℕ) → j ≤ length blocks
       → IsBack (pattern_of blocks) left (state_before blocks j) (slice_index waiting j)
 
--- what a line can have in the cell after position i, by colour
+-- `seen` has, by colour, the positions before the cells in which a line can have that colour
 abbrev pub AreSeen : List Block → List ℕ → List ℕ → Type 0
 AreSeen blocks left seen = (i k : ℕ) → i < length left → has (slice_index seen k) i
     ≡ passes_below (pattern_of blocks) (slice_index left i) (reaches (pattern_of blocks) left i)

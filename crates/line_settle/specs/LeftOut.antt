@@ -4,7 +4,7 @@ use Rattle.clues.specs.declared.block.Block.{Block}
 use Rattle.line_facts.specs.Fits.{CanHave, Forces}
 use Rattle.line_facts.specs.Masks.{all_sixteen}
 
--- the line forces each exclusion that is drawn: of a drawn colour in its cell
+-- the line forces each exclusion that is drawn: in each cell, each colour of its mask in `drawn`
 abbrev pub ForcesAll : List Block → List ℕ → List ℕ → Type 0
 ForcesAll clue left drawn = (i k : ℕ) → IsBitSet (slice_index drawn i) k → Forces clue left i k
 
@@ -15,8 +15,8 @@ pub record Misses (clue : List Block) (left drawn : List ℕ) : Type 0 where
   pub is_drawn : IsBitSet (slice_index drawn place) colour
   pub has : CanHave clue left place colour
 
--- Each cell has its old mask or all sixteen colours, the line still forces all that is drawn, and no further cell can
--- get all sixteen: with the ones that are left as they were, something drawn is missed.
+-- Each cell has its old mask or all sixteen colours, and the line still forces all that is drawn. No further cell can
+-- get all sixteen: the line would then not force something that is drawn.
 pub record LeavesOut (clue : List Block) (drawn old new : List ℕ) : Type 0 where
   pub same_length : length new ≡ length old
   pub each : (i : ℕ) → i < length old → (slice_index new i ≡ slice_index old i) ⊎ (slice_index new i ≡ all_sixteen)

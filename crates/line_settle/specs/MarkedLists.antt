@@ -1,4 +1,4 @@
--- Lists that have a drawn colour somewhere, told by the states that they go through: they are marked.
+-- Marked lists, which have a drawn colour somewhere, by the states of a pattern that they go through.
 use Rattle.std.specs.Prelude.{◌≡◌, ℕ, zero, suc, ◌<◌, ◌⊎◌, List, [], ◌∷◌, Bool, true, false, ◌||◌, length, slice_index}
 use Rattle.std.specs.Prelude.{slice_set, drop, bit_and}
 use Rattle.line_settle.specs.Patterns.{finish_step, finishes, reach_step, reaches}
@@ -6,8 +6,8 @@ use Rattle.line_settle.specs.StateSets.{AreStates}
 use Rattle.line_facts.specs.Masks.{all_sixteen}
 use Rattle.line_settle.specs.declared.sweep.Reached.{Reached}
 
--- A line can go on from state q by a cell with one of the mask's colours, and has a drawn colour after it, or one of
--- the mask's drawn colours there.
+-- A line can go on from state q by a cell with one of the mask's colours and have a drawn colour in a later cell, or by
+-- a cell with one of `colours`, the mask's drawn colours.
 abbrev pub finish_marked : List ℕ → ℕ → ℕ → (ℕ → Bool) → (ℕ → Bool) → ℕ → Bool
 finish_marked pattern mask colours all marked q = finish_step pattern mask marked q || finish_step pattern colours all q
 
@@ -18,18 +18,18 @@ finishes_marked pattern (mask ∷ masks) [] q = false
 finishes_marked pattern (mask ∷ masks) (d ∷ drawn) q =
     finish_marked pattern mask (bit_and mask d) (finishes pattern masks) (finishes_marked pattern masks drawn) q
 
--- a line can come to state q after a cell, with a drawn colour there or before it
+-- a line can reach state q by a cell, with a drawn colour there or before it
 abbrev pub reach_marked : List ℕ → ℕ → ℕ → (ℕ → Bool) → (ℕ → Bool) → ℕ → Bool
 reach_marked pattern mask colours all marked q = reach_step pattern mask marked q || reach_step pattern colours all q
 
--- the first i cells of a line with these masks can come to state q, with a drawn colour on the way
+-- the first i cells of a line with these masks can reach state q, with a drawn colour on the way
 abbrev pub reaches_marked : List ℕ → List ℕ → List ℕ → ℕ → ℕ → Bool
 reaches_marked pattern masks drawn zero q = false
 reaches_marked pattern masks drawn (suc i) q =
     reach_marked pattern (slice_index masks i) (bit_and (slice_index masks i) (slice_index drawn i))
     (reaches pattern masks i) (reaches_marked pattern masks drawn i) q
 
--- states that are reached as numbers, by the numbers that words are
+-- the sets of states of a `Reached` as numbers; `bits` gives the number of a word
 pub record ReachedSets : Type 0 where
   pub all : ℕ
   pub marked : ℕ
@@ -37,23 +37,23 @@ pub record ReachedSets : Type 0 where
 abbrev pub reached_of : {W : Type 0} → (W → ℕ) → Reached W → ReachedSets
 reached_of bits from = record { all = bits from.all; marked = bits from.marked }
 
--- states that lines come to, none of them marked
+-- states that lines reach, but no marked line
 abbrev pub unmarked : ℕ → ReachedSets
 unmarked all = record { all = all; marked = 0 }
 
--- the states that lines come to, and those that marked lines come to
+-- `from.all` has the states for which `all` holds, and `from.marked` those for which `marked` holds
 pub record AreReached (pattern : List ℕ) (all marked : ℕ → Bool) (from : ReachedSets) : Type 0 where
   pub all_are : AreStates pattern all from.all
   pub marked_are : AreStates pattern marked from.marked
 
--- after each cell the states from which lines can go to the end, and those from which marked lines can
+-- after cell i the states from which lines can go to the end, and those from which marked lines can
 pub record AreBehind (pattern left drawn plain marked : List ℕ) (i : ℕ) : Type 0 where
   pub all_are : AreStates pattern (finishes pattern (drop (suc i) left)) (slice_index plain i)
   pub marked_are :
       AreStates pattern (finishes_marked pattern (drop (suc i) left) (drop (suc i) drawn)) (slice_index marked i)
 
 -- Each of the first n cells has its old mask or all sixteen colours, the other cells are as they
--- were, no line is marked, and with all sixteen in a further one of the first n cells some line is.
+-- were, no line is marked, and with all sixteen in a further one of the first n cells some line would be.
 pub record SweepsOut (pattern drawn old new : List ℕ) (n : ℕ) : Type 0 where
   pub same_length : length new ≡ length old
   pub each : (i : ℕ) → i < n → (slice_index new i ≡ slice_index old i) ⊎ (slice_index new i ≡ all_sixteen)

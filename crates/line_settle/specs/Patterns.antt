@@ -26,8 +26,8 @@ abbrev pub waits : List ℕ → ℕ → Bool
 waits pattern q = nat_le (length pattern) (q + 1)
     || (not (slice_index pattern (q + 1) == 0) && not (slice_index pattern (q + 1) == slice_index pattern q))
 
--- A cell with one of the mask's colours leads from state q to the next state, or leaves it in state q, and from there
--- `later` holds.
+-- A cell with one of the mask's colours leads a line from state q to the next state, or leaves it in state q, and
+-- `later` holds for the state after the cell.
 abbrev pub advances : List ℕ → ℕ → (ℕ → Bool) → ℕ → Bool
 advances pattern mask later q =
     nat_lt (q + 1) (length pattern) && (allows mask (slice_index pattern (q + 1)) && later (q + 1))
@@ -35,7 +35,7 @@ advances pattern mask later q =
 abbrev pub rests : List ℕ → ℕ → (ℕ → Bool) → ℕ → Bool
 rests pattern mask later q = waits pattern q && (allows mask 0 && later q)
 
--- a line can go from state q to the end, where `later` says it of the cells after its first
+-- a line can go from state q to the end, where `later` says from which states the cells after its first one can
 abbrev pub finish_step : List ℕ → ℕ → (ℕ → Bool) → ℕ → Bool
 finish_step pattern mask later q = advances pattern mask later q || rests pattern mask later q
 
@@ -44,12 +44,12 @@ abbrev pub finishes : List ℕ → List ℕ → ℕ → Bool
 finishes pattern [] q = q + 1 == length pattern
 finishes pattern (mask ∷ masks) q = finish_step pattern mask (finishes pattern masks) q
 
--- a line can come to state q by a cell with one of the mask's colours, where `before` says it of the cells before
+-- a cell with one of the mask's colours can lead to state q, where `before` says which states are reached before it
 abbrev pub reach_step : List ℕ → ℕ → (ℕ → Bool) → ℕ → Bool
 reach_step pattern mask before q =
     (nat_lt 0 q && (allows mask (slice_index pattern q) && before (q - 1))) || rests pattern mask before q
 
--- the first i cells of a line with these masks can come to state q
+-- the first i cells of a line with these masks can reach state q
 abbrev pub reaches : List ℕ → List ℕ → ℕ → ℕ → Bool
 reaches pattern masks zero q = q == 0
 reaches pattern masks (suc i) q = reach_step pattern (slice_index masks i) (reaches pattern masks i) q
@@ -60,13 +60,13 @@ passes pattern mask before later q k =
     before q && ((advances pattern mask later q && slice_index pattern (q + 1) == k)
     || (rests pattern mask later q && 0 == k))
 
--- some state below n lets a line pass so
+-- the same from some state below n
 abbrev pub passes_below : List ℕ → ℕ → (ℕ → Bool) → (ℕ → Bool) → ℕ → ℕ → Bool
 passes_below pattern mask before later zero k = false
 passes_below pattern mask before later (suc n) k =
     passes_below pattern mask before later n k || passes pattern mask before later n k
 
--- a row of truths, and row i of a table of such rows
+-- the value at place q of a row of truth values, and of row i of a table of such rows; false beyond the end
 abbrev pub truth_at : List Bool → ℕ → Bool
 truth_at row q = slice_index_or row q false
 

@@ -1,19 +1,19 @@
--- Sets of positions of a line, counted before and after each cell: position i is bit i of a number.
+-- Sets of positions of a line: position i, which is bit i of a number, is before cell i, and the last is at the end.
 use Rattle.std.specs.Prelude.{◌≡◌, ℕ, zero, suc, ◌+◌, ◌^◌, ◌<◌, ◌≤◌, List, Bool, true, ◌==◌, ◌&&◌, ◌||◌, length}
 use Rattle.std.specs.Prelude.{slice_index}
 use Rattle.line_settle.specs.Patterns.{allows}
 use Rattle.line_facts.specs.BitSets.{has}
 
--- a set has the positions before the cells in which colour k is left, and not the one after them
+-- a set has the positions before the cells in which colour k is left, and not the position after the last cell
 abbrev pub IsCellsWith : List ℕ → ℕ → ℕ → Type 0
 IsCellsWith left k set = (i : ℕ) → i ≤ length left → has set i ≡ allows (slice_index left i) k
 
--- such sets for the colours of a mask, by colour
+-- `allowed` has such a set for each colour of the mask `made`
 abbrev pub HasMade : List ℕ → ℕ → List ℕ → Type 0
 HasMade left made allowed = (k : ℕ) → allows made k ≡ true → IsCellsWith left k (slice_index allowed k)
 
--- The cells from `first` up to `end` have got a colour after the positions of a set that is counted from `first`, with
--- those that they had, where these are kept; and the other cells are as they were.
+-- The cells from `first` to before `end` have `colour` left after the positions of a set, which is counted from
+-- `first`, and their old colours if `keep` is true, and no others. The other cells are as they were.
 pub record IsColoured (set colour : ℕ) (keep : Bool) (first end : ℕ) (old new : List ℕ) : Type 0 where
   pub inside : (i j k : ℕ) → i ≡ first + j → i < end
       → allows (slice_index new i) k ≡ ((keep && allows (slice_index old i) k) || (has set j && colour == k))

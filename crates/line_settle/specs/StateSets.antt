@@ -13,7 +13,7 @@ pub record AreStates (pattern : List ℕ) (test : ℕ → Bool) (set : ℕ) : Ty
 abbrev pub Shares : ℕ → ℕ → Type 0
 Shares a b = (q : ℕ) × (has a q ≡ true) × (has b q ≡ true)
 
--- a cell's moves as numbers, by the numbers that words are
+-- the sets of `Moves` as numbers; `bits` gives the number of a word
 pub record MoveSets : Type 0 where
   pub advancing : ℕ
   pub resting : ℕ
@@ -21,8 +21,8 @@ pub record MoveSets : Type 0 where
 abbrev pub moves_of : {W : Type 0} → (W → ℕ) → Moves W → MoveSets
 moves_of bits moves = record { advancing = bits moves.advancing; resting = bits moves.resting }
 
--- Which states a cell with one of the mask's colours leads on to the next one, and which it can leave as they are. All
--- states are below the width.
+-- From which states a cell with one of the mask's colours can lead a line to the next state, and in which it can keep
+-- the line. All states are below the width.
 pub record MovesBy (width : ℕ) (pattern : List ℕ) (mask : ℕ) (moves : MoveSets) : Type 0 where
   pub short : length pattern ≤ width
   pub advancing : (q : ℕ)
@@ -47,7 +47,7 @@ pub record HasColours (pattern : List ℕ) (n colours : ℕ) : Type 0 where
 abbrev pub IsForeign : ℕ → ℕ → Type 0
 IsForeign colours mask = (k : ℕ) → allows mask k ≡ true → allows colours k ≡ true → ⊥
 
--- the sets of a pattern's states as numbers, by the numbers that words are
+-- the sets of `PatternSets` as numbers; `bits` gives the number of a word
 pub record StateSets : Type 0 where
   pub next : List ℕ
   pub waiting : ℕ
@@ -64,7 +64,7 @@ sets_of bits sets = record {
   last = bits sets.last;
 }
 
--- the sets that tell how a pattern's states move, all of them below the width
+-- the sets say what can be read in each state of the pattern; all states are below the width
 pub record ArePatternSets (width : ℕ) (pattern : List ℕ) (sets : StateSets) : Type 0 where
   pub end : ℕ
   pub is_end : end + 1 ≡ length pattern
@@ -75,7 +75,7 @@ pub record ArePatternSets (width : ℕ) (pattern : List ℕ) (sets : StateSets) 
   pub inner : (q : ℕ) → (has sets.inner q ≡ true) ↔ (q < end)
   pub last : sets.last ≡ 2 ^ end
 
--- how a cell of a mask moves a line along each pattern with these sets
+-- how a cell with one of the mask's colours moves a line along each pattern with these sets
 abbrev pub AreMovesOf : ℕ → StateSets → ℕ → MoveSets → Type 0
 AreMovesOf width sets mask moves = (pattern : List ℕ) → ArePatternSets width pattern sets
     → MovesBy width pattern mask moves

@@ -9,13 +9,13 @@ use Rattle.line_settle.specs.StateSets.{AreStates, IsForeign, StateSets, ArePatt
 abbrev pub IsUndrawn : ℕ → List ℕ → ℕ → Type 0
 IsUndrawn colours drawn place = (i : ℕ) → place ≤ i → IsForeign colours (slice_index drawn i)
 
--- the first i cells are swept, where the tables tell of the old masks, by which no line is marked
+-- the first i cells are swept, if the tables are those of the old masks and these leave no line marked
 abbrev pub SweptAll : ℕ → StateSets → List ℕ → List ℕ → List ℕ → List ℕ → List ℕ → ℕ → Type 0
 SweptAll w sets drawn plain marked old left i = (pattern : List ℕ) → ArePatternSets w pattern sets
     → ((j : ℕ) → j < length old → AreBehind pattern old drawn plain marked j)
     → (finishes_marked pattern old drawn 0 ≡ true → ⊥) → SweepsOut pattern drawn old left i
 
--- the first i cells are swept, and these states are those that lines, and marked lines, come to before cell i
+-- the first i cells are swept, and these states are those that lines, and marked lines, reach before cell i
 pub record SweptTo (w : ℕ) (sets : StateSets) (drawn plain marked old left : List ℕ) (from : ReachedSets)
     (i : ℕ) : Type 0 where
   pub small : (t : ℕ) → slice_index left t < 2 ^ 16
@@ -23,7 +23,7 @@ pub record SweptTo (w : ℕ) (sets : StateSets) (drawn plain marked old left : L
       → AreReached pattern (reaches pattern left i) (reaches_marked pattern left drawn i) from
   pub so_far : SweptAll w sets drawn plain marked old left i
 
--- the first i cells are swept, and these states are those that marked lines come to before cell i
+-- the first i cells are swept, and these states are those that marked lines reach before cell i
 pub record SweptMarked (w : ℕ) (sets : StateSets) (drawn plain marked old left : List ℕ) (from i : ℕ) : Type 0 where
   pub small : (t : ℕ) → slice_index left t < 2 ^ 16
   pub from_is : (pattern : List ℕ) → ArePatternSets w pattern sets

@@ -8,7 +8,7 @@ ghost use Rattle.line_settle.specs.LaidBlocks.{lays, moved, covers, meets};
 use crate::word::Word;
 use clues::Block;
 
-/// The positions from which `len` cells of a set lead to a position of `ends`.
+/// The positions from which `len` cells, all of them in `cells`, lead to a position of `ends`.
 #[inline]
 pub fn starts_before<W: Word>(ends: W, cells: W, len: u8) -> W
     ensures { (i : ℕ) → has (W.bits result) i ≡ lays (W.bits cells) (W.bits ends) len i }
@@ -20,12 +20,12 @@ pub fn starts_before<W: Word>(ends: W, cells: W, len: u8) -> W
     starts
 }
 
-/// Blocks laid on a line.
+/// A block laid on a line from each position of a set.
 #[derive(Clone, Copy)]
 pub struct Laid<W> {
-    /// The positions before the cells that they take.
+    /// The positions before the cells that the blocks take.
     pub cells: W,
-    /// The positions after them.
+    /// The positions after the blocks.
     pub ends: W,
 }
 
@@ -55,7 +55,7 @@ pub fn meets(blocks: &[Block], j: usize) -> bool
     j > 0 && blocks[j - 1].colour == blocks[j].colour
 }
 
-/// The positions before the gap before a block from which the line can go on, `later` being those after the gap.
+/// The positions before a block's gap from which the line can go on, where `later` are those after the gap.
 #[inline]
 pub fn before_gap<W: Word>(later: W, background: W, is_gap: bool) -> W
     ensures none { is_gap ≡ false → result ≡ later }
@@ -70,7 +70,7 @@ pub fn before_gap<W: Word>(later: W, background: W, is_gap: bool) -> W
     }
 }
 
-/// The positions after the gap before a block, `from` being those before the gap.
+/// The positions after a block's gap, where `from` are those before it. Without a gap they are the same.
 #[inline]
 pub fn behind_gap<W: Word>(from: W, background: W, is_gap: bool) -> W
     ensures none { is_gap ≡ false → result ≡ from }

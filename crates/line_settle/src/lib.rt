@@ -1,4 +1,4 @@
-//! One line compared with its clue: which colours each of its cells can still have.
+//! Line solving: which colours each cell of a line can still have, by its clue.
 #![tactic(auto)]
 
 mod block_steps;

@@ -1,4 +1,4 @@
-//! One line compared with its clue by tables of truths, for the plain engine.
+//! Line solving with tables of truth values, for the plain engine.
 
 ghost use Rattle.std.specs.Prelude.{◌≡◌, ◌+◌, ◌*◌, ◌<◌, ◌≤◌, length};
 ghost use Rattle.clues.specs.Clue.{IsClue};
@@ -9,7 +9,7 @@ use crate::tables::{collect, mark_finishing};
 use clues::Block;
 use line_facts::Outcome;
 
-/// Compares a line with its clue by tables over the clue's pattern, in the buffers that are lent.
+/// Narrows a line by its clue, with tables over the clue's pattern. The last three are buffers.
 pub fn narrow_line(
     blocks: &[Block],
     left: &[u16],

@@ -11,8 +11,8 @@ use std::alloc::{AllocError, Global};
 use std::marker::Model;
 
 /// A line engine that keeps, for each block of the clue, the sets of positions from which the line can go to its end, by
-/// laying the block and by waiting for it, as the bits of numbers. A position is counted before and after each cell, so
-/// a line of at most 63 cells has its sets in 64 bits, and a longer one, of at most 120 cells, in 128.
+/// laying the block and by waiting for it, as the bits of numbers. There is a position before each cell and one after
+/// the last, so a line of at most 63 cells has its sets in 64 bits, and a longer one, of at most 120 cells, in 128.
 #[derive(Drop)]
 pub struct MaskEngine {
     longest: u8,

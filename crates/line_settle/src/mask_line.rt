@@ -1,4 +1,4 @@
-//! One line compared with its clue by sets of positions, for the mask engine.
+//! Line solving with sets of positions, for the mask engine.
 
 ghost use Rattle.std.specs.Prelude.{◌≡◌, ◌+◌, ◌<◌, ◌≤◌, ◌↔◌, IsTrue, length};
 ghost use Rattle.std.specs.Mem.{type_size};
@@ -13,7 +13,7 @@ use clues::Block;
 use line_facts::Outcome;
 use picture::MAX_SIDE;
 
-/// Whether a line of so many cells has room for a clue's blocks and for background between blocks of one colour.
+/// Whether a line of `cells` cells has room for a clue's blocks and for background between blocks of one colour.
 pub fn has_room(blocks: &[Block], cells: usize) -> bool
     requires short { cells ≤ MAX_SIDE }
     ensures { IsTrue result ↔ length (pattern_of blocks.now) ≤ cells + 1 }
@@ -30,7 +30,7 @@ pub fn has_room(blocks: &[Block], cells: usize) -> bool
     true
 }
 
-// Narrows a line by the sets of positions for each block. It is kept out of the caller's body, where it is slower.
+// Narrows a line by the sets of positions for each block. It is not inlined, since inlining makes it slower.
 #[inline(never)]
 fn narrow_sets<W: Word>(
     blocks: &[Block],
@@ -60,8 +60,8 @@ fn narrow_sets<W: Word>(
     Outcome::Narrowed
 }
 
-/// Compares a line with its clue by sets of positions for each block, in the buffers that are lent. A line without
-/// blocks or open cells needs only a pass over its cells. A clue of more blocks than the line has cells is not laid.
+/// Narrows a line by its clue, with sets of positions for each block. `starting` and `waiting` are buffers. Where there
+/// are no blocks, or all cells show a colour, one pass over the cells is enough. More blocks than cells never fit.
 pub fn narrow_by_sets<W: Word>(
     blocks: &[Block],
     left: &[u16],

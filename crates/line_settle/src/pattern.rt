@@ -1,4 +1,4 @@
-//! The pattern of a clue: its blocks spelled cell by cell, the states of line solving.
+//! The pattern of a clue: its blocks spelled cell by cell. Its cells are the states of line solving.
 
 ghost use Rattle.std.specs.Prelude.{◌≡◌, ℕ, ◌+◌, ◌<◌, ◌≤◌, ◌++◌, ◌==◌, length, take, replicate, MatchOption};
 ghost use Rattle.clues.specs.Clue.{IsClue};

@@ -1,4 +1,4 @@
-//! The plain engine: line solving on tables of truths, to compare the mask engine with.
+//! The plain engine: line solving with tables of truth values, to compare the mask engine with.
 
 ghost use Rattle.std.specs.Prelude.{◌≡◌, ◌+◌, ◌*◌, IfOk, vec_len};
 ghost use Rattle.line_settle.specs.Engine.{Engine, EngineRoom, engine};
@@ -9,8 +9,8 @@ use line_facts::{LineEngine, Outcome};
 use std::alloc::{AllocError, Global};
 use std::marker::Model;
 
-/// A line engine that keeps tables of truths: which states of the clue's pattern the cells before can come to, and from
-/// which ones the cells after can go to the end.
+/// A line engine that uses tables of truth values: which states of the clue's pattern the cells before a place can
+/// reach, and from which states the cells after it can go to the end.
 #[derive(Drop)]
 pub struct PlainEngine {
     longest: u8,

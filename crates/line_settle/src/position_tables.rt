@@ -16,7 +16,7 @@ use crate::word::Word;
 use clues::Block;
 
 #[tactic(auto, using(crate::proofs::SetStepLemmas::making))]
-// Makes the set of cells in which a colour is left, unless it is one of the colours that are `made`.
+// Makes the set of cells in which a colour is left, unless `made` has the colour, and answers `made` with the colour.
 fn mark_colour<W: Word>(colour: u8, left: &[u16], made: u16, allowed: &mut [W]) -> u16
     requires colour { colour < 16 }
     requires short { length left.now < W.width }
@@ -50,8 +50,8 @@ pub fn mark_allowed<W: Word>(blocks: &[Block], left: &[u16], allowed: &mut [W]) 
     made
 }
 
-/// Marks for each block the positions from which the line can go to its end by laying it, and those from which it can
-/// by waiting for it first, and says whether some line can from its first position.
+/// Marks for each block the positions from which the line can go to its end by laying the block there (`starting`), or
+/// there or later (`waiting`), and answers whether it can go to its end from its first position.
 pub fn mark_back<W: Word>(
     blocks: &[Block],
     left: &[u16],
@@ -101,7 +101,7 @@ pub fn see_colour<W: Word>(set: W, colour: u8, seen: &mut [W])
     seen[at] = seen[at].or(set);
 }
 
-/// Sees the cells with which a line goes on from its first position to its end, by what is marked for each block.
+/// Collects, by colour, the cells in which a line that fits can have it, from what `mark_back` marked for each block.
 pub fn see_blocks<W: Word>(
     blocks: &[Block],
     left: &[u16],
@@ -130,8 +130,8 @@ pub fn see_blocks<W: Word>(
     for j in 0..blocks.len() {
         let block = blocks[j];
         let here = fill_up(behind_gap(from, background, meets(blocks, j)), background);
-        // A line reads background in the gap, which begins at `from`, and while it waits, which it does within `here`.
-        // Of these cells it goes on after those that end, one position on, where it can still wait for the block.
+        // A line has background in the gap, which begins at `from`, and while it waits, at the positions of `here`. It
+        // can go on after such a cell if it can wait for the block, or lay it, at the position after the cell.
         let stays = background.and(waiting[j].down(1));
         see_colour(from.or(here).and(stays), 0, seen);
         let laid = lay(here.and(starting[j]), block.len);

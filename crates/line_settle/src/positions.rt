@@ -17,7 +17,7 @@ pub fn fill_up<W: Word>(set: W, run: W) -> W
         → has (W.bits result) (i + 1)
         ≡ (has (W.bits set) (i + 1) || (has (W.bits run) i && has (W.bits result) i)) }
 {
-    // Each cell of `run` hands a carry on, and takes a new one up where the set begins.
+    // In this sum each cell of `run` passes a carry on, and starts one if it is in the set. The `xor`s leave the carries.
     let begun = set.and(run);
     let carried = begun.plus(run);
     set.or(carried.xor(begun).xor(run))
@@ -26,7 +26,7 @@ pub fn fill_up<W: Word>(set: W, run: W) -> W
 // The place of the span over sixteen cells.
 const SHORT: usize = 4;
 
-/// Makes the spans of a set of cells: for each power of two below the width, from 1 on, the positions from which so many
+/// Makes the spans of a set of cells: for each power of two below the width, from 1 on, the positions from which that many
 /// cells in a row are in the set.
 #[inline]
 #[tactic(auto, using(crate::proofs::SpanLemmas::stepping))]
@@ -45,7 +45,7 @@ pub fn write_spans<W: Word>(cells: W, spans: &mut [W])
 }
 
 /// The positions from which a set can be reached, cell by cell upwards, over cells with these spans: after a round those
-/// that reach it over fewer than `step` cells. Most lines have no sixteen cells in a row, and then four rounds are enough.
+/// that reach it over fewer than `step` cells. Mostly no sixteen such cells are in a row, and then four rounds are enough.
 #[inline]
 #[tactic(auto, using(crate::proofs::SpanLemmas::stepping))]
 pub fn fill_down<W: Word>(set: W, spans: &[W]) -> W
@@ -159,7 +159,7 @@ pub fn cells_with<W: Word>(left: &[u16], colour: u8) -> W
 }
 
 #[tactic(auto, using(crate::proofs::ColouringLemmas::colouring))]
-/// The mask of a cell with one colour more, or not, and with the colours that it had, where `keep` says so.
+/// The colours of a mask if `keep` is true, and `colour` if `more` is true.
 pub fn with_colour(mask: u16, keep: bool, more: bool, colour: u8) -> u16
     requires colour { colour < 16 }
     ensures { (k : ℕ) → allows result k ≡ ((keep && allows mask k) || (more && colour == k)) }
@@ -170,8 +170,8 @@ pub fn with_colour(mask: u16, keep: bool, more: bool, colour: u8) -> u16
 
 #[inline]
 #[tactic(auto, using(crate::proofs::ColouringLemmas::colouring))]
-// Leaves a colour in so many cells from `first` on, after the positions of a set that is counted from there. The set is
-// as wide as a cell, so that where the count is known both are lanes of one vector.
+// Leaves a colour in those of the `count` cells from `first` on that follow a position of a set, which is counted from
+// `first`. The set is as wide as a mask, so that with a constant count the cells can be lanes of one vector.
 fn colour_cells(set: u16, colour: u8, keep: bool, first: usize, count: usize, out: &mut [u16])
     requires colour { colour < 16 }
     requires few { count ≤ 8 }

@@ -1,5 +1,5 @@
-//! The lines that need no tables: those whose cells all show a colour, and those without blocks. What narrows them is kept
-//! out of the caller's body, which is slower on open lines with it.
+//! The lines that need no tables: those whose cells all show a colour, and those without blocks. The functions that narrow
+//! them are not inlined, since inlining makes the caller slower on open lines.
 
 ghost use Rattle.std.specs.Prelude.{◌≡◌, ◌↔◌, ◌≤◌, length, [], IsTrue};
 ghost use Rattle.std.specs.List.{All};
@@ -28,7 +28,7 @@ pub fn narrow_without_blocks(left: &[u16], out: &mut [u16]) -> Outcome
     }
 }
 
-// Whether background is left in each cell. All cells are looked at, so that some can be together.
+// Whether background is left in each cell. The loop has no early exit, so that several cells can be taken at once.
 fn allow_background(left: &[u16]) -> bool
     ensures { IsTrue result ↔ All (λ mask. IsTrue (allows mask 0)) left.now }
 {
@@ -53,7 +53,7 @@ fn has_one_colour(mask: u16) -> bool
     only_colour(mask).is_some()
 }
 
-/// Narrows a line of cells that show a colour: it stays as it is where the clue is that of its colours.
+/// Narrows a line of cells that show a colour: it stays as it is if its colours have the clue, and is dead otherwise.
 #[inline(never)]
 pub fn narrow_shown(blocks: &[Block], left: &[u16], out: &mut [u16]) -> Outcome
     requires shown { AreShown left.now }

@@ -13,14 +13,14 @@ use crate::position_tables::see_colour;
 use crate::word::Word;
 use clues::Block;
 
-/// How a cell with one of a mask's colours moves a line along a pattern: the states from which it can lead on to the next
-/// one, and those that it can leave as they are.
+/// How a cell with one of a mask's colours moves a line along a pattern: the states from which it can lead to the next
+/// state, and those in which it can keep the line.
 #[derive(Clone, Copy)]
 pub struct Moves<W> {
     pub mask: u16,
-    /// The states whose next one the cell can spell.
+    /// The states from which the cell can lead to the next state.
     pub advancing: W,
-    /// The states in which the cell can be background.
+    /// The states in which the cell, as background, can keep the line.
     pub resting: W,
 }
 
@@ -51,7 +51,7 @@ impl<W: Word> Moves<W> {
     }
 }
 
-/// The states of a clue's pattern, by what each of them can read.
+/// Sets of the states of a clue's pattern, by what can be read in them.
 #[derive(Clone, Copy)]
 pub struct PatternSets<'a, W> {
     /// For each colour the states after which the pattern goes on with it.
@@ -66,7 +66,7 @@ pub struct PatternSets<'a, W> {
     pub last: W,
 }
 
-// The states from one on up to another.
+// The states from `start` to before `end`.
 fn states_between<W: Word>(start: usize, end: usize) -> W
     requires in_order { start ≤ end }
     requires few { end < W.width }
@@ -75,7 +75,7 @@ fn states_between<W: Word>(start: usize, end: usize) -> W
     W::place(end).minus(W::place(start))
 }
 
-// Adds the states that a run of one colour follows.
+// Adds the states from `start` to before `end`, after each of which the pattern goes on with a colour.
 fn see_run<W: Word>(start: usize, end: usize, colour: u8, next: &mut [W])
     requires in_order { start ≤ end }
     requires few { end < W.width }
@@ -98,7 +98,7 @@ fn start_behind(state: usize, is_gap: bool) -> usize
 }
 
 impl<'a, W: Word> PatternSets<'a, W> {
-    /// The sets of a clue's pattern, block by block. Those by colour are made in `next`, which is empty before.
+    /// The sets of a clue's pattern. Those by colour are made in `next`, which must hold 16 empty sets.
     #[inline(always)]
     pub fn of(blocks: &[Block], next: &'a mut [W]) -> PatternSets<'a, W>
         requires blocks_of_clue { IsClue blocks.now }
@@ -130,7 +130,7 @@ impl<'a, W: Word> PatternSets<'a, W> {
         }
     }
 
-    // The states that a cell with one of the colours leads on to the next one.
+    // The states from which a cell with one of the colours leads to the next state.
     fn advancing_by(&self, colours: u16) -> W
         requires { length self.now.next.now ≡ 16 }
         ensures { (q : ℕ) → (has (W.bits result) q ≡ true)
@@ -149,7 +149,7 @@ impl<'a, W: Word> PatternSets<'a, W> {
         advancing
     }
 
-    // The states that a cell with one of the colours can leave as they are.
+    // The states in which a cell with one of the colours can keep a line.
     fn resting_by(&self, colours: u16) -> W
         ensures { (q : ℕ) → (has (W.bits result) q ≡ true)
             ↔ ((has (W.bits self.now.waiting) q ≡ true) × (allows colours 0 ≡ true)) }
@@ -182,7 +182,7 @@ impl<'a, W: Word> PatternSets<'a, W> {
         }
     }
 
-    /// The same. Where it is the mask of the cell before, nothing is looked up.
+    /// The same as `moves_by`. If `before` are the moves of the same mask, nothing is looked up.
     #[inline]
     pub fn moves_after(&self, mask: u16, before: Moves<W>) -> Moves<W>
         requires sixteen { length self.now.next.now ≡ 16 }

@@ -18,13 +18,13 @@ use crate::word::Word;
 use clues::{Block, Clue};
 use picture::MAX_SIDE;
 
-// How many cells a line has at the most.
+// The most cells that a line has.
 const MOST: usize = MAX_SIDE as usize;
 
 // The longest of the short lines.
 const FEW: usize = 16;
 
-// A clue that needs at most so many cells has its states in 64 bits.
+// A clue that needs at most this many cells has its states in 64 bits.
 const NEAR: usize = 63;
 
 /// The states that lines can be in: any lines, and the marked ones, which have a drawn colour somewhere.
@@ -45,16 +45,16 @@ pub struct Behind<'a, W> {
     pub end: usize,
 }
 
-/// An edge of the drawn cells, which are those where some of the pattern's colours are drawn: the place on one side of which
-/// there is none, and the states there of the lines on that side.
+/// An end of the range of drawn cells, which are those where some of the pattern's colours are drawn: a place with none of
+/// them on one side, and the states at that place of the lines on that side.
 #[derive(Clone, Copy)]
 pub struct Edge<W> {
     pub at: usize,
     pub states: W,
 }
 
-// Whether a marked line comes to a state from which a line goes to the end, or a line to one from which a marked one
-// does.
+// Whether a marked line reaches a state from which a line can go to the end, or a line reaches one from which a marked
+// line can.
 fn meets_marked<W: Word>(on: Reached<W>, plain: W, marked: W) -> bool
     ensures { IsTrue result ↔ (Shares (W.bits on.marked) (W.bits plain)
         ⊎ Shares (W.bits on.all) (W.bits marked)) }
@@ -63,7 +63,7 @@ fn meets_marked<W: Word>(on: Reached<W>, plain: W, marked: W) -> bool
 }
 
 impl<'a, W: Word> PatternSets<'a, W> {
-    // The states after a cell of drawn colours; mostly none of them is the pattern's.
+    // The states after a cell with one of the drawn colours. Mostly the pattern has none of these colours.
     #[inline(always)]
     fn reach_drawn(&self, colours: u16, from: W) -> W
         requires sixteen { length self.now.next.now ≡ 16 }
@@ -100,7 +100,7 @@ impl<'a, W: Word> PatternSets<'a, W> {
         }
     }
 
-    // The states before a cell of drawn colours from which it leads to one of a set; mostly none of them is the pattern's.
+    // The states from which a cell with one of the drawn colours leads to a set; mostly the pattern has none of these colours.
     #[inline(always)]
     fn back_drawn(&self, colours: u16, later: W) -> W
         requires sixteen { length self.now.next.now ≡ 16 }
@@ -214,8 +214,8 @@ impl<'a, W: Word> PatternSets<'a, W> {
         last.at
     }
 
-    // Gives the cells before the first drawn one all sixteen colours where no line is marked then. None is marked before
-    // them.
+    // Gives each cell before the first drawn one all sixteen colours, unless some line would be marked then. No line has
+    // a drawn colour in these cells.
     #[inline(always)]
     fn sweep_first(&self, drawn: &[u16], behind: &Behind<W>, left: &mut [u16]) -> Edge<W>
         requires sixteen { length self.now.next.now ≡ 16 }
@@ -251,7 +251,7 @@ impl<'a, W: Word> PatternSets<'a, W> {
         Edge { at, states }
     }
 
-    // The same for the cells up to the last drawn one, and answers the states after it that marked lines come to.
+    // The same for the cells up to the last drawn one, and answers the states after it that marked lines reach.
     #[inline(always)]
     fn sweep_drawn(&self, drawn: &[u16], behind: &Behind<W>, left: &mut [u16], first: Edge<W>) -> W
         requires sixteen { length self.now.next.now ≡ 16 }
@@ -343,8 +343,8 @@ impl<'a, W: Word> PatternSets<'a, W> {
     }
 }
 
-// Leaves out what a line of at most N cells, with room for its blocks, can do without, by sets of states in words. A
-// function empties its buffers first, so short lines have small ones.
+// Leaves out what a line of at most N cells, with room for its blocks, can do without, by sets of states in words. The
+// buffers have N words, which must be zeroed first, so short lines have small ones.
 #[inline(never)]
 fn leave_out_by<W: Word, const N: usize>(blocks: &[Block], drawn: &[u16], left: &mut [u16])
     requires blocks_of_clue { IsClue blocks.now }
@@ -372,7 +372,7 @@ fn leave_out_by<W: Word, const N: usize>(blocks: &[Block], drawn: &[u16], left: 
     sets.sweep_last(drawn, &behind, left, before);
 }
 
-// The same for a line of any length, by 64 bits where its states have room there.
+// The same for a line of any length, in words of 64 bits if its states fit in them.
 fn leave_out_in_words(blocks: &[Block], drawn: &[u16], left: &mut [u16])
     requires blocks_of_clue { IsClue blocks.now }
     requires has_room { length (pattern_of blocks.now) ≤ length left.old + 1 }
@@ -399,11 +399,11 @@ fn are_open(left: &[u16]) -> bool
     left.iter().all(|mask| *mask == u16::MAX)
 }
 
-/// Leaves out the exclusions of a line that are not needed to force those that are drawn. In `left` and `drawn` bit k of
-/// a cell's mask stands for colour k: what `left` leaves, and what is to be excluded. From the line's first cell on, each
-/// cell gets all sixteen colours back where the line still forces all that is drawn; then none of the cells that keep
-/// their old mask can do without it. The contract names no order; tests see that it is this one. No memory is taken, and no
-/// line is evaluated.
+/// Leaves out the exclusions of a line that it does not need to force those that are drawn. Bit k of a cell's mask is
+/// colour k: `left` has the colours that are left, `drawn` those whose exclusion is drawn. From the first cell on, each
+/// cell gets all sixteen colours back if the line still forces all that is drawn; then no cell that keeps its old mask
+/// can do without it. The contract names no order; tests check that it is this one. No memory is taken, and no line is
+/// evaluated.
 pub fn leave_out(clue: &Clue, drawn: &[u16], left: &mut [u16])
     requires same_length { length drawn.now ≡ length left.old }
     requires short { length left.old ≤ MAX_SIDE }

@@ -30,7 +30,7 @@ fn advances(pattern: &[u8], mask: u16, later: &[bool], q: usize) -> bool
     q + 1 < pattern.len() && allows(mask, pattern[q + 1]) && later[q + 1]
 }
 
-// Whether a cell of background, where the mask has it, leaves state `q` as it is, and `later` holds there.
+// Whether a cell can be background and leave a line in state `q`, where `later` holds.
 fn rests(pattern: &[u8], mask: u16, later: &[bool], q: usize) -> bool
     requires row { length pattern.now ≤ length later.now }
     requires state { q < length pattern.now }
@@ -114,7 +114,7 @@ fn colours_through(pattern: &[u8], mask: u16, before: &[bool], later: &[bool]) -
     seen
 }
 
-// Makes a row of truths hold at one state alone.
+// Makes a row of truth values true at one state alone.
 fn mark_state(row: &mut [bool], state: usize)
     requires { state < length row.old }
     ensures { (q : ℕ) → truth_at row.new q ≡ (q == state) }
@@ -135,8 +135,8 @@ fn store_row(row: &[bool], table: &mut [bool], i: usize)
     table[start..start + row.len()].copy_from_slice(row);
 }
 
-/// Fills row i of a table with the states that finish before cell i, for each cell and for the line's end, and leaves
-/// those before the first cell in `row`.
+/// Fills row i of a table with the states from which the cells from cell i on can go to the end, for each cell and
+/// for the line's end, and leaves those before the first cell in `row`.
 pub fn mark_finishing(pattern: &[u8], left: &[u16], row: &mut [bool], table: &mut [bool])
     requires colours { All (λ colour. colour < 16) pattern.now }
     requires begun { 0 < length pattern.now }

@@ -38,21 +38,21 @@ pub trait Word: Copy + Drop {
     fn xor(self, other: Self) -> Self
         ensures { bits result ≡ bit_xor (bits self) (bits other) };
 
-    /// The sum of the numbers, without a last carry.
+    /// The sum of the numbers, modulo two to the power of the width.
     fn plus(self, other: Self) -> Self
         ensures { bits result ≡ (bits self + bits other) % 2 ^ width };
 
-    /// The number less one that is not greater.
+    /// The difference of the numbers, of which `other` is not the greater one.
     fn minus(self, other: Self) -> Self
         requires { bits other ≤ bits self }
         ensures { bits result ≡ bits self - bits other };
 
-    /// The positions so many steps lower.
+    /// Each position moved down by `steps`. Those below `steps` are dropped.
     fn down(self, steps: usize) -> Self
         requires { steps < width }
         ensures { bits result ≡ bits self / 2 ^ steps };
 
-    /// The positions so many steps higher.
+    /// Each position moved up by `steps`. Those that reach the width are dropped.
     fn up(self, steps: usize) -> Self
         requires { steps < width }
         ensures { bits result ≡ bits self * 2 ^ steps % 2 ^ width };

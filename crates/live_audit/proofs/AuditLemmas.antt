@@ -1,4 +1,4 @@
--- What the clauses of the calls below come to for a bench.
+-- What the clauses of the calls that a bench makes imply for it.
 use Rattle.std.proofs.Common.{◌≡◌, ◌-◌, List, [], ◌∷◌, length, Option, Some, None, IfSome, Result, Ok, Err, IfErr, OnOk, OnErr, inl, inr, refl, sym, ap, subst, ◌∙◌, arith}
 use Rattle.std.specs.Option.{unwrap_or}
 use Rattle.std.specs.List.{slice_get}
@@ -14,7 +14,7 @@ use Rattle.live_audit.specs.Bench.{Seen}
 use Rattle.live_audit.specs.Calls.{Accepts, CarriesOn, IsAsBefore, Refuses}
 use Rattle.live_audit.specs.Stroke.{Stroke, after_stroke, moves_back, moves_forth, stroke_fault, stroke_moves}
 
--- ---- steps back and forth
+-- ---- undo and redo
 
 no_last : (turns : List Turn) → last_item turns ≡ None → turns ≡ []
 no_last [] e = refl

@@ -9,7 +9,7 @@ use Rattle.live_audit.specs.Laws.{ListsStayAudited}
 abbrev machine_of : Seen → Machine
 machine_of s = machine s.history s.allowance
 
--- what is audited stays so where only the allowance and the engine's calls change
+-- what is audited stays so if only the allowance and the engine's calls change
 pub still_audited : (old new : Seen) → IsAudited old → (allowance : Option ℕ) → {calls : ℕ} → new ≡ record old { allowance = allowance; calls = calls } → IsAudited new
 still_audited old new a allowance {calls} e =
     let same : IsAudited (record old { allowance = allowance; calls = calls }) = record { audit = a.audit; answers = a.answers } in

@@ -1,4 +1,4 @@
--- What is carried of the parts from one document to the next.
+-- What is known of the parts, carried from one document to the next.
 use Rattle.std.proofs.Common.{◌≡◌, ℕ, List, Option, refl, sym, ap, subst, ◌∙◌}
 use Rattle.line_facts.specs.Masks.{Masks}
 use Rattle.picture.specs.Rows.{Rows}
@@ -20,14 +20,14 @@ use Rattle.live_audit.specs.Bench.{AreAnswersOf, AreGivenCells, Seen, nothing_do
 use Rattle.live_audit.specs.Calls.{CarriesOn}
 use Rattle.live_audit.proofs.VerdictLemmas.{answers_of}
 
--- answers for a scene that is a document's
+-- the answers for a document's scene are those of the document
 pub answers_there : SameCellsAreEqual → (d : Document) (clues sc : Clues) (facts sf : Masks) (sg : List ℕ) (sp : Rows) (kept : List KeptPart)
     → sc ≡ clues → sf ≡ facts → sg ≡ d.givens → sp ≡ d.picture → AreGivenCells (design_of d) d.givens → AreParts sf (parts_of kept) → AreTrue sc sg sp kept
     → AreAnswersOf (design_of d) clues facts kept
 answers_there same d clues sc facts sf sg sp kept ec ef eg ep g parts t =
     answers_of same (design_of d) clues facts d.givens kept g (rw ef at parts) (rw (ec, eg, ep) at t)
 
--- the document that a history goes on to is the one that was prepared
+-- an advanced history has the document that was prepared
 pub goes_to : (d : Document) (p : Design) (advance : Advance) (h now after : History) → design_of d ≡ p → p ≡ (advanced now advance).document → h ≡ now → after ≡ advanced h advance
     → design_of d ≡ after.document
 goes_to d p advance h now after e gives was made =

@@ -1,4 +1,4 @@
--- What a certificate that was made is for a document.
+-- What a certificate that was made proves of a document.
 use Rattle.std.proofs.Common.{◌≡◌, ℕ, ◌↔◌, List, Option, None, Some, Result, Ok, Err, IfOk, ap, subst}
 use Rattle.picture.specs.Rows.{Rows}
 use Rattle.picture.specs.declared.document.Document.{Document}
@@ -48,6 +48,6 @@ certified {X = X} marks d o result inside e m =
     of (Ok (Some cert)) h = made_for (ordered (design_of d)) d.givens (Some cert) (marks d.picture d.givens inside) h
     of (Err e) h = tt
 
--- and one of the present document of a bench
+-- the same for the present document of a bench
 pub certified_now : {X : Type 0} (result : Result (Option Certificate) X) (d now : Design) → d ≡ now → IfOk result (Certifies d) → IfOk result (Certifies now)
 certified_now result d now e c = subst (λ (x : Design). IfOk result (Certifies x)) e c

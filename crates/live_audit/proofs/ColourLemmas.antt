@@ -50,7 +50,7 @@ cells_are P z (suc x ∷ y ∷ cells) h = joined_was P (suc x) y cells (clue_of 
 
 -- ---- the clue of a line whose colours are renumbered
 
--- a colour comes back
+-- a colour is got back
 abbrev pub ComesBack : (ℕ → ℕ) → (ℕ → ℕ) → ℕ → Type 0
 ComesBack there back x = back (there x) ≡ x
 

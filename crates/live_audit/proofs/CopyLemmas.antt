@@ -1,4 +1,4 @@
--- What is carried of the parts to the same scene is what was known.
+-- What is known of the parts, carried to the same scene, stays the same.
 use Rattle.std.proofs.Common.{◌≡◌, ℕ, ◌<◌, List, [], length, Result, Ok, Err, IfOk, refl, sym, ap, subst, ◌∙◌, arith}
 use Rattle.std.proofs.lemmas.List.{ext_get_or, length-map}
 use Rattle.line_facts.specs.Masks.{Masks}
@@ -83,7 +83,7 @@ copied clues givens facts picture old new scene parts again none carries =
     let e = same_list clues givens facts picture old new c in
     ext_get_or (record { cells = []; answer = Unknown }) new old (same_length old new e) (λ i l. same_part old new i (same_cells old new e i) (same_answer clues givens facts picture old new c e i l))
 
--- the same of what a call answers
+-- the same for what a call answers
 pub copied_by : {X : Type 0} (clues : Clues) (givens : List ℕ) (facts : Masks) (picture : Rows) (seen : List (List ℕ)) (old : List KeptPart) (r : Result (List KeptPart) X) → seen ≡ facts
     → IsScene clues givens seen picture → AreParts facts (parts_of old) → HasNoFilling old (length old)
     → IfOk r (λ new. AreParts seen (parts_of new)) → IfOk r (Carries (board clues seen picture) (board clues seen picture) old) → IfOk r (λ new. new ≡ old)

@@ -1,4 +1,4 @@
--- What is known of the parts, and what need not be searched then.
+-- What is known of the parts, so that they need not be searched.
 use Rattle.std.proofs.Common.{◌≡◌, ◌<◌, ℕ, zero, suc, List, Option, None, length, ap, subst, ◌∙◌, inl, inr, arith}
 use Rattle.std.specs.Prelude.{◌⊎◌}
 use Rattle.line_facts.specs.Masks.{Masks}
@@ -29,7 +29,7 @@ use Rattle.live_audit.proofs.VerdictLemmas.{keeps_so}
 AreKnown : List KeptPart → Type 0
 AreKnown kept = ((i : ℕ) → i < length kept → answer_at kept i ≡ Nothing) ⊎ ((i : ℕ) × HasFilling kept i)
 
--- so it is once a verdict without an allowance has searched
+-- this is so once a verdict without an allowance has searched
 are_known : AllowancesBreakOff → (clues : Clues) (facts : Masks) (picture : Rows) (old new : List KeptPart) (j : Judgement) (m n : ℕ)
     → Judges (board clues facts picture) None old new j m n → AreKnown new
 unfolding AreKnown
@@ -40,7 +40,7 @@ are_known law clues facts picture old new judgement.Undecided m n h =
     let e = broken.1 in
     absurd cc
 
--- a part without another filling is passed over
+-- a part that is known to have no other filling is skipped
 passed_over : (clues : Clues) (facts : Masks) (picture : Rows) (allowance : Option ℕ) (kept : List KeptPart) (i : ℕ) (found : Ending) (m n : ℕ) → answer_at kept i ≡ Nothing
     → EndsPart (board clues facts picture) allowance (kept_at kept i) found m n → (found ≡ ending.Nothing) × ((m ≡ 0) × (n ≡ 0))
 passed_over clues facts picture allowance kept i found m n e h =

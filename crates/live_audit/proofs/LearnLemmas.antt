@@ -1,4 +1,4 @@
--- A certificate's call: what is found beside the bench, and what is kept of it then.
+-- A certificate's call: what is found without a change of the bench, and what is kept of it then.
 use Rattle.std.proofs.Common.{◌≡◌, ℕ, List, length, Option, Some, None, MatchOption, Result, Ok, Err, OnOk, refl, sym, ap, subst, ◌∙◌, inl}
 use Rattle.std.specs.Borrow.{Bor}
 use Rattle.line_facts.specs.Masks.{Masks}

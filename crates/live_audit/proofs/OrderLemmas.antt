@@ -1,4 +1,4 @@
--- The colours of a document numbered as they appear: each comes back.
+-- The colours of a document numbered by first appearance: each number can be got back.
 use Rattle.std.proofs.Common.{◌≡◌, ℕ, zero, suc, ◌<◌, ◌==◌, ◌⊎◌, Bool, true, false, List, [], ◌∷◌, ◌++◌, length, map, get_or, slice_index, slice_index_or, Option, Some, unwrap_or, refl, sym, ap}
 use Rattle.std.proofs.Common.{subst, ◌∙◌, arith, inl, inr, eqb-true, eq-eqb, ne_eqb}
 use Rattle.std.specs.List.{list_any, AllByRecursion, IsDistinct}
@@ -34,7 +34,7 @@ place_back d (x ∷ triples) (suc k) l distinct =
     let later = place_back d triples k (omega (arith, l)) (IsDistinct-tail rgb_eq x triples distinct) in
     rw (other, later) (ap Some (omega arith))
 
--- a number of a palette comes back from its colour
+-- a number of a palette is got back from its colour
 pub number_back : (triples : List Rgb) (k : ℕ) → k < length triples → IsDistinct rgb_eq triples → number_among triples (triple_at triples k) ≡ k
 number_back triples k l distinct = ap (λ (place : Option ℕ). unwrap_or place 0) (place_back (first_of triples) triples k l distinct)
 
@@ -113,7 +113,7 @@ cell_or_none (row ∷ rows) (suc i) j = elim (cell_or_none rows i j) [ inl h ↦
 abbrev pub there_of : List Rgb → List Rgb → ℕ → ℕ
 there_of among triples k = number_among among (triple_at triples k)
 
--- each cell's number comes back from the one that it has among other colours, where it shows the same
+-- each cell's number is got back from the one that its colour has among other colours, if it shows the same colour
 pub cells_back : (among triples : List Rgb) (rows : Rows) → there_of among triples 0 ≡ 0 → there_of triples among 0 ≡ 0 → IsDistinct rgb_eq triples → ((i j : ℕ) → cell_at rows i j < length triples)
     → rows_shown among (renumbered_rows among triples rows) ≡ rows_shown triples rows → (i j : ℕ) → there_of triples among (there_of among triples (cell_at rows i j)) ≡ cell_at rows i j
 cells_back among triples rows t b distinct coloured shown i j = elim (cell_or_none rows i j) [

@@ -1,4 +1,4 @@
--- What a judgement by parts comes to for a document.
+-- What a judgement by parts says of a document.
 use Rattle.std.proofs.Common.{◌≡◌, ℕ, ◌<◌, ◌≤◌, Bool, List, [], length, Option, Some, None, unwrap_or, Result, Ok, MatchResult, refl, sym, ap, subst, ◌∙◌, true≢false, inl, inr, arith}
 use Rattle.std.proofs.lemmas.Bool.{cases_lt}
 use Rattle.line_facts.specs.Masks.{Masks}
@@ -54,7 +54,7 @@ scene_is marks sound d clues book inside is a =
       sound = sound.settled clues d.givens d.picture book.base book.facts a.map (sound.base clues d.givens d.picture book.base is base);
     }
 
--- ---- the givens are one set
+-- ---- there is one set of the givens
 
 same_givens : SameCellsAreEqual → (d : Design) (one other : List ℕ) → AreGivenCells d one → AreGivenCells d other → one ≡ other
 same_givens same d one other a b =
@@ -79,7 +79,7 @@ pub other_was : (d : Design) (clues : Clues) (givens : List ℕ) (other : Rows) 
 other_was d clues givens other g e o =
     subst (λ (c : Clues). IsOther c (HasCell givens) d.rows other) (sym e) (other_fewer (clues_of d.rows) (IsGiven d) (HasCell givens) d.rows other (λ row col h. (g.are row col).0 h) o)
 
--- ---- what tells a judgement
+-- ---- what determines a judgement
 
 -- where no other filling was kept and none was found, none is kept
 none_then : (old new : List KeptPart) (end : ℕ) → HasNoFilling old (length old) → Changes old new end → HasNoFilling new (length new)
@@ -113,7 +113,7 @@ shows_others d clues givens kept g e t other f =
     let there : IsTrueOf clues givens d.rows (cells_at kept f.at) (Filling other) = subst (IsTrueOf clues givens d.rows (cells_at kept f.at)) f.is (t f.at f.place) in
     other_for d clues givens other g e there.is_other
 
--- what tells the judgement that an answer stands for
+-- what is kept determines the judgement of an answer
 tells : AllowancesBreakOff
     → (d : Design) (clues : Clues) (facts : Masks) (givens : List ℕ) (allowance : Option ℕ) (old new : List KeptPart) (searched splits : ℕ) (answer : Judged) (j : Judgement) (is_decided : Bool)
     → AreGivenCells d givens → clues ≡ clues_of d.rows → IsAnswer clues givens d.rows answer → judging.AnswersAs new answer j → Judges (board clues facts d.rows) allowance old new j searched splits
@@ -156,7 +156,7 @@ record Heard (clues : Clues) (facts : Masks) (givens : List ℕ) (picture : Rows
   done : Done sb sa pb pa mb ma cb ca (Judges (board clues facts picture) allowance old new j)
   told : IsAnswer clues givens picture answer
 
--- what comes of it for the document
+-- what follows for the document
 pub record Comes (d : Design) (clues : Clues) (facts : Masks) (allowance : Option ℕ) (old new : List KeptPart) (is_decided : Bool) (sb sa pb pa : ℕ) (mb ma : Meter) (cb ca : ℕ) : Type 0 where
   pub answers : AreAnswersOf d clues facts new
   pub judges : (j : Judgement) × (IsToldBy d allowance new is_decided j × Done sb sa pb pa mb ma cb ca (Judges (board clues facts d.rows) allowance old new j))
@@ -185,9 +185,9 @@ heard {X = X} same law d clues sc facts sf sg sp allowance old new result answer
     let here : Heard clues facts d.givens d.picture allowance old new answer sb sa pb pa mb ma cb ca = rw (ec, ef, eg, ep) at there in
     come same law (design_of d) clues facts d.givens allowance old new answer is_decided sb sa pb pa mb ma cb ca g e by here
 
--- ---- the same of a bench
+-- ---- the same for a bench
 
--- what is done is counted alike in the meter and in the engine's calls, and each search evaluates
+-- the meter and the engine's calls count the same, and each search evaluates a line
 each_called : (parts splits : ℕ) (search : Meter) (before after : ℕ) (Is : ℕ → ℕ → Type 0) → Done 0 parts 0 splits nothing_done search before after Is → after ≡ counted before search.evaluations
 each_called parts splits search before after Is d =
     omega arith
@@ -205,7 +205,7 @@ few_counted (Some most) facts parts evaluations before after meter end e c few =
     let all = c.evaluations in
     omega arith
 
--- what was judged of the present document is decided of the bench
+-- a judgement of the present document decides the verdict of the bench
 pub decided : (d : Document) (h : History) (clues : Clues) (book : Account) (kept next : List KeptPart) (allowance : Option ℕ) (work : Work) (search : Meter) (parts splits before after : ℕ)
     (old : Seen) (j : Judgement)
     → design_of d ≡ h.document → seen h clues book kept allowance work before ≡ old
@@ -219,7 +219,7 @@ decided d h clues book kept next allowance work search parts splits before after
     record { same = refl; work = subst P e done; calls = each_called parts splits search before after _ done; evaluated = each_evaluated parts splits search before after _ done; few = few } in
     subst (λ (s : Seen). Decides s new j) was here
 
--- the bench stays audited where only what is kept of the parts changes
+-- the bench stays audited if only what is kept of the parts changes
 pub audited_so : (d : Document) (h : History) (clues : Clues) (book : Account) (kept next : List KeptPart) (allowance : Option ℕ) (work more : Work) (before after : ℕ)
     → design_of d ≡ h.document → IsAudited (seen h clues book kept allowance work before) → AreAnswersOf (design_of d) clues book.facts next → IsAudited (seen h clues book next allowance more after)
 audited_so d h clues book kept next allowance work more before after e a n =

@@ -17,8 +17,8 @@ use Rattle.edits.specs.History.{History, history}
 use Rattle.live_audit.specs.declared.work.Work.{Work}
 
 -- The state of a bench: its history, clues and book, what is known of the parts of the map, the allowance, and the
--- counts of work and of the engine's calls. The settled map is the facts of the book, and the allowance says how many
--- splits the search of a part may make.
+-- counts of work and of the engine's calls. The map is the facts of the book, and the allowance is how many splits
+-- the search of a part may make.
 pub record Seen : Type 0 where
   pub history : History
   pub clues : Clues
@@ -48,12 +48,12 @@ board_seen s = board s.clues s.book.facts s.history.document.rows
 abbrev pub IsGiven : Design → ℕ → ℕ → Type 0
 IsGiven d row col = cell_at d.marks row col ≡ 1
 
--- a set of cells that are the givens of a document
+-- a set of exactly the cells that are givens of a document
 pub record AreGivenCells (d : Design) (givens : List ℕ) : Type 0 where
   pub set : IsCellSet givens
   pub are : (row col : ℕ) → HasCell givens row col ↔ IsGiven d row col
 
--- The parts kept are those of the map, and what is known of the other fillings of each is true of the document.
+-- The parts kept are those of the map, and what is known about other fillings of each is true of the document.
 pub record AreAnswersOf (d : Design) (clues : Clues) (facts : Masks) (kept : List KeptPart) : Type 0 where
   pub parts : AreParts facts (parts_of kept)
   pub true_answers : (givens : List ℕ) → AreGivenCells d givens → AreTrue clues givens d.rows kept
@@ -63,21 +63,21 @@ pub record IsAudited (s : Seen) : Type 0 where
   pub audit : IsAuditOf s.history.document s.clues s.book
   pub answers : AreAnswersOf s.history.document s.clues s.book.facts s.kept
 
--- A history is 1 to 1,000 edits deep, and has no more of them than that before and after the
--- present document. So there is room for an edit that is made, and it can be taken back.
+-- The depth of a history is 1 to 1,000, and there are at most that many edits to undo and redo together. So there is
+-- room for a new edit, which can then be undone.
 pub record FitsDepth (h : History) : Type 0 where
   pub some : 0 < h.depth
   pub most : h.depth ≤ MAX_DEPTH
   pub few : length h.past + length h.future ≤ h.depth
 
--- what a bench keeps: all of that, a history that fits its depth, and an engine for each line that a picture can have
+-- what a bench keeps: it is audited, its history fits its depth, and its engine takes each line of a picture
 pub record IsBench (longest : ℕ) (s : Seen) : Type 0 where
   pub audited : IsAudited s
   pub history : FitsDepth s.history
   pub long : MAX_SIDE ≤ longest
 
--- A bench that begins with a document, by an engine that was called so often: no history, a book made
--- anew in which all lines waited, nothing known of the parts, no allowance, and nothing searched.
+-- A bench that begins with a document, after `calls` calls of its engine: no history, a book made from nothing, for
+-- which all lines waited, nothing known of the parts, no allowance, and nothing searched.
 pub record Begins (d : Design) (depth calls : ℕ) (s : Seen) : Type 0 where
   pub history : s.history ≡ history d [] [] depth
   pub book : IsAnew s.book.base s.book nothing_done s.work.edit calls s.calls

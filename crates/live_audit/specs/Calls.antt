@@ -1,4 +1,4 @@
--- What a stroke comes to on a bench, and lists of strokes.
+-- What calls do to a bench, and lists of calls.
 use Rattle.std.specs.Prelude.{◌≡◌, ◌≤◌, ℕ, List, [], ◌∷◌, Option, Some, None, unwrap_or}
 use Rattle.cert_text.specs.Cert.{Certificate}
 use Rattle.clues.specs.Change.{Moves}
@@ -17,16 +17,16 @@ use Rattle.live_audit.specs.Certify.{Certifies}
 use Rattle.live_audit.specs.Stroke.{Stroke, after_stroke, stroke_fault, stroke_moves}
 use Rattle.live_audit.specs.Verdict.{IsVerdictOn, Tells}
 
--- The book goes on from the one before, where lines were moved so: it begins with the steps that stand, and
--- closing it took the work that is counted. A part keeps what was known of it where each line through it is the
--- same, and of the others nothing is known. The allowance stays, and what was searched before stays counted.
+-- The book goes on from the one before, by these moves of lines: it begins with the steps that are still valid, and
+-- closing it took the work that is counted. A part keeps what was known of it if each line through it is the same; of
+-- all others nothing is known. The allowance stays, and what was searched before stays counted.
 pub record CarriesOn (moves : Moves) (old new : Seen) : Type 0 where
   pub book : GoesOn moves old.clues new.clues old.book new.book nothing_done new.work.edit old.calls new.calls
   pub kept : Carries (board_seen old) (board_seen new) old.kept new.kept
   pub allowance : new.allowance ≡ old.allowance
   pub search : new.work ≡ record old.work { edit = new.work.edit }
 
--- all is as before, but that the engine may have been called
+-- all is as before, except that the engine may have been called
 abbrev pub IsAsBefore : Seen → Seen → Type 0
 IsAsBefore old new = new ≡ record old { calls = new.calls }
 
@@ -38,14 +38,14 @@ IsSearchedTo old kept = (j : Judgement) × ((searched : ℕ)
 abbrev pub IsSearched : Seen → Seen → Type 0
 IsSearched old new = IsSearchedTo old new.kept
 
--- All is as before, but that the engine may have been called, and that what
--- is known of the parts is what a verdict without an allowance keeps of them.
+-- All is as before, except that the engine may have been called, and that what is known of the parts is what a verdict
+-- without an allowance keeps of them.
 pub record Learns (old new : Seen) : Type 0 where
   pub same : new ≡ record old { kept = new.kept; calls = new.calls }
   pub kept : IsSearched old new
 
--- What was found for a bench keeps of the parts either nothing new, where another
--- filling is kept, or what a verdict without an allowance keeps of them, which is true.
+-- What is known of the parts once a finding is kept: what was known, if it has nothing new. It is true, and is what a
+-- verdict without an allowance keeps; where another filling was kept before, the finding has nothing new.
 abbrev pub kept_then : List KeptPart → Option (List KeptPart) → List KeptPart
 kept_then kept None = kept
 kept_then kept (Some next) = next
@@ -55,7 +55,7 @@ pub record IsFoundOn (s : Seen) (found : Finding) : Type 0 where
   pub answers : AreAnswersOf s.history.document s.clues s.book.facts (kept_then s.kept found.keeper)
   pub at_once : (i : ℕ) → HasFilling s.kept i → found.keeper ≡ None
 
--- Where another filling of a part is kept, nothing changes, the engine's calls neither.
+-- Where another filling of a part is kept, nothing changes, not even the engine's calls.
 abbrev pub IsAtOnce : Seen → Seen → Type 0
 IsAtOnce old new = (i : ℕ) → HasFilling old.kept i → new ≡ old
 
@@ -65,8 +65,8 @@ pub record Accepts (stroke : Stroke) (old new : Seen) : Type 0 where
   pub history : new.history ≡ after_stroke old.history stroke
   pub book : CarriesOn (stroke_moves old.history stroke) old new
 
--- A stroke is refused by the first error that holds, or since memory ran out where none does. Nothing changes. Where an
--- error holds the engine was not called either.
+-- A stroke is refused by the first error that holds, or by Memory if none does. Nothing changes, except that the engine
+-- may have been called; where an error holds, it was not.
 pub record Refuses (stroke : Stroke) (fault : EditFault) (old new : Seen) : Type 0 where
   pub first : fault ≡ unwrap_or (stroke_fault old.history stroke) Memory
   pub as_before : IsAsBefore old new
@@ -82,7 +82,7 @@ pub data Call : Type 0 where
   Allows : Option ℕ → Call
   Proves : Option (Option Certificate) → Call
 
--- what a call comes to
+-- what a call with its answer does
 abbrev pub Answers : Call → Seen → Seen → Type 0
 Answers (Strokes stroke None) old new = Accepts stroke old new × IsAudited new
 Answers (Strokes stroke (Some fault)) old new = Refuses stroke fault old new
@@ -120,9 +120,9 @@ abbrev pub after_calls : Machine → List Call → Machine
 after_calls m [] = m
 after_calls m (call ∷ calls) = after_calls (after_call m call) calls
 
--- The answer is right. A stroke is accepted only where no error holds, and refused by the first that does, or since
--- memory ran out. A verdict is true of the machine's document, and Undecided names the machine's allowance. A
--- certificate fits that document.
+-- The answer is right. A stroke is accepted only where no error holds, and refused by the first that does, or by Memory
+-- if none does. A verdict is true of the machine's document, and Undecided names the machine's allowance. A certificate
+-- fits that document.
 abbrev pub IsRight : Machine → Call → Type 0
 IsRight m (Strokes stroke None) = stroke_fault m.history stroke ≡ None
 IsRight m (Strokes stroke (Some fault)) = fault ≡ unwrap_or (stroke_fault m.history stroke) Memory

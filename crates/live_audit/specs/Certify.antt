@@ -13,7 +13,7 @@ use Rattle.edits.specs.Design.{Design}
 use Rattle.live_audit.specs.Bench.{IsGiven}
 use Rattle.live_audit.specs.Verdict.{IsOtherFor}
 
--- the document with its colours numbered as they appear
+-- the ordered form of a document
 abbrev pub ordered : Design → Design
 ordered d =
     let order = ordered_triples d.colours.triples d.rows in
@@ -41,7 +41,7 @@ abbrev pub CertifiesOrdered : Design → Option Certificate → Type 0
 CertifiesOrdered d None = (other : Rows) × IsOtherFor (ordered d) other
 CertifiesOrdered d (Some cert) = IsCertificateFor (ordered d) cert
 
--- A certificate of the ordered document, and the document itself has no other picture; or it has another one.
+-- None: the document has another picture. Some: a certificate of the ordered document; there is no other picture.
 abbrev pub Certifies : Design → Option Certificate → Type 0
 Certifies d None = (other : Rows) × IsOtherFor d other
 Certifies d (Some cert) = IsCertificateFor (ordered d) cert × ((other : Rows) → IsOtherFor d other → ⊥)

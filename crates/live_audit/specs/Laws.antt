@@ -27,8 +27,8 @@ pub record ListsStayAudited : Type 0 where
   pub answers : (calls : List Call) (old new : Seen) → Lead calls old new
       → AreRight (machine old.history old.allowance) calls
 
--- Of the steps before a stroke those that stand are kept; all other steps are new. Each dirty line is evaluated, and
--- beyond these no more lines than there are cells on which new steps draw, each cell counted once for each step.
+-- Of the steps before a stroke those that are still valid are kept; all other steps are new. There are at most as many
+-- evaluations as dirty lines and cells in which new steps exclude colours, each cell counted once for each step.
 pub record EvaluatesFew (moves : Moves) (old new : Seen) : Type 0 where
   pub kept : Account
   pub is_account : IsAccount kept
@@ -39,7 +39,7 @@ pub record EvaluatesFew (moves : Moves) (old new : Seen) : Type 0 where
   pub evaluations : new.work.edit.evaluations ≤ name_count dirty + cells_drawn (steps_added kept new.book)
   pub calls : new.calls ≤ old.calls + (name_count dirty + cells_drawn (steps_added kept new.book))
 
--- So does each stroke that is accepted.
+-- This holds for each accepted stroke.
 abbrev pub StrokesEvaluateFew : Type 0
 StrokesEvaluateFew = (stroke : Stroke) (old new : Seen) → Accepts stroke old new
     → EvaluatesFew (stroke_moves old.history stroke) old new
@@ -49,7 +49,7 @@ pub record SearchesNothing (old new : Seen) (verdict : Verdict) : Type 0 where
   pub decided : (splits : ℕ) → verdict ≡ Undecided splits → ⊥
   pub work : new.work ≡ record { edit = old.work.edit; search = nothing_done; parts = 0; splits = 0 }
 
--- So is each verdict that is asked right after a certificate's call that was not refused, whatever the allowance.
+-- Each verdict right after a certificate's call that was not refused searches nothing, whatever the allowance.
 abbrev pub CertifiedVerdictsSearchNothing : Type 0
 CertifiedVerdictsSearchNothing = (old between new : Seen) (verdict : Verdict) → IsSearched old between
     → Tells between new verdict → SearchesNothing between new verdict

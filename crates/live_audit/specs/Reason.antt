@@ -6,7 +6,7 @@ use Rattle.live_audit.specs.Bench.{Seen}
 use Rattle.live_audit.specs.declared.why.Why.{Why}
 use Rattle.live_audit.specs.declared.why.Why.TheVariants.{Possible, Given, By}
 
--- The colour is left; or the givens alone exclude it; or a step of the book does. Then it is told with those premises
+-- The colour is left; or the givens alone exclude it; or a step of the book does. Then the reason has those premises
 -- of the step that its line needs to force this, and no more.
 abbrev pub Explains : Seen → ℕ → ℕ → ℕ → Why → Type 0
 Explains s row col k Possible = Leaves s.book.facts row col k

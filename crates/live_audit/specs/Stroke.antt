@@ -9,7 +9,7 @@ use Rattle.edits.specs.Change.{moves_of}
 use Rattle.edits.specs.Fault.{edit_fault}
 use Rattle.edits.specs.History.{History, Turn, after_edit, redo_fault, redone, undo_fault, undone}
 
--- an edit, or a step back or forth along the edits that were made
+-- an edit, an undo or a redo
 pub data Stroke : Type 0 where
   Edits : Edit → Stroke
   Undoes : Stroke

@@ -20,8 +20,8 @@ use Rattle.live_audit.specs.Bench.{IsGiven, Seen, board_seen, nothing_done}
 abbrev pub IsOtherFor : Design → Rows → Type 0
 IsOtherFor d other = IsOther (clues_of d.rows) (IsGiven d) d.rows other
 
--- The verdict is true of a document: Unique says that there is no other picture, and
--- Ambiguous shows one; Undecided stands only where an allowance is set, and names it.
+-- The verdict is true of a document: Unique says that there is no other picture, and Ambiguous shows one;
+-- Undecided is possible only where an allowance is set, and names it.
 abbrev pub IsVerdictOn : Design → Option ℕ → Verdict → Type 0
 IsVerdictOn d allowance Unique = (other : Rows) → IsOtherFor d other → ⊥
 IsVerdictOn d allowance (Ambiguous other) = IsOtherFor d other.now
@@ -29,11 +29,11 @@ IsVerdictOn d allowance (Undecided splits) = allowance ≡ Some splits
 
 -- ---- what a verdict takes and keeps
 
--- The picture is judged by its parts. Where another filling of a part is kept, nothing is searched; else
--- the parts of which nothing is known are searched in order, up to the first that has another filling or
--- costs more than is allowed. What the searches that ended found is kept, and the last verdict's work is
--- counted: each evaluation is a call of the engine, a part that is searched takes at least one, and
--- under an allowance all parts together take as many at most as it allows. All else is as before.
+-- The picture is judged by its parts. Where another filling of a part is kept, nothing is searched; else the
+-- parts of which nothing is known are searched in order, up to the first that has another filling or costs
+-- more than is allowed. What the searches that ended found is kept, and the verdict's work is counted: each
+-- evaluation is a call of the engine, a part that is searched takes at least one, and under an allowance
+-- their number is bounded. All else is as before.
 pub record Decides (old new : Seen) (j : Judgement) : Type 0 where
   pub same : new ≡ record old { kept = new.kept; work = record new.work { edit = old.work.edit }; calls = new.calls }
   pub work : Done 0 new.work.parts 0 new.work.splits nothing_done new.work.search old.calls new.calls
@@ -42,13 +42,13 @@ pub record Decides (old new : Seen) (j : Judgement) : Type 0 where
   pub evaluated : new.work.parts ≤ new.work.search.evaluations
   pub few : AreFew old.allowance old.book.facts (length old.kept) new.work.search.evaluations
 
--- what a picture is judged to be, as a verdict: the other picture is the first filling that is kept
+-- the verdict says what was judged; the other picture that it shows is the first filling that is kept
 abbrev pub AnswersAs : Seen → Verdict → Judgement → Type 0
 AnswersAs s Unique j = j ≡ judgement.Unique
 AnswersAs s (Ambiguous other) j = (j ≡ judgement.Other) × FirstFilling s.kept other.now
 AnswersAs s (Undecided splits) j = (j ≡ judgement.Undecided) × (s.allowance ≡ Some splits)
 
--- what a call comes to that answers this verdict
+-- what a call that answers this verdict does
 abbrev pub Tells : Seen → Seen → Verdict → Type 0
 Tells old new verdict = (j : Judgement) × (AnswersAs new verdict j × Decides old new j)
 
@@ -58,8 +58,8 @@ Tells old new verdict = (j : Judgement) × (AnswersAs new verdict j × Decides o
 abbrev pub ShowsOthers : Design → List KeptPart → Type 0
 ShowsOthers d kept = (other : Rows) → FirstFilling kept other → IsOtherFor d other
 
--- What is kept, and whether the judgement was decided, tell what a document was judged to be: where a filling
--- is kept, another picture; where none is, there is no other if it was decided, and else an allowance is set.
+-- What is kept, and whether the judgement was decided, determine the judgement: if a filling is kept, there
+-- is another picture; else there is none if it was decided, and if it was not, an allowance is set.
 pub record IsToldBy (d : Design) (allowance : Option ℕ) (kept : List KeptPart) (is_decided : Bool)
     (j : Judgement) : Type 0 where
   pub others : ShowsOthers d kept

@@ -34,9 +34,9 @@ use std::marker::Model;
 /// The largest number of splits that can be allowed.
 pub const MAX_ALLOWANCE: u32 = 99_999;
 
-/// A document with its history, and all that follows from its picture: the clues, the book of reasons, the settled map
-/// and the verdict. They are true of the present picture after every call; a refused call changes nothing. Only where
-/// memory ran out may the engine and the agenda have been used, and `calls` have risen. `calls` never falls.
+/// A document with its history, and all that follows from its picture: the clues, the book of reasons, the map and the verdict.
+/// They are true of the present picture after every call. A refused call changes nothing, but one that ran out of memory may have
+/// used the engine and the agenda, and raised `calls`, which never falls.
 #[derive(Drop)]
 pub struct Bench<E: LineEngine, A: Agenda> {
     alloc: Global,
@@ -68,8 +68,8 @@ impl<E: LineEngine + Drop, A: Agenda + Drop> Bench<E, A> {
     ghost use Rattle.second_search.specs.Verdict.{Verdict as Judgement};
     ghost use Rattle.live_audit.specs.contracts.bench.Bench.{the_row};
 
-    /// A bench with a document and no history. It can undo as many edits as its depth, 1 to `MAX_DEPTH`, and its engine takes
-    /// lines of `MAX_SIDE` cells. It takes its memory by the allocator of this call, also later.
+    /// A bench with a document and no history. It can undo up to `depth` edits, which is 1 to `MAX_DEPTH`. Its engine must take
+    /// lines of `MAX_SIDE` cells. Later calls allocate by the same allocator.
     pub fn start(
         alloc: Global,
         document: Document,
@@ -100,8 +100,8 @@ impl<E: LineEngine + Drop, A: Agenda + Drop> Bench<E, A> {
         })
     }
 
-    /// Makes an edit: the history goes on, the clues are those of the new picture, and of the book the steps that still
-    /// stand are kept and closed again. On an error nothing changes.
+    /// Makes an edit: the history goes on, the clues are those of the new picture, and the book keeps the steps that are still
+    /// valid, and is closed again. On an error nothing changes.
     pub fn apply(&mut self, edit: &Edit) -> Result<(), EditFault>
         ensures accepted { OnOk result (Accepts (Edits edit.now) self.old self.new) }
         ensures refused { IfErr result (λ fault. Refuses (Edits edit.now) fault self.old self.new) }
@@ -123,7 +123,7 @@ impl<E: LineEngine + Drop, A: Agenda + Drop> Bench<E, A> {
         self.advance(prepared)
     }
 
-    /// Makes the edit again that was undone last. `RedoEmpty` where there is none. On an error nothing changes.
+    /// Makes the last undone edit again. `RedoEmpty` where there is none. On an error nothing changes.
     pub fn redo(&mut self) -> Result<(), EditFault>
         ensures accepted { OnOk result (Accepts Redoes self.old self.new) }
         ensures refused { IfErr result (λ fault. Refuses Redoes fault self.old self.new) }
@@ -134,7 +134,7 @@ impl<E: LineEngine + Drop, A: Agenda + Drop> Bench<E, A> {
         self.advance(prepared)
     }
 
-    // Audits what a step of the history comes to beside the bench, and only then takes the step, for which no memory is taken.
+    // Audits the document to which the step leads, and only then takes the step, which allocates nothing.
     fn advance(&mut self, prepared: Prepared) -> Result<(), EditFault>
         requires plan { IsPlanFor self.old.history prepared }
         requires change { IsChangeOf prepared.change self.old.history.document.rows
@@ -172,13 +172,13 @@ impl<E: LineEngine + Drop, A: Agenda + Drop> Bench<E, A> {
         Ok(())
     }
 
-    /// Whether another picture of the present one's size has its clues and, in the givens, its colours: Unique where there is
-    /// none, Ambiguous with one, and Undecided only where an allowance is set and the search of a part takes more splits.
-    /// Where another filling of a part is kept, nothing is searched. Else the parts of which nothing is known are searched in
-    /// order, up to the first that has another filling or is broken off at the allowance. What the searches that ended found
-    /// is kept, so a verdict that was decided is answered without a search until an accepted edit, undo or redo drops the
-    /// filling that it showed or, where it was Unique, leaves a part of which nothing is known. Where memory runs out nothing
-    /// changes but `calls`.
+    /// Whether another picture of the present one's size has its clues and, in the givens, its colours: Unique if there is none,
+    /// Ambiguous with such a picture, and Undecided only if an allowance is set and the search of a part takes more splits. Where
+    /// another filling of a part is kept, nothing is searched. Else the parts about which nothing is known are searched in order,
+    /// up to the first that has another filling or is broken off at the allowance. What the searches that ended found is kept, so
+    /// a verdict that was decided is answered without a search until an accepted edit, undo or redo drops the filling that it
+    /// showed or, where it was Unique, leaves a part about which nothing is known. Where memory runs out nothing changes but
+    /// `calls`.
     pub fn verdict(&mut self) -> Result<Verdict<'_>, AllocError>
         ensures* keeps { sem 𝓛 (follows_so (the_row E.row A.row E.LineEngine A.Agenda)
             (the_row E.row A.row E.LineEngine A.Agenda)
@@ -191,7 +191,7 @@ impl<E: LineEngine + Drop, A: Agenda + Drop> Bench<E, A> {
         Ok(self.shown(is_decided))
     }
 
-    // Judges the present picture by its parts, notes what that took, and tells whether it decides the verdict.
+    // Judges the present picture by its parts, counts the work, and answers whether that decides the verdict.
     fn decide(&mut self) -> Result<bool, AllocError>
         ensures decides { IfOk result (λ is_decided. (j : Judgement)
             × (IsToldBy self.new.history.document self.new.allowance self.new.kept is_decided j
@@ -214,7 +214,7 @@ impl<E: LineEngine + Drop, A: Agenda + Drop> Bench<E, A> {
         Ok(is_decided)
     }
 
-    // The verdict after a judgement that was decided or not, with the other picture that is kept.
+    // The verdict after a judgement, by whether that was decided, and by the other picture that is kept.
     fn shown(&self, is_decided: bool) -> Verdict<'_>
         ensures { (j : Judgement)
             → IsToldBy self.now.history.document self.now.allowance self.now.kept is_decided j
@@ -230,8 +230,8 @@ impl<E: LineEngine + Drop, A: Agenda + Drop> Bench<E, A> {
         }
     }
 
-    /// Sets how many splits the search of one part may make in a verdict, at most `MAX_ALLOWANCE`; None allows any number. A
-    /// new bench has none. It is no edit, and a verdict that was decided stays decided.
+    /// Sets how many splits the search of one part may make in a verdict, at most `MAX_ALLOWANCE`; None allows any number. A new
+    /// bench has none. This is not an edit, and a verdict that was decided stays decided.
     pub fn allow(&mut self, allowance: Option<u32>)
         requires { IfSome allowance (λ splits. splits ≤ MAX_ALLOWANCE) }
         ensures value { self.new ≡ record self.old { allowance = allowance } }
@@ -241,10 +241,10 @@ impl<E: LineEngine + Drop, A: Agenda + Drop> Bench<E, A> {
     }
 
     /// A certificate of the present document with its colours numbered as they appear: the checker accepts it for the ordered
-    /// picture, and its givens are exactly the document's. None exactly where there is another picture with the present one's
-    /// clues and, in the givens, its colours. It knows no allowance: it begins as a verdict without one and keeps what that
+    /// picture, and its givens are exactly the document's. None exactly where there is another picture with the present one's clues
+    /// and, in the givens, its colours. The allowance does not matter: it begins as a verdict without one and keeps what that
     /// finds, so a verdict after it searches nothing. Where another filling is kept already, it answers at once, and nothing
-    /// changes. Work stays that of the last verdict. Where memory runs out nothing changes but `calls`.
+    /// changes. `work` stays as it was. Where memory runs out nothing changes but `calls`.
     pub fn certify(&mut self) -> Result<Option<Cert>, AllocError>
         ensures certifies { IfOk result (Certifies self.old.history.document) }
         ensures learns { OnOk result (Learns self.old self.new) }
@@ -257,8 +257,8 @@ impl<E: LineEngine + Drop, A: Agenda + Drop> Bench<E, A> {
         Ok(self.keep(found))
     }
 
-    /// What `certify` answers, with what its search comes to know of the parts, and nothing of it is kept yet: nothing changes
-    /// but `calls`. So a caller can take the memory that it needs for the answer first, and then `keep` it.
+    /// What `certify` answers, with what its search found out about the parts. None of it is kept yet: nothing changes but `calls`.
+    /// So a caller can first allocate what it needs for the answer, and then `keep` it.
     pub fn find_certificate(&mut self) -> Result<Finding, AllocError>
         ensures certifies { IfOk result (λ found. Certifies self.old.history.document found.cert) }
         ensures finds { IfOk result (IsFoundOn self.new) }
@@ -276,8 +276,8 @@ impl<E: LineEngine + Drop, A: Agenda + Drop> Bench<E, A> {
         }
     }
 
-    // Judges and makes a certificate where no other filling of a part is kept: the present picture is judged by its parts without an allowance, and a
-    // certificate is made where that finds no other picture.
+    // Judges the present picture by its parts without an allowance, where no other filling of a part is kept, and makes a
+    // certificate where that finds no other picture.
     fn search_certificate(&mut self) -> Result<Finding, AllocError>
         requires { HasNoFilling self.old.kept (length self.old.kept) }
         ensures certifies { IfOk result (λ found. Certifies self.old.history.document found.cert) }
@@ -303,8 +303,8 @@ impl<E: LineEngine + Drop, A: Agenda + Drop> Bench<E, A> {
         })
     }
 
-    /// Keeps what `find_certificate` came to know of the parts, where nothing else was asked of the bench since then, and
-    /// gives the certificate. It takes no memory and cannot fail.
+    /// Keeps what `find_certificate` found out about the parts, and gives the certificate. No call may have changed the bench since
+    /// then. It allocates nothing and cannot fail.
     pub fn keep(&mut self, found: Finding) -> Option<Cert>
         requires { IsFoundOn self.old found }
         ensures cert { result ≡ found.cert }
@@ -338,7 +338,7 @@ impl<E: LineEngine + Drop, A: Agenda + Drop> Bench<E, A> {
         &self.audit.clues
     }
 
-    /// The settled map: for each cell the colours that line logic leaves there, from the givens and the clues.
+    /// The map: for each cell its candidates, the colours that line solving leaves, from the givens and the clues.
     pub fn map(&self) -> &Facts
         ensures value { result.now ≡ self.now.book.facts }
         ensures audited { IsAudited self.now }
@@ -377,16 +377,16 @@ impl<E: LineEngine + Drop, A: Agenda + Drop> Bench<E, A> {
         self.work
     }
 
-    /// How often the engine was called. At the largest `u64` it stays.
+    /// How often the engine was called. The count stops at the largest `u64`.
     pub fn calls(&self) -> u64
         ensures { result ≡ self.now.calls }
     {
         self.engine.calls()
     }
 
-    /// Whether a colour from 0 to 15 can be in a cell of the picture: Possible exactly where the map leaves it, Given exactly
-    /// where the givens exclude it, and else the step of the book that drew that it is not there, with those of its premises
-    /// that are needed for this alone. No line is evaluated.
+    /// Whether a colour from 0 to 15 can be in a cell of the picture: Possible exactly where the map leaves it, Given exactly where
+    /// the givens exclude it, and else the step of the book that excludes it, with those of its premises that this exclusion alone
+    /// needs. No line is evaluated.
     pub fn why(&self, row: u8, col: u8, colour: u8) -> Result<Why, AllocError>
         requires in_rows { row < length self.now.history.document.rows }
         requires in_columns { col < width_of self.now.history.document.rows }

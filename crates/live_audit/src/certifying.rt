@@ -10,15 +10,15 @@ use picture::{Document, MAX_SIDE};
 use second_search::{BOUNDS, Keeper};
 use std::alloc::{AllocError, Global};
 
-/// What `Bench::find_certificate` found: a certificate, or none where there is another picture; and what its search came to
-/// know of the parts, none where nothing was searched. `Bench::keep` keeps that.
+/// What `Bench::find_certificate` found: a certificate, or none where there is another picture; and what its search found
+/// out about the parts, None if nothing was searched. `Bench::keep` keeps that.
 #[derive(Drop)]
 pub struct Finding {
     pub cert: Option<Cert>,
     pub(crate) keeper: Option<Keeper>,
 }
 
-/// Makes a certificate of a document with its colours numbered as they appear, after judging it evaluated so many lines.
+/// Makes a certificate of the ordered form of a document. Judging the document has evaluated `judging` lines.
 pub(crate) fn certify_ordered<E: LineEngine>(
     alloc: Global,
     engine: &mut E,

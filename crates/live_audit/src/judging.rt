@@ -1,4 +1,4 @@
-//! What is judged of a document's audit, and what stays known of its parts.
+//! Judging a document by the parts of its map, and what stays known of these.
 
 ghost use Rattle.std.specs.Prelude.{◌≡◌, ◌≤◌, ℕ, length, None, IfOk, MatchOption, OnErr};
 ghost use Rattle.second_search.specs.Verdict.{Verdict};
@@ -18,7 +18,7 @@ use picture::{Document, MAX_SIDE, Picture};
 use second_search::{Judged, Keeper, Scene};
 use std::alloc::AllocError;
 
-/// What another picture for a document is looked for in, by its audit.
+/// The scene in which another picture for a document is searched for, by its audit.
 pub(crate) fn scene_of<'a>(document: &'a Document, audit: &'a Audit) -> Scene<'a>
     requires { IsAuditOf (design_of document.now) audit.now.clues audit.now.book }
     ensures scene { IsScene result.clues.now result.givens.now result.facts.now result.picture.now }
@@ -38,8 +38,8 @@ pub(crate) fn scene_of<'a>(document: &'a Document, audit: &'a Audit) -> Scene<'a
     }
 }
 
-/// The parts of a document's map, with what stays known of them from the document before. It stays a function of its own, for
-/// a profiler.
+/// The parts of the new document's map, with what stays known of them from the old document. It is not inlined, so that a
+/// profiler shows it.
 #[inline(never)]
 pub(crate) fn answers_next(
     keeper: &Keeper,
@@ -65,8 +65,8 @@ pub(crate) fn answers_next(
 }
 
 #[tactic(auto, using(clues::proofs::LawLemmas::of_lines))]
-/// Judges a document by the parts of its map, keeps what the searches that ended found, and tells whether that decides it and
-/// what they took.
+/// Judges a document by the parts of its map, and keeps what the searches that ended found. Answers whether the verdict is
+/// decided, and the work.
 pub(crate) fn rule<E: LineEngine>(
     keeper: &mut Keeper,
     engine: &mut E,
@@ -106,8 +106,8 @@ pub(crate) fn rule<E: LineEngine>(
     Ok((was_decided(&judged), work))
 }
 
-/// Judges a document by the parts of its map without an allowance, beside what is kept of them, where no other filling is
-/// kept, and gives what is known of them then.
+/// Judges a document by the parts of its map without an allowance, on a copy of what is kept of them, and gives the copy with
+/// what was found. No other filling may be kept.
 pub(crate) fn rule_beside<E: LineEngine>(
     keeper: &Keeper,
     engine: &mut E,

@@ -17,7 +17,7 @@ pub fn lists_stay_audited()
 {}
 
 #[tactic(auto, using(crate::proofs::StrokeLemmas::strokes))]
-/// A stroke that is accepted takes as many evaluations at most as there are dirty lines, and cells on which new steps draw.
+/// An accepted stroke takes at most one evaluation for each dirty line, and one for each cell that each new step narrows.
 pub fn strokes_evaluate_few()
     ensures { StrokesEvaluateFew }
 {}

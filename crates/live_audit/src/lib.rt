@@ -1,4 +1,4 @@
-//! A bench: one picture kept audited after every stroke.
+//! A bench: one picture with its history, its clues, its book and its verdicts, up to date after every stroke.
 #![tactic(auto)]
 
 mod bench;

@@ -9,6 +9,6 @@ pub enum Verdict<'a> {
     Unique,
     /// There is this one.
     Ambiguous(&'a Picture),
-    /// The search of a part took more splits than these, which are allowed.
+    /// The search of a part takes more splits than the allowance, `splits`.
     Undecided { splits: u32 },
 }

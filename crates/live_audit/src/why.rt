@@ -7,8 +7,8 @@ use justify::Reason;
 pub enum Why {
     /// The colour is left in the cell.
     Possible,
-    /// The cell is a given, and shows another colour.
+    /// The cell is a given of another colour.
     Given,
-    /// A step of the book drew that the colour is not there.
+    /// A step of the book excludes the colour.
     By(Reason),
 }

@@ -4,8 +4,8 @@ use line_facts::{Meter, NOTHING_DONE};
 
 /// How much work was done: by the last edit, undo, redo or start that was accepted; and by the last verdict, with the number of
 /// parts that it searched and of splits. Of each part the splits of its first search are counted, in the fixed order up to the
-/// allowance, or up to 100 where there is none; those of the searches after it are not. Both numbers stay at the largest `u32`. What no
-/// verdict has counted yet is 0.
+/// allowance, or up to 100 where there is none; those of later searches are not. Both numbers stop at the largest `u32`. Before
+/// the first verdict, all that verdicts count is 0.
 #[derive(Clone, Copy, Debug, PartialEq, Eq)]
 pub struct Work {
     pub edit: Meter,
@@ -14,7 +14,7 @@ pub struct Work {
     pub splits: u32,
 }
 
-/// The counts where nothing was done yet.
+/// The counts before any work.
 pub(crate) const NO_WORK: Work = Work {
     edit: NOTHING_DONE,
     search: NOTHING_DONE,

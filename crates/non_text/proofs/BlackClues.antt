@@ -134,7 +134,7 @@ goal_agrees clues (Some goal) puzzle e = by_test (same_clues (clues_of goal) clu
         }
     by_test false same h = cc
 
--- what is read after the height, and after the width and all before it
+-- what is read once both sizes are known, and once the width alone is
 abbrev read_on : ℕ → ℕ → List (List ℕ) → Result NonPuzzle NonFault
 read_on width height lines =
     clues_behind (codes "rows") height width lines >>= λ rows.

@@ -1,4 +1,4 @@
--- The numbers of a clue line, and the clue that they stand for.
+-- The numbers of a clue line, and the clue that they give.
 use Rattle.std.proofs.Common.{◌≡◌, ◌≢◌, ℕ, ◌+◌, ◌-◌, ◌<◌, ◌≤◌, Bool, true, false, cond, eqb, ltb, leb, List, [], ◌∷◌, ◌++◌, length, get_or, drop, map, sum, Option, Some, None, Result, Ok, Err, refl}
 use Rattle.std.proofs.Common.{sym, ap, ◌∙◌, arith, min, inl, inr, option_map, ◌||◌}
 use Rattle.std.specs.Borrow.{Bor}
@@ -22,7 +22,7 @@ use Rattle.non_text.specs.ClueLine.{numbers_in, cells_needed, black, is_lone_zer
 
 -- ---- the numbers between commas
 
--- what is read after a front that was read already
+-- what is read after the numbers that were read already
 abbrev pub behind_front : List ℕ → Result (List ℕ) NonFault → Result (List ℕ) NonFault
 behind_front front read = read >>= λ numbers. Ok (front ++ numbers)
 
@@ -85,7 +85,7 @@ leb-same a b c d there back = elim (cases_lt b a) [
     not_above : (a ≤ b → c ≤ d) → (c ≤ d → a ≤ b) → b < a → d < c
     not_above there back lt = elim (cases_lt d c) [ inl h ↦ h | inr h ↦ absurd (omega (arith, back h, lt)) ]
 
--- whether each length and a cell after it find room
+-- whether the lengths fit, with a cell after each
 unfoldable pub fits_in : ℕ → List ℕ → Bool
 fits_in room [] = true
 fits_in room (n ∷ lens) = cond (ltb room (n + 1)) false (fits_in (room - (n + 1)) lens)
@@ -121,7 +121,7 @@ fits_in_is cells (n ∷ lens) = fits_in_sum (cells + 1) (n ∷ lens) ∙ leb-sam
 
 pub ruleset room = (fits_in_less, fits_in_more, fits_in_all, fits_in_is)
 
--- ---- what numbers stand for
+-- ---- the clue that numbers give
 
 pub black_clue : (numbers : List ℕ) → has_zero numbers ≡ false → IsClue (map black numbers)
 black_clue [] e = All-nil IsBlock

@@ -34,7 +34,7 @@ abbrev pub AreBlack : List Block → Type 0
 AreBlack [] = Unit {0}
 AreBlack (b ∷ blocks) = (0 < b.len) × (b.colour ≡ 1) × AreBlack blocks
 
--- a clue that can be written for a line of so many cells
+-- a clue that can be written for a line of `cells` cells
 pub record IsWritable (cells : ℕ) (clue : List Block) : Type 0 where
   pub black : AreBlack clue
   pub fits : cells_needed (lens_of clue) ≤ cells

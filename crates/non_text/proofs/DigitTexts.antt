@@ -28,7 +28,7 @@ before_digits (d ∷ digits) e =
     ap (λ t. cond (t && list_all is_blank digits) [] (d ∷ before_blanks digits)) (digit_not_blank d parts.0)
     ∙ ap (λ (rest : List ℕ). d ∷ rest) (before_digits digits parts.1)
 
--- no blank is taken off digits
+-- digits have no blanks to trim
 pub trimmed_digits : (digits : List ℕ) → all_ascii_digits digits ≡ true → trimmed digits ≡ digits
 trimmed_digits digits e = ap before_blanks (past_digits digits e) ∙ before_digits digits e
 

@@ -1,4 +1,4 @@
--- The digits of a goal, and the cells that they stand for.
+-- The digits of a goal, and the cells that they give.
 use Rattle.std.proofs.Common.{◌≡◌, ◌≢◌, ℕ, zero, suc, ◌-◌, ◌*◌, ◌<◌, Bool, true, false, cond, eqb, List, [], ◌∷◌, length, get_or, take, drop, map, Some, None, Ok, Err, refl, sym, ap, ◌∙◌, arith, inl}
 use Rattle.std.proofs.Common.{inr, ◌&&◌}
 use Rattle.std.specs.Option.{ok_or, option_and_then}

@@ -14,7 +14,7 @@ use Rattle.non_text.specs.Written.{digit_of}
 use Rattle.non_text.proofs.ClueTexts.{IsTwoColour, IsWritable, writable}
 use Rattle.non_text.proofs.WrittenLines.{AreWritable}
 
--- rows of so many cells, in two colours
+-- rows of `width` cells, in two colours
 abbrev pub AreRows : ℕ → List (List ℕ) → Type 0
 AreRows width [] = Unit {0}
 AreRows width (row ∷ rows) = (length row ≡ width) × IsTwoColour row × AreRows width rows

@@ -1,4 +1,4 @@
--- What is written of a picture is read again.
+-- The text that is written for a picture is read again.
 use Rattle.std.proofs.Common.{◌≡◌, ℕ, ◌^◌, ◌<◌, ◌≤◌, Bool, true, false, cond, leb, List, [], ◌∷◌, ◌++◌, length, get_or, map, sum, Some, None, Ok, refl, sym, ap, ◌∙◌, arith, ◌&&◌, codes, decimal}
 use Rattle.std.proofs.Common.{is_none, nat_eq}
 use Rattle.std.specs.Option.{option_and_then}
@@ -106,7 +106,7 @@ lines_behind_rows columns goal = codes "columns" ∷ (map clue_text columns ++ g
 abbrev lines_from : ℕ → ℕ → List (List Block) → List (List Block) → List ℕ → List (List ℕ)
 lines_from width height rows columns goal = width_line width ∷ height_line height ∷ codes "rows" ∷ (map clue_text rows ++ lines_behind_rows columns goal)
 
--- a line with another keyword is passed by
+-- a line with another keyword is skipped
 passed : (word found line : List ℕ) (lines : List (List ℕ)) → keyword_of line ≡ found → pointwise nat_eq found word ≡ false → at_keyword word (line ∷ lines) ≡ at_keyword word lines
 passed word found line lines keyword other = at_keyword_later word line lines (ap (λ (w : List ℕ). pointwise nat_eq w word) keyword ∙ other)
 

@@ -92,7 +92,7 @@ section_of-plain [] line rest plain keyword = section_end line rest keyword
 section_of-plain (clue ∷ lines) line rest plain keyword =
     section_more clue (lines ++ line ∷ rest) (ap length (no_keyword clue plain.0)) ∙ ap (λ (others : List (List ℕ)). clue ∷ others) (section_of-plain lines line rest plain.1 keyword)
 
--- what is wrong with a line by its keyword, and by whether its value is no size
+-- the error of a line, by its keyword and by whether its value is not a size
 abbrev pub fault_by : List ℕ → Bool → Seen → Option NonFault
 fault_by word bad seen =
     cond (((pointwise nat_eq word (codes "width") && seen.width) || (pointwise nat_eq word (codes "height") && seen.height))
@@ -116,7 +116,7 @@ faults_step seen next word line lines keyword good more =
     ap (λ fault. first_of_two fault (faults_below (seen_with seen line) lines)) (ap (λ (w : List ℕ). fault_by w (is_none (size_in (value_of line))) seen) keyword ∙ good)
     ∙ ap (λ (s : Seen). faults_below s lines) (ap (λ (w : List ℕ). seen_by w seen) keyword ∙ more)
 
--- clue lines have no error, and no keyword stands on them
+-- clue lines have no error, and no keyword
 pub faults-plain : (seen : Seen) (lines rest : List (List ℕ)) → ArePlain lines → faults_below seen (lines ++ rest) ≡ faults_below seen rest
 faults-plain seen [] rest plain = refl
 faults-plain seen (line ∷ lines) rest plain =

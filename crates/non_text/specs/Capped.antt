@@ -1,4 +1,4 @@
--- Numbers as the reader keeps them: no size and no length is as large as 255.
+-- Numbers as read: capped at 255, which no size or length reaches.
 use Rattle.std.specs.Prelude.{ℕ, List, map, min, Result, Ok}
 use Rattle.picture.specs.Readers.{◌>>=◌}
 use Rattle.non_text.specs.declared.fault.NonFault.{NonFault}

@@ -12,7 +12,7 @@ use Rattle.non_text.specs.Bytes.{trimmed}
 use Rattle.picture.specs.Numbers.{number_spelled}
 use Rattle.non_text.specs.Lines.{is_blank_line}
 
--- a number for each place
+-- the number in each of the pieces between commas
 abbrev pub numbers_in : List (List ℕ) → Result (List ℕ) NonFault
 numbers_in [] = Ok []
 numbers_in (place ∷ places) = do
@@ -35,20 +35,20 @@ cells_needed lengths = sum lengths + (length lengths - 1)
 abbrev pub black : ℕ → Block
 black len = block len 1
 
--- the clue that numbers stand for, on a line of so many cells: a single 0 is the empty clue, and no other 0 may stand
+-- the clue that numbers give, for a line of `cells` cells: a single 0 is the empty clue, and any other 0 an error
 unfoldable pub clue_from : ℕ → List ℕ → Result (List Block) NonFault
 clue_from cells numbers =
     if is_lone_zero numbers then Ok []
     else (if has_zero numbers then Err BadClue
     else (if nat_le (cells_needed numbers) cells then Ok (map black numbers) else Err ClueTooLong))
 
--- the clue that a line of text gives to a line of so many cells
+-- the clue that a line of text gives, for a line of `cells` cells
 unfoldable pub clue_in : ℕ → List ℕ → Result (List Block) NonFault
 clue_in cells line = if is_blank_line line then Ok [] else (do
   numbers ← numbers_in (slice_split (λ b. b == 44) line)
   clue_from cells numbers)
 
--- the clues that the lines give, the first error from the top
+-- the clues that the lines give, or the first error from the top
 unfoldable pub clues_in : ℕ → List (List ℕ) → Result (List (List Block)) NonFault
 clues_in cells [] = Ok []
 clues_in cells (line ∷ lines) = do

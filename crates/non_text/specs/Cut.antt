@@ -1,4 +1,4 @@
--- What functions that cut a text answer, by what they borrow from it.
+-- The results of functions that cut a text, as parts that are borrowed from it.
 use Rattle.std.specs.Prelude.{◌≡◌, ◌<◌, ℕ, List, [], ◌∷◌, length, Option, None, Some}
 use Rattle.std.specs.Borrow.{Bor}
 use Rattle.non_text.specs.Lines.{lines_of, section_of}

@@ -13,7 +13,7 @@ abbrev pub quoted : List (List ℕ) → Option (List ℕ)
 quoted (digits ∷ rest ∷ []) = if is_blank_line rest then Some digits else None
 quoted pieces = None
 
--- the digits of a value: what stands between two quotes, or a value without a quote at its beginning as it is
+-- the digits of a value: those between two quotes, or the whole value where it does not begin with a quote
 unfoldable pub goal_digits : List ℕ → Option (List ℕ)
 goal_digits [] = Some []
 goal_digits (b ∷ bytes) = if b == 34 then quoted (slice_split (λ c. c == 34) bytes) else Some (b ∷ bytes)
@@ -22,11 +22,11 @@ goal_digits (b ∷ bytes) = if b == 34 then quoted (slice_split (λ c. c == 34) 
 abbrev pub is_cell_digit : ℕ → Bool
 is_cell_digit digit = (digit == 48) || (digit == 49)
 
--- the colour that a digit stands for
+-- the colour that a digit gives
 abbrev pub cell_of : ℕ → ℕ
 cell_of digit = if digit == 49 then 1 else 0
 
--- the rows that so many digits give
+-- the rows that digits give, where they are one `0` or `1` for each cell
 abbrev pub goal_rows : ℕ → ℕ → List ℕ → Option (List (List ℕ))
 goal_rows height width digits =
     if (length digits == height * width) && list_all is_cell_digit digits

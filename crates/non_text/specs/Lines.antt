@@ -7,7 +7,7 @@ use Rattle.std.specs.Cmp.Lexicographic.{pointwise}
 use Rattle.non_text.specs.Bytes.{is_lower, is_empty, past_blanks, first_word, past_word, trimmed}
 
 -- the lines of the pieces between line feeds, each without a carriage
--- return at its end: the last piece is a line where it has a byte
+-- return at its end: the last piece only if a byte of it is left then
 abbrev pub lines_of_pieces : List (List ℕ) → List (List ℕ)
 lines_of_pieces [] = []
 lines_of_pieces (piece ∷ []) = if is_empty (strip_carriage_return piece) then [] else strip_carriage_return piece ∷ []
@@ -25,7 +25,7 @@ abbrev pub begins_comment : List ℕ → Bool
 begins_comment [] = false
 begins_comment (b ∷ bytes) = b == 35
 
--- the first byte past blanks is `#`
+-- the first byte after leading blanks is `#`
 unfoldable pub is_comment : List ℕ → Bool
 is_comment line = begins_comment (past_blanks line)
 
@@ -37,7 +37,7 @@ abbrev pub word_at : List ℕ → List ℕ
 word_at [] = []
 word_at (b ∷ bytes) = if is_lower b then first_word (b ∷ bytes) else []
 
--- the keyword of a line whose first byte past blanks is a lower-case letter:
+-- the keyword of a line whose first byte after leading blanks is a lower-case letter:
 -- the run of bytes from there up to the next blank. Other lines have none
 unfoldable pub keyword_of : List ℕ → List ℕ
 keyword_of line = word_at (past_blanks line)

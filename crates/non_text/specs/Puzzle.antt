@@ -27,7 +27,7 @@ size_in value = option_and_then size_within (number_spelled value)
 abbrev pub is_size_line : List ℕ → Bool
 is_size_line line = has_keyword (codes "width") line || has_keyword (codes "height") line
 
--- a keyword that stands on a line above already
+-- the line has this keyword, and so does a line above it
 abbrev pub repeats : List ℕ → List (List ℕ) → List ℕ → Bool
 repeats keyword above line = has_keyword keyword line && list_any (has_keyword keyword) above
 
@@ -37,18 +37,18 @@ is_repeated above line =
     (repeats (codes "width") above line || repeats (codes "height") above line)
     || (repeats (codes "rows") above line || repeats (codes "columns") above line)
 
--- what is wrong with a line below those above it
+-- the error of a line that is below these lines
 unfoldable pub line_fault : List (List ℕ) → List ℕ → Option NonFault
 line_fault above line =
     if is_repeated above line then Some Repeated
     else (if is_size_line line && is_none (size_in (value_of line)) then Some BadSize else None)
 
--- the error, or else the later one
+-- the first error, or else the later one
 abbrev pub first_of_two : Option NonFault → Option NonFault → Option NonFault
 first_of_two None later = later
 first_of_two (Some e) later = Some e
 
--- what is wrong with the first bad one of these lines, which stand below those above, the nearest of them first
+-- the error of the first bad line; `above` are the lines above these lines, the nearest first
 unfoldable pub first_fault : List (List ℕ) → List (List ℕ) → Option NonFault
 first_fault above [] = None
 first_fault above (line ∷ lines) = first_of_two (line_fault above line) (first_fault (line ∷ above) lines)
@@ -80,7 +80,7 @@ unfoldable pub same_clues : Clues → Clues → Bool
 same_clues a b =
     pointwise (pointwise same_block) a.rows b.rows && pointwise (pointwise same_block) a.columns b.columns
 
--- the puzzle with these clues, which a goal has to have
+-- the puzzle with these clues; a goal with other clues is an error
 unfoldable pub agreeing : Clues → Option (List (List ℕ)) → Result NonPuzzle NonFault
 agreeing clues None = Ok (record { clues = clues; goal = None })
 agreeing clues (Some rows) =

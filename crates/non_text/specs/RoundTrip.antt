@@ -1,4 +1,4 @@
--- What is written of a picture, read again.
+-- The text that is written for a picture, read again.
 use Rattle.std.specs.Prelude.{◌≡◌, Ok, Some}
 use Rattle.picture.specs.Rows.{Rows}
 use Rattle.clues.specs.ClueBook.{clues_of}

@@ -13,8 +13,8 @@ use Rattle.non_text.specs.ClueLine.{clues_in}
 abbrev pub is_full_line : List ℕ → Bool
 is_full_line line = not (is_blank_line line)
 
--- Whether the blank lines of a section for n lines are left out, as they are where exactly n others stand there.
--- Otherwise all lines after the first n have to be blank.
+-- Whether the blank lines of a section for n clues are skipped, as they are where there are exactly n other lines.
+-- Otherwise there must be at least n lines, and all after the first n must be blank.
 unfoldable pub leaves_blanks : ℕ → List (List ℕ) → Result Bool NonFault
 leaves_blanks n lines =
     if length (filter is_full_line lines) == n then Ok true
@@ -25,13 +25,13 @@ abbrev pub kept_lines : Bool → List (List ℕ) → List (List ℕ)
 kept_lines true lines = filter is_full_line lines
 kept_lines false lines = lines
 
--- the n clues of a section, for lines of so many cells
+-- the n clues of a section, for lines of `cells` cells
 abbrev pub section_clues : ℕ → ℕ → List (List ℕ) → Result (List (List Block)) NonFault
 section_clues n cells lines = do
   leaves ← leaves_blanks n lines
   clues_in cells (take n (kept_lines leaves lines))
 
--- the n clues of the section after a keyword line: there is none where the line is missing
+-- the n clues of the section after a keyword line, or an error where the line is missing
 abbrev pub found_clues : ℕ → ℕ → Option (List ℕ × List (List ℕ)) → Result (List (List Block)) NonFault
 found_clues n cells None = Err BadCount
 found_clues n cells (Some found) = section_clues n cells (section_of found.1)

@@ -3,7 +3,7 @@ use Rattle.std.specs.Prelude.{ℕ, ◌+◌, ◌&&◌, ◌||◌, List, [], ◌∷
 use Rattle.non_text.specs.declared.counting.Count.{Count}
 use Rattle.non_text.specs.Section.{is_full_line}
 
--- one line more
+-- the count with one more line
 abbrev pub with_line : ℕ → Count → List ℕ → Count
 with_line n count line = record {
   lines = count.lines + 1;
@@ -11,11 +11,11 @@ with_line n count line = record {
   late = count.late || (is_full_line line && nat_le n count.lines);
 }
 
--- the lines counted after others
+-- the count with these lines counted too
 unfoldable pub count_after : ℕ → Count → List (List ℕ) → Count
 count_after n count [] = count
 count_after n count (line ∷ lines) = count_after n (with_line n count line) lines
 
--- the lines counted
+-- the count of these lines alone
 abbrev pub count_of : ℕ → List (List ℕ) → Count
 count_of n lines = count_after n (record { lines = 0; full = 0; late = false }) lines

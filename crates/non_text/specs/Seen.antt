@@ -1,4 +1,4 @@
--- Which keywords stand on the lines above, as the reader keeps them.
+-- Which keywords the lines above have, as the reader keeps them.
 use Rattle.std.specs.Prelude.{ℕ, Bool, ◌&&◌, ◌||◌, List, Option, None, Some, is_none, codes, if◌then◌else◌}
 use Rattle.std.specs.List.{list_any}
 use Rattle.non_text.specs.declared.seen.Seen.{Seen}
@@ -16,7 +16,7 @@ seen_on lines = record {
   columns = list_any (has_keyword (codes "columns")) lines;
 }
 
--- the keywords with that of one line more
+-- the keywords with that of one more line
 abbrev pub seen_with : Seen → List ℕ → Seen
 seen_with seen line = record {
   width = has_keyword (codes "width") line || seen.width;
@@ -31,7 +31,7 @@ is_seen seen line =
     ((has_keyword (codes "width") line && seen.width) || (has_keyword (codes "height") line && seen.height))
     || ((has_keyword (codes "rows") line && seen.rows) || (has_keyword (codes "columns") line && seen.columns))
 
--- what is wrong with a line below these keywords
+-- the error of a line below these keywords
 unfoldable pub fault_below : Seen → List ℕ → Option NonFault
 fault_below seen line =
     if is_seen seen line then Some Repeated

@@ -1,4 +1,4 @@
--- The text that is written of a picture.
+-- The text that is written for a picture.
 use Rattle.std.specs.Prelude.{ℕ, ◌++◌, List, [], ◌∷◌, length, map, codes, decimal, ◌==◌, if◌then◌else◌}
 use Rattle.std.specs.List.{flat_map, join_with_byte}
 use Rattle.picture.specs.Rows.{width_of, Rows}

@@ -1,4 +1,4 @@
--- What the writer of .non texts answers, and what it appends.
+-- What the writer of .non texts returns, and what it appends.
 use Rattle.std.specs.Prelude.{◌≡◌, ℕ, Bool, true, false, List, Option, Result, Ok, Err, nat_le}
 use Rattle.std.specs.List.{list_all}
 use Rattle.std.specs.Io.KnownBytes.{Appends, Keeps}

@@ -15,7 +15,7 @@ use smallvec::SmallVec;
 use std::alloc::{AllocError, Global};
 
 #[tactic(auto, using(crate::proofs::NumberLemmas::numbers))]
-// The value of digits alone. A value above 255 counts as 255: no size and no length is as large.
+// The value of a text of digits, capped at 255, which no size or length reaches; `None` for another text.
 pub(crate) fn number(bytes: &[u8]) -> Option<u8>
     ensures { result ≡ option_map (min 255) (number_spelled bytes.now) }
 {
@@ -40,7 +40,7 @@ fn numbers(alloc: Global, line: &[u8]) -> Read<SmallVec<u8, 8>>
 }
 
 #[tactic(auto, using(crate::proofs::ClueLineLemmas::room))]
-// Whether blocks of these lengths have room in so many cells, with a cell between two of them.
+// Whether blocks of these lengths fit in `cells` cells, with a cell between each and the next.
 fn have_room(lens: &[u8], cells: u8) -> bool
     ensures { result ≡ nat_le (cells_needed lens.now) cells }
 {
@@ -65,7 +65,7 @@ fn blocks(alloc: Global, lens: &[u8]) -> Result<Vec<Block>, AllocError>
 }
 
 #[tactic(auto, using(crate::proofs::ClueLineLemmas::black_clue), unfolding(crate::specs::ClueLine::clue_from))]
-// The clue that the numbers of a line stand for.
+// The clue that the numbers of a line give, for a line of `cells` cells.
 fn clue_from(alloc: Global, numbers: &[u8], cells: u8) -> Read<Clue>
     ensures { Gives NonFault.Memory (λ clue. clue) result (clue_from cells numbers.now) }
 {
@@ -83,7 +83,7 @@ fn clue_from(alloc: Global, numbers: &[u8], cells: u8) -> Read<Clue>
 }
 
 #[tactic(auto, using(crate::proofs::ClueLineLemmas::clue_lines))]
-// The clue that a line of text gives to a line of so many cells.
+// The clue that a line of text gives, for a line of `cells` cells.
 pub(crate) fn clue_in(alloc: Global, line: &[u8], cells: u8) -> Read<Clue>
     requires { cells < 255 }
     ensures { Gives NonFault.Memory (λ clue. clue) result (clue_in cells line.now) }

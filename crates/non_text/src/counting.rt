@@ -1,4 +1,4 @@
-//! Whether the lines of a section are as many as its clues.
+//! Whether a section has as many lines as it needs clues.
 
 ghost use Rattle.std.specs.Prelude.{◌≡◌, ◌+◌, ◌<◌, ◌^◌};
 ghost use Rattle.non_text.specs.SectionCounts.{with_line};
@@ -8,7 +8,7 @@ ghost use Rattle.non_text.specs.Section.{leaves_blanks};
 use crate::fault::{NonFault, Read};
 use crate::lines::{is_blank_line, next_in_section};
 
-// How many lines there are, how many of them are not blank, and whether one of those follows the first n.
+// How many lines there are, how many are not blank, and whether one of these follows the first n lines.
 #[derive(Clone, Copy, Default)]
 struct Count {
     lines: usize,
@@ -17,7 +17,7 @@ struct Count {
 }
 
 #[tactic(auto, using(crate::proofs::SectionLemmas::counting))]
-// Whether the blank lines of a section for n lines are left out.
+// Whether the blank lines of a section for n clues are skipped, or else each is an empty clue.
 pub(crate) fn leaves_blanks(text: &[u8], n: u8) -> Read<bool>
     ensures { result ≡ leaves_blanks n (section_lines text.now) }
 {
@@ -37,7 +37,7 @@ pub(crate) fn leaves_blanks(text: &[u8], n: u8) -> Read<bool>
     }
 }
 
-// The count with one line more.
+// The count with one more line.
 fn with_line(count: Count, line: &[u8], n: usize) -> Count
     requires lines_fit { count.lines + 1 < 2 ^ 64 }
     requires full_fit { count.full + 1 < 2 ^ 64 }

@@ -7,31 +7,31 @@ ghost use Rattle.non_text.specs.declared.fault.NonFault.TheVariants.{Memory};
 use std::alloc::AllocError;
 use thiserror::Error;
 
-/// Why a text is no puzzle. The first error in the order of reading is answered.
+/// Why a .non text was not read as a puzzle: the first error in the order of reading.
 #[derive(Clone, Copy, Debug, PartialEq, Eq, Error)]
 pub enum NonFault {
     /// There is no `width` or no `height` line.
     #[error("the width or the height is missing")]
     MissingSize,
-    /// The value of `width` or `height` is no number from 1 to 120.
+    /// The value of `width` or `height` is not a number from 1 to 120.
     #[error("the width or the height is no number from 1 to 120")]
     BadSize,
     /// A second line has the keyword `width`, `height`, `rows` or `columns`.
     #[error("a keyword stands on two lines")]
     Repeated,
-    /// A clue line is not blank and not numbers between commas, or has a 0 beside other numbers.
+    /// A clue line is neither blank nor numbers between commas, or has a 0 among other numbers.
     #[error("a clue is not numbers between commas")]
     BadClue,
-    /// There is no section for the rows or for the columns, or it has not one clue for each.
+    /// The rows or the columns have no section, or it does not have one clue for each of them.
     #[error("there is not one clue for each line")]
     BadCount,
-    /// The blocks of a clue have no room on its line.
+    /// The blocks of a clue do not fit on its line.
     #[error("a clue is longer than its line")]
     ClueTooLong,
     /// The goal is not one digit 0 or 1 for each cell.
     #[error("the goal is not one digit 0 or 1 for each cell")]
     BadGoal,
-    /// The goal has other clues.
+    /// The clues of the goal are not those of the puzzle.
     #[error("the goal has other clues")]
     GoalDisagrees,
     /// Memory ran out.
@@ -39,11 +39,11 @@ pub enum NonFault {
     Memory,
 }
 
-/// What a part of the reader answers.
+/// The result of a part of the reader.
 pub(crate) type Read<T> = Result<T, NonFault>;
 
 impl NonFault {
-    /// The error's name, as the variant is called.
+    /// The name of the error's variant.
     pub fn name(&self) -> &'static str
         ensures { result.now ≡ name_of self.now }
     {
@@ -75,7 +75,7 @@ pub enum NonWriteFault {
     /// A cell has a colour above 1. Nothing was written.
     #[error("the picture has more than two colours")]
     TwoColoursOnly,
-    /// A write failed. A front of the text may have been written.
+    /// A write failed. A prefix of the text may have been written.
     #[error("write failed")]
     Write,
     /// Memory ran out. Nothing was written.

@@ -12,7 +12,7 @@ use picture::{MAX_SIDE, Picture, split_first};
 use std::alloc::{AllocError, Global};
 
 #[tactic(auto, using(crate::proofs::GoalLemmas::values, crate::proofs::GoalLemmas::quotes))]
-// The digits of a value: what stands between quotes with nothing but blanks after them, or all of it.
+// The digits of a value: those in quotes that only blanks follow, or all of it if no quote begins it.
 fn goal_digits(value: &[u8]) -> Option<&[u8]>
     ensures { option_copied result ≡ goal_digits value.now }
 {
@@ -23,14 +23,14 @@ fn goal_digits(value: &[u8]) -> Option<&[u8]>
     is_blank_line(behind?).then_some(digits)
 }
 
-// Whether a goal may have these digits.
+// Whether each digit is 0 or 1.
 fn are_cell_digits(digits: &[u8]) -> bool
     ensures { result ≡ list_all is_cell_digit digits.now }
 {
     digits.iter().all(|d| *d == b'0' || *d == b'1')
 }
 
-// The cells that digits stand for.
+// The cells that the digits give.
 fn cells_of(alloc: Global, digits: &[u8]) -> Result<Vec<u8>, AllocError>
     ensures { IfOk result (λ cells. cells.items ≡ map cell_of digits.now) }
 {

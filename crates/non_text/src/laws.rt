@@ -16,7 +16,7 @@ pub fn round_trip()
         → IsReadAgain rows }
 {}
 
-/// The law of the round trip at one picture.
+/// The law of the round trip for one picture.
 pub fn round_trip_of(picture: &Picture)
     ensures { is_two_colour picture.now ≡ true → IsReadAgain picture.now }
 {
@@ -25,7 +25,7 @@ pub fn round_trip_of(picture: &Picture)
 }
 
 #[tactic(auto, using(crate::proofs::BlackClues::in_two_colours))]
-/// A puzzle that `read_non` reads is one in two colours: its goal has its clues, and no picture with its clues has a colour
+/// A puzzle that `read_non` reads is in two colours: its goal has its clues, and no picture with its clues has a colour
 /// above 1.
 pub fn puzzles_are_in_two_colours()
     ensures { PuzzlesAreInTwoColours }

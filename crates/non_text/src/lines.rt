@@ -22,7 +22,7 @@ fn blank_place(bytes: &[u8]) -> Option<usize>
     bytes.iter().position(|b| is_blank(*b))
 }
 
-// The place of the first byte that is no blank.
+// The place of the first byte that is not a blank.
 fn word_place(bytes: &[u8]) -> Option<usize>
     ensures { result ≡ position is_no_blank bytes.now }
 {
@@ -63,7 +63,7 @@ pub(crate) fn trim(bytes: &[u8]) -> &[u8]
 }
 
 #[tactic(auto, using(crate::proofs::BytesLemmas::words))]
-// The bytes up to the first blank, and what stands from there on.
+// The bytes before the first blank, and the rest from there on.
 fn split_word(bytes: &[u8]) -> (&[u8], &[u8])
     ensures word { result.0.now ≡ first_word bytes.now }
     ensures rest { result.1.now ≡ past_word bytes.now }
@@ -107,7 +107,7 @@ pub(crate) fn is_blank_line(line: &[u8]) -> bool
 }
 
 #[tactic(auto, unfolding(crate::specs::Lines::is_comment))]
-// Whether the first byte past blanks is `#`.
+// Whether the first byte after leading blanks is `#`.
 fn is_comment(line: &[u8]) -> bool
     ensures { result ≡ is_comment line.now }
 {
@@ -115,7 +115,7 @@ fn is_comment(line: &[u8]) -> bool
 }
 
 #[tactic(auto, using(crate::proofs::LinesLemmas::shown_lines))]
-// The first line that is no comment, and the text after it.
+// The first line that is not a comment, and the text after it.
 pub(crate) fn next_line(text: &[u8]) -> Option<(&[u8], &[u8])>
     ensures { IsFirstOf lines_of text.now result }
 {
@@ -130,7 +130,7 @@ pub(crate) fn next_line(text: &[u8]) -> Option<(&[u8], &[u8])>
 }
 
 #[tactic(auto, unfolding(crate::specs::Lines::keyword_of))]
-// The keyword of a line, or nothing where it has none.
+// The keyword of a line, empty if it has none.
 pub(crate) fn keyword(line: &[u8]) -> &[u8]
     ensures { result.now ≡ keyword_of line.now }
 {

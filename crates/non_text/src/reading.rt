@@ -19,9 +19,9 @@ use std::alloc::Global;
 /// Reads the puzzle of a .non text: the clues, and the goal where it has one.
 ///
 /// Keywords come in any order, lines that begin with `#` and other keywords are skipped, and bytes need not be UTF-8.
-/// On a text that is no puzzle the first error is answered: line by line from the top a second `width`, `height`,
+/// If the text is not a puzzle, the first error is returned: line by line from the top a second `width`, `height`,
 /// `rows` or `columns` (`Repeated`) or a bad size, then a missing size, the rows' section, the columns' section and the
-/// goal. Out of memory is answered where it comes, before any later error.
+/// goal. `Memory` is returned where memory runs out, before any later error.
 pub fn read_non(alloc: Global, bytes: &[u8]) -> Result<NonPuzzle, NonFault>
     ensures { Gives NonFault.Memory (λ puzzle. puzzle) result (non_of bytes.now) }
 {

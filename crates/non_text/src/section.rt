@@ -50,7 +50,7 @@ fn clues(alloc: Global, text: &[u8], leaves_blanks: bool, n: u8, cells: u8) -> R
 }
 
 #[tactic(auto, unfolding(crate::specs::Section::clues_behind))]
-// The n clues after a keyword, for lines of so many cells.
+// The n clues in the section after a keyword line, for lines of `cells` cells.
 pub fn clues_behind(alloc: Global, text: &[u8], word: &[u8], n: u8, cells: u8) -> Read<Vec<Clue>>
     requires { cells < 255 }
     ensures { Gives NonFault.Memory (λ v. v.items) result

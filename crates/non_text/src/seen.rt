@@ -10,7 +10,7 @@ use crate::fault::NonFault;
 use crate::lines::{find, keyword, next_line, value};
 use picture::MAX_SIDE;
 
-// Which keywords stand on the lines above.
+// Which keywords the lines above have.
 #[derive(Clone, Copy, Default)]
 struct Seen {
     width: bool,
@@ -19,14 +19,14 @@ struct Seen {
     columns: bool,
 }
 
-// Whether a line has a keyword.
+// Whether a line has this keyword.
 fn has_keyword(line: &[u8], word: &[u8]) -> bool
     ensures { result ≡ has_keyword word.now line.now }
 {
     keyword(line) == word
 }
 
-// Whether a line has a keyword that stands above.
+// Whether a line has a keyword that a line above has.
 fn is_seen(seen: Seen, line: &[u8]) -> bool
     ensures { result ≡ is_seen seen line.now }
 {
@@ -37,7 +37,7 @@ fn is_seen(seen: Seen, line: &[u8]) -> bool
     (width & seen.width) | (height & seen.height) | ((rows & seen.rows) | (columns & seen.columns))
 }
 
-// The keywords with that of one line more.
+// The keywords with that of one more line.
 fn seen_with(seen: Seen, line: &[u8]) -> Seen
     ensures { result ≡ seen_with seen line.now }
 {
@@ -50,7 +50,7 @@ fn seen_with(seen: Seen, line: &[u8]) -> Seen
 }
 
 #[tactic(auto, using(crate::proofs::SeenLemmas::sizes))]
-// The size that a value gives.
+// The size that a value gives, from 1 to 120.
 fn size_in(value: &[u8]) -> Option<u8>
     ensures { result ≡ size_in value.now }
 {
@@ -61,7 +61,7 @@ fn size_in(value: &[u8]) -> Option<u8>
 }
 
 #[tactic(auto, unfolding(crate::specs::Seen::fault_below))]
-// What is wrong with a line.
+// The error of a line below those keywords.
 fn fault_below(seen: Seen, line: &[u8]) -> Option<NonFault>
     ensures { result ≡ fault_below seen line.now }
 {
@@ -76,7 +76,7 @@ fn fault_below(seen: Seen, line: &[u8]) -> Option<NonFault>
 }
 
 #[tactic(auto, using(crate::proofs::SeenLemmas::faults))]
-// What is wrong with the first bad line of a text.
+// The error of the first bad line of a text.
 pub(crate) fn first_fault(text: &[u8]) -> Option<NonFault>
     ensures { result ≡ first_fault [] (lines_of text.now) }
 {

@@ -1,4 +1,4 @@
-//! The program: it hands the arguments, the files and the streams of the system to the crate `program`.
+//! The program nonobench: it passes the arguments, files and streams of the operating system to the crate `program`.
 #![tactic(auto)]
 
 use program::{Files, run};
@@ -7,7 +7,7 @@ use std::process::ExitCode;
 use std::rt::Env;
 use std::{env, fs, io};
 
-// The files of the system: of what they hold nothing is known.
+// The files of the system. The proofs know nothing of their contents.
 #[derive(Drop)]
 struct System<'a, R> {
     rt: &'a R,

@@ -1,4 +1,4 @@
--- Laws of the bits of a mask: which are set, which masks are one, and how many bits there are.
+-- Laws of the bits of a mask: which are set, when two masks are equal, and how many bits are set.
 use Rattle.std.proofs.Common.{◌≡◌, ◌≢◌, ℕ, zero, suc, ◌+◌, ◌/◌, ◌^◌, ◌<◌, ◌≤◌, refl, sym, ap, ◌∙◌, subst, inl, inr, arith}
 use Rattle.std.specs.Prelude.{IsBitSet, ◌⊎◌, ◌↔◌, bit_and, count_ones}
 use Rattle.std.specs.Int.{bit_at}
@@ -37,7 +37,7 @@ power_has k j = (
   (λ e. bit_is_set (2 ^ k) j (ap (bit_at (2 ^ k)) e ∙ bit_at-pow_same k)),
 )
 
--- masks with the same bits are one
+-- masks with the same bits are equal
 pub same_bits : (a b : ℕ) → ((k : ℕ) → IsBitSet a k ↔ IsBitSet b k) → a ≡ b
 same_bits a b same = same_from_bits a b each
   where
@@ -50,12 +50,12 @@ same_bits a b same = same_from_bits a b each
           omega (arith, bit_at-lt a k, bit_at-lt b k)
     ]
 
--- masks of one width with the same bits below it
+-- masks of one width with the same bits below it are equal
 pub same_bits_below : (width a b : ℕ) → a < 2 ^ width → b < 2 ^ width → ((k : ℕ) → k < width → IsBitSet a k ↔ IsBitSet b k) → a ≡ b
 same_bits_below width a b small_a small_b same =
     same_bits a b (λ k. ((λ is. (same k (bit_below a width k small_a is)).0 is), (λ is. (same k (bit_below b width k small_b is)).1 is)))
 
--- a mask whose bits are among another's is no larger number
+-- a mask whose bits are among another's is at most that number
 pub fewer_le : (a b : ℕ) → ((k : ℕ) → IsBitSet a k → IsBitSet b k) → a ≤ b
 fewer_le a b h =
     let e : bit_and a b ≡ a = same_bits (bit_and a b) a (λ k. (
@@ -66,7 +66,7 @@ fewer_le a b h =
 
 -- ---- how many bits there are
 
--- one bit more is one more
+-- one bit that changes from 0 to 1 counts one more
 one_more : (k a b : ℕ) → bit_at a k ≡ 0 → bit_at b k ≡ 1 → ((i : ℕ) → i ≢ k → bit_at a i ≡ bit_at b i) → count_ones b ≡ suc (count_ones a)
 one_more zero a b none one others =
     let half : a / 2 ≡ b / 2 = same_from_bits (a / 2) (b / 2) (λ i. sym (bit_at-suc a i) ∙ others (suc i) (λ e. absurd (omega arith)) ∙ bit_at-suc b i) in
@@ -90,7 +90,7 @@ bits_more k a b absent puts = let more = one_more k a b none one others in omega
     others : (i : ℕ) → i ≢ k → bit_at a i ≡ bit_at b i
     others i other = grind (arith, bit_at, bit_at-lt, bit_is_set, bit_or_not, set_bit)
 
--- a bit that was there and is taken out makes one bit less
+-- a bit that was there and is cleared makes one bit less
 pub bits_fewer : (k a b : ℕ) → IsBitSet a k → ((i : ℕ) → IsBitSet b i ↔ (IsBitSet a i × ¬ (i ≡ k))) → count_ones b + 1 ≡ count_ones a
 bits_fewer k a b there takes = sym (bits_more k b a (λ is. ((takes k).0 is).1 refl) back)
   where
@@ -115,7 +115,7 @@ ones_within (suc width) a b c small each =
     let low = each 0 in
     omega (arith, ones_step a, ones_step b, ones_step c, bit_at_lowest a, bit_at_lowest b, bit_at_lowest c, rest, low)
 
--- bits that are among those of two masks are no more than theirs
+-- bits that are all among those of two masks are at most as many as the two have together
 pub few_ones_of : (a b c : ℕ) → ((k : ℕ) → IsBitSet c k → IsBitSet a k ⊎ IsBitSet b k) → count_ones c ≤ count_ones a + count_ones b
 few_ones_of a b c among = ones_within c a b c (below_power c) (λ k. elim (bit_or_not c k) [
   | inl is ↦ elim (among k is) [

@@ -1,4 +1,4 @@
--- The bits of a mask: which masks are one, how many bits there are, and one bit of a mask of 120 bits put in or taken out.
+-- The bits of a mask, and one bit of a mask of 120 bits set or cleared.
 use Rattle.std.proofs.Common.{◌≡◌, ◌≢◌, ℕ, ◌*◌, ◌%◌, ◌^◌, ◌<◌, sym, ◌∙◌, subst, inl, inr, arith, IsBitSet, ◌⊎◌, ◌↔◌, bit_and, bit_or}
 use Rattle.std.specs.Int.{w128, bit_not, bit_at}
 use Rattle.std.proofs.lemmas.Bool.{cases_lt, cases_eq}
@@ -7,7 +7,7 @@ use Rattle.std.proofs.lemmas.Nat.Bits.{bit_at_set_same, bit_at_set_other, bit_at
 use Rattle.picture.specs.declared.picture.TheConstants.{MAX_SIDE}
 use Rattle.picture.proofs.BitLaws.{set_bit, bit_is_set}
 
--- a bit that two numbers share
+-- a bit that is the same in two numbers
 same_bit : (m n i : ℕ) → bit_at m i ≡ bit_at n i → IsBitSet m i ↔ IsBitSet n i
 same_bit m n i e = ((λ is. bit_is_set n i (sym e ∙ set_bit m i is)), (λ is. bit_is_set m i (e ∙ set_bit n i is)))
 
@@ -20,7 +20,7 @@ cleared_bit n k i small inside other =
           bit_at_above mask MAX_SIDE i (omega (arith, small, and_le_l n (bit_not w128 (1 * 2 ^ k % 2 ^ 128)))) (omega (arith, past)) ∙ sym (bit_at_above n MAX_SIDE i small (omega (arith, past)))
     ]
 
--- what a mask with one bit cleared has
+-- the bits of a mask with one bit cleared
 pub cleared : (n k i : ℕ) → n < 2 ^ MAX_SIDE → k < MAX_SIDE → IsBitSet (bit_and n (bit_not w128 (1 * 2 ^ k % 2 ^ 128))) i ↔ (IsBitSet n i × (i ≡ k → ⊥))
 cleared n k i small inside =
     let mask = bit_and n (bit_not w128 (1 * 2 ^ k % 2 ^ 128)) in
@@ -33,7 +33,7 @@ cleared n k i small inside =
           ((λ is. (same.0 is, other)), (λ both. same.1 both.0))
     ]
 
--- what a mask with one bit set has
+-- the bits of a mask with one bit set
 pub raised : (n k i : ℕ) → k < MAX_SIDE → IsBitSet (bit_or n (1 * 2 ^ k % 2 ^ 128)) i ↔ (IsBitSet n i ⊎ (i ≡ k))
 raised n k i inside =
     let mask = bit_or n (1 * 2 ^ k % 2 ^ 128) in
@@ -46,7 +46,7 @@ raised n k i inside =
           ((λ is. inl (same.0 is)), (λ either. elim either [ inl is ↦ same.1 is | inr e ↦ absurd (other e) ]))
     ]
 
--- either way it keeps its width
+-- the mask keeps its width
 pub raised_small : (n k : ℕ) → n < 2 ^ MAX_SIDE → k < MAX_SIDE → bit_or n (1 * 2 ^ k % 2 ^ 128) < 2 ^ MAX_SIDE
 raised_small n k small inside = or_lt MAX_SIDE n (1 * 2 ^ k % 2 ^ 128) small bit_small
   where

@@ -1,4 +1,4 @@
--- Sets of cells as sets: which are one, and what their counts say.
+-- Sets of cells as sets: when two are equal, and what their counts say.
 use Rattle.std.proofs.Common.{◌≡◌, ℕ, ◌<◌, List, length, get_or, replicate, sym, ap, ◌∙◌, subst, inl, inr, arith, IsBitSet, ◌⊎◌, count_ones}
 use Rattle.std.proofs.lemmas.Bool.{cases_lt, cases_eq}
 use Rattle.std.proofs.lemmas.Grind.{same_number_lists}
@@ -39,7 +39,7 @@ pub none_counted : cell_count no_cells ≡ 0
 unfolding no_cells
 none_counted = let each = ones_le_self 0 in sum_by-replicate count_ones MAX_SIDE 0 ∙ omega (arith, each)
 
--- where no row has a cell, the table is the empty one
+-- a set with count 0 is the empty one
 none_when_zero : (cells : List ℕ) → IsCellSet cells → cell_count cells ≡ 0 → cells ≡ no_cells
 unfolding no_cells
 none_when_zero cells is zero_cells =

@@ -27,14 +27,14 @@ module _ (masks : List ℕ) (row col : ℕ) (is : IsCellSet masks) (lt : row < l
   pub puts : PutsCell masks (set masks row (bit_or (get_or masks row 0) (1 * 2 ^ col % 2 ^ 128))) row col
   puts r c = grind (arith, bit_or, get_or, get_or-set_other, get_or-set_same, raised)
 
-  -- either way it stays a table
+  -- with another mask in a row it is still a table
   stays : (mask : ℕ) → mask < 2 ^ MAX_SIDE → IsCellSet (set masks row mask)
   stays mask small = grind (arith, get_or-set_other, get_or-set_same, length-set)
 
   pub stays_put : IsCellSet (set masks row (bit_or (get_or masks row 0) (1 * 2 ^ col % 2 ^ 128)))
   stays_put = stays _ (raised_small (get_or masks row 0) col (is.within row) inside)
 
-  -- a set that has the cell keeps its table, and any other has one cell more
+  -- a set that has the cell stays as it is, and any other gets one cell more
   pub known_put : HasCell masks row col → set masks row (bit_or (get_or masks row 0) (1 * 2 ^ col % 2 ^ 128)) ≡ masks
   known_put has = ap (set masks row) (same_bits _ _ again) ∙ set-get_or masks row 0
     where
@@ -50,7 +50,7 @@ module _ (masks : List ℕ) (row col : ℕ) (is : IsCellSet masks) (lt : row < l
       let counted = sum_by-set count_ones masks row mask 0 lt in
       omega (arith, more, counted)
 
-  -- a set that does not have the cell keeps its table, and any other has one cell less
+  -- a set that does not have the cell stays as it is, and any other gets one cell less
   pub absent_out : ¬ HasCell masks row col → set masks row (bit_and (get_or masks row 0) (bit_not w128 (1 * 2 ^ col % 2 ^ 128))) ≡ masks
   absent_out absent = ap (set masks row) (same_bits _ _ still) ∙ set-get_or masks row 0
     where
@@ -76,6 +76,6 @@ empty_is = record {
   ];
 }
 
--- no row has more than 120 cells
+-- no row of the table has more than 120 cells
 pub few_ones : (masks : List ℕ) (row : ℕ) → IsCellSet masks → count_ones (get_or masks row 0) ≤ MAX_SIDE
 few_ones masks row is = ones-le MAX_SIDE (get_or masks row 0) (is.within row)

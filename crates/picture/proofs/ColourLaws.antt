@@ -1,4 +1,4 @@
--- Laws of colours in a list: their places, and the colours seen one after the other.
+-- Laws of colours in a list: their places, and colours that are added by first appearance.
 use Rattle.std.proofs.Common.{◌≡◌, ℕ, suc, ◌+◌, ◌<◌, ◌≤◌, Bool, true, false, eqb, ◌&&◌, ◌||◌, List, [], ◌∷◌, ◌++◌, length, Option, Some, None, refl, sym, subst, ap, ◌∙◌, append_assoc, inl, inr, arith}
 use Rattle.std.proofs.Common.{unwrap_or}
 use Rattle.std.specs.Cmp.{IsEquivalence}
@@ -125,7 +125,7 @@ seen-append known (x ∷ xs) ys = elim (cases_Bool (list_any (rgb_eq x) known)) 
   | inr e ↦ rw e (seen-append (known ++ x ∷ []) xs ys)
 ]
 
--- what was known stays in front
+-- what was known comes first
 pub seen-front : (known xs : List Rgb) → (more : List Rgb) × (seen_after known xs ≡ known ++ more)
 seen-front known [] = ([], sym (append-nil known))
 seen-front known (x ∷ xs) = elim (cases_Bool (list_any (rgb_eq x) known)) [
@@ -151,7 +151,7 @@ seen-all known (x ∷ xs) = elim (cases_Bool (list_any (rgb_eq x) known)) [
       (keeps x (known ++ x ∷ []) xs (any_last x known), seen-all (known ++ x ∷ []) xs)
 ]
 
--- ---- as many as there are
+-- ---- how many there are
 
 seen-distinct : (known xs : List Rgb) → IsDistinct rgb_eq known → IsDistinct rgb_eq (seen_after known xs)
 seen-distinct known [] distinct = distinct
@@ -167,7 +167,7 @@ seen-among all known (x ∷ xs) had among = elim (cases_Bool (list_any (rgb_eq x
   | inr e ↦ rw e (seen-among all (known ++ x ∷ []) xs (every_append (λ t. list_any (rgb_eq t) all ≡ true) known (x ∷ []) had (among.0, tt)) among.1)
 ]
 
--- different colours that all are among others are no more
+-- different colours that are all among others are at most as many
 pub few_among : (all known : List Rgb) → IsDistinct rgb_eq known → Among all known → length known ≤ length all
 few_among all known distinct among = length-le_from_is_member rgb_equiv known all distinct (λ q is. member all known q among is)
 

@@ -1,4 +1,4 @@
--- Documents with the same parts are one: what a document says of its parts beside them can be proved in one way only.
+-- Documents with the same parts are equal: their other fields are proofs, and of each there is only one.
 use Rattle.std.proofs.Common.{ℕ, List}
 use Rattle.std.proofs.Math.Bridge.{le_prop}
 use Rattle.std.proofs.Math.Path.{to_path_p}

@@ -1,4 +1,4 @@
--- The first bit that is set in a mask from a place on.
+-- The lowest bit from a place on that is set in a mask.
 use Rattle.std.proofs.Common.{◌≡◌, ℕ, ◌+◌, ◌-◌, ◌/◌, ◌%◌, ◌^◌, ◌<◌, ◌≤◌, sym, ap, ◌∙◌, arith, IsBitSet}
 use Rattle.std.specs.Int.{bit_at, trailing_zeros, w128}
 use Rattle.std.proofs.lemmas.Nat.{shr-shr, shr_le}
@@ -7,7 +7,7 @@ use Rattle.picture.specs.declared.picture.TheConstants.{MAX_SIDE}
 use Rattle.picture.specs.LineSet.{IsClearFrom, IsFirstBit}
 use Rattle.picture.proofs.BitLaws.{set_bit, bit_is_set, bit_below}
 
--- a bit of what is left of a mask without its lowest ones
+-- a bit of a mask that is shifted down
 onward_bit : (mask from i : ℕ) → bit_at (mask / 2 ^ from) i ≡ bit_at mask (from + i)
 onward_bit mask from i = ap (λ n. n % 2) (shr-shr mask from i)
 

@@ -26,7 +26,7 @@ is_picture height width cells is =
       colours = cell_at_below height width 16 cells (omega arith) is.colours;
     }
 
--- what is known of rows that a flat list makes
+-- what is known of rows cut from a flat list
 pub record Facts (height width : ℕ) (cells : List ℕ) (rows : Rows) : Type 0 where
   pub tall : length rows ≡ height
   pub wide : width_of rows ≡ width

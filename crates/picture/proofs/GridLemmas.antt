@@ -1,4 +1,4 @@
--- Rows joined into one flat list, and edits of rows beside edits of the flat list.
+-- Rows joined into one flat list, and what edits of rows do to the flat list.
 use Rattle.std.proofs.Common.{◌≡◌, ℕ, zero, suc, ◌+◌, ◌*◌, ◌-◌, ◌<◌, ◌≤◌, List, [], ◌∷◌, ◌++◌, length, get_or, set, take, drop, map, replicate, arith, refl, ap, ◌∙◌, sym, subst, inl, inr}
 use Rattle.std.specs.List.{All, concat, insert, remove, swap}
 use Rattle.std.proofs.lemmas.Bool.{cases_lt}
@@ -133,7 +133,7 @@ grid-mapped height width wide f rows edits is = record {
   each = every_map (IsRow width) (IsRow wide) f edits.keeps rows is.each;
 }
 
--- the edits of a row that an edit of columns makes
+-- what an edit of columns does to each row
 abbrev pub with_gap : ℕ → List ℕ → List ℕ
 with_gap at row = insert row at 0
 
@@ -204,7 +204,7 @@ edited_all : (f : List ℕ → List ℕ) (n : ℕ) (rows : Rows) → length rows
 unfolding edited
 edited_all f n rows all = rw (joined_all f n rows all, drop_all n rows (omega (arith, all))) (append-nil (concat (map f rows)))
 
--- the row whose turn it is, between the rows before and after it
+-- the row to be edited next, between the rows before and after it
 edited_here : (f : List ℕ → List ℕ) (n : ℕ) (rows : Rows) → n < length rows → edited f n rows ≡ joined f n rows ++ (get_or rows n [] ++ concat (drop (n + 1) rows))
 unfolding edited
 edited_here f n rows lt = ap (λ xs. joined f n rows ++ concat xs) (drop_more rows n [] lt)
@@ -213,7 +213,7 @@ edited_more : (f : List ℕ → List ℕ) (n : ℕ) (rows : Rows) → n < length
 unfolding edited
 edited_more f n rows lt = ap (λ xs. xs ++ concat (drop (n + 1) rows)) (joined_more f n rows lt) ∙ append_assoc (joined f n rows) (f (get_or rows n [])) (concat (drop (n + 1) rows))
 
--- ---- one turn of each loop
+-- ---- one pass of each loop
 
 -- two cells exchanged in the middle of a list
 swap-within : (front row rest : List ℕ) (n i j : ℕ) → length front ≡ n → i < length row → j < length row → swap (front ++ (row ++ rest)) (n + i) (n + j) ≡ front ++ (swap row i j ++ rest)

@@ -1,4 +1,4 @@
--- What an edit of a picture's flat cells makes of its rows.
+-- What an edit of a picture's flat list of cells does to its rows.
 use Rattle.std.proofs.Common.{◌≡◌, ℕ, zero, suc, ◌+◌, ◌*◌, ◌-◌, ◌<◌, ◌≤◌, List, [], ◌∷◌, ◌++◌, length, set, take, drop, replicate, arith, refl, ap, ◌∙◌, sym, subst}
 use Rattle.std.specs.List.{All, concat, insert, remove, swap}
 use Rattle.std.proofs.lemmas.List.{append_assoc, length-set, drop_at}
@@ -101,7 +101,7 @@ module _ (height width : ℕ) (old : List ℕ) (is : AreCells height width old) 
       ∙ sym (concat-set width (set rows i row_j) j row_i (All-set (IsRow width) rows i row_j is_j all) is_i.wide (omega (arith, length-set rows i row_j, lt_j)))
       ∙ ap concat (swap_is rows i j [] lt_i lt_j)
 
--- cells that lie as these rows
+-- a flat list of cells that is these rows
 pub record Lies (height width : ℕ) (cells : List ℕ) (rows : Rows) : Type 0 where
   pub reads : rows_of height width cells ≡ rows
   pub are : AreCells height width cells

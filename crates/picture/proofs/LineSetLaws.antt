@@ -1,4 +1,4 @@
--- Laws of sets of names of lines: which are one, and what their counts say.
+-- Laws of sets of names of lines: when two are equal, and what their counts say.
 use Rattle.std.proofs.Common.{◌≡◌, ℕ, ◌+◌, ◌^◌, ◌<◌, ◌≤◌, refl, sym, ap, ◌∙◌, subst, inl, inr, arith}
 use Rattle.std.specs.Prelude.{IsBitSet, ◌⊎◌, count_ones}
 use Rattle.std.proofs.lemmas.Bool.{cases_eq}
@@ -62,7 +62,7 @@ same_axis Across Down = inr (λ e. cc)
 same_axis Down Across = inr (λ e. cc)
 same_axis Down Down = inl refl
 
--- two names are one or not
+-- two names are equal or not
 pub cases_name : (a b : LineId) → (a ≡ b) ⊎ ¬ (a ≡ b)
 cases_name a b = grind (arith, same_axis, same_name)
 
@@ -124,7 +124,7 @@ module _ (old new : Lines) (line : LineId) where
   pub absent_out : IsLineSet old → IsLineSet new → TakesOutName old new line → ¬ HasName old line → new ≡ old
   absent_out is_old is_new takes absent = grind (arith, same_names)
 
--- names put into a set make it no smaller, and no larger than by their own number
+-- names put into a set make its count no smaller, and larger by at most their own count
 pub put_all_counts : (old new names : Lines) → PutsNames old new names → (name_count old ≤ name_count new) × (name_count new ≤ name_count old + name_count names)
 put_all_counts old new names puts =
     let rows = few_ones_of old.rows names.rows new.rows (λ k. (puts (record { axis = Across; at = k })).0) in

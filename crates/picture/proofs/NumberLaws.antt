@@ -1,4 +1,4 @@
--- Laws of numbers as they are written: they are read again.
+-- Laws of numbers in decimal digits: what is written is read as the same number.
 use Rattle.std.proofs.Common.{◌≡◌, ℕ, ◌^◌, ◌<◌, ◌≤◌, true, cond, not, eqb, leb, List, [], ◌∷◌, length, Some, None, refl, ap, ◌∙◌, arith, rules, decimal}
 use Rattle.std.specs.Str.{all_ascii_digits}
 use Rattle.std.specs.Char.{is_ascii_digit}
@@ -27,7 +27,7 @@ number_from (d ∷ digits) some e = ap (λ t. cond t (Some (value_after 0 (d ∷
 pub number_spelled-decimal : (n : ℕ) → n < 2 ^ 64 → number_spelled (decimal n) ≡ Some n
 number_spelled-decimal n small = number_from (decimal n) (decimal_nonempty n small) (decimal_digits n small) ∙ ap Some (digits_value-decimal own n small)
 
--- a byte below the digits stands in no number that is written
+-- digits have no byte that is below the digits
 digits_lack : (c : ℕ) (digits : List ℕ) → c < 48 → all_ascii_digits digits ≡ true → lacks c digits ≡ true
 digits_lack c [] low e = refl
 digits_lack c (d ∷ digits) low e =

@@ -1,4 +1,4 @@
--- Digits and their value, which is counted up to a limit.
+-- Digits and their value, up to a limit.
 use Rattle.std.proofs.Common.{◌≡◌, ℕ, ◌+◌, ◌-◌, ◌*◌, ◌^◌, ◌<◌, ◌≤◌, Bool, true, false, cond, List, [], ◌∷◌, length, get_or, drop, Option, Some, None, IfSome, refl, sym, ap, ◌∙◌, arith, min}
 use Rattle.std.proofs.Common.{option_map, ◌&&◌}
 use Rattle.std.specs.Char.{is_ascii_digit}

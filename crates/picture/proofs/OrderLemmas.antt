@@ -78,7 +78,7 @@ module _ (height width : ℕ) (cells : List ℕ) (now : Rows) (reads : rows_of h
   pub cells_coloured : (shown : List ℕ) → shown ≡ cells → (limit : ℕ) → 0 < limit → ((i j : ℕ) → cell_at now i j < limit) → (k : ℕ) → get_or shown k 0 < limit
   cells_coloured shown e limit some each k = rw (e ∙ whole) (every_at_all limit (concat now) some (rows_coloured limit now each) k)
 
-  -- `shown` is how the cells were read
+  -- `shown` is the cells as they were read
   pub seen_in_rows : (shown : List ℕ) → shown ≡ cells → (old new : Colours) → new ≡ with_seen old (triples_of triples shown) → new ≡ with_seen old (flat_map (triples_of triples) now)
   seen_in_rows shown e old new seen = seen ∙ ap (λ xs. with_seen old (triples_of triples xs)) (e ∙ whole) ∙ ap (with_seen old) (concat-triples triples now)
 

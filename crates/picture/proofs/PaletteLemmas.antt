@@ -1,4 +1,4 @@
--- Colours in a palette's list, and the first reason against one more.
+-- Colours in a palette's list, and the first error of adding one.
 use Rattle.std.proofs.Common.{◌≡◌, ℕ, zero, suc, ◌+◌, ◌-◌, ◌<◌, ◌≤◌, Bool, true, false, cond, ltb, not, ◌||◌, List, [], ◌∷◌, ◌++◌, length, get_or, set, Option, Some, None, refl, sym, subst, ap, ◌∙◌}
 use Rattle.std.proofs.Common.{inl, inr, arith, position, nat_le, slice_get, IfSome, option_to_list}
 use Rattle.std.specs.Option.{option_map}
@@ -38,7 +38,7 @@ stands_twice colours rgb room there = rw (not_full (length colours.triples) room
 pub is_over : (colours : Colours) (rgb : Rgb) → length colours.triples < 16 → list_any (rgb_eq rgb) colours.triples ≡ false → fits colours.maxval rgb ≡ false → add_fault colours rgb ≡ Some SampleOver
 is_over colours rgb room there over = rw (not_full (length colours.triples) room, there, over) refl
 
--- ---- a colour in place of another
+-- ---- another colour at a number
 
 pub at_each : (P : Rgb → Type 0) (triples : List Rgb) (k : ℕ) (d : Rgb) → k < length triples → AllByRecursion P triples → P (get_or triples k d)
 at_each P triples k d lt all = All-get_or P triples k d lt (All-from_recursion P triples all)
@@ -54,7 +54,7 @@ none_equal : (rgb : Rgb) (triples : List Rgb) → AllByRecursion (λ t. rgb_eq r
 none_equal rgb [] all = refl
 none_equal rgb (t ∷ triples) all = rw all.0 (none_equal rgb triples all.1)
 
--- a colour that stands at k stands nowhere else
+-- the colour at k is at no other place
 pub at_no_other : (rgb d : Rgb) (triples : List Rgb) (k : ℕ) → k < length triples → IsDistinct rgb_eq triples → rgb_eq (get_or triples k d) rgb ≡ true
     → list_any (rgb_eq rgb) (remove triples k) ≡ false
 at_no_other rgb d [] k lt distinct at = absurd (omega (arith, lt))
@@ -66,7 +66,7 @@ at_no_other rgb d (t ∷ triples) (suc k) lt distinct at =
     rw (rgb_eq-sym t rgb (subst (λ u. rgb_eq t u ≡ false) (same_rgb (get_or triples k d) rgb at) other))
     (at_no_other rgb d triples k inside (IsDistinct-tail rgb_eq t triples distinct) at)
 
--- a colour that doesn't stand at k
+-- a colour that is not the one at k
 at_others : (rgb d : Rgb) (triples : List Rgb) (k : ℕ) → k < length triples → rgb_eq (get_or triples k d) rgb ≡ false → list_any (rgb_eq rgb) (remove triples k) ≡ list_any (rgb_eq rgb) triples
 at_others rgb d [] k lt isnt = absurd (omega (arith, lt))
 at_others rgb d (t ∷ triples) zero lt isnt = rw (rgb_eq-sym t rgb isnt) refl
@@ -111,7 +111,7 @@ popped maxval triples new gone is e some distinct =
       samples_fit = every_front _ new (option_to_list gone) (rw e at is.samples_fit);
     }
 
--- what two tests tell of the other numbers: `shown` is how the list was read
+-- what two tests say of the other numbers; `shown` is the list as it was read
 module _ (rgb d : Rgb) (triples shown : List Rgb) (k : ℕ) (ne : Bool) (read : shown ≡ triples) (lt : k < length triples) (is : ne ≡ not (rgb_eq (get_or shown k d) rgb)) where
   pub stands_if_differs : ne ≡ true → list_any (rgb_eq rgb) triples ≡ stands_elsewhere triples k rgb
   stands_if_differs holds = sym (at_others rgb d triples k lt (subst (λ xs. rgb_eq (get_or xs k d) rgb ≡ false) read (not-true _ (sym is ∙ holds))))

@@ -1,4 +1,4 @@
--- Laws of what two writes after each other have appended.
+-- Laws of what one write after another has appended.
 use Rattle.std.proofs.Common.{◌≡◌, ℕ, ◌+◌, ◌<◌, ◌≤◌, List, [], ◌∷◌, ◌++◌, take, drop, get_or, length, Option, sym, ap, ◌∙◌, subst, arith, inl, inr, Result, OnErr}
 use Rattle.std.proofs.lemmas.Bool.{cases_lt}
 use Rattle.std.proofs.lemmas.List.{take-append-le, take_all, take_more, take-append-drop, append-nil}
@@ -51,7 +51,7 @@ module _ (a b c : Option (List ℕ)) where
       let front : AppendsFront a c (flat_map piece (take (i + 1) xs)) = rw (pieces_more piece xs i d lt) (second_front a b c (flat_map piece (take i xs)) (piece (get_or xs i d)) before now) in
       rw (pieces_parts piece xs (i + 1)) (first_front a c (flat_map piece (take (i + 1) xs)) (flat_map piece (drop (i + 1) xs)) front)
 
--- all the pieces, and none
+-- once all pieces are sent, the whole text is
 pub pieces_sent : {X : Type 0} (a b : Option (List ℕ)) (piece : X → List ℕ) (xs : List X) (i : ℕ) → length xs ≤ i → Appends a b (flat_map piece (take i xs)) → Appends a b (flat_map piece xs)
 pieces_sent a b piece xs i le h = subst (λ ys. Appends a b (flat_map piece ys)) (take_all i xs le) h
 

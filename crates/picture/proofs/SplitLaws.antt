@@ -22,7 +22,7 @@ module _ (p : ℕ → Bool) (bytes : List ℕ) where
   split_none e = slice_split_none p bytes (none_passes e)
 
   module _ (end : ℕ) (e : position p bytes ≡ Some end) where
-    -- the front up to the first byte that passes
+    -- the bytes up to the first one that passes
     pub split_found : slice_split p bytes ≡ take end bytes ∷ slice_split p (take (length bytes - (end + 1)) (drop (end + 1) bytes))
     split_found =
         let at = cond_some _ _ _ e in

@@ -1,4 +1,4 @@
--- What was written in two steps, as one front of the bytes.
+-- What was written in two steps is one prefix of the bytes.
 use Rattle.std.proofs.Common.{ℕ, ◌+◌, ◌-◌, List, take, drop, length, Option}
 use Rattle.std.proofs.Math.Seq.{take-add}
 use Rattle.std.proofs.lemmas.List.{take_rest}

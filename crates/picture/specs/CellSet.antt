@@ -15,7 +15,7 @@ HasCell cells row col = IsBitSet (slice_index cells row) col
 abbrev pub PutsCell : List ℕ → List ℕ → ℕ → ℕ → Type 0
 PutsCell old new row col = (r c : ℕ) → HasCell new r c ↔ (HasCell old r c ⊎ ((r ≡ row) × (c ≡ col)))
 
--- new has the cells of old but for this one
+-- new has the cells of old except this one
 abbrev pub TakesOutCell : List ℕ → List ℕ → ℕ → ℕ → Type 0
 TakesOutCell old new row col = (r c : ℕ) → HasCell new r c ↔ (HasCell old r c × ¬ ((r ≡ row) × (c ≡ col)))
 

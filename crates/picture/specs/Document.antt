@@ -1,4 +1,4 @@
--- What is said of documents: each cell has a colour of the palette, and the ordered form.
+-- Documents as their parts, what holds of each of them, and the ordered form.
 use Rattle.std.specs.Prelude.{ℕ, ◌<◌, List, [], ◌∷◌, ◌++◌, length, map, unwrap_or, if◌then◌else◌}
 use Rattle.std.specs.List.{list_any, flat_map}
 use Rattle.picture.specs.declared.rgb.Rgb.{Rgb}
@@ -35,7 +35,7 @@ seen_after known [] = known
 seen_after known (t ∷ cells) =
     if list_any (rgb_eq t) known then seen_after known cells else seen_after (known ++ t ∷ []) cells
 
--- a palette after colours have come, each added where it is not yet there
+-- a palette with colours added in order, each where the palette does not have it yet
 abbrev pub with_seen : Colours → List Rgb → Colours
 with_seen colours triples = record { maxval = colours.maxval; triples = seen_after colours.triples triples }
 
@@ -43,15 +43,15 @@ with_seen colours triples = record { maxval = colours.maxval; triples = seen_aft
 abbrev pub number_among : List Rgb → Rgb → ℕ
 number_among triples t = unwrap_or (place_of t triples) 0
 
--- the rows of a picture with each cell's colour by its number among other colours
+-- the rows of a picture, with each cell renumbered by the number that its colour has among other colours
 abbrev pub renumbered_rows : List Rgb → List Rgb → Rows → Rows
 renumbered_rows among triples rows = map (λ row. map (number_among among) (triples_of triples row)) rows
 
--- the colours of a picture by first appearance in row order after the background, with no colour that no cell has
+-- the background, and after it the other colours that cells have, by first appearance in row order
 abbrev pub ordered_triples : List Rgb → Rows → List Rgb
 ordered_triples triples rows = seen_after (first_of triples ∷ []) (flat_map (triples_of triples) rows)
 
--- a document with its colours in that order, and its cells numbered by it
+-- the ordered form of a document: its colours in that order, and its cells numbered by it
 abbrev pub ordered_of : Content → Content
 ordered_of d =
     let triples = ordered_triples d.colours.triples d.rows in

@@ -7,12 +7,12 @@ use Rattle.picture.specs.CellSet.{IsCellSet, HasCell, PutsCell, TakesOutCell, ce
 use Rattle.picture.specs.Content.{content_of}
 use Rattle.picture.specs.LineSet.{Lines, IsLineSet, HasName, PutsName, TakesOutName, name_count, no_names}
 
--- sets with the same cells are one
+-- sets with the same cells are equal
 abbrev pub SameCellsAreEqual : Type 0
 SameCellsAreEqual = (one other : List ℕ) → IsCellSet one → IsCellSet other
     → ((row col : ℕ) → row < MAX_SIDE → col < MAX_SIDE → HasCell one row col ↔ HasCell other row col) → one ≡ other
 
--- what is in a set of cells: each cell is or is not, and lies in the table; a set that counts none has none
+-- each cell is in a set or not, a cell in it lies in the table, and the empty set alone has count 0
 pub record CellsAreMembers : Type 0 where
   pub decided : (cells : List ℕ) (row col : ℕ) → HasCell cells row col ⊎ ¬ HasCell cells row col
   pub inside : (cells : List ℕ) (row col : ℕ) → IsCellSet cells → HasCell cells row col
@@ -28,12 +28,12 @@ pub record CellsComeBack : Type 0 where
   pub taken_first : (old without_it new : List ℕ) (row col : ℕ) → IsCellSet old → IsCellSet new → HasCell old row col
       → TakesOutCell old without_it row col → PutsCell without_it new row col → new ≡ old
 
--- sets with the same names are one
+-- sets with the same names are equal
 abbrev pub SameNamesAreEqual : Type 0
 SameNamesAreEqual = (one other : Lines) → IsLineSet one → IsLineSet other
     → ((line : LineId) → line.at < MAX_SIDE → HasName one line ↔ HasName other line) → one ≡ other
 
--- what is in a set of names: each name is or is not, and has a place in the table; a set that counts none has none
+-- each name is in a set or not, a name in it has a place in the table, and the empty set alone has count 0
 pub record NamesAreMembers : Type 0 where
   pub decided : (lines : Lines) (line : LineId) → HasName lines line ⊎ ¬ HasName lines line
   pub inside : (lines : Lines) (line : LineId) → IsLineSet lines → HasName lines line → line.at < MAX_SIDE
@@ -48,6 +48,6 @@ pub record NamesComeBack : Type 0 where
   pub taken_first : (old without_it new : Lines) (line : LineId) → IsLineSet old → IsLineSet new → HasName old line
       → TakesOutName old without_it line → PutsName without_it new line → new ≡ old
 
--- documents with the same colours, cells and givens are one
+-- documents with the same colours, cells and givens are equal
 abbrev pub SameContentsAreEqual : Type 0
 SameContentsAreEqual = (one other : Document) → content_of one ≡ content_of other → one ≡ other

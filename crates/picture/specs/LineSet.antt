@@ -9,7 +9,7 @@ pub record Lines : Type 0 where
   pub rows : ℕ
   pub columns : ℕ
 
--- each axis has a name for each line that a picture can have
+-- each mask has bits only for lines that a picture can have
 pub record IsLineSet (lines : Lines) : Type 0 where
   pub rows_within : lines.rows < 2 ^ MAX_SIDE
   pub columns_within : lines.columns < 2 ^ MAX_SIDE
@@ -29,7 +29,7 @@ PutsName old new line = (other : LineId) → HasName new other ↔ (HasName old 
 abbrev pub PutsNames : Lines → Lines → Lines → Type 0
 PutsNames old new names = (line : LineId) → HasName new line ↔ (HasName old line ⊎ HasName names line)
 
--- new has the names of old but for this one
+-- new has the names of old except this one
 abbrev pub TakesOutName : Lines → Lines → LineId → Type 0
 TakesOutName old new line = (other : LineId) → HasName new other ↔ (HasName old other × ¬ (other ≡ line))
 
@@ -41,7 +41,7 @@ name_count lines = count_ones lines.rows + count_ones lines.columns
 abbrev pub no_names : Lines
 no_names = record { rows = 0; columns = 0 }
 
--- the first bit that is set in a mask from a place on, and that there is none
+-- the first place from `from` on whose bit is set in a mask is `at`; or there is none
 pub record IsFirstBit (mask from at : ℕ) : Type 0 where
   pub onward : from ≤ at
   pub within : at < MAX_SIDE

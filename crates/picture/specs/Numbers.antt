@@ -16,6 +16,6 @@ value_after n (d ∷ digits) = value_after (n * 10 + (d - 48)) digits
 unfoldable pub number_spelled : List ℕ → Option ℕ
 number_spelled bytes = if has_byte bytes && all_ascii_digits bytes then Some (value_after 0 bytes) else None
 
--- the value of at most so many digits
+-- the value of digits alone, at most `most` of them
 abbrev pub short_number : ℕ → List ℕ → Option ℕ
 short_number most bytes = if nat_le (length bytes) most then number_spelled bytes else None

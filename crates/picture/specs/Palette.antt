@@ -41,11 +41,11 @@ with_colour colours rgb = record { maxval = colours.maxval; triples = colours.tr
 abbrev pub only_background : ℕ → Rgb → Colours
 only_background maxval rgb = record { maxval = maxval; triples = rgb ∷ [] }
 
--- why a palette cannot begin so
+-- why there is no palette with this maxval and background, if there is none
 abbrev pub start_fault : ℕ → Rgb → Option PaletteFault
 start_fault maxval rgb = if fits maxval rgb then None else Some SampleOver
 
--- the first reason why a colour cannot be added
+-- the first reason why a colour cannot be added, if there is one
 abbrev pub add_fault : Colours → Rgb → Option PaletteFault
 add_fault colours rgb =
     if nat_le MAX_COLOURS (length colours.triples) then Some Full
@@ -56,11 +56,11 @@ add_fault colours rgb =
 abbrev pub with_triple : Colours → ℕ → Rgb → Colours
 with_triple colours k rgb = record { maxval = colours.maxval; triples = slice_set colours.triples k rgb }
 
--- the colour has another number than k
+-- another number than k has the colour
 abbrev pub stands_elsewhere : List Rgb → ℕ → Rgb → Bool
 stands_elsewhere triples k rgb = list_any (rgb_eq rgb) (remove triples k)
 
--- the first reason why a number cannot have a colour
+-- the first reason why a colour cannot be set at a number, if there is one
 abbrev pub set_fault : Colours → ℕ → Rgb → Option PaletteFault
 set_fault colours k rgb =
     if stands_elsewhere colours.triples k rgb then Some Duplicate
@@ -84,7 +84,7 @@ pub record AreAmong (known all : Colours) : Type 0 where
   pub maxval : known.maxval ≡ all.maxval
   pub each : AllByRecursion (λ rgb. IsTrue (list_any (rgb_eq rgb) all.triples)) known.triples
 
--- one more colour and those there are are all some palette's
+-- some palette has all known colours and this one
 pub record HasPlaceFor (known : Colours) (rgb : Rgb) : Type 0 where
   pub all : Colours
   pub palette : IsPalette all

@@ -12,7 +12,7 @@ pub record IsPicture (rows : Rows) : Type 0 where
   pub rectangular : (i : ℕ) → i < length rows → length (row_at rows i) ≡ width_of rows
   pub colours : (i j : ℕ) → cell_at rows i j < MAX_COLOURS
 
--- what a picture's cells are, row after row
+-- what holds of a picture's cells as one flat list, row after row
 pub record AreCells (height width : ℕ) (cells : List ℕ) : Type 0 where
   pub has_row : 0 < height
   pub rows_fit : height ≤ MAX_SIDE
@@ -25,6 +25,6 @@ pub record AreCells (height width : ℕ) (cells : List ℕ) : Type 0 where
 abbrev pub part : List ℕ → ℕ → ℕ → List ℕ
 part cells start count = take count (drop start cells)
 
--- the cells with others in place of those from a place on
+-- the cells, overwritten by others from a place on
 abbrev pub with_part : List ℕ → ℕ → List ℕ → List ℕ
 with_part cells start others = take start cells ++ (others ++ drop (start + length others) cells)

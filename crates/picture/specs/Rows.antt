@@ -14,7 +14,7 @@ abbrev pub rows_of : ℕ → ℕ → List ℕ → Rows
 rows_of zero width cells = []
 rows_of (suc height) width cells = take width cells ∷ rows_of height width (drop width cells)
 
--- how many cells the rows have, which is what the first one has
+-- how many cells each row has, by the first row
 abbrev pub width_of : Rows → ℕ
 width_of rows = length (slice_index_or rows 0 [])
 
@@ -47,7 +47,7 @@ lines_along Down rows = width_of rows
 abbrev pub HasLine : Rows → LineId → Type 0
 HasLine rows line = line.at < lines_along line.axis rows
 
--- a line of background stands at the place, and later lines have moved up by one
+-- a line of background is inserted at a place, before the line that was there
 abbrev pub with_line : Axis → ℕ → Rows → Rows
 with_line Across i rows = insert rows i (replicate (width_of rows) 0)
 with_line Down j rows = map (λ row. insert row j 0) rows
@@ -55,7 +55,7 @@ with_line Down j rows = map (λ row. insert row j 0) rows
 abbrev pub line_inserted : Rows → LineId → Rows
 line_inserted rows line = with_line line.axis line.at rows
 
--- the line is gone, and later lines have moved down by one
+-- the line at a place is removed
 abbrev pub without_line : Axis → ℕ → Rows → Rows
 without_line Across i rows = remove rows i
 without_line Down j rows = map (λ row. remove row j) rows

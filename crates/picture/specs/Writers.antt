@@ -6,6 +6,6 @@ use Rattle.std.specs.Io.KnownBytes.{Appends}
 abbrev pub AppendsFront : Option (List ℕ) → Option (List ℕ) → List ℕ → Type 0
 AppendsFront old new bytes = (n : ℕ) × Appends old new (take n bytes)
 
--- a number, and the byte that closes it
+-- a number in decimal digits, and the byte after it
 abbrev pub number_text : ℕ → ℕ → List ℕ
 number_text n close = decimal n ++ close ∷ []

@@ -9,7 +9,7 @@ use std::marker::Model;
 // How many rows the table has.
 const ROWS: usize = MAX_SIDE as usize;
 
-/// A set of cells, each at a row and a column below `MAX_SIDE`. It takes no memory beside itself.
+/// A set of cells, each at a row and a column below `MAX_SIDE`. It allocates nothing.
 #[derive(Clone, Copy)]
 pub struct CellSet {
     // A mask for each row, with a bit for each column.
@@ -27,7 +27,7 @@ impl Model for CellSet {
 }
 
 impl CellSet {
-    /// The set without a cell.
+    /// The empty set.
     pub fn empty() -> CellSet
         ensures value { result ≡ no_cells }
         ensures set { IsCellSet result }
@@ -37,7 +37,7 @@ impl CellSet {
         CellSet { rows: [0; ROWS] }
     }
 
-    /// Whether the set has a cell.
+    /// Whether a cell is in the set.
     pub fn has(&self, row: u8, col: u8) -> bool
         requires in_rows { row < MAX_SIDE }
         requires in_columns { col < MAX_SIDE }

@@ -4,7 +4,7 @@ ghost use Rattle.std.specs.Prelude.{◌≡◌, ◌<◌, ◌==◌, ◌∷◌, len
 ghost use Rattle.std.specs.List.{slice_split};
 ghost use Rattle.picture.specs.Readers.{pieces_behind};
 
-/// The bytes up to the first separator, and what follows it, where there is one.
+/// The bytes before the first separator and those after it; without one, all and None.
 pub fn split_first(bytes: &[u8], separator: u8) -> (&[u8], Option<&[u8]>)
     ensures pieces { slice_split (λ b. b == separator) bytes.now
         ≡ result.0.now ∷ pieces_behind separator result.1 }

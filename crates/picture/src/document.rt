@@ -8,7 +8,7 @@ use crate::palette::Palette;
 use crate::picture::Picture;
 use std::alloc::AllocError;
 
-/// A picture whose cells have colours of its palette. A given is a cell whose colour is printed as part of the puzzle.
+/// A picture in its palette's colours. Givens are cells whose colours are published with the clues.
 #[derive(Drop)]
 pub struct Document {
     pub palette: Palette,

@@ -9,7 +9,7 @@ pub fn same_cells_are_equal()
 {}
 
 #[tactic(auto, using(crate::proofs::CellSetLaws::laws))]
-/// Each cell is in a set or not, a cell in it lies in the table, and a set that counts none is the empty one.
+/// Each cell is in a set or not, a cell in it lies in the table, and the empty set alone has count 0.
 pub fn cells_are_members()
     ensures { CellsAreMembers }
 {}
@@ -27,7 +27,7 @@ pub fn same_names_are_equal()
 {}
 
 #[tactic(auto, using(crate::proofs::LineSetLaws::laws))]
-/// Each name is in a set or not, a name in it has a place in the table, and a set that counts none is the empty one.
+/// Each name is in a set or not, a name in it has a place in the table, and the empty set alone has count 0.
 pub fn names_are_members()
     ensures { NamesAreMembers }
 {}

@@ -1,4 +1,4 @@
-//! Palettes, pictures and what is borrowed from them: the values that every other crate speaks of.
+//! Pictures, palettes, givens and views of lines: the values that other crates use.
 #![tactic(auto)]
 
 mod cell_set;

@@ -1,4 +1,4 @@
-//! Rows and columns inserted into cells that lie row after row, deleted from them, and exchanged.
+//! Inserting, deleting and exchanging rows and columns in a list of cells, row after row.
 
 ghost use Rattle.std.specs.Prelude.{◌≡◌, ◌+◌, ◌*◌, ◌<◌, ◌≤◌, ◌++◌, length, take, drop, insert, replicate, OnOk, OnErr, vec_len};
 ghost use Rattle.std.specs.List.{concat};
@@ -9,10 +9,10 @@ ghost use Rattle.picture.specs.Rows.{rows_of, with_line, without_line, lines_swa
 use crate::picture::MAX_SIDE;
 use std::alloc::AllocError;
 
-// How many cells a row has at the most.
+// How many cells a row has at most.
 const MOST_CELLS: usize = MAX_SIDE as usize;
 
-/// Puts a row of background at a place. After an error the cells are as before.
+/// Inserts a row of background at a place. After an error the cells are as before.
 pub(crate) fn insert_row(cells: &mut Vec<u8>, width: usize, at: usize) -> Result<(), AllocError>
     requires place { at * width ≤ vec_len cells.old }
     requires fits { vec_len cells.old + width ≤ 65536 }
@@ -25,7 +25,7 @@ pub(crate) fn insert_row(cells: &mut Vec<u8>, width: usize, at: usize) -> Result
     Ok(())
 }
 
-/// Puts a column of background at a place. After an error the cells are as before.
+/// Inserts a column of background at a place. After an error the cells are as before.
 pub(crate) fn insert_column(
     cells: &mut Vec<u8>,
     height: usize,
@@ -46,7 +46,7 @@ pub(crate) fn insert_column(
     Ok(())
 }
 
-// Appends a row with a cell of background at a place.
+// Appends a row with a cell of background inserted at a place.
 fn push_with_gap(cells: &mut Vec<u8>, row: &[u8], at: usize) -> Result<(), AllocError>
     requires { at ≤ length row.now }
     ensures { OnOk result (cells.new.items ≡ cells.old.items ++ insert row.now at 0) }
@@ -57,7 +57,7 @@ fn push_with_gap(cells: &mut Vec<u8>, row: &[u8], at: usize) -> Result<(), Alloc
     Ok(())
 }
 
-/// Takes the row at a place out.
+/// Removes the row at a place.
 pub(crate) fn delete_row(cells: &mut Vec<u8>, width: usize, at: usize)
     requires { at * width + width ≤ vec_len cells.old }
     ensures { cells.new.items
@@ -67,7 +67,7 @@ pub(crate) fn delete_row(cells: &mut Vec<u8>, width: usize, at: usize)
     cells.truncate(cells.len() - width);
 }
 
-/// Takes the column at a place out.
+/// Removes the column at a place.
 pub(crate) fn delete_column(cells: &mut Vec<u8>, height: usize, width: usize, at: usize)
     requires cells { AreCells height width cells.old.items }
     requires place { at < width }

@@ -3,7 +3,7 @@
 ghost use Rattle.std.specs.Prelude.{◌≡◌};
 ghost use Rattle.picture.specs.CrossingLines.{crossing, crossing_at};
 
-/// The way in which a line runs.
+/// The direction of a line: a row or a column.
 #[derive(Clone, Copy, Debug, PartialEq, Eq)]
 pub enum Axis {
     /// A row, read from the left.
@@ -13,7 +13,7 @@ pub enum Axis {
 }
 
 impl Axis {
-    /// The axis of the lines that cross the lines along this one.
+    /// The other axis, that of the lines that cross.
     pub fn crossing(self) -> Axis
         ensures { result ≡ crossing self }
     {

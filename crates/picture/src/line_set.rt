@@ -7,7 +7,7 @@ use crate::line_id::{Axis, LineId};
 use crate::picture::MAX_SIDE;
 use std::marker::Model;
 
-/// A set of names of rows and columns, each at a place below `MAX_SIDE`. It takes no memory beside itself.
+/// A set of names of rows and columns, each at a place below `MAX_SIDE`. It allocates nothing.
 #[derive(Clone, Copy)]
 pub struct LineSet {
     rows: u128,
@@ -27,7 +27,7 @@ impl Model for LineSet {
 }
 
 impl LineSet {
-    /// The set without a name.
+    /// The empty set.
     pub fn empty() -> LineSet
         ensures value { result ≡ no_names }
         ensures set { IsLineSet result }
@@ -54,7 +54,7 @@ impl LineSet {
         LineSet { rows, columns }
     }
 
-    /// Whether the set has a name.
+    /// Whether a name is in the set.
     pub fn has(&self, line: LineId) -> bool
         requires { line.at < MAX_SIDE }
         ensures value { IsTrue result ↔ HasName self.now line }
@@ -120,7 +120,7 @@ impl LineSet {
         self.len() == 0
     }
 
-    /// The place of the first name along an axis from a place on, if there is one.
+    /// The first place along an axis, from a given one on, whose name is in the set, if there is one.
     pub fn first_from(&self, axis: Axis, from: u8) -> Option<u8>
         requires { from ≤ MAX_SIDE }
         ensures value { MatchOption
@@ -137,7 +137,7 @@ impl LineSet {
 }
 
 #[tactic(auto, using(crate::proofs::FirstNameLemmas::first))]
-// The place of the first bit that is set in a mask from a place on.
+// The lowest bit from a place on that is set in a mask, if there is one.
 fn first_bit(mask: u128, from: u8) -> Option<u8>
     requires narrow { mask < 2 ^ MAX_SIDE }
     requires within { from ≤ MAX_SIDE }

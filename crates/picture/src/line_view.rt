@@ -72,7 +72,7 @@ impl<'a> LineView<'a> {
     }
 }
 
-/// The colours of a line's cells, from both ends.
+/// An iterator over the colours of a line's cells, from either end.
 #[derive(Drop)]
 pub struct LineIter<'a> {
     line: Spaced<'a>,

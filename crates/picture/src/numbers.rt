@@ -1,13 +1,13 @@
-//! Numbers in texts: digits alone, with leading zeros or without. Nothing is copied.
+//! Numbers in texts: decimal digits alone, with leading zeros or without. Nothing is copied.
 
 ghost use Rattle.std.specs.Prelude.{◌≡◌, ◌^◌, ◌<◌, ◌≤◌, IfSome, min, option_map};
 ghost use Rattle.picture.specs.Numbers.{number_spelled, short_number};
 
-// What larger numbers count as, which is above every limit.
+// Larger numbers count as this one, which is above every limit.
 const MOST: u32 = 100_000;
 
 #[tactic(auto, using(crate::proofs::NumberLemmas::numbers))]
-/// The value of digits alone, however many there are. A value above 100,000 counts as 100,000.
+/// The value of digits alone, at least one, else None. Values above 100,000 count as 100,000.
 pub fn number_in(bytes: &[u8]) -> Option<u32>
     ensures { result ≡ option_map (min 100000) (number_spelled bytes.now) }
 {
@@ -25,7 +25,7 @@ pub fn number_in(bytes: &[u8]) -> Option<u32>
 }
 
 #[tactic(auto, using(crate::proofs::NumberLemmas::short_numbers))]
-/// The value of at most so many digits alone.
+/// The value of digits alone, from one to `most` of them, else None.
 pub fn short_number_in(bytes: &[u8], most: usize) -> Option<u32>
     requires { most ≤ 5 }
     ensures value { result ≡ short_number most bytes.now }

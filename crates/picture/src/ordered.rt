@@ -1,4 +1,4 @@
-//! A document with its colours numbered as they appear.
+//! The ordered form of a document.
 
 ghost use Rattle.std.specs.Prelude.{◌≡◌, IfOk};
 ghost use Rattle.picture.specs.Content.{content_of};
@@ -8,8 +8,8 @@ use crate::document::Document;
 use std::alloc::AllocError;
 
 impl Document {
-    /// The same picture with its colours numbered by first appearance, row after row from the top and after the
-    /// background, and with no colour that no cell has. Each cell keeps its colour, and the givens stay.
+    /// The ordered form: after the background the colours are numbered by first appearance, row after row from
+    /// the top, and others that no cell has are left out. Each cell keeps its colour, and the givens stay.
     pub fn ordered(&self) -> Result<Document, AllocError>
         ensures content { IfOk result (λ d. content_of d ≡ ordered_of (content_of self.now)) }
         ensures shown { IfOk result (λ d. rows_shown d.palette.triples d.picture

@@ -14,19 +14,19 @@ use std::alloc::{AllocError, AllocFailed, Global};
 use std::marker::Model;
 use thiserror::Error;
 
-/// Why a palette refused a colour. The first of these that holds is answered.
+/// Why a palette refused a colour: the first of these that holds.
 #[derive(Clone, Copy, Debug, PartialEq, Eq, Error)]
 pub enum PaletteFault {
     /// There are 16 colours already.
     #[error("the palette has 16 colours already")]
     Full,
-    /// The colour has another number.
+    /// The palette has the colour at another number.
     #[error("the colour stands at another number")]
     Duplicate,
     /// A sample is above the maxval.
     #[error("a sample is above the maxval")]
     SampleOver,
-    /// The background keeps its colour.
+    /// The number is 0: the background keeps its colour.
     #[error("the background keeps its colour")]
     Background,
     /// Memory ran out.
@@ -42,7 +42,7 @@ impl<T: Drop> From<AllocFailed<T>> for PaletteFault {
     }
 }
 
-/// From 1 to 16 different colours with samples up to a maxval. Number 0 is the background.
+/// A palette: from 1 to 16 different colours, numbered from 0, with samples up to a maxval. Number 0 is the background.
 #[derive(Drop)]
 pub struct Palette {
     maxval: u16,
@@ -60,7 +60,7 @@ impl Model for Palette {
 }
 
 impl Palette {
-    /// The palette of a background alone. It is refused where a sample of the background is above the maxval.
+    /// The palette of a background alone; `SampleOver` if a sample of it is above the maxval.
     pub fn start(alloc: Global, maxval: u16, background: Rgb) -> Result<Palette, PaletteFault>
         requires { 0 < maxval }
         ensures ok { IfOk result (λ p. p ≡ only_background maxval background) }
@@ -74,7 +74,7 @@ impl Palette {
         Ok(Palette { maxval, colours })
     }
 
-    /// The largest sample, from 1 to 65,535.
+    /// The largest value that a sample can have, from 1 to 65,535.
     pub fn maxval(&self) -> u16
         ensures value { result ≡ self.now.maxval }
         ensures palette { IsPalette self.now }
@@ -130,8 +130,8 @@ impl Palette {
         Ok(number)
     }
 
-    /// Gives a number another colour. A number above 0 may get the colour that it has: then nothing changes and no
-    /// memory is wanted. The background's number is refused. After an error the palette is as before.
+    /// Gives a number another colour. A number above 0 may get the colour that it has: then nothing changes, and
+    /// nothing is allocated. Number 0 is refused. After an error the palette is as before.
     pub fn set(&mut self, number: u8, rgb: Rgb) -> Result<(), PaletteFault>
         requires { number < length self.old.triples }
         ensures ok { OnOk result (self.new ≡ with_triple self.old number rgb) }
@@ -169,8 +169,8 @@ impl Palette {
         })
     }
 
-    // The number of a colour, which is added where the palette does not have it. All come from some palette, so there
-    // is room for it, and only memory can be wanting.
+    // The number of a colour, which is added where the palette does not have it. All come from one palette, so there
+    // is room for it, and the only error is out of memory.
     pub(crate) fn number_for(&mut self, rgb: Rgb) -> Result<u8, AllocError>
         requires { HasPlaceFor self.old rgb }
         ensures palette { OnOk result (self.new ≡ with_seen self.old (rgb ∷ [])) }
@@ -212,7 +212,7 @@ impl Palette {
         Ok(())
     }
 
-    /// Takes the last colour away.
+    /// Removes the last colour, which must not be the only one.
     pub fn pop_last(&mut self)
         requires { 1 < length self.old.triples }
         ensures { self.new ≡ without_last self.old }

@@ -14,13 +14,13 @@ use crate::palette::Palette;
 use std::alloc::{AllocError, Global};
 use std::marker::Model;
 
-/// How many rows and how many columns a picture has at the most.
+/// How many rows a picture has at most, and how many columns.
 pub const MAX_SIDE: u8 = 120;
 
-/// How many colours there are, the background among them.
+/// How many colours a palette has at most, the background among them.
 pub const MAX_COLOURS: u8 = 16;
 
-/// Rows of cells. A cell has a colour's number from 0 to 15, and 0 is the background.
+/// A picture: rows of cells, 1 to `MAX_SIDE` each way. A cell has a colour's number from 0 to 15, and 0 is the background.
 #[derive(Drop)]
 pub struct Picture {
     height: u8,
@@ -131,7 +131,7 @@ impl Picture {
         }
     }
 
-    /// Puts a line of background at a place. Later lines move up by one. After an error the picture is as before.
+    /// Inserts a line of background before the line at a place, or after the last one. After an error the picture is as before.
     pub fn insert_line(&mut self, line: LineId) -> Result<(), AllocError>
         requires place { line.at ≤ lines_along line.axis self.old }
         requires room { lines_along line.axis self.old < MAX_SIDE }
@@ -154,7 +154,7 @@ impl Picture {
         Ok(())
     }
 
-    /// Takes a line out, which is not the last one along its axis. Later lines move down by one.
+    /// Removes a line, which must not be the only one along its axis.
     pub fn delete_line(&mut self, line: LineId)
         requires line { HasLine self.old line }
         requires others { 1 < lines_along line.axis self.old }
@@ -191,7 +191,7 @@ impl Picture {
         }
     }
 
-    // The same picture with the numbers that its colours have in another palette, to which they are added as they come, row after row.
+    // The same picture with its colours numbered by another palette, to which missing ones are added as they come, row after row.
     pub(crate) fn renumbered(
         &self,
         colours: &Palette,
@@ -221,7 +221,7 @@ impl Picture {
     }
 }
 
-// The numbers that the colours of cells have in a palette, to which they are added as they come.
+// The numbers that the colours of cells have in a palette, to which missing ones are added as they come.
 fn numbers_for(
     alloc: Global,
     cells: &[u8],

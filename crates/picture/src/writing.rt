@@ -8,7 +8,7 @@ use itoa::Buffer;
 use std::io::Write;
 use thiserror::Error;
 
-/// A write failed, or took no byte.
+/// A write failed, or wrote no byte.
 #[derive(Clone, Copy, Debug, PartialEq, Eq, Error)]
 #[error("write failed")]
 pub struct WriteFault;
@@ -28,7 +28,7 @@ pub fn send<W: Write>(bytes: &[u8], writer: &mut W) -> Result<(), WriteFault>
 }
 
 #[tactic(auto, using(crate::proofs::SendingLaws::sending))]
-/// Writes a number and the byte that closes it, or after an error a prefix of them.
+/// Writes a number in decimal digits and a byte after it, or after an error a prefix of them.
 pub fn send_number<W: Write>(number: u16, close: u8, writer: &mut W) -> Result<(), WriteFault>
     ensures ok { OnOk result
         (Appends (W.contents writer.old) (W.contents writer.new) (number_text number close)) }

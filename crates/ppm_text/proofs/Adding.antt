@@ -1,4 +1,4 @@
--- A new triple with lawful samples is refused where the palette is full, and else only since memory ran out.
+-- A new triple with valid samples is refused where the palette is full, and otherwise only if memory ran out.
 use Rattle.std.proofs.Common.{◌≡◌, ℕ, Bool, true, false, cond, ltb, leb, length, Option, Some, None, Result, Ok, Err, refl, sym, ap, ◌∙◌, ◌⊎◌, inl, inr}
 use Rattle.std.proofs.lemmas.Bool.{cases_lt, le-leb, le-ltb, lt-leb, lt-ltb}
 use Rattle.picture.specs.declared.palette.PaletteFault.{PaletteFault}

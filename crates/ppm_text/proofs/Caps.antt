@@ -14,7 +14,7 @@ use Rattle.picture.specs.Palette.{Colours}
 use Rattle.ppm_text.specs.Samples.{side_at, sample_at}
 use Rattle.ppm_text.specs.Ppm.{palette_at, first_palette}
 
--- a step that answers from the capped number what it answers from the number
+-- a step that gives the same result from the capped number as from the number
 by_cap : {A : Type 0} (next : Numeral × List Token → Result A PpmFault) → ((n : Numeral × List Token) → next (under_cap n) ≡ next n)
     → (read : Result (Numeral × List Token) PpmFault) → ((read >>= λ n. Ok (under_cap n)) >>= next) ≡ (read >>= next)
 by_cap next same (Ok n) = same n

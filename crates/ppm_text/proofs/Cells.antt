@@ -97,7 +97,7 @@ cell_is end colours tokens cell e =
     let one = numbered_is colours a.0.0 (place_of a.0.0.colour colours.triples) b.0 (λ k h. place_below a.0.0.colour colours.triples k h) b.1 in
     subst (IsReadCell colours) (ok_is Memory (b.0.0, b.0.1, a.0.1) cell b.2) one
 
--- cells that were read: as many as were wanted, each with a number of the palette
+-- cells that were read: as many as were asked for, each with a number of the palette
 pub record AreRead (count : ℕ) (old : Colours) (cells : List ℕ) (new : Colours) : Type 0 where
   pub all : length cells ≡ count
   pub grows : Grows old new

@@ -7,7 +7,7 @@ use Rattle.ppm_text.specs.ClosedNumbers.{IsBehind, IsClosedNumber, begins_white}
 use Rattle.ppm_text.proofs.Scanning.{no_gap, no_comment, gap_parts}
 use Rattle.ppm_text.proofs.Counting.{digit_counts, is_digit}
 
--- what a text goes on with, where n was counted before it
+-- how a text continues a number, where n was read before it
 record GoesOn (n : ℕ) (text : List ℕ) (value count : ℕ) : Type 0 where
   within : count ≤ length text
   number : number_on (Some n) text ≡ Some value
@@ -28,7 +28,7 @@ ends n (b ∷ rest) h = record {
   rest = λ place. rw (no_comment_at b h, h, add-one) refl;
 }
 
--- a digit goes on with it
+-- a digit continues the number
 goes_on : (n d value count : ℕ) (text rest : List ℕ) → text ≡ (48 + d) ∷ rest → d ≤ 9 → n * 10 + d ≤ 65536 → GoesOn (n * 10 + d) rest value count → GoesOn n text value (suc count)
 goes_on n d value count text rest e le small more =
     let gap = no_gap (48 + d) (is_digit d le) in
@@ -63,7 +63,7 @@ two_digits text rest more a b e le f lf h =
     let n = a * 10 + b in
     closed text rest a n 2 e le (goes_on a b n 1 rest more f lf (omega arith) (ends n more h))
 
--- the digits that were counted on, and white space after them
+-- the digits that were read on, and white space after them
 counted_on : (n value : ℕ) (text rest : List ℕ) → number_on (Some value) rest ≡ number_on (Some n) text → IsBehind text rest → begins_white rest ≡ true
     → GoesOn n text value (length text - length rest + 1)
 counted_on n value text rest number behind h =

@@ -1,4 +1,4 @@
--- How the digits of a token are counted, byte by byte and no further than the cap.
+-- How the number of a token is read, digit by digit and up to the cap.
 use Rattle.std.proofs.Common.{◌≡◌, ℕ, suc, take, inl, inr, ◌+◌, ◌-◌, ◌*◌, ◌<◌, ◌≤◌, min, Bool, true, false, not, ◌&&◌, cond, List, [], ◌∷◌, length, get_or, drop, drop-drop, length-drop, Option, Some}
 use Rattle.std.proofs.Common.{None, refl, sym, ap, ◌∙◌, arith}
 use Rattle.std.specs.Char.{is_ascii_digit, digit_value}
@@ -17,7 +17,7 @@ use Rattle.ppm_text.proofs.Scanning.{no_gap, no_comment, gap_parts, token_ends, 
 pub is_digit : (d : ℕ) → d ≤ 9 → is_ascii_digit (48 + d) ≡ true
 is_digit d le = grind (arith, nat_tests)
 
--- a digit is counted on
+-- a number is read on by one digit
 pub digit_counts : (rest more : List ℕ) (d n : ℕ) → rest ≡ (48 + d) ∷ more → d ≤ 9 → number_on (Some (min (n * 10 + d) 65536)) more ≡ number_on (Some n) rest
 digit_counts rest more d n e le =
     let digit = is_digit d le in
@@ -26,7 +26,7 @@ digit_counts rest more d n e le =
     let one : number_on (Some n) ((48 + d) ∷ more) ≡ number_on (Some (min (n * 10 + d) 65536)) more = rw (gap, digit, value) refl in
     sym (ap (number_on (Some n)) e ∙ one)
 
--- a text follows nothing of its own
+-- the rest of a text before any digit is read is the text
 pub behind_none : (text : List ℕ) → IsBehind text text
 behind_none text =
     let none : 0 ≡ length text - length text = omega arith in
@@ -44,7 +44,7 @@ digit_passes place d more le =
     let one : tokens_from true place (without_comments false ((48 + d) ∷ more)) ≡ tokens_from true (suc place) (without_comments false more) = rw (no_comment _ gap, (gap_parts _ gap).0) refl in
     sym one
 
--- what follows one digit more
+-- the rest after one more digit
 pub behind_digit : (text rest more : List ℕ) (d : ℕ) → rest ≡ (48 + d) ∷ more → d ≤ 9 → IsBehind text rest → IsBehind text more
 behind_digit text rest more d e le is =
     let at = length text - length rest in
@@ -153,7 +153,7 @@ number_after (b ∷ rest) n = by_gap n b rest (is_gap b) refl (number_after rest
 pub counted : (bytes : List ℕ) → number_on (Some 0) bytes ≡ capped (take_while (λ b. not (is_gap b)) bytes)
 counted bytes = number_after bytes 0
 
--- another byte makes no number
+-- a byte that is not a digit makes no number
 pub other_byte : (bytes : List ℕ) (at n : ℕ) → at < length bytes → is_gap (get_or bytes at 0) ≡ false → is_ascii_digit (get_or bytes at 0) ≡ false → number_on (Some n) (drop at bytes) ≡ None
 other_byte bytes at n lt gap digit =
     let one : number_on (Some n) (get_or bytes at 0 ∷ drop (at + 1) bytes) ≡ number_on None (drop (at + 1) bytes) = rw (gap, digit) refl in

@@ -1,4 +1,4 @@
--- Colours that stand with their numbers keep them while the palette grows.
+-- Colours in the cache keep their numbers while the palette grows.
 use Rattle.std.proofs.Common.{◌≡◌, ℕ, ◌<◌, ltb, List, [], ◌∷◌, length, set, get_or, replicate, Option, Some, None, Ok, refl, sym, ap, subst, ◌∙◌, slice_get}
 use Rattle.std.proofs.lemmas.List.Elements.{All-set, All-get_or, All-replicate, All-weaker}
 use Rattle.picture.specs.declared.rgb.Rgb.{Rgb}
@@ -24,7 +24,7 @@ known_number colours triple known slot d lt all same =
     let one : place_of (get_or known slot d).colour colours.triples ≡ Some (get_or known slot d).number = All-get_or (IsKnown colours.triples) known slot d lt all.each in
     ap (λ (o : Option ℕ). numbered_by o colours triple) (ap (λ (rgb : Rgb). place_of rgb colours.triples) (sym same) ∙ one)
 
--- what a triple that was numbered leaves: it has that number, and the others keep theirs
+-- the palette after a triple was numbered: the triple has that number, and the others keep theirs
 record IsGrown (t : Rgb) (n : ℕ) (old new : List Rgb) : Type 0 where
   numbered : place_of t new ≡ Some n
   kept : (rgb : Rgb) (k : ℕ) → place_of rgb old ≡ Some k → place_of rgb new ≡ Some k
@@ -44,7 +44,7 @@ grown_by colours triple None n after place e =
 all_kept : (old new : List Rgb) → ((rgb : Rgb) (k : ℕ) → place_of rgb old ≡ Some k → place_of rgb new ≡ Some k) → (known : List Known) → AreKnown old known → AreKnown new known
 all_kept old new kept known all = record { each = All-weaker (IsKnown old) (IsKnown new) (λ k h. kept k.colour k.number h) known all.each }
 
--- a colour that was numbered may stand among the known ones
+-- a colour that was numbered may be put among the known ones
 pub known_after : (colours : Colours) (triple : Triple) (known : List Known) (slot n : ℕ) (after : Colours) → number_with colours triple ≡ Ok (n, after) → AreKnown colours.triples known
     → AreKnown after.triples (set known slot (record { colour = triple.colour; number = n }))
 known_after colours triple known slot n after e all =

@@ -31,7 +31,7 @@ place_new t known more e =
 abbrev palette_of : ℕ → List Rgb → Colours
 palette_of maxval known = record { maxval = maxval; triples = known }
 
--- the next triple has its number among all the colours, and the others go on from a palette
+-- the next triple gets its number among all the colours, and the others are read with the palette after it
 abbrev IsNumbered : ℕ → ℕ → List Rgb → Rgb → List Rgb → List Rgb → Type 0
 IsNumbered maxval place known t ts final =
     (now : List Rgb) × (number_with (palette_of maxval known) (record { place = place; colour = t }) ≡ Ok (number_among final t, palette_of maxval now)) × (seen_after now ts ≡ final)

@@ -1,4 +1,4 @@
--- How the scanner's loops go over a text: step by step the tokens to come stay the same.
+-- The scanner's loops over a text: each step leaves the tokens to come as they were.
 use Rattle.std.proofs.Common.{◌≡◌, ◌≢◌, ℕ, ◌+◌, ◌<◌, ◌≤◌, Bool, true, false, not, ◌&&◌, ◌||◌, cond, eqb, List, [], ◌∷◌, length, get_or, drop, refl, sym, ap, ◌∙◌, add-one, arith}
 use Rattle.std.specs.Char.{is_ascii_digit}
 use Rattle.std.specs.List.{take_while}
@@ -24,7 +24,7 @@ is_space-cond : (t : Bool) (b : ℕ) → is_space (cond t 32 b) ≡ cond t true 
 is_space-cond true b = refl
 is_space-cond false b = refl
 
--- inside a comment or at a gap, white space stands where comments are taken out
+-- inside a comment or at a gap, the text without comments has white space
 space_there : (commented : Bool) (b : ℕ) → (commented || is_gap b) ≡ true → is_space (cond (in_comment commented b) 32 b) ≡ true
 space_there commented b h =
     is_space-cond (in_comment commented b) b ∙ some_true commented (eqb b 35) (is_line_end b) (is_space b) (line_ends_are_space b) h
@@ -105,7 +105,7 @@ token_bytes : (bytes : List ℕ) → take_while (λ b. not (is_space b)) (withou
 token_bytes [] = refl
 token_bytes (b ∷ rest) = by_gap b rest (is_gap b) refl (token_bytes rest)
 
--- a byte that no gap is begins a token
+-- a byte that is not a gap begins a token
 pub token_begins : (bytes : List ℕ) (place : ℕ) → place < length bytes → is_gap (get_or bytes place 0) ≡ false
     → tokens_at bytes place ≡ record { place = place; bytes = take_while (λ b. not (is_gap b)) (drop place bytes) } ∷ tokens_from true place (without_comments false (drop place bytes))
 token_begins bytes place lt h =

@@ -1,4 +1,4 @@
--- What the sizes, one by one, have appended.
+-- What is appended when the sizes are written one by one.
 use Rattle.std.proofs.Common.{◌≡◌, ℕ, List, ◌++◌, Option, subst, Result, Ok, Err, OnErr, OnOk, codes}
 use Rattle.picture.specs.Writers.{AppendsFront, number_text}
 use Rattle.picture.proofs.SendingLaws.{both_sent, first_front, last_front, middle_front}

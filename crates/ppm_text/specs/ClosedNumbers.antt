@@ -8,7 +8,7 @@ abbrev pub begins_white : List ℕ → Bool
 begins_white [] = false
 begins_white (b ∷ rest) = is_space b
 
--- The text ends with the rest, and up to there goes on with the token that it is within.
+-- The text ends with the rest, and if both begin within a token, both have the same tokens after it.
 pub record IsBehind (text rest : List ℕ) : Type 0 where
   pub within : length rest ≤ length text
   pub tail : rest ≡ drop (length text - length rest) text

@@ -1,4 +1,4 @@
--- Colours of a palette that stand with their numbers.
+-- Colours of a palette in a cache, with their numbers.
 use Rattle.std.specs.Prelude.{◌≡◌, List, Some, All}
 use Rattle.picture.specs.declared.rgb.Rgb.{Rgb}
 use Rattle.picture.specs.Palette.{place_of}

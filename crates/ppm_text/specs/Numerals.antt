@@ -1,4 +1,4 @@
--- Numbers of any length, counted no further than a cap that is above each limit.
+-- Numbers of any length, read up to a cap that is above each limit.
 use Rattle.std.specs.Prelude.{ℕ, ◌+◌, ◌-◌, ◌*◌, min, Bool, false, if◌then◌else◌, List, [], ◌∷◌, length, Option, Some}
 use Rattle.std.specs.Prelude.{None, Result, Ok, Err}
 use Rattle.std.specs.Char.{is_ascii_digit}
@@ -10,7 +10,7 @@ use Rattle.ppm_text.specs.declared.fault.PpmFault.TheVariants.{Truncated, BadNum
 use Rattle.ppm_text.specs.declared.scanner.Numeral.{Numeral}
 use Rattle.ppm_text.specs.Tokens.{Token, is_gap, tokens_at}
 
--- the value of digits up to the cap, and nothing for other bytes
+-- the value of the digits, or the cap if it is above, and nothing where other bytes are among them
 abbrev pub capped : List ℕ → Option ℕ
 capped bytes = if all_ascii_digits bytes then Some (min (digits_value 10 bytes) 65536) else None
 
@@ -24,7 +24,7 @@ abbrev pub begins_number : List ℕ → Bool
 begins_number [] = false
 begins_number (b ∷ rest) = is_ascii_digit b
 
--- the number that the bytes up to the next gap make, after the one that was counted before them
+-- a number with the bytes up to the next gap appended as digits
 abbrev pub number_on : Option ℕ → List ℕ → Option ℕ
 number_on number [] = number
 number_on number (b ∷ rest) = if is_gap b then number else number_on (with_byte number b) rest

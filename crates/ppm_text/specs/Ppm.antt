@@ -1,4 +1,4 @@
--- What a P3 text says, and the first error in one that says nothing.
+-- The document that a P3 text says, or the first error in the text.
 use Rattle.std.specs.Prelude.{ℕ, zero, suc, ◌*◌, ◌||◌, nat_lt, ◌==◌, if◌then◌else◌, List, [], ◌∷◌, length, Option, Some}
 use Rattle.std.specs.Prelude.{None, Result, Ok, Err}
 use Rattle.picture.specs.Readers.{◌>>=◌}
@@ -20,7 +20,7 @@ abbrev pub background_of : Option Rgb → ℕ → Rgb
 background_of None maxval = record { r = maxval; g = maxval; b = maxval }
 background_of (Some rgb) maxval = rgb
 
--- the palette of the background alone, whose samples must fit the maxval at that place
+-- the palette with the background alone; a sample of it above the maxval is an error at the maxval's place
 abbrev pub first_palette : Option Rgb → ℕ → ℕ → Result Colours PpmFault
 first_palette background maxval place =
     if fits maxval (background_of background maxval) then Ok (only_background maxval (background_of background maxval))
@@ -51,7 +51,7 @@ number_at end colours tokens = do
   cell ← number_with colours triple.0
   Ok (cell.0, cell.1, triple.1)
 
--- so many cells
+-- `count` cells: their numbers, the palette after them and the tokens after them
 unfoldable pub numbers_at : ℕ → ℕ → Colours → List Token → Result (List ℕ × Colours × List Token) PpmFault
 numbers_at end zero colours tokens = Ok ([], colours, tokens)
 numbers_at end (suc count) colours tokens = do
@@ -59,12 +59,12 @@ numbers_at end (suc count) colours tokens = do
   others ← numbers_at end count first.1 first.2
   Ok (first.0 ∷ others.0, others.1, others.2)
 
--- x, where no token is left
+-- x, or an error where a token is left
 abbrev pub at_the_end : {A : Type 0} → A → List Token → Result A PpmFault
 at_the_end x [] = Ok x
 at_the_end x (token ∷ rest) = Err (TrailingToken token.place)
 
--- what stands before the cells: the sizes, the palette so far, and what is still to be read
+-- what precedes the cells: the sizes and the palette so far, with what is still to be read
 pub record Header : Type 0 where
   pub width : ℕ
   pub height : ℕ
@@ -85,7 +85,7 @@ header_of text background = do
     rest = record { end = start.end; tokens = palette.1 };
   })
 
--- What the whole text says: the header, a triple for each cell, and no more. Nothing in it is a given.
+-- What the whole text says: the header, a triple for each cell, and no more. No cell is a given.
 unfoldable pub ppm_of : List ℕ → Option Rgb → Result Content PpmFault
 ppm_of text background = do
   header ← header_of text background

@@ -7,12 +7,12 @@ use Rattle.picture.specs.Picture.{IsPicture}
 use Rattle.ppm_text.specs.Ppm.{ppm_of}
 use Rattle.ppm_text.specs.Text.{ppm_text}
 
--- the parts of a document without givens
+-- a document without givens
 pub record IsUngiven (d : Content) : Type 0 where
   pub palette : IsPalette d.colours
   pub picture : IsPicture d.rows
   pub givens : d.givens ≡ no_cells
 
--- What is written, read with the background passed, is the ordered form.
+-- The written text, read with the document's background passed, gives the ordered form.
 abbrev pub IsReadAgain : Content → Type 0
 IsReadAgain d = ppm_of (ppm_text d) (Some (first_of d.colours.triples)) ≡ Ok (ordered_of d)

@@ -22,7 +22,7 @@ sample_at end maxval tokens = do
   sample ← numeral_at end tokens
   if nat_lt maxval sample.0.value then Err (SampleOver sample.0.place) else Ok sample
 
--- a colour, and where its first sample stands
+-- a colour, and the place of its first sample
 unfoldable pub samples_at : ℕ → ℕ → List Token → Result (Triple × List Token) PpmFault
 samples_at end maxval tokens = do
   r ← sample_at end maxval tokens

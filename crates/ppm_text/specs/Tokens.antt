@@ -13,7 +13,7 @@ is_space b = b == 32 || (nat_le 9 b && nat_le b 13)
 abbrev pub is_line_end : ℕ → Bool
 is_line_end b = b == 10 || b == 13
 
--- white space, or the # that opens a comment: no token goes on here
+-- white space, or the # that opens a comment: each ends a token
 abbrev pub is_gap : ℕ → Bool
 is_gap b = is_space b || b == 35
 
@@ -28,7 +28,7 @@ without_comments commented [] = []
 without_comments commented (b ∷ rest) =
     (if in_comment commented b then 32 else b) ∷ without_comments (in_comment commented b) rest
 
--- a token, and where its first byte stands
+-- a token, and the place of its first byte
 pub record Token : Type 0 where
   pub place : ℕ
   pub bytes : List ℕ
@@ -37,8 +37,8 @@ pub record Token : Type 0 where
 abbrev pub token_with : ℕ → List ℕ → Token
 token_with place text = record { place = place; bytes = take_while (λ x. not (is_space x)) text }
 
--- A token begins at each byte that is no white space and follows none that is part of a token, and
--- goes on to the next white space. `within` says that the byte before is part of a token.
+-- A token begins at each byte that is not white space and does not follow a byte of a token, and
+-- goes up to the next white space. `within` says that the byte before is part of a token.
 abbrev pub tokens_from : Bool → ℕ → List ℕ → List Token
 tokens_from within place [] = []
 tokens_from within place (b ∷ rest) =
@@ -50,12 +50,12 @@ tokens_from within place (b ∷ rest) =
 abbrev pub has_magic : List ℕ → Bool
 has_magic text = starts_with nat_eq text (codes "P3") && (length text == 2 || is_gap (slice_index text 2))
 
--- how much of a text is still to be read: where it ends, and the tokens to come
+-- what of a text is still to be read: the tokens to come, and the place where the text ends
 pub record Unread : Type 0 where
   pub end : ℕ
   pub tokens : List Token
 
--- the tokens of a text from a place on at which no token and no comment is open
+-- the tokens of a text from a place on, where no token and no comment is open
 abbrev pub tokens_at : List ℕ → ℕ → List Token
 tokens_at text place = tokens_from false place (without_comments false (drop place text))
 

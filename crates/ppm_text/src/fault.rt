@@ -7,17 +7,17 @@ ghost use Rattle.ppm_text.specs.declared.fault.PpmFault.TheVariants.{Memory};
 use std::alloc::AllocError;
 use thiserror::Error;
 
-/// What is wrong with a P3 text: the first error that reading it from the front meets, with the number of bytes before
-/// the place that it names.
+/// What is wrong with a P3 text: the first error that is met when it is read from the front. The numbers are byte
+/// offsets, from 0.
 #[derive(Clone, Copy, Debug, PartialEq, Eq, Error)]
 pub enum PpmFault {
-    /// The text doesn't begin with `P3` and then end or go on with white space or a comment.
+    /// The text doesn't begin with `P3`, or something other than white space or a comment follows it.
     #[error("not a P3 text")]
     NotP3(usize),
     /// The token isn't digits alone.
     #[error("byte {0}: not a number")]
     BadNumber(usize),
-    /// The text ends where a number is wanted.
+    /// The text ends where a number is expected.
     #[error("byte {0}: the text ends too early")]
     Truncated(usize),
     /// The maxval is not from 1 to 65535.
@@ -29,32 +29,32 @@ pub enum PpmFault {
     /// The width or the height is above 120.
     #[error("byte {0}: the size is above 120")]
     TooLarge(usize),
-    /// A sample is above the maxval; at the maxval, one of the background that was passed.
+    /// A sample is above the maxval; if the byte is that of the maxval, a sample of the background that was passed.
     #[error("byte {0}: a sample is above the maxval")]
     SampleOver(usize),
     /// The triple that begins here would be the seventeenth colour.
     #[error("byte {0}: more than 16 colours")]
     TooManyColours(usize),
-    /// A token stands after the last sample.
+    /// A token follows the last sample.
     #[error("byte {0}: a token after the last sample")]
     TrailingToken(usize),
-    /// A growth was refused.
+    /// Memory ran out.
     #[error("out of memory")]
     Memory,
 }
 
-/// What a part of the reader answers.
+/// The result of a part of the reader.
 pub(crate) type Read<T> = Result<T, PpmFault>;
 
 impl PpmFault {
-    /// The error's name, as the variant is called.
+    /// The name of the error's variant.
     pub fn name(&self) -> &'static str
         ensures { result.now ≡ name_of self.now }
     {
         self.told().0
     }
 
-    /// The number of bytes before the place that the error names.
+    /// The byte offset of the error, or `None` if memory ran out.
     pub fn place(&self) -> Option<usize>
         ensures { result ≡ place_of self.now }
     {

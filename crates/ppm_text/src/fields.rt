@@ -17,7 +17,7 @@ pub struct Triple {
 }
 
 #[tactic(auto, using(crate::proofs::Caps::caps))]
-/// Reads the width or the height.
+/// Reads the width or the height, from 1 to 120.
 pub fn read_side(scanner: &mut Scanner) -> Read<u8>
     ensures read { Reads (λ side. (side, scanner.new.tokens)) result
         (side_at scanner.old.end scanner.old.tokens) }
@@ -51,7 +51,7 @@ fn read_sample(scanner: &mut Scanner, maxval: u16) -> Read<(usize, u16)>
 }
 
 #[tactic(auto, unfolding(crate::specs::Samples::samples_at))]
-/// Reads three samples. After an error the scanner's place is unspecified.
+/// Reads the three samples of a colour. After an error the scanner's place is unspecified.
 pub fn read_triple(scanner: &mut Scanner, maxval: u16) -> Read<Triple>
     ensures read { Reads (λ t. (t, scanner.new.tokens)) result
         (samples_at scanner.old.end maxval scanner.old.tokens) }

@@ -1,4 +1,4 @@
-//! The numbers of colours, with those met lately at hand.
+//! The numbers of colours, with a cache of those that were met last.
 
 ghost use Rattle.std.specs.Prelude.{◌≡◌, ◌<◌, IsTrue, OnOk};
 ghost use Rattle.picture.specs.Palette.{fits};
@@ -12,7 +12,7 @@ use crate::fault::{PpmFault, Read};
 use crate::fields::Triple;
 use picture::{Palette, PaletteFault, Rgb};
 
-/// How many colours are kept at hand.
+/// How many slots the cache has.
 pub const SLOTS: usize = 256;
 
 /// A colour of the palette, and its number.
@@ -23,7 +23,7 @@ pub struct Known {
 }
 
 #[tactic(auto, using(crate::proofs::KnownLemmas::background_known))]
-/// The background at every slot.
+/// The cache with the background in every slot.
 pub fn background_alone(palette: &Palette) -> [Known; SLOTS]
     ensures { AreKnown palette.now.triples result }
 {
@@ -33,8 +33,8 @@ pub fn background_alone(palette: &Palette) -> [Known; SLOTS]
 }
 
 #[tactic(auto, using(crate::proofs::KnownLemmas::knowing))]
-/// The number of a triple in the palette, which is added where it is new. A colour has a slot of its
-/// own or shares one, and only where another colour stands there the palette is asked.
+/// The number of a triple in the palette, to which it is added if it is new. The palette is searched
+/// only if the colour's slot in the cache holds another colour.
 pub fn number_of(palette: &mut Palette, known: &mut [Known; SLOTS], triple: Triple) -> Read<u8>
     requires fits { IsTrue (fits palette.old.maxval triple.colour) }
     requires known { AreKnown palette.old.triples known.old }
@@ -52,7 +52,7 @@ pub fn number_of(palette: &mut Palette, known: &mut [Known; SLOTS], triple: Trip
     Ok(number)
 }
 
-// The slot of a colour. The factors are odd, so that colours which differ in one sample alone mostly have two slots.
+// The slot of a colour. The factors are odd, so colours that differ in one sample alone mostly have different slots.
 fn slot_of(colour: Rgb) -> usize
     ensures { result < SLOTS }
 {
@@ -62,7 +62,7 @@ fn slot_of(colour: Rgb) -> usize
 
 #[tactic(auto, using(crate::proofs::Adding::refused))]
 #[inline(never)]
-// The number of a triple in the palette, which is added where it is new.
+// The number of a triple in the palette, to which it is added if it is new.
 fn find_or_add(palette: &mut Palette, triple: Triple) -> Read<u8>
     requires { IsTrue (fits palette.old.maxval triple.colour) }
     ensures { Gives Memory (λ number. (number, palette.new)) result
@@ -76,7 +76,7 @@ fn find_or_add(palette: &mut Palette, triple: Triple) -> Read<u8>
         .map_err(|fault| adding_fault(fault, triple.place))
 }
 
-// Why the palette refused a new triple with lawful samples: it is full, or memory ran out.
+// The error where the palette refuses a new triple with valid samples: it is full, or out of memory.
 fn adding_fault(fault: PaletteFault, place: usize) -> PpmFault
     ensures { result ≡ adding_fault fault place }
 {

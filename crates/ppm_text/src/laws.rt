@@ -15,7 +15,7 @@ pub fn round_trip()
     ensures { (d : Content) → IsUngiven d → IsReadAgain d }
 {}
 
-/// The law of the round trip at a document: beside having no givens it needs no premise.
+/// The law of the round trip for one document: its only premise is that there are no givens.
 pub fn round_trip_of(document: &Document)
     ensures { document.now.givens ≡ no_cells → IsReadAgain (content_of document.now) }
 {

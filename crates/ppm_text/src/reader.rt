@@ -58,7 +58,7 @@ fn read_cell(scanner: &mut Scanner, palette: &mut Palette, known: &mut [Known; S
 }
 
 #[tactic(auto, using(crate::proofs::Cells::cell_loop))]
-// Reads so many cells.
+// Reads `count` cells.
 fn read_cells(
     alloc: Global,
     scanner: &mut Scanner,
@@ -88,9 +88,9 @@ fn read_cells(
 /// The first colour, number 0, is the background that was passed, or else white. The others are numbered by first
 /// appearance in row order, up to 16 in all. No cell is a given.
 ///
-/// The text is read from the front, and the first error is answered, with the byte at which it was met. A background
-/// with a sample above the maxval is refused at the maxval. No memory is taken before the maxval has been read, so an
-/// error up to there is answered whatever memory there is.
+/// The text is read from the front, and the first error is returned, with its byte offset. A background with a sample
+/// above the maxval is refused at the maxval. No memory is allocated before the maxval has been read, so an error up
+/// to there is returned even if there is no memory.
 pub fn read_ppm(alloc: Global, bytes: &[u8], background: Option<Rgb>) -> Result<Document, PpmFault>
     ensures read { Gives Memory content_of result (ppm_of bytes.now background) }
     ensures header { IfErr (header_of bytes.now background) (λ fault. result ≡ Err fault) }

@@ -1,4 +1,4 @@
-//! The tokens of a P3 text: numbers with their places, past white space and comments.
+//! The tokens of a P3 text: numbers with their byte offsets, without white space and comments.
 
 ghost use Rattle.std.specs.Prelude.{◌≡◌, ℕ, ◌+◌, ◌∷◌, ◌<◌, ◌≤◌, length, slice_index, drop, is_some, true, false, IfNone, IfSome, IfOk};
 ghost use Rattle.picture.specs.Readers.{Reads};
@@ -9,7 +9,7 @@ ghost use Rattle.ppm_text.specs.ClosedNumbers.{IsBehind, IsClosedNumber, begins_
 use crate::fault::{PpmFault, Read};
 use std::marker::Model;
 
-// Numbers are counted up to here, which is above every limit.
+// Greater numbers are read as this one, which is above every limit.
 const CAP: u32 = 65_536;
 
 /// A number, and the byte at which its digits begin.
@@ -38,7 +38,7 @@ impl<'a> Model for Scanner<'a> {
 }
 
 impl<'a> Scanner<'a> {
-    /// Reads the magic.
+    /// Reads the magic `P3`, or answers `NotP3`.
     pub fn start(bytes: &'a [u8]) -> Read<Scanner<'a>>
         ensures { Reads (λ s. s) result (magic_of bytes.now) }
     {
@@ -48,9 +48,9 @@ impl<'a> Scanner<'a> {
         }
     }
 
-    // Each sample of a picture comes here, so this and what it calls stand in its caller's loop.
+    // Each sample of a picture is read here, so this and what it calls are inlined into its caller's loop.
     #[inline(always)]
-    /// Reads the next token as a number.
+    /// Reads the next token as a number, at most `CAP`. The errors are `Truncated` and `BadNumber`.
     pub fn numeral(&mut self) -> Read<Numeral>
         ensures read { Reads (λ n. (n, self.new.tokens)) result
             (capped_at self.old.end self.old.tokens) }
@@ -73,7 +73,7 @@ impl<'a> Scanner<'a> {
 
 #[tactic(auto, using(crate::proofs::NextNumeral::closed_token))]
 #[inline(always)]
-// The next number from a place on, and a place after its token. Mostly it begins at once, and white space ends it.
+// The next number from a place on, and a place after its token. Usually it begins at once, and white space ends it.
 fn numeral_after(bytes: &[u8], from: usize) -> Read<(Numeral, usize)>
     requires { from ≤ length bytes.now }
     ensures read { ReadsNumber bytes.now from result }
@@ -87,7 +87,7 @@ fn numeral_after(bytes: &[u8], from: usize) -> Read<(Numeral, usize)>
 
 #[tactic(auto, using(crate::proofs::ClosedNumbers::closed_numbers))]
 #[inline(always)]
-// The number that begins a text and ends at white space, and how many bytes both are. Most have up to three digits.
+// The number that begins a text, and its length with the white space that must end it. Most have up to three digits.
 fn closed_number(text: &[u8]) -> Option<(u32, usize)>
     ensures { IfSome result (λ x. IsClosedNumber text.now x.0 x.1) }
 {
@@ -115,7 +115,7 @@ fn begins_white(text: &[u8]) -> bool
 
 #[tactic(auto, using(crate::proofs::NextNumeral::next_numeral))]
 #[inline(never)]
-// The same for any number, with white space and comments before it.
+// As `numeral_after`, for any number, also after white space and comments.
 fn any_numeral(bytes: &[u8], from: usize) -> Read<(Numeral, usize)>
     requires { from ≤ length bytes.now }
     ensures read { ReadsNumber bytes.now from result }
@@ -202,7 +202,7 @@ fn count_digits(bytes: &[u8], from: usize) -> (u32, usize)
 
 #[tactic(auto, using(crate::proofs::Counting::counting))]
 #[inline(always)]
-// What a number becomes by the digits that begin a text, and what follows them.
+// A number with the digits that begin a text appended, at most `CAP`, and the rest of the text.
 fn count_on(number: u32, text: &[u8]) -> (u32, &[u8])
     requires { number ≤ 65536 }
     ensures value { number_on (Some result.0) result.1.now ≡ number_on (Some number) text.now }
@@ -219,7 +219,7 @@ fn count_on(number: u32, text: &[u8]) -> (u32, &[u8])
 }
 
 #[inline(always)]
-// The value of the digit that begins a text, and what follows it, if one does.
+// The value of the digit that begins a text, and the rest of the text, or `None` if no digit does.
 fn first_digit(text: &[u8]) -> Option<(u32, &[u8])>
     ensures some { IfSome result (λ x. text.now ≡ (48 + x.0) ∷ x.1.now) }
     ensures value { IfSome result (λ x. x.0 ≤ 9) }
@@ -233,7 +233,7 @@ fn first_digit(text: &[u8]) -> Option<(u32, &[u8])>
 
 #[tactic(auto, using(crate::proofs::Counting::token_end))]
 #[inline(always)]
-// A place after a token whose digits end here, or nothing where it goes on with another byte.
+// A place after a token whose digits end here, or `None` if the token goes on with another byte.
 fn behind_token(bytes: &[u8], end: usize) -> Option<usize>
     requires { end ≤ length bytes.now }
     ensures within { IfSome result (λ behind. behind ≤ length bytes.now) }

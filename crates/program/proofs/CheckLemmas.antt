@@ -15,7 +15,7 @@ use Rattle.program.specs.World.{World, world}
 use Rattle.program.proofs.FileLemmas.{keeps_same, names_both}
 use Rattle.command_text.specs.Words.{Texts}
 
--- two files were opened, what they hold was the same for both, and this is what the first gave
+-- two files were opened, names hold the same before and after the first of them, and these are its bytes
 pub record AreBoth (held later : List ℕ → Held) (opened between after : Option Texts) (path cert : List ℕ) (file : List ℕ) : Type 0 where
   pub content : IsContent (held path) file
   pub first : Names opened between (path ∷ [])

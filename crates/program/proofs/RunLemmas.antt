@@ -26,13 +26,13 @@ pub refused : (words : List (Bor (List ℕ))) (held : List ℕ → Held) (before
     → Answers (texts words) held before before r
 refused words held before fault r is task = inl (fault, (task, record { is = is; only = untouched before }))
 
--- the same words
+-- what is done for words is done for their texts
 pub answered : (words : List (Bor (List ℕ))) (items : List (Bor (List ℕ))) (texts_are : Texts) (held : List ℕ → Held) (before after : World) (r : Result (Unit {0}) ProgramFault)
     → words ≡ items → texts items ≡ texts_are → Answers (texts words) held before after r → AnswersAll texts_are held before after r
 answered words items texts_are held before after r same is answers =
     inr (subst (λ (xs : Texts). Answers xs held before after r) (ap texts same ∙ is) answers)
 
--- how it ends, by what came of texts, or by the error of what are none
+-- how the program ends, by what came of its arguments, or by the error with which reading them failed
 pub ends_ok : (arguments : Result (Vec (String Global) Global) ProgramFault) (vec : Vec (String Global) Global) (now : List (String Global)) (held : List ℕ → Held) (before after : World)
     (had has : Option (List ℕ)) (outcome : Result (Unit {0}) ProgramFault) (ended : Ended)
     → arguments ≡ Ok vec → now ≡ vec.items → AnswersAll (map (λ (text : String Global). string_bytes text) now) held before after outcome

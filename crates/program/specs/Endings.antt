@@ -1,4 +1,4 @@
--- The status with which the program ends, and the line that it says of an error.
+-- The exit status of the program, and the message of an error.
 use Rattle.std.specs.Prelude.{ℕ, List, [], ◌∷◌, ◌++◌, codes, string_bytes, Result, Ok, Err}
 use Rattle.program_options.specs.declared.fault.ProgramFault.{ProgramFault}
 use Rattle.program_options.specs.declared.fault.ProgramFault.TheVariants.{Words}
@@ -9,12 +9,12 @@ abbrev pub status_after : Result (Unit {0}) ProgramFault → ℕ
 status_after (Ok done) = 0
 status_after (Err fault) = status_of fault
 
--- what the parser of the words says, as it is; of every other error a line
+-- a text of the parser as it is, every other error as a line
 abbrev pub fault_line : ProgramFault → List ℕ
 fault_line (Words text) = string_bytes text
 fault_line fault = codes "nonobench: " ++ (fault_text fault ++ 10 ∷ [])
 
--- what goes to standard error: nothing, or that of the error
+-- what goes to standard error: nothing, or the message of the error
 abbrev pub line_after : Result (Unit {0}) ProgramFault → List ℕ
 line_after (Ok done) = []
 line_after (Err fault) = fault_line fault

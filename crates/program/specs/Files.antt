@@ -5,19 +5,19 @@ use Rattle.program_options.specs.declared.fault.ProgramFault.{ProgramFault}
 use Rattle.program_options.specs.declared.fault.ProgramFault.TheVariants.{Memory, TooLong, Read}
 use Rattle.command_text.specs.Words.{Texts}
 
--- What a name holds: nobody knows; or no file; or a file with these bytes.
+-- What a name holds: that is unknown; or no file; or a file with these bytes.
 pub data Held : Type 0 where
   Unknown : Held
   Missing : Held
   Holds : List ℕ → Held
 
--- a file that was opened gives these bytes, and there is one
+-- a file that was opened and gives these bytes is what its name holds, where that is known
 abbrev pub IsOpened : Held → Option (List ℕ) → Type 0
 IsOpened Unknown given = Unit {0}
 IsOpened Missing given = ⊥
 IsOpened (Holds bytes) given = given ≡ Some bytes
 
--- a file that could not be opened is not there
+-- a name whose file could not be opened holds no file, where that is known
 abbrev pub IsAbsent : Held → Type 0
 IsAbsent Unknown = Unit {0}
 IsAbsent Missing = Unit {0}
@@ -46,7 +46,7 @@ IsUnreadFile Unknown fault = IsUnread None fault
 IsUnreadFile Missing fault = fault ≡ Read
 IsUnreadFile (Holds held) fault = IsUnread (Some held) fault
 
--- a name's file is read: its bytes, which are not too many, or why it is not
+-- what comes of reading a name's file: its bytes, at most 16,777,216, or why it is not read
 abbrev pub ReadsFile : Held → Result (Vec ℕ Global) ProgramFault → Type 0
 ReadsFile held (Ok bytes) = IsContent held bytes.items × (length bytes.items ≤ 16777216)
 ReadsFile held (Err fault) = IsUnreadFile held fault

@@ -19,7 +19,7 @@ use Rattle.command_text.specs.Words.{Texts}
 abbrev pub texts : List (Bor (List ℕ)) → Texts
 texts words = map (λ (word : Bor (List ℕ)). word.now) words
 
--- what the words ask for: the clues where there is none, and else
+-- what the words ask for: the clues where there is no word, and else
 -- as the definition of the program's command line reads them
 abbrev pub IsTask : Texts → Result Task ProgramFault → Type 0
 IsTask [] r = r ≡ Ok Clues
@@ -40,8 +40,8 @@ Answers words held before after r =
 abbrev pub AnswersAll : Texts → (List ℕ → Held) → World → World → Result (Unit {0}) ProgramFault → Type 0
 AnswersAll words held before after r = IsRefused Memory before after r ⊎ Answers words held before after r
 
--- How the program ends: what came of the arguments, the status that this
--- has, and, where the write of it did not fail, what went to standard error.
+-- How the program ends: what came of the arguments, the exit status of
+-- that, and what went to standard error, unless writing there failed.
 pub record Ends (Comes : Result (Unit {0}) ProgramFault → Type 0) (had has : Option (List ℕ))
     (ended : Ended) : Type 0 where
   pub outcome : Result (Unit {0}) ProgramFault

@@ -1,4 +1,4 @@
--- What comes of what the words ask for, with what the files hold that they name.
+-- What comes of a task, by what the files that it names hold.
 use Rattle.std.specs.Prelude.{◌≡◌, ◌⊎◌, ℕ, List, [], ◌∷◌, Option, None, Result, Ok, Err, IfErr, IfSome, OnOk}
 use Rattle.std.specs.Prelude.{string_bytes}
 use Rattle.std.specs.Io.KnownBytes.{Appends, Keeps}
@@ -24,7 +24,7 @@ use Rattle.program.specs.World.{IsStopped, World}
 
 -- ---- a session
 
--- A session that ends so runs on a bench that was started with the file.
+-- A session that ended this way ran on a bench that was started with the file.
 pub record RunsOn (had have held holds : Option (List ℕ)) (file : List ℕ) (options : Options)
     (ended : Result (Unit {0}) SessionFault) : Type 0 where
   pub fresh : Seen
@@ -42,12 +42,12 @@ Works had have held holds file options (Err fault) =
 
 -- ---- the clues of the input
 
--- the input is not read, and nothing was written
+-- the input could not be read to its end, and nothing was written
 abbrev pub IsLeft : Option (List ℕ) → Option (List ℕ) → Option (List ℕ) → Result (Unit {0}) ProgramFault → Type 0
 IsLeft had held holds (Ok done) = ⊥
 IsLeft had held holds (Err fault) = IsUnread had fault × Keeps held holds
 
--- What is written for the whole input, where that is known.
+-- The clues of the whole input are written, or its error is returned; or the input could not be read to its end.
 abbrev pub ShowsClues : Option (List ℕ) → Option (List ℕ) → Option (List ℕ) → Result (Unit {0}) ProgramFault → Type 0
 ShowsClues had held holds r =
     ((bytes : List ℕ) × (IfSome had (λ input. bytes ≡ input) × Writes held holds r (shown bytes None)))
@@ -55,7 +55,7 @@ ShowsClues had held holds r =
 
 -- ---- what the words ask for
 
--- a text goes out, or after a write error a prefix of it
+-- a text is written, or, where a write fails, a prefix of it
 abbrev pub Sends : Option (List ℕ) → Option (List ℕ) → List ℕ → Result (Unit {0}) ProgramFault → Type 0
 Sends held holds text (Ok done) = Appends held holds text
 Sends held holds text (Err fault) = (fault ≡ Write) × AppendsFront held holds text
@@ -68,7 +68,7 @@ pub record IsWorked (held : Held) (path : List ℕ) (options : Options) (before 
   pub names : Names before.opened after.opened (path ∷ [])
   pub works : Works before.input after.input before.output after.output file options r
 
--- the picture's file is read, and then that of the certificate or proof is not
+-- the picture's file was read, but that of the certificate or proof could not be
 pub record IsHalfRead (picture certificate : Held) (path cert_path : List ℕ) (before after : World)
     (r : Result (Unit {0}) ProgramFault) : Type 0 where
   pub file : List ℕ
@@ -88,8 +88,8 @@ pub record IsChecked (picture certificate : Held) (path cert_path : List ℕ) (b
   pub only : IsProofOf file background cert → IfErr r (λ e. (e ≡ Memory) ⊎ (e ≡ Write))
   pub unique : OnOk r (IsOnlyPicture file background cert)
 
--- What is made of the picture in a file by its bytes: a proof by lemmas, or word that there is none. The input is left
--- alone.
+-- What is made of the picture in a file by its bytes: a proof by lemmas, or `ambiguous` or `undecided`. The input is
+-- left alone.
 pub record IsProving (held : Held) (path : List ℕ) (background : Option Rgb) (before after : World)
     (r : Result (Unit {0}) ProgramFault) : Type 0 where
   pub file : List ℕ
@@ -112,14 +112,14 @@ pub record IsVerified (picture proved : Held) (path proof_path : List ℕ) (back
   pub only : IsLemmaProofOf file background proof → IfErr r (λ e. (e ≡ Memory) ⊎ (e ≡ Write))
   pub unique : OnOk r (IsOnlyByLemmas file background proof)
 
--- a text goes out, and no file is opened and the input left alone
+-- a text is written, no file is opened, and the input is left alone
 pub record IsShown (text : List ℕ) (before after : World) (r : Result (Unit {0}) ProgramFault) : Type 0 where
   pub names : Names before.opened after.opened []
   pub input : Keeps before.input after.input
   pub sends : Sends before.output after.output text r
 
--- Each task by what its own files hold, with its own options and background: a file that is not read is the error, and
--- then the input was left alone and nothing went out.
+-- What comes of each task, by what its files hold, with its options or its background. Where a file could not be read,
+-- that is the error, the input was left alone and nothing was written.
 abbrev pub CarriesOut : (List ℕ → Held) → World → World → Task → Result (Unit {0}) ProgramFault → Type 0
 CarriesOut held before after Clues r =
     Names before.opened after.opened [] × ShowsClues before.input before.output after.output r

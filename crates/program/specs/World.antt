@@ -1,4 +1,4 @@
--- What a call finds outside of it, and leaves there.
+-- What is outside of the program, before a call or after it.
 use Rattle.std.specs.Prelude.{◌≡◌, ℕ, List, Option, Result, Err}
 use Rattle.std.specs.Io.KnownBytes.{Keeps}
 use Rattle.program_options.specs.declared.fault.ProgramFault.{ProgramFault}
@@ -20,7 +20,7 @@ pub record OnlyOpens (before after : World) (paths : Texts) : Type 0 where
   pub input : Keeps before.input after.input
   pub output : Keeps before.output after.output
 
--- The file of the last of these names was not read, and that is the error.
+-- The last of these files could not be read, and that is the error.
 pub record IsStopped (held : Held) (paths : Texts) (before after : World)
     (r : Result (Unit {0}) ProgramFault) : Type 0 where
   pub fault : ProgramFault

@@ -1,4 +1,4 @@
-//! How the program ends: what it says of an error, and its status.
+//! How the program ends: the message of an error, and the exit status.
 
 ghost use Rattle.std.specs.Prelude.{◌≡◌, true, OnOk};
 ghost use Rattle.std.specs.Io.KnownBytes.{Appends};
@@ -10,14 +10,14 @@ use std::io;
 use std::io::Write;
 use std::process::ExitCode;
 
-/// The status with which the program ends, and whether all was told that there was to tell.
+/// The exit status of the program, and whether its error message, if it has one, was written.
 #[derive(Drop)]
 pub struct Ended {
     pub code: ExitCode,
     pub told: bool,
 }
 
-/// Says an error on standard error, and gives the status: 0 where there is none, else the error's.
+/// Writes the message of an error to standard error, and gives the exit status, 0 without one.
 pub fn end_with<W: Write>(outcome: Result<(), ProgramFault>, errors: &mut W) -> Ended
     ensures code { exit_status result.code ≡ status_after outcome }
     ensures line { result.told ≡ true
@@ -36,7 +36,7 @@ pub fn end_with<W: Write>(outcome: Result<(), ProgramFault>, errors: &mut W) -> 
     }
 }
 
-// What the parser of the words says is said as it is, every other error in a line.
+// A text of the parser is written as it is, every other error as a line.
 fn tell<W: Write>(fault: &ProgramFault, errors: &mut W) -> io::Result<()>
     ensures { OnOk result
         (Appends (W.contents errors.old) (W.contents errors.new) (fault_line fault.now)) }

@@ -9,7 +9,7 @@ use std::alloc::Global;
 use std::io;
 use std::io::Read;
 
-/// Opens files by their names. What is behind a name is said by `held`; files of the system say nothing of it.
+/// Opens files by their names. `held` says what each name holds; for the files of the system that is unknown.
 pub trait Files {
     type File: Read + Drop;
 
@@ -28,7 +28,7 @@ pub trait Files {
         ensures opens { Names (opened self.old) (opened self.new) (path.now ∷ []) };
 }
 
-/// All bytes of the file of a name, which are at most 16,777,216. `Read` where it cannot be opened, else as `read_input`.
+/// Reads all bytes of a file, at most 16,777,216. `Read` where it cannot be opened, else the errors of `read_input`.
 pub fn read_file<F: Files>(
     alloc: Global,
     files: &mut F,

@@ -1,4 +1,4 @@
-//! Standard input, read to its end.
+//! Reads an input to its end.
 
 ghost use Rattle.std.specs.Prelude.{◌≡◌, ◌⊎◌, ◌<◌, ◌≤◌, length, take, IfOk, IfErr, IfSome};
 ghost use Rattle.std.specs.Io.KnownBytes.{Consumes, IsAtEnd};
@@ -8,13 +8,13 @@ use answers::ProgramFault;
 use std::alloc::Global;
 use std::io::Read;
 
-/// How many bytes an input has at the most.
+/// The largest size of an input, in bytes.
 pub const MAX_INPUT: usize = 16_777_216;
 
-// How many bytes one read has room for.
+// The size of the buffer for one read, in bytes.
 const ROOM: usize = 4096;
 
-/// All bytes up to the end of the input. It is too long where it has more than 16,777,216 bytes.
+/// Reads an input to its end. `TooLong` where it has more than 16,777,216 bytes, else `Read` or `Memory`.
 pub fn read_input<R: Read>(alloc: Global, reader: &mut R) -> Result<Vec<u8>, ProgramFault>
     ensures all { IfOk result
         (λ bytes. IfSome (R.remaining reader.old) (λ input. bytes.items ≡ input)) }

@@ -12,8 +12,8 @@ use command_line::read_words;
 use std::alloc::{AllocError, Global};
 use std::io::{Read, Write};
 
-/// The whole program: what it does for its arguments, which are texts unless they were refused before. The files that they
-/// name are opened by `files`, standard input is `reader`, standard output `writer`, and the line of an error goes to `errors`.
+/// The whole program: what it does for its arguments, or for the error with which reading them failed. The files that they
+/// name are opened by `files`, standard input is `reader`, standard output `writer`, and the error message goes to `errors`.
 pub fn run<F: Files, R: Read, W: Write, V: Write>(
     alloc: Global,
     arguments: Result<Vec<String>, ProgramFault>,
@@ -56,7 +56,7 @@ fn answer_all<F: Files, R: Read, W: Write>(
     answer(alloc, &words, files, reader, writer)
 }
 
-// Texts as words.
+// The arguments as string slices.
 fn words_of<'a>(alloc: Global, arguments: &'a [String]) -> Result<Vec<&'a str>, AllocError>
     ensures { IfOk result
         (λ words. texts words.items ≡ map (λ text. string_bytes text) arguments.now) }
@@ -68,7 +68,7 @@ fn words_of<'a>(alloc: Global, arguments: &'a [String]) -> Result<Vec<&'a str>, 
     Ok(words)
 }
 
-/// Does what the words ask for, with what the files that they name hold. Words are refused before a file is opened.
+/// Carries out what the words ask for, on the files that they name. Wrong words are refused before a file is opened.
 pub fn answer<F: Files, R: Read, W: Write>(
     alloc: Global,
     words: &[&str],

@@ -1,4 +1,4 @@
-//! What the words ask for, done with what the files hold that they name: a session, a check, or the clues of the input.
+//! Carries out the task that the words ask for: a session, a check, a proof, or the clues of the input.
 
 ghost use Rattle.program_options.specs.Options.{IsLawful};
 ghost use Rattle.command_line.specs.Words.{IsLawfulTask};
@@ -14,9 +14,9 @@ use session::run_session;
 use std::alloc::Global;
 use std::io::{Read, Write};
 
-/// Does what the words ask for, with what the files hold that they name; a check reads the picture's file first. The
-/// error is that of the file, the certificate or the input, of reading or writing, or `Memory`. Where a file is not
-/// read, the input was left alone and nothing was written.
+/// Carries out a task on the files that it names; a check reads the picture's file first. The error is that of the
+/// file, the certificate or the input, of reading or writing, or `Memory`. Where a file could not be read, the input
+/// was left alone and nothing was written.
 pub fn carry_out<F: Files, R: Read, W: Write>(
     alloc: Global,
     task: &Task<'_>,
@@ -62,7 +62,7 @@ pub fn carry_out<F: Files, R: Read, W: Write>(
     }
 }
 
-// The clues of the picture that is the whole input.
+// Writes the clues of the picture that is the whole input.
 fn show_clues<R: Read, W: Write>(
     alloc: Global,
     reader: &mut R,
@@ -77,8 +77,8 @@ fn show_clues<R: Read, W: Write>(
 
 /// Opens a file and runs a session on it: each line of the reader's input is answered on the writer.
 ///
-/// A file that is refused is answered with its error, and then nothing was read or written. Inside the session lack of
-/// memory is a refused command.
+/// Where the file is refused, its error is returned, and nothing was read or written. Running out of memory inside the
+/// session only refuses a command.
 pub fn run_work<R: Read, W: Write>(
     alloc: Global,
     file: &[u8],

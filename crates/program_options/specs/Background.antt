@@ -32,7 +32,7 @@ with_green (Some red) = with_blue red.0 (sample_before red.1)
 abbrev pub background_of : List ℕ → Option Rgb
 background_of text = with_green (sample_before text)
 
--- a sample and what follows it, as a function answers them
+-- a sample and what follows it, from what the function `sample_before` returns
 abbrev pub sample_seen : ℕ × Bor (List ℕ) → ℕ × List ℕ
 sample_seen x = (x.0, x.1.now)
 

@@ -37,7 +37,7 @@ abbrev pub session_fault_of : SessionFault → ProgramFault
 session_fault_of session.Read = Read
 session_fault_of session.Write = Write
 
--- what follows `nonobench: ` on standard error; of the parser's own texts, the whole of it
+-- what follows `nonobench: ` on standard error; a text of the parser is written without that
 abbrev pub fault_text : ProgramFault → List ℕ
 fault_text (Ppm fault) = codes "ppm " ++ name_of fault ++ codes " at byte " ++ decimal (unwrap_or (place_of fault) 0)
 fault_text (Non fault) = codes "non " ++ nons.name_of fault
@@ -54,7 +54,7 @@ fault_text BackgroundOfNon = codes "background goes with ppm"
 fault_text Read = codes "read failed"
 fault_text Write = codes "write failed"
 
--- the status with which the program ends
+-- the exit status of the program
 abbrev pub status_of : ProgramFault → ℕ
 status_of (Words text) = 2
 status_of NotText = 2

@@ -13,7 +13,7 @@ use ppm_text::PpmFault;
 use std::alloc::AllocError;
 use std::fmt;
 
-/// Why the program ends without its answer, in the order of its parts.
+/// Why the program ends without its answer. `Display` gives its message, and `status` the exit status.
 #[derive(Debug, PartialEq, Eq, Drop)]
 pub enum ProgramFault {
     /// The P3 text was refused.
@@ -30,11 +30,11 @@ pub enum ProgramFault {
     Memory,
     /// The input has more than 16,777,216 bytes.
     TooLong,
-    /// The words were refused by their parser, which says this of them.
+    /// The words were refused by their parser, with this text.
     Words(String),
     /// A word is not UTF-8.
     NotText,
-    /// The background's colour has another form.
+    /// The background's colour is not three samples, as in `255,0,0`.
     Background,
     /// A background's colour was given for a .non text.
     BackgroundOfNon,
@@ -53,7 +53,7 @@ impl From<AllocError> for ProgramFault {
 }
 
 impl ProgramFault {
-    /// The status with which the program ends: 1 for what it was given, 2 for its words, 3 for reading and writing.
+    /// The exit status: 1 for a fault of the input or of memory, 2 for the words, 3 for reading and writing.
     pub fn status(&self) -> u8
         ensures { result ≡ status_of self.now }
     {

@@ -1,4 +1,4 @@
-//! What a program is asked for a file, and why it ends without its answer.
+//! The options of a session, and the errors with which the program ends.
 #![tactic(auto)]
 
 mod background;

@@ -1,11 +1,11 @@
-//! What is asked of the work on a file.
+//! The options of a session on a file.
 
 use picture::Rgb;
 
-/// How a file is opened, and how much of the work on it can be taken back.
+/// How a session opens its file, and how many edits it can undo.
 #[derive(Clone, Copy, Debug, PartialEq, Eq)]
 pub struct Options {
-    /// The file is a .non text, and a P3 text where this is false.
+    /// Whether the file is a .non text; else it is a P3 text.
     pub non: bool,
     /// The colour of the background in a P3 text, white where it is not given.
     pub background: Option<Rgb>,

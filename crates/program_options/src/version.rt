@@ -1,4 +1,4 @@
-//! The version of all that is built from these crates: it stands here alone.
+//! The version of all that is built from these crates.
 
-/// As `nonobench --version` prints it after the name.
-pub const VERSION: &str = "0.5.0";
+/// The version, as `nonobench --version` prints it after the name.
+pub const VERSION: &str = "0.6.0";

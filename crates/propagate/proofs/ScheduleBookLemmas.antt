@@ -23,7 +23,7 @@ use Rattle.fixpoint.proofs.ClosingLaws.{same_sizes, within_trans}
 use Rattle.propagate.proofs.ScheduleLemmas.{schedules_lead_inside}
 use Rattle.propagate.proofs.GrowLemmas.{grows_none, grows_on}
 
--- After some lines of a schedule: what the rest of it comes to from here, the whole of it comes to from the start.
+-- After some lines of a schedule: what the rest of it leads to from here, the whole of it leads to from the start.
 pub record Scheduled (clues : Clues) (longest : ℕ) (start now : Account) (lines rest : List LineId) : Type 0 where
   pub added : List Step
   pub grows : Grows clues start now added
@@ -77,7 +77,7 @@ pub schedule_fails : (clues : Clues) (start : Account) (lines : List LineId) (fa
 schedule_fails clues start lines Dead dead = dead refl
 schedule_fails clues start lines Memory dead = tt {0}
 
--- ---- what schedules come to, over the base of a book
+-- ---- what schedules lead to, over the base of a book
 
 module _ (clues : Clues) (book : Account) (is : IsAccount book) (d : IsDerivation clues book) where
   fills_inside : (lines : List LineId) (facts : Masks) → All (HasLine book.facts) lines → AreAfter clues book.facts lines facts → (others : Masks) → IsClosed clues others → IsWithin book.base others

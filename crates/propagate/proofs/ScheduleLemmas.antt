@@ -1,4 +1,4 @@
--- Lines forced in turn.
+-- Lines forced in the order of a schedule.
 use Rattle.std.proofs.Common.{◌≡◌, ℕ, List, [], ◌∷◌, refl, sym, subst, ◌∙◌, inl, inr}
 use Rattle.std.specs.List.{All}
 use Rattle.std.proofs.lemmas.List.Elements.{All-head, All-tail}
@@ -17,7 +17,7 @@ use Rattle.line_facts.proofs.ForceLaws.{gains_grows, gains_inside, gains_closes}
 use Rattle.line_facts.proofs.FitLaws.{tighter_fits, within_both, within_tighter}
 use Rattle.fixpoint.proofs.ClosingLaws.{within_refl, within_trans}
 
--- what a line forces is one
+-- what a line forces is unique
 one_gain : (clues : Clues) (line : LineId) (base facts others : Masks) → Gains (clue_at clues line) line base facts Narrowed → Gains (clue_at clues line) line base others Narrowed → facts ≡ others
 one_gain clues line base facts others g h =
     within_both facts others (gains_inside (clue_at clues line) line base facts Narrowed g others (gains_grows (clue_at clues line) line base others Narrowed h)

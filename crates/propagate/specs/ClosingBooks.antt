@@ -12,7 +12,7 @@ use Rattle.fixpoint.specs.declared.fault.CloseFault.TheVariants as fault
 use Rattle.fixpoint.specs.ClosedFacts.{EachFits, HasDeadLine}
 use Rattle.propagate.specs.Turns.{cells_drawn, steps_added, Grows}
 
--- The old book grown by trimmed steps to a derivation whose facts are the
+-- The old book with trimmed steps added: a derivation whose facts are the
 -- least closed ones over its base, and some list fits each line under them.
 pub record IsClosedBook (clues : Clues) (old new : Account) : Type 0 where
   pub grows : Grows clues old new (steps_added old new)
@@ -25,8 +25,8 @@ ClosesBook clues old (Ok new) = IsClosedBook clues old new
 ClosesBook clues old (Err fault.Dead) = HasDeadLine clues old.base
 ClosesBook clues old (Err fault.Memory) = Unit {0}
 
--- So many evaluations close a book: at least the lines that waited, at least the steps
--- that were added, and at most those lines and the cells on which the steps draw.
+-- How many evaluations close a book: at least one for each line that waited, at least one for each
+-- step that was added, and at most one for each of those lines and each cell on which a step draws.
 pub record SufficeToClose (dirty : Lines) (added : List Step) (evaluations : ℕ) : Type 0 where
   pub at_least_lines : name_count dirty ≤ evaluations
   pub at_least_steps : length added ≤ evaluations

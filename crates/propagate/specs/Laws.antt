@@ -28,9 +28,9 @@ pub record SchedulesLeadInside : Type 0 where
   pub not_both : (clues : Clues) (base : Masks) (lines : List LineId) (facts : Masks) → AreAfter clues base lines facts
       → ¬ IsDeadInTurn clues base lines
 
--- A schedule that begins with a book which is a derivation comes to facts inside
+-- A schedule that begins with a book which is a derivation leads to facts inside
 -- all closed ones that hold the book's base, and to the least over the base where
--- no line can draw more. So all schedules that end there come to the same facts.
+-- no line can draw more. So all schedules that end there lead to the same facts.
 pub record SchedulesFillBooks : Type 0 where
   pub inside : (clues : Clues) (book : Account) (lines : List LineId) (facts : Masks) → IsAccount book
       → IsDerivation clues book → All (HasLine book.facts) lines → AreAfter clues book.facts lines facts

@@ -1,4 +1,4 @@
--- Lines forced in turn, as a schedule names them.
+-- Lines forced one after another, as a schedule names them.
 use Rattle.std.specs.Prelude.{◌≡◌, ◌⊎◌, ◌≤◌, List, [], ◌∷◌, ℕ, length, Result, Ok, Err}
 use Rattle.line_facts.specs.Masks.{Masks}
 use Rattle.picture.specs.declared.line_id.LineId.{LineId}
@@ -14,7 +14,7 @@ use Rattle.fixpoint.specs.declared.fault.CloseFault.{CloseFault}
 use Rattle.fixpoint.specs.declared.fault.CloseFault.TheVariants as fault
 use Rattle.propagate.specs.Turns.{steps_added, Grows, TakeTurns}
 
--- the facts after a schedule: in turn, each line that it names
+-- the facts after a schedule: in order, each line that it names
 -- forces all that it can, and some list fits each in its turn
 abbrev pub AreAfter : Clues → Masks → List LineId → Masks → Type 0
 AreAfter clues base [] facts = facts ≡ base
@@ -28,8 +28,8 @@ IsDeadInTurn clues base (line ∷ lines) =
     (¬ CanFit (clue_at clues line) (line_of base line)) ⊎ ((between : Masks)
     × (Gains (clue_at clues line) line base between Narrowed × IsDeadInTurn clues between lines))
 
--- The old book grown by a step for each named line that drew
--- something, in turn; its facts are those after the schedule.
+-- The old book with a step for each turn in which a named line drew
+-- something, in order; its facts are those after the schedule.
 pub record IsAfterSchedule (clues : Clues) (old : Account) (lines : List LineId) (new : Account) : Type 0 where
   pub grows : Grows clues old new (steps_added old new)
   pub in_turn : TakeTurns clues lines old new

@@ -1,4 +1,4 @@
--- Lines that draw steps into a book, each in its turn.
+-- Lines that add steps to a book, each in its turn.
 use Rattle.std.specs.Prelude.{◌≡◌, ℕ, ◌+◌, ◌<◌, ◌≤◌, ◌⊎◌, ◌↔◌, List, [], ◌∷◌, ◌++◌, length, drop, Option, Result}
 use Rattle.picture.specs.declared.line_id.LineId.{LineId}
 use Rattle.picture.specs.LineSet.{Lines, HasName, name_count}
@@ -43,8 +43,8 @@ cells_drawn (step ∷ steps) = length step.drawn + cells_drawn steps
 abbrev pub steps_added : Account → Account → List Step
 steps_added old new = drop (length old.steps) new.steps
 
--- A book grown by steps: over the same base and after all old steps, it is a derivation, and no step that was added has
--- a premise that it can do without.
+-- A book with steps added: it has the same base and all old steps before them, it is a derivation, and no step that was
+-- added has a premise that it can do without.
 pub record Grows (clues : Clues) (old new : Account) (added : List Step) : Type 0 where
   pub base : new.base ≡ old.base
   pub steps : new.steps ≡ old.steps ++ added
@@ -57,7 +57,7 @@ pub record CrossesDrawn (step : Step) (other : LineId) : Type 0 where
   pub is_crossing : other ≡ crossing_at step.line other.at
   pub drawn : Mentions step.drawn other.at
 
--- What a line's turn comes to: a book grown by one step at most, facts that gained all that the
+-- What a line's turn gives: a book with at most one step added, facts that gained all that the
 -- line forces, and the lines that cross it where it drew, no more than there are cells drawn on.
 pub record Turn (clues : Clues) (line : LineId) (old new : Account) (changed : Lines) : Type 0 where
   pub added : List Step

@@ -1,4 +1,4 @@
-//! Propagating a book to the fixpoint of all lines, a step for each line that draws something.
+//! Propagating a book to the fixpoint of all lines, by a step each time a line draws something.
 
 ghost use Rattle.std.specs.Prelude.{◌≡◌, IfOk};
 ghost use Rattle.justify.specs.Book.{AreTrimmed, IsDerivation};
@@ -14,10 +14,10 @@ use line_facts::{LineEngine, Meter};
 use picture::LineSet;
 use worklist::Agenda;
 
-/// Puts steps after those of a book until no line forces more: its facts are then the least closed ones over its base.
-/// The book is a derivation from the clues, and every line that is not in `dirty` has to be quiet under its facts: it
-/// forces nothing new, and some list fits it. Dead says that under the least closed facts some line has no list that
-/// fits; the book is dropped then, and where memory is refused. The lines that the agenda had are forgotten.
+/// Appends steps to a book until no line forces more: its facts are then the least closed ones over its base. The book
+/// has to be a derivation from the clues, and every line that is not in `dirty` quiet under its facts: it forces
+/// nothing new, and some list fits it. Dead says that under the least closed facts some line has no list that fits.
+/// The book is dropped on any error. The agenda is cleared first.
 pub fn close<E: LineEngine, A: Agenda>(
     engine: &mut E,
     agenda: &mut A,

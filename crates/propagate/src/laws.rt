@@ -3,15 +3,15 @@
 ghost use Rattle.propagate.specs.Laws.{SchedulesFillBooks, SchedulesLeadInside};
 
 #[tactic(auto, using(crate::proofs::ScheduleLemmas::schedules_lead_inside))]
-/// The facts after a schedule lie inside the least closed facts, and are these where they are closed: so the order and
+/// The facts after a schedule lie inside the least closed facts, and are the least where they are closed: the order and
 /// the repeats of its lines don't matter then.
 pub fn schedules_lead_inside()
     ensures { SchedulesLeadInside }
 {}
 
 #[tactic(auto, using(crate::proofs::ScheduleBookLemmas::schedules_fill))]
-/// A schedule that begins with a book comes to facts inside the least closed ones over the book's base, and to these where no
-/// line can draw more: so the order and the repeats of its lines don't matter then.
+/// A schedule that begins with a book leads to facts inside the least closed ones over the book's base, and to the least
+/// where no line can draw more: the order and the repeats of its lines don't matter then.
 pub fn schedules_fill_books()
     ensures { SchedulesFillBooks }
 {}

@@ -1,4 +1,4 @@
-//! Line logic carried to its end: books closed line by line, and schedules of lines.
+//! Line logic run to a fixpoint: books closed line by line, and schedules of lines.
 #![tactic(auto)]
 
 mod closing_book;

@@ -1,4 +1,4 @@
-//! Running a given list of lines over a book, one evaluation each.
+//! Runs a schedule over a book: a list of lines, each evaluated as often as it is named.
 
 ghost use Rattle.std.specs.Prelude.{◌≡◌, IfOk};
 ghost use Rattle.std.specs.List.{All};
@@ -14,9 +14,9 @@ use justify::Book;
 use line_facts::{LineEngine, Meter};
 use picture::LineId;
 
-/// Evaluates the lines of a schedule in turn, each as often as it is named, and appends to the book's steps one for
-/// each named line that drew something. The book is a derivation from the clues. Dead says that no list fits a named
-/// line in its turn; the book is dropped then, and where memory is refused.
+/// Evaluates the lines of a schedule in order, each as often as it is named, and appends a step to the book whenever
+/// one draws something. The book has to be a derivation from the clues. Dead says that a named line had no list that
+/// fits when it was evaluated. The book is dropped on any error.
 pub fn run_schedule<E: LineEngine>(
     engine: &mut E,
     book: Book,

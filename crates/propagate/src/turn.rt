@@ -1,4 +1,4 @@
-//! The turn of one line: the step that it gave is put into the book.
+//! The turn of one line in a schedule or a closing: its step is put into the book.
 
 ghost use Rattle.std.specs.Prelude.{◌≡◌, ◌↔◌, ◌<◌, ◌≤◌, ℕ, List, length, IfOk};
 ghost use Rattle.picture.specs.LineSet.{HasName, name_count};
@@ -17,7 +17,7 @@ use fixpoint::CloseFault;
 use justify::{Book, Step, StepFault};
 use picture::{LineId, LineSet, MAX_SIDE};
 
-// Appends the line's step to the book, and says which lines cross it where it draws.
+// Appends the step that the line gave, if any, and says which lines cross it where it draws.
 pub(crate) fn take_turn(
     book: &mut Book,
     line: LineId,

@@ -38,7 +38,7 @@ no_givens (cell ∷ cells) e =
     let c : length front ≡ 9 = refl in
     absurd (omega arith)
 
--- the only picture by no givens at all is the only solution
+-- a picture that is unique without givens is the only solution
 pub only_without : (picture : Rows) → IsUnique picture [] → IsOnlySolution (clues_of picture) nowhere picture
 only_without picture unique other s =
     unique other (record {
@@ -99,7 +99,7 @@ is_unique d cert of other s = elim (same_grid other (ordered d).rows) [
   }))
 ]
 
--- cells of a picture are none where no place is among them
+-- a list of cells of a picture is empty where it names no place
 none_named : (picture : Rows) (cells : List CellNumber) → AllByRecursion (HasCellNumber picture) cells → ((row col : ℕ) → Contains cells (numbered row col) → ⊥) → cells ≡ []
 none_named picture [] has none = refl
 none_named picture (cell ∷ cells) has none =

@@ -16,8 +16,8 @@ use Rattle.answers.specs.Check.{IsCheckOf, IsProofOf, accepted_text}
 abbrev pub background_in : Design → Rgb
 background_in d = first_of d.colours.triples
 
--- Of one document, `write ppm` printed the picture, and `certify`
--- the certificate: it did not say that there is another picture.
+-- On benches with this history, `write ppm` printed the picture, and
+-- `certify` the certificate: it did not print `ambiguous`.
 pub record ArePublished (s : Seen) (picture cert : List ℕ) : Type 0 where
   pub at_picture : Seen
   pub behind_picture : Seen
@@ -29,8 +29,8 @@ pub record ArePublished (s : Seen) (picture cert : List ℕ) : Type 0 where
   pub certifies : SaysTo at_cert command.Certify cert behind_cert
   pub not_ambiguous : cert ≡ codes "ambiguous\n" → ⊥
 
--- The two are read, with the document's background, and the certificate proves the picture: a check shows the
--- line that it is accepted, with the number of the document's givens. There is no other picture for the document.
+-- With the document's background, the certificate proves the picture: a check shows `certificate accepted`, and
+-- the number of the document's givens if it has some. There is no other picture for the document.
 pub record AreAccepted (d : Design) (picture cert : List ℕ) : Type 0 where
   pub found : Certificate
   pub givens : NamesMarks d found.givens

@@ -10,16 +10,16 @@ use Rattle.program_options.specs.declared.options.Options.{Options}
 use Rattle.answers.specs.Start.{IsStarted}
 use Rattle.published.specs.Laws.{AreAccepted}
 
--- A session that was given this input alone, on a bench in a state, ended without an error, and wrote these bytes: not
--- that memory ran out.
+-- A session with this whole input, on a bench in this state, ended without an error and wrote these bytes, which do not
+-- say that memory ran out.
 pub record HasWritten (input : List ℕ) (at : Seen) (bytes : List ℕ) : Type 0 where
   pub left : Option (List ℕ)
   pub last : Seen
   pub runs : Runs (Some input) left (Some []) (Some bytes) at last (Ok tt)
   pub made : bytes ≡ memory_line → ⊥
 
--- Of one document, the session `write ppm` wrote the picture, and the session
--- `certify` the certificate: it did not say that there is another picture.
+-- On benches with this history, the session `write ppm` wrote the picture, and
+-- the session `certify` the certificate: it did not write `ambiguous`.
 pub record ArePrinted (s : Seen) (picture cert : List ℕ) : Type 0 where
   pub at_picture : Seen
   pub same_picture : at_picture.history ≡ s.history
@@ -33,13 +33,13 @@ pub record ArePrinted (s : Seen) (picture cert : List ℕ) : Type 0 where
 abbrev pub PrintedAreAccepted : Seen → Type 0
 PrintedAreAccepted s = (picture cert : List ℕ) → ArePrinted s picture cert → AreAccepted s.history.document picture cert
 
--- Benches that are started with one P3 file and the same options have one history, so one document.
+-- Benches that are started with the same P3 file and options have the same history, so the same document.
 abbrev pub OneFileIsOneDocument : Type 0
 OneFileIsOneDocument = (file : List ℕ) (options : Options) (one other : Seen) → options.non ≡ false
     → IsStarted file options one → IsStarted file options other → one.history ≡ other.history
 
 -- Where there is no other picture for a bench's document, what `certify`
--- and `write ppm` say of it is accepted, so there is a certificate.
+-- and `write ppm` print for it is accepted, so there is a certificate.
 abbrev pub UniqueArePublished : Seen → Type 0
 UniqueArePublished s =
     ((other : Rows) → IsOtherFor s.history.document other → ⊥)

@@ -14,8 +14,8 @@ use Rattle.published.specs.Laws.{ArePublished, background_in}
 abbrev pub nowhere : ℕ → ℕ → Type 0
 nowhere row col = ⊥
 
--- The text is read, and no other picture of that size has the
--- clues of its picture: they are enough, and nothing is given.
+-- The text is read as a picture, and no other picture of
+-- that size has its clues: they are enough without givens.
 pub record HasOneSolution (file : List ℕ) (background : Option Rgb) : Type 0 where
   pub document : Content
   pub reads_file : ppm_of file background ≡ Ok document

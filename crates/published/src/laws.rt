@@ -1,4 +1,4 @@
-//! Laws of what is published and checked. A function only looks at most, and its contract is the law.
+//! Laws of what is published and checked. Each function at most reads its bench, and its contract is the law.
 
 ghost use Rattle.published.specs.Laws.{PairsAreAccepted};
 ghost use Rattle.published.specs.Printed.{OneFileIsOneDocument, PrintedAreAccepted, UniqueArePublished};
@@ -12,8 +12,8 @@ use ppm_text::round_trip as pictures_are_read;
 use propagate::Agenda;
 
 /// What a designer prints is what a site accepts. For a bench in any state: the bytes that `certify` prints and the bytes that
-/// `write ppm` prints are, with the document's background, a pair that `run_check` accepts, with the line that it prints. Where
-/// `certify` prints `ambiguous`, there is no certificate.
+/// `write ppm` prints are, with the document's background, a pair that `run_check` accepts, and the line that it shows says so.
+/// Where `certify` prints `ambiguous`, there is no certificate.
 ///
 /// The picture is the only one with its clues and its colours in the certificate's givens. Where the document has no given, the
 /// line is `certificate accepted` alone, and the published picture's clues have one solution.
@@ -27,8 +27,8 @@ pub fn published_pairs_are_accepted<E: LineEngine + Drop, A: Agenda + Drop>(benc
     let _ = (document.palette.len(), document.picture.height());
 }
 
-/// Every unique picture can be published: where there is no other picture for the document of a bench, what `certify` says of
-/// it is a certificate, and with what `write ppm` says `run_check` accepts it, unless memory runs out.
+/// Every unique picture can be published: where there is no other picture for the document of a bench, what `certify` prints
+/// is a certificate, and `run_check` accepts it with what `write ppm` prints, unless memory runs out.
 pub fn unique_pictures_are_published<E: LineEngine + Drop, A: Agenda + Drop>(bench: &Bench<E, A>)
     ensures { UniqueArePublished bench.now }
 {
@@ -38,10 +38,10 @@ pub fn unique_pictures_are_published<E: LineEngine + Drop, A: Agenda + Drop>(ben
     let _ = (document.palette.len(), document.picture.height());
 }
 
-/// The bytes that sessions write are a pair that can be published: where a session that is given `write ppm` alone wrote the
-/// picture, and one that is given `certify` alone the certificate, and neither says `refused: Memory` nor the second
-/// `ambiguous`, `run_check` accepts them, with the background of the bench's document. The sessions may run on benches of their own that
-/// have this bench's history, as those have that are started with one P3 file (`one_file_is_one_document`).
+/// The bytes that two sessions write can be published. The input of one is `write ppm` alone, and it writes the picture; that
+/// of the other is `certify` alone, and it writes the certificate. Where neither writes `refused: Memory` and the second does
+/// not write `ambiguous`, `run_check` accepts the pair, with the background of the bench's document. Each session may run on
+/// another bench with the same history, such as two that start with the same P3 file and options (`one_file_is_one_document`).
 pub fn printed_bytes_are_accepted<E: LineEngine + Drop, A: Agenda + Drop>(bench: &Bench<E, A>)
     ensures { PrintedAreAccepted bench.now }
 {
@@ -49,7 +49,7 @@ pub fn printed_bytes_are_accepted<E: LineEngine + Drop, A: Agenda + Drop>(bench:
 }
 
 #[tactic(auto, using(crate::proofs::PrintLemmas::one_document))]
-/// Benches that are started with one P3 file and the same options have one history, so one document.
+/// Benches that are started with the same P3 file and the same options have the same history, so the same document.
 pub fn one_file_is_one_document()
     ensures { OneFileIsOneDocument }
 {}
@@ -61,8 +61,8 @@ pub fn plain_lines_are_one_solution()
 {}
 
 /// What `prove` shows for a file is what `verify` accepts: where it is neither `ambiguous` nor `undecided`, it is read as a
-/// proof by lemmas, with which `run_verify` accepts the file, with the line `proof accepted`, and the picture's clues have
-/// one solution.
+/// proof by lemmas, `run_verify` accepts it for the file with the line `proof accepted`, and the picture's clues have one
+/// solution.
 pub fn proofs_are_verified()
     ensures { ProofsAreVerified }
 {}

@@ -1,4 +1,4 @@
-//! What a designer publishes is what a site accepts: laws of a session and of a check.
+//! Laws of sessions and checks: what a designer publishes is what a site accepts.
 #![tactic(auto)]
 
 pub mod laws;

@@ -1,4 +1,4 @@
-//! Calls of the libraries in which each growth of memory is refused in turn. There are tests alone.
+//! Tests of library calls in which each allocation is refused in turn. The crate has nothing else.
 #![tactic(auto)]
 
 #[cfg(test)]

@@ -1,6 +1,6 @@
-//! Each growth of memory may be refused. Where the check runs these tests none is, and `tests/refuse.sh` runs the first of each
-//! module again and again with another one refused each time. A refused call says so and leaves what it was lent as it was, and
-//! it is answered when it is made again. Since one growth is refused in a run, the second try never is.
+//! Each allocation, or growth of memory, may be refused. `rt test` refuses none, and `tests/refuse.sh` runs the first test of
+//! each module again and again, each time with another one refused. A refused call says so and leaves what it borrowed as it
+//! was, and it succeeds when it is made again. Since only one growth is refused in a run, the second try never is.
 
 use std::fmt::Debug;
 use std::process::Abort;
@@ -15,26 +15,26 @@ mod of_searches;
 mod of_steps;
 mod shown;
 
-// Whether a growth may be refused, or none is.
+// Whether an allocation may be refused in this run.
 #[derive(Clone, Copy, PartialEq, Eq)]
 enum Memory {
     Refused,
     Ample,
 }
 
-// Stops where a value is not the one that is wanted. A comparison here is proved once, and not in each test.
+// Panics where a value is not the expected one. The comparison is proved here once, and not in each test.
 fn equal<T: PartialEq + Debug + Drop>(rt: &impl Abort, what: &str, got: T, want: T) {
     assert_eq!(rt; got, want, "{what}");
 }
 
-// Stops where a call failed other than by running out of memory, or though memory is ample.
+// Panics where a call failed other than by running out of memory, or though no allocation is refused.
 fn refused<F: PartialEq + Debug + Drop>(rt: &impl Abort, memory: Memory, got: F, want: F) {
     assert!(rt; memory == Memory::Refused);
     equal(rt, "a fault", got, want);
 }
 
-// What the first try gives, or the second one where it was refused by this error. Where memory is ample both give
-// something.
+// What the first try gives, or, where it was refused with this error, the second one. Where no allocation is refused,
+// both succeed.
 fn first_of<T: Drop, F: PartialEq + Debug + Drop>(
     rt: &impl Abort,
     memory: Memory,

@@ -14,7 +14,7 @@ use Rattle.edits.specs.Design.{Design, grid, mark_at, marks_of}
 use Rattle.report_text.specs.Report.{audit_text, colour_line, colour_lines, document_text, shown_given, givens_in, row_givens}
 use Rattle.report_text.proofs.ShownLemmas.{next_range}
 
--- all that stands before the ending
+-- all that comes before the ending
 abbrev pub front_text : Design → Clues → Masks → List ℕ
 front_text d clues facts = document_text d ++ audit_text clues facts
 

@@ -17,7 +17,7 @@ none_pushed old nothing none = sym (ap (λ (text : List ℕ). old ++ text) none 
 pub pushed : (old now new front piece all : List ℕ) → now ≡ old ++ front → new ≡ now ++ piece → all ≡ front ++ piece → new ≡ old ++ all
 pushed old now new front piece all so more one = more ∙ ap (λ (text : List ℕ). text ++ piece) so ∙ append_assoc old front piece ∙ ap (λ (text : List ℕ). old ++ text) (sym one)
 
--- one bit is one of the sixteen
+-- the only bit of a mask is one of the sixteen
 pub lowest_of_one : (mask : ℕ) → mask < 2 ^ 16 → count_ones mask ≡ 1 → trailing_zeros w16 mask < 16
 lowest_of_one zero fits one = absurd (omega (arith, ones_le_self 0, one))
 lowest_of_one (suc mask) fits one = (bit_at-trailing_zeros w16 (suc mask) (omega arith) fits).0

@@ -11,7 +11,7 @@ use Rattle.clues.specs.ClueBook.{Clues}
 abbrev pub block_text : Block → List ℕ
 block_text b = decimal b.len ++ (96 + b.colour) ∷ []
 
--- a block after another
+-- a block that follows another one, with a space before it
 abbrev pub behind : Block → List ℕ
 behind b = 32 ∷ block_text b
 
@@ -24,7 +24,7 @@ blocks_text (b ∷ blocks) = join_with_byte 32 (map block_text (b ∷ blocks))
 abbrev pub numbered_clue : ℕ → ℕ → List Block → List ℕ
 numbered_clue letter number clue = letter ∷ 32 ∷ (decimal number ++ (codes ": " ++ (blocks_text clue ++ 10 ∷ [])))
 
--- a line for each clue, with numbers from a first one on
+-- a line for each clue, numbered from `n` on
 unfoldable pub numbered_clues : ℕ → ℕ → List (List Block) → List ℕ
 numbered_clues letter n clues = flat_map (λ line. numbered_clue letter line.0 line.1) (enumerate_from n clues)
 

@@ -36,7 +36,7 @@ row_givens d i n = flat_map (λ j. if cell_at d.marks i j == 1 then shown_given 
 unfoldable pub givens_in : Design → ℕ → List ℕ
 givens_in d n = flat_map (λ i. row_givens d i (width_of d.rows)) (range_with_len 0 n)
 
--- how many cells are open: more than one colour is left there
+-- how many cells are open: those with more than one colour left
 abbrev pub open_cells : Masks → ℕ
 open_cells facts = sum_by (count_by (λ mask. nat_lt 1 (count_ones mask))) facts
 
@@ -50,7 +50,7 @@ abbrev pub audit_text : Clues → Masks → List ℕ
 audit_text clues facts = codes "clues\n"
     ++ (clues_text clues ++ (codes "map\n" ++ (map_text facts ++ (codes "open " ++ number_text (open_cells facts) 10))))
 
--- the verdict's word, and how many edits can be undone and made again
+-- the verdict's word, and how many edits can be undone and redone
 abbrev pub ending_text : List ℕ → ℕ → ℕ → List ℕ
 ending_text word past future =
     codes "verdict " ++ (word ++ (codes "\nhistory " ++ (number_text past 32 ++ number_text future 10)))

@@ -10,7 +10,7 @@ use Rattle.line_facts.specs.Masks.{Masks}
 abbrev pub letter : ℕ → ℕ
 letter k = if k == 0 then 46 else 96 + k
 
--- a row of cells, each by what is shown of it
+-- a row of cells, each as the byte that shows it, and a line feed
 abbrev pub shown_row : (ℕ → ℕ) → List ℕ → List ℕ
 shown_row shown row = map shown row ++ 10 ∷ []
 
@@ -18,7 +18,7 @@ shown_row shown row = map shown row ++ 10 ∷ []
 abbrev pub picture_text : Rows → List ℕ
 picture_text rows = flat_map (shown_row letter) rows
 
--- the letter of the colour that a mask leaves alone, or `?`
+-- the letter of the only colour in a mask, or `?`
 abbrev pub mask_letter : ℕ → ℕ
 mask_letter mask = if count_ones mask == 1 then letter (trailing_zeros w16 mask) else 63
 

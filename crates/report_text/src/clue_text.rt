@@ -12,7 +12,7 @@ use itoa::Buffer;
 use picture::{Axis, LineId};
 use std::alloc::{AllocError, Global};
 
-/// The clues of the rows and then of the columns, a line each, as the command `clues` shows them.
+/// The clues of the rows and then of the columns, each on a line, as the command `clues` shows them.
 pub fn clues_text(alloc: Global, book: &ClueBook) -> Result<Vec<u8>, AllocError>
     ensures { IfOk result (λ text. text.items ≡ clues_text book.now) }
 {
@@ -21,7 +21,7 @@ pub fn clues_text(alloc: Global, book: &ClueBook) -> Result<Vec<u8>, AllocError>
     Ok(text)
 }
 
-// Appends the clues of the rows and then of the columns to a text, a line each.
+// Appends the clues of the rows and then of the columns to a text, each on a line.
 pub(crate) fn push_clues(text: &mut Vec<u8>, book: &ClueBook) -> Result<(), AllocError>
     ensures { OnOk result (text.new.items ≡ text.old.items ++ clues_text book.now) }
 {
@@ -112,7 +112,7 @@ fn push_block(text: &mut Vec<u8>, block: Block) -> Result<(), AllocError>
 #[tactic(auto, using(std::proofs::lemmas::Fmt::decimal_digit))]
 /// Appends a number to a text, in decimal without leading zeros. Where memory is refused, a part may have been
 /// appended.
-// Most have one digit, and the others are kept out of their way.
+// Most numbers have one digit, so the longer ones are left to a function that is not inlined.
 pub fn push_number(text: &mut Vec<u8>, number: usize) -> Result<(), AllocError>
     ensures items { OnOk result (text.new.items ≡ text.old.items ++ decimal number) }
     ensures room { TakesRoom text.old text.new (length (decimal number)) result }

@@ -14,8 +14,8 @@ use line_facts::Facts;
 use picture::{Document, Palette, Picture, Rgb};
 use std::alloc::AllocError;
 
-/// How many bytes the ending of a report takes at the most: a word of nine bytes, two numbers of twenty, and what stands
-/// between.
+/// The largest size of the ending of a report, in bytes: a word of nine bytes, two numbers of twenty digits, and the
+/// text around them.
 pub const ENDING_ROOM: usize = 68;
 
 #[tactic(auto, using(std::proofs::lemmas::List::append_assoc))]
@@ -188,8 +188,8 @@ fn open_in_row(map: &Facts, row: u8) -> usize
 }
 
 #[tactic(auto, using(std::proofs::lemmas::List::append_assoc))]
-/// Appends the ending of a report to a text: the verdict's word, and how many edits can be undone and made again. Where
-/// the room is there it takes no memory; where memory is refused, a part may have been appended.
+/// Appends the ending of a report to a text: the verdict's word, and how many edits can be undone and redone. Where the
+/// text has room for it, no memory is allocated; where memory is refused, a part may have been appended.
 pub fn push_ending(
     text: &mut Vec<u8>,
     verdict: &[u8],

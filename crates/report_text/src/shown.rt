@@ -20,7 +20,7 @@ pub(crate) fn letter_of(colour: u8) -> u8
 }
 
 #[tactic(auto, using(crate::proofs::ShownLemmas::lowest_of_one))]
-// The letter of the colour that a mask leaves alone, or `?`.
+// The letter of the only colour in a mask, or `?`.
 fn mask_letter(mask: u16) -> u8
     ensures { result ≡ mask_letter mask }
 {
@@ -39,8 +39,8 @@ pub(crate) fn has_colour(mask: u16, colour: u8) -> bool
     (mask >> colour) & 1 == 1
 }
 
-/// Appends the rows of a picture to a text, a letter for each cell and a line feed after each row. Where the room is
-/// there it takes no memory; where memory is refused, a part may have been appended.
+/// Appends the rows of a picture to a text, a letter for each cell and a line feed after each row. Where the text
+/// has room for them, no memory is allocated; where memory is refused, a part may have been appended.
 pub fn push_picture(text: &mut Vec<u8>, picture: &Picture) -> Result<(), AllocError>
     ensures items { OnOk result (text.new.items ≡ text.old.items ++ picture_text picture.now) }
     ensures room { TakesRoom text.old text.new (picture_room picture.now) result }
@@ -75,7 +75,7 @@ pub fn push_map(text: &mut Vec<u8>, facts: &Facts) -> Result<(), AllocError>
     Ok(())
 }
 
-// A row of a map, whose letters are appended together.
+// A row of a map. Its letters are appended in one call.
 fn push_masks(text: &mut Vec<u8>, facts: &Facts, row: u8) -> Result<(), AllocError>
     requires { row < length facts.now }
     ensures { OnOk result (text.new.items

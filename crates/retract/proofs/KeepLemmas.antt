@@ -81,7 +81,7 @@ module _ (moves : Moves) (old new : Clues) (book : Account) (base : Masks) (kept
   pub came_from : CameFrom moves step (moved step to)
   came_from = record { image = stands.image; premises = refl; drawn = refl; drawn_stay = stands.drawn_stay }
 
--- one step more has come from the steps before
+-- steps that came from the first n steps came from the first n + 1
 pub came_weaker : (moves : Moves) (steps kept : List Step) (n : ℕ) → CameBefore moves steps n kept → CameBefore moves steps (n + 1) kept
 came_weaker moves steps kept n came m h = let from = came m h in (from.0, omega (arith, from.1), from.2)
 

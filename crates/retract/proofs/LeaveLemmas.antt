@@ -1,4 +1,4 @@
--- What the steps of a book leave, step by step.
+-- Which steps of a book stand, step by step.
 use Rattle.std.proofs.Common.{ℕ, List, [], ◌∷◌, ◌++◌, length, inl, inr, refl}
 use Rattle.line_facts.specs.Masks.{Masks}
 use Rattle.picture.specs.declared.line_id.LineId.{LineId}
@@ -8,7 +8,7 @@ use Rattle.justify.specs.declared.step.Step.{Step}
 use Rattle.justify.specs.Book.{IsKnownBefore}
 use Rattle.retract.specs.StandingSteps.{Leave, Stands, moved}
 
--- what is known decides which steps stand
+-- a step that stands also stands where more is known
 pub stands_alike : (moves : Moves) (old new : Clues) (One Other : ℕ → ℕ → ℕ → Type 0) (step : Step) (to : LineId) → ((row col k : ℕ) → One row col k → Other row col k)
     → Stands moves old new One step to → Stands moves old new Other step to
 stands_alike moves old new One Other step to alike is = record {

@@ -10,7 +10,7 @@ use Rattle.line_facts.proofs.GridLaws.{cell_on}
 use Rattle.justify.proofs.LineMaskLemmas.{both_bits, some_bit}
 use Rattle.retract.specs.StandingSteps.{ExcludesAll}
 
--- a mask has no common colour with the one left where it has each of its colours excluded
+-- a mask has no bit in common with `left` exactly if none of its colours is left
 nothing_common : (left colours : ℕ) → colours < 2 ^ 16 → (bit_and left colours ≡ 0) ↔ ((k : ℕ) → IsBitSet colours k → IsBitSet left k → ⊥)
 nothing_common left colours small = (
   (λ none k of_colours of_left. no_bit k (subst (λ n. IsBitSet n k) none ((both_bits left colours k).1 (of_left, of_colours)))),

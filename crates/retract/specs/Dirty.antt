@@ -1,4 +1,4 @@
--- The lines of a new picture that may say something new.
+-- The dirty lines of a new picture, which may exclude more.
 use Rattle.std.specs.Prelude.{◌≡◌, ℕ, ◌<◌, ◌⊎◌, List, Some}
 use Rattle.picture.specs.declared.line_id.Axis.{Axis}
 use Rattle.picture.specs.declared.line_id.LineId.{LineId}
@@ -22,7 +22,7 @@ AllStay moves axis = (i : ℕ) → i < lines_before (crossing axis) moves → St
 abbrev pub IsInPlace : Moves → Axis → Type 0
 IsInPlace moves axis = KeepsLength moves axis × AllStay moves axis
 
--- the old line that a new line is has the same clue, and the same is known of its cells
+-- a new line was an old line with the same clue, and the same is known of its cells
 pub record SaysTheSame (moves : Moves) (old new : Clues) (before after : List (List ℕ)) (line : LineId) : Type 0 where
   pub from : LineId
   pub has_line : HasLine before from
@@ -30,13 +30,13 @@ pub record SaysTheSame (moves : Moves) (old new : Clues) (before after : List (L
   pub same_clue : clue_at new line ≡ clue_at old from
   pub same_facts : line_of after line ≡ line_of before from
 
--- A new line is clean when it is an old line of equal length and equal clue along which each position
--- stays, and what is known on it now is what was known on that line before. Every other line is dirty.
+-- A new line is clean when it was an old line with the same length and the same clue, each position
+-- along it stays, and the same is known of its cells now as before. Every other line is dirty.
 pub record IsClean (moves : Moves) (old new : Clues) (before after : List (List ℕ)) (line : LineId) : Type 0 where
   pub in_place : IsInPlace moves line.axis
   pub says_the_same : SaysTheSame moves old new before after line
 
--- a line is dirty and has its name in the set, or is clean and has not
+-- a line is dirty and named in the set, or is clean and not named there
 abbrev pub IsDecided : Moves → Clues → Clues → List (List ℕ) → List (List ℕ) → Lines → LineId → Type 0
 IsDecided moves old new before after dirty line =
     (HasName dirty line × (IsClean moves old new before after line → ⊥))

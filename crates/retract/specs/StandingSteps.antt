@@ -36,9 +36,9 @@ abbrev pub ExcludesAll : Masks → LineId → ℕ → ℕ → Type 0
 ExcludesAll facts line place colours =
     (k : ℕ) → IsBitSet colours k → Excludes facts (row_on line.axis line.at place) (col_on line.axis line.at place) k
 
--- A step stands on a line of the new picture, where these exclusions are known. The step's line is that line now, of
--- equal length and with the same clue. Each cell that the step mentions keeps its place along it, and each premise is
--- known there.
+-- A step stands on a line of the new picture, where these exclusions are known: the step's old line is now that line,
+-- with the same length and the same clue; each cell that the step mentions keeps its place along it; and each premise
+-- is known there.
 pub record Stands (moves : Moves) (old new : Clues) (Known : ℕ → ℕ → ℕ → Type 0) (step : Step)
     (to : LineId) : Type 0 where
   pub image : image_of moves step.line ≡ Some to
@@ -48,18 +48,18 @@ pub record Stands (moves : Moves) (old new : Clues) (Known : ℕ → ℕ → ℕ
   pub drawn_stay : StayInPlace moves step.line.axis step.drawn
   pub premises_known : AreKnown Known to step.premises
 
--- an old line is a line of the new picture, with the same clue
+-- an old line is still a line of the new picture, with the same clue
 pub record KeepsClue (moves : Moves) (old new : Clues) (line : LineId) : Type 0 where
   pub to : LineId
   pub image : image_of moves line ≡ Some to
   pub same_clue : clue_at new to ≡ clue_at old line
 
--- of the old lines a set has exactly the names of these
+-- among the old lines, a set names exactly those that keep their clues
 abbrev pub HaveSameClues : Moves → Clues → Clues → Lines → Type 0
 HaveSameClues moves old new same = (line : LineId) → line.at < lines_before line.axis moves
     → HasName same line ↔ KeepsClue moves old new line
 
--- one of the first lines along an axis keeps its clue
+-- a line is one of the first `count` along an axis and keeps its clue
 pub record KeepsClueAlong (moves : Moves) (old new : Clues) (axis : Axis) (count : ℕ) (line : LineId) : Type 0 where
   pub along : line.axis ≡ axis
   pub near : line.at < count
@@ -70,11 +70,11 @@ abbrev pub PutsSame : Moves → Clues → Clues → Axis → ℕ → Lines → L
 PutsSame moves old new axis count before after =
     (line : LineId) → HasName after line ↔ (HasName before line ⊎ KeepsClueAlong moves old new axis count line)
 
--- the step on another line
+-- the step, moved to another line
 abbrev pub moved : Step → LineId → Step
 moved step to = record step { line = to }
 
--- What the rest of a book's steps leave, after those that were kept so far: in order the ones that stand, each moved to
+-- `all` has the steps that were kept so far, and then those of the remaining steps that stand, in order, each moved to
 -- its new line. A premise is known where it is in the base, or a step that was kept before draws it.
 unfoldable pub Leave : Moves → Clues → Clues → Masks → List Step → List Step → List Step → Type 0
 Leave moves old new base [] kept all = all ≡ kept

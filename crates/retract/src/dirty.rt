@@ -1,4 +1,4 @@
-//! The lines of a new picture that may say something new.
+//! The dirty lines of a new picture, which may exclude more.
 
 ghost use Rattle.std.specs.Prelude.{◌≡◌, ℕ, ◌<◌, ◌↔◌, IsTrue};
 ghost use Rattle.picture.specs.declared.line_id.Axis.{Axis};
@@ -26,7 +26,7 @@ pub(crate) struct Sides<'a> {
     pub after: &'a Facts,
 }
 
-// The lines that may say something new.
+// The names of the dirty lines.
 pub(crate) fn dirty_lines(sides: &Sides<'_>) -> LineSet
     requires books { HaveBooks sides.now.change.now.moves sides.now.old.now sides.now.new.now }
     requires same { HaveSameClues sides.now.change.now.moves sides.now.old.now sides.now.new.now
@@ -41,7 +41,7 @@ pub(crate) fn dirty_lines(sides: &Sides<'_>) -> LineSet
     dirty
 }
 
-// Puts the dirty lines along an axis.
+// Puts the names of the dirty lines along an axis into a set.
 fn put_dirty(dirty: &mut LineSet, axis: Axis, sides: &Sides<'_>)
     requires books { HaveBooks sides.now.change.now.moves sides.now.old.now sides.now.new.now }
     requires same { HaveSameClues sides.now.change.now.moves sides.now.old.now sides.now.new.now
@@ -62,7 +62,7 @@ fn put_dirty(dirty: &mut LineSet, axis: Axis, sides: &Sides<'_>)
     }
 }
 
-// Whether a new line is clean, where it is known whether lines of its axis are in place.
+// Whether a new line is clean. `in_place` says whether the lines of its axis are in place.
 fn is_clean(in_place: bool, sides: &Sides<'_>, line: LineId) -> bool
     requires in_place { IsTrue in_place ↔ IsInPlace sides.now.change.now.moves line.axis }
     requires books { HaveBooks sides.now.change.now.moves sides.now.old.now sides.now.new.now }
@@ -76,7 +76,7 @@ fn is_clean(in_place: bool, sides: &Sides<'_>, line: LineId) -> bool
     in_place && says_the_same(sides, line)
 }
 
-// Whether the old line that a new line is has the same clue, and the same is known of its cells.
+// Whether a new line was an old line with the same clue, and the same is known of its cells.
 fn says_the_same(sides: &Sides<'_>, line: LineId) -> bool
     requires books { HaveBooks sides.now.change.now.moves sides.now.old.now sides.now.new.now }
     requires same { HaveSameClues sides.now.change.now.moves sides.now.old.now sides.now.new.now

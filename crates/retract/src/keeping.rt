@@ -1,4 +1,4 @@
-//! Keeping the steps of a book that stand after a change.
+//! Keeps the steps of a book that stand after a change.
 
 ghost use Rattle.std.specs.Prelude.{◌≡◌, ℕ, [], length, IfOk};
 ghost use Rattle.picture.specs.declared.line_id.Axis.{Axis};
@@ -20,22 +20,22 @@ use line_facts::Facts;
 use picture::LineSet;
 use std::alloc::{AllocError, Global};
 
-/// What still stands of a book, and the lines of the new picture that may say something new.
+/// A book with the steps that still stand after a change, and the lines of the new picture that may exclude more.
 #[derive(Drop)]
 pub struct Kept {
     pub book: Book,
     pub dirty: LineSet,
 }
 
-// For how many steps the kept book gets room: mostly as many follow as are dropped, or a few more.
+// The number of steps for which the kept book allocates room: about as many are added later as are dropped now.
 fn room_for(book: &Book) -> usize {
     let steps = book.steps().len();
     steps + steps / 4
 }
 
 /// Keeps the steps of a book that stand after a change, in order and each moved to its new line, over a new base, and
-/// names the dirty lines. The book is a derivation from the old clues, the change is of the sizes of both clue books, and
-/// the base has the new size. The old book stays. Where none of its steps has a premise too many, none of the new one has.
+/// names the dirty lines. The book has to be a derivation from the old clues, the change to lead from the size of the old
+/// clue book to that of the new one, and the base to have the new size. If all steps are trimmed, all kept ones are.
 pub fn keep(
     alloc: Global,
     book: &Book,

@@ -1,4 +1,4 @@
-//! Keeps what still stands of a book after a change, and names the lines that may say something new.
+//! Keeps the steps of a book that stand after a change, and names the lines that may exclude more.
 #![tactic(auto)]
 
 mod dirty;

@@ -1,4 +1,4 @@
-//! The lines that keep their clues at a change.
+//! The lines that keep their clues in a change.
 
 ghost use Rattle.std.specs.Prelude.{◌<◌, ◌↔◌, IsTrue};
 ghost use Rattle.clues.specs.Change.{lines_before};
@@ -7,7 +7,7 @@ ghost use Rattle.retract.specs.StandingSteps.{HaveBooks, HaveSameClues, KeepsClu
 use clues::{Change, ClueBook};
 use picture::{Axis, LineId, LineSet};
 
-// The names of the old lines that are lines of the new picture, with the same clue.
+// The names of the old lines that are still lines of the new picture, with the same clue.
 pub(crate) fn lines_of_same_clue(old: &ClueBook, new: &ClueBook, change: &Change) -> LineSet
     requires { HaveBooks change.now.moves old.now new.now }
     ensures { HaveSameClues change.now.moves old.now new.now result }
@@ -32,7 +32,7 @@ fn put_same(same: &mut LineSet, axis: Axis, old: &ClueBook, new: &ClueBook, chan
     }
 }
 
-// Whether an old line is a line of the new picture, with the same clue.
+// Whether an old line is still a line of the new picture, with the same clue.
 fn keeps_clue(old: &ClueBook, new: &ClueBook, change: &Change, line: LineId) -> bool
     requires books { HaveBooks change.now.moves old.now new.now }
     requires line { line.at < lines_before line.axis change.now.moves }

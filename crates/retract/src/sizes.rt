@@ -1,4 +1,4 @@
-//! What a change leaves of the lengths and the places along lines.
+//! Whether a change keeps the lengths of lines and the places along them.
 
 ghost use Rattle.std.specs.Prelude.{◌↔◌, IsTrue};
 ghost use Rattle.retract.specs.StandingSteps.{HaveBooks, KeepsLength};

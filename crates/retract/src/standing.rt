@@ -57,7 +57,7 @@ pub(crate) fn standing_line(
     }
 }
 
-// Whether each cell that premises mention, or what a step draws, keeps its place along the line.
+// Whether each cell of some premises, or of what a step draws, keeps its place along the line.
 fn stay_in_place(change: &Change, axis: Axis, premises: &[Premise]) -> bool
     requires { (i : ℕ) → Mentions premises.now i
         → i < lines_before (crossing axis) change.now.moves }
@@ -71,7 +71,7 @@ fn stay_in_place(change: &Change, axis: Axis, premises: &[Premise]) -> bool
     true
 }
 
-// Whether all that premises say is excluded on a line.
+// Whether each colour that premises exclude is excluded on a line.
 fn are_known(known: &Facts, line: LineId, premises: &[Premise]) -> bool
     requires line { HasLine known.now line }
     requires inside { (i : ℕ) → Mentions premises.now i → i < length (line_of known.now line) }
@@ -86,7 +86,7 @@ fn are_known(known: &Facts, line: LineId, premises: &[Premise]) -> bool
 }
 
 #[tactic(auto, using(crate::proofs::MaskLemmas::excluding))]
-// Whether colours are excluded in the cell at a place of a line, all that have their bits set.
+// Whether all colours of a mask are excluded in the cell at a place of a line.
 fn excludes_all(known: &Facts, line: LineId, place: u8, colours: u16) -> bool
     requires line { HasLine known.now line }
     requires place { place < length (line_of known.now line) }

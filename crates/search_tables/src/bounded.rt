@@ -11,7 +11,7 @@ use picture::Document;
 use second_search::{Bounds, Ending, Parts, Scene, decide_within};
 use std::alloc::Global;
 
-/// Decides the parts of a scene in turn, each within bounds, up to the first with another filling.
+/// Decides the parts of a scene one after another, each within bounds, up to the first that has another filling.
 pub fn decide<E: LineEngine>(
     alloc: Global,
     engine: &mut E,
@@ -49,7 +49,7 @@ pub fn decide<E: LineEngine>(
     Ok(tally)
 }
 
-/// Makes a certificate of a document within bounds, and puts its lines after a text, each with a `|` after it; or
+/// Makes a certificate of a document within bounds, and appends its lines to a text, each with a `|` after it; or appends
 /// `none`.
 pub fn push_cert<E: LineEngine>(
     alloc: Global,

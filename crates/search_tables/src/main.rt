@@ -1,5 +1,5 @@
 //! A program for tests and for measuring: it answers tables of searches. Each line of standard input names a public call with its
-//! arguments in the small language of `table_words`, and what it answers is printed. A line that cannot be read is told by
+//! arguments in the small language of `table_words`, and what it answers is printed. A line that cannot be read is answered with
 //! `cannot read:` and the line.
 #![tactic(auto)]
 

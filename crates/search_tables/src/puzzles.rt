@@ -1,4 +1,4 @@
-//! Puzzles in the words of a table.
+//! Puzzles, as words of a table.
 //!
 //! A puzzle is a picture with its givens; or clues alone, those of the rows joined by `/`, and after `|` those of the
 //! columns.
@@ -16,7 +16,7 @@ pub struct Puzzle {
     pub base: Facts,
 }
 
-/// The puzzle of a word.
+/// Reads a puzzle from a word.
 pub fn puzzle_in(alloc: Global, word: &str) -> Result<Puzzle> {
     let Some((rows, columns)) = word.split_once('|') else {
         let document = document_in(alloc, word)?;

@@ -1,4 +1,4 @@
-//! Judging a picture by its parts, with the work of it.
+//! Judging a picture by its parts, and the work that this takes.
 
 ghost use Rattle.std.specs.Prelude.{◌≡◌, ◌≤◌, IfOk, OnOk};
 ghost use Rattle.clues.specs.ClueBook.{clues_of};
@@ -15,7 +15,7 @@ use second_search::{Judged, Keeper, Scene, laws};
 use std::alloc::Global;
 use worklist::InOrder;
 
-/// What a picture was said to be.
+/// The verdict on a picture.
 #[derive(Drop)]
 pub enum Said {
     Unique,
@@ -23,7 +23,7 @@ pub enum Said {
     Undecided,
 }
 
-/// What was said of a picture, and the work of it.
+/// The verdict on a picture, and the work that it took: parts searched, splits and line evaluations.
 #[derive(Drop)]
 pub struct Tally {
     pub said: Said,
@@ -33,7 +33,7 @@ pub struct Tally {
 }
 
 impl Said {
-    // What a picture was judged to be.
+    // The verdict of a judgement.
     fn of(judged: &Judged<'_>) -> Result<Said> {
         Ok(match judged {
             Judged::Unique => Said::Unique,
@@ -42,7 +42,7 @@ impl Said {
         })
     }
 
-    /// The word for it.
+    /// The word for the verdict in a table.
     pub fn name(&self) -> &'static str {
         match self {
             Said::Unique => "unique",
@@ -52,7 +52,7 @@ impl Said {
     }
 }
 
-/// The map that the clues of a picture settle.
+/// The map of a document: what the clues of its picture settle from its givens.
 pub fn settled<E: LineEngine>(
     alloc: Global,
     engine: &mut E,
@@ -74,7 +74,7 @@ pub fn settled<E: LineEngine>(
     Ok(facts)
 }
 
-// What the clues of a picture settle from its givens is what a search may start from.
+// A search may start from what the clues of a picture settle from its givens.
 fn is_scene(book: &ClueBook, document: &Document, base: &Facts, facts: &Facts)
     requires clues { clues_of document.now.picture ≡ book.now }
     requires base { IsBase document.now.givens document.now.picture base.now }

@@ -1,10 +1,10 @@
 //! Puzzles that are settled and searched.
 //!
-//! `settle ENGINE AGENDA PUZZLE` prints the evaluations and the facts, or `dead`. `first PUZZLE` prints a picture with the
-//! clues, and `turns EVALUATIONS CONFLICTS ROUNDS PUZZLE` one that is found within these bounds. `parts FACTS` prints the cells of each part. `judge PICTURE [ALLOWANCE]` judges a picture by its parts, and once more
-//! under no allowance; `cost` does, and tells the evaluations. `within SPLITS AGAIN WINDOW CONFLICTS FIRST PICTURE` decides each
-//! part by so many splits of the fixed order, so many when it is begun anew, windows of so many splits, lemmas from so many conflicts,
-//! and trees of so many evaluations at first; and it makes a certificate within the same bounds.
+//! `settle ENGINE AGENDA PUZZLE` prints the evaluations and the facts, or `dead`. `first PUZZLE` prints a picture with the clues or
+//! `none`, and `turns EVALUATIONS CONFLICTS ROUNDS PUZZLE` the same within these bounds. `parts FACTS` prints the cells of each
+//! part, numbered from 1. `judge PICTURE [ALLOWANCE]` judges a picture by its parts, and once more under no allowance;
+//! `cost PICTURE ALLOWANCE` also prints the evaluations. `within SPLITS AGAIN WINDOW CONFLICTS FIRST PICTURE` decides the parts
+//! within these `Bounds`, and makes a certificate within the same bounds.
 
 ghost use Rattle.second_search.specs.Parts.{IsScene};
 
@@ -21,14 +21,14 @@ use second_search::{Bounds, Keeper, Parts, Scene, TURNS, Turns, find_first_withi
 use std::alloc::Global;
 use table_words::{document_in, facts_in, push_facts, push_picture};
 
-/// Tells what settling or a search comes to.
+/// Prints the answer to a call.
 pub fn tell(rt: &(impl AllocGlobal + Print), words: &[&str]) -> Result<()> {
     let told = told_of(rt.alloc(), words)?;
     print!(rt; "{told}")?;
     Ok(())
 }
 
-// What words come to.
+// The answer to the call that some words make.
 fn told_of(alloc: Global, words: &[&str]) -> Result<String> {
     match words {
         ["settle", engine, agenda, puzzle] => settle_text(alloc, engine, agenda, puzzle),
@@ -97,7 +97,7 @@ fn judge_text(
     judge_twice(alloc, &document_in(alloc, picture)?, allowance, is_counted)
 }
 
-// What settling comes to.
+// The evaluations of settling, and the facts; or `dead`.
 fn settle(alloc: Global, engine: &str, agenda: &str, puzzle: &Puzzle) -> Result<String> {
     let mut text = String::new(alloc);
     let Settled { evaluations, facts } = settled_by(
@@ -118,7 +118,7 @@ fn settle(alloc: Global, engine: &str, agenda: &str, puzzle: &Puzzle) -> Result<
     Ok(text)
 }
 
-// A picture with the clues.
+// A picture with the clues, or `none`.
 fn first(alloc: Global, turns: Turns, puzzle: &Puzzle) -> Result<String> {
     let mut engine = MaskEngine::make(alloc, MAX_SIDE)?;
     let clues = &puzzle.clues;
@@ -194,7 +194,7 @@ fn within(alloc: Global, bounds: Bounds, document: &Document) -> Result<String> 
     Ok(text)
 }
 
-// What a picture is judged under an allowance, and then under none, with the answers that were kept.
+// Judges a picture under an allowance, and then again under none, with what was kept of the first judgement.
 fn judged<E: LineEngine>(
     alloc: Global,
     engine: &mut E,
@@ -217,7 +217,7 @@ fn judged<E: LineEngine>(
     Ok([first, again])
 }
 
-// Appends what was judged to a text, as a line.
+// Appends a verdict and its work to a text, as a line.
 fn push_tally(text: &mut String, tally: &Tally, is_counted: bool) -> Result<()> {
     text.push_str(tally.said.name())?;
     write!(

@@ -11,7 +11,7 @@ use picture::MAX_SIDE;
 use std::alloc::Global;
 use worklist::{Agenda, InOrder, NewestFirst};
 
-/// How many evaluations settling took, and what it came to, unless no list fits some line.
+/// How many evaluations settling took, and the settled facts, or None where some line has no list that fits it.
 #[derive(Drop)]
 pub struct Settled {
     pub evaluations: u64,

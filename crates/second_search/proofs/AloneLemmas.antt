@@ -35,7 +35,7 @@ pub own_power : OnlyIsClosed → (picture : Rows) (row col : ℕ) → col < leng
 own_power law picture row col l =
     only_is_power (cell_at (only picture) row col) (cell_at picture row col) (only_there law picture row col l)
 
--- facts with the picture's colours alone left outside of some cells are those of the cells alone
+-- facts that leave only the picture's colours outside of some cells are those that `alone` makes of the cells
 pub alone_is : OnlyIsClosed → (cells : List ℕ) (picture : Rows) (facts : Masks) (new : List (List ℕ)) (rows : ℕ) → IsPicture picture → SameShape picture facts → rows ≡ length facts
     → LeavesAlone cells picture facts new rows → new ≡ alone cells facts picture
 alone_is law cells picture facts new rows is shape full left =
@@ -51,18 +51,18 @@ alone_is law cells picture facts new rows is shape full left =
           left.left r c (omega arith) (omega arith) out ∙ sym (off_part cells facts (only picture) r c rect out ∙ own_power law picture r c (omega arith))
     ])
 
--- on no cells these are the facts that leave the picture's colours alone
+-- on no cells these are the facts that leave only the picture's colours
 pub alone_none : OnlyIsClosed → (cells : List ℕ) (picture : Rows) (facts : Masks) → IsPicture picture → ((row col : ℕ) → HasCell cells row col → ⊥) → alone cells facts picture ≡ only picture
 alone_none law cells picture facts is none =
     let rect = rect_like picture (only picture) (law.same_shape picture) is.rectangular in
     same_grid (alone cells facts picture) (only picture) (shape_of_picked cells facts (only picture) rect) (λ r c. off_part cells facts (only picture) r c rect (none r c))
 
--- nothing is left alone yet
+-- before the first row all facts are kept
 pub leaves_none : (cells : List ℕ) (picture : Rows) (facts : Masks) (new : List (List ℕ)) → new ≡ facts → LeavesAlone cells picture facts new 0
 leaves_none cells picture facts new e =
     subst (λ (x : List (List ℕ)). LeavesAlone cells picture facts x 0) (sym e) (record { same_shape = shape_refl facts; kept = λ row col h. refl; left = λ row col l. absurd (omega arith) })
 
--- one row more is left alone
+-- one more row leaves only the picture's colours outside of the cells
 pub leaves_more : (cells : List ℕ) (picture : Rows) (first : Masks) (old new : List (List ℕ)) (row width : ℕ) → width ≡ width_of old → LeavesAlone cells picture first old row
     → LeavesRowAlone cells picture old new row width → LeavesAlone cells picture first new (row + 1)
 leaves_more cells picture first old new row width e before h = record {
@@ -97,7 +97,7 @@ names_lines facts cells lines rows is p full puts row col h =
     let i = part_inside facts cells row col is p h in
     puts row col (let l = i.0 in omega arith) i.1 h
 
--- a set with a name has at least one
+-- a set that has a name counts at least one
 pub name_counts : (lines : Lines) (line : LineId) → HasName lines line → 0 < name_count lines
 name_counts lines line has = elim (cases_eq (name_count lines) 0) [
   | inl z ↦ absurd (members.empty line (subst (λ (x : Lines). HasName x line) ((members.counted lines).0 z) has))

@@ -128,7 +128,7 @@ module _ (clues : Clues) (facts : Masks) (picture : Rows) (clues_after : Clues) 
       subst (λ (a : Answer). IsTrueOf clues_after givens_after picture_after cells a) (sym same)
       (still_true law givens cells s t keeps p known (subst (λ (x : List ℕ). IsTrueOf clues givens picture x known) e is))
 
--- what is known of a part has a picture that holds its cells
+-- where another filling of a part is known, that picture has all cells of the part
 holds_cells : (clues : Clues) (givens : List ℕ) (facts : Masks) (picture : Rows) (cells : List ℕ) → IsScene clues givens facts picture → IsPart facts cells → (answer : Answer)
     → IsTrueOf clues givens picture cells answer → HoldsCells cells answer
 holds_cells clues givens facts picture cells s p Unknown known = tt

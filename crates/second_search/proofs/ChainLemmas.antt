@@ -27,7 +27,7 @@ but_lowest mask = bit_and mask (bit_not w16 (1 * 2 ^ trailing_zeros w16 mask % 6
 lower_mask : (mask : ℕ) → mask < 2 ^ 16 → but_lowest mask < 2 ^ 16
 lower_mask mask small = let l = and_le_l mask (bit_not w16 (1 * 2 ^ trailing_zeros w16 mask % 65536)) in omega arith
 
--- a colour beside the lowest one
+-- a mask with a colour besides its lowest has two
 pub two_colours : (mask : ℕ) → 0 < mask → mask < 2 ^ 16 → but_lowest mask < 2 ^ 16 → but_lowest mask ≢ 0 → HasTwoColours mask
 two_colours mask some small less d =
     let t = bit_at-trailing_zeros w16 mask some small in
@@ -55,7 +55,7 @@ only_lowest mask k some small e is =
 pub one_colour : (mask : ℕ) → 0 < mask → mask < 2 ^ 16 → but_lowest mask ≡ 0 → HasTwoColours mask → ⊥
 one_colour mask some small e h = h.4 (only_lowest mask h.0 some small e h.2 ∙ sym (only_lowest mask h.1 some small e h.3))
 
--- the test for it
+-- the test for two colours
 pub tests_two : (mask : ℕ) → 0 < mask → mask < 2 ^ 16 → IsTrue (not (nat_eq (but_lowest mask) 0)) ↔ HasTwoColours mask
 tests_two mask some small = elim (cases_eq (but_lowest mask) 0) [
   | inl e ↦

@@ -1,4 +1,4 @@
--- What facts come to is one, and from it what a search does next.
+-- The outcome of closing facts is unique, and it decides what a search does next.
 use Rattle.std.proofs.Common.{◌≡◌, ℕ, suc, ◌⊎◌, Option, None, Some, List, [], ◌∷◌, ◌++◌, refl, sym, ap, subst, ◌∙◌, arith, inl, inr}
 use Rattle.std.proofs.lemmas.Bool.{cases_lt}
 use Rattle.line_facts.specs.Masks.{Masks}
@@ -20,7 +20,7 @@ use Rattle.second_search.specs.Parts.{IsBefore}
 use Rattle.second_search.specs.FixedOrder.{Comes, ComesClosed, CostsAreUnique, Searches, SettlesTo, SplitsBut, none_waits, is_dead, is_known, is_other, is_split}
 use Rattle.trail.proofs.GridLemmas.{same_inside}
 
--- ---- what facts come to is one
+-- ---- the outcome of closing facts is unique
 
 abbrev Agree : Coming → Coming → Type 0
 Agree Dies Dies = Unit {0}
@@ -88,7 +88,7 @@ module _ (unique : LeastIsUnique) (clues : Clues) (facts : Masks) where
 
 -- ---- what a search does next
 
--- what is left to search where the first facts come to something, and what is found after it
+-- what is left to search after an outcome of the first facts, and what is found then
 abbrev pub Leads : Clues → Rows → List Masks → Coming → Option Rows → ℕ → Type 0
 Leads clues known others Dies found n = Searches clues known others found n
 Leads clues known others (Ends p) found n = ((p ≡ known) × Searches clues known others found n) ⊎ ((p ≡ known → ⊥) × ((found ≡ Some p) × (n ≡ 0)))
@@ -117,7 +117,7 @@ leads_as clues known others found n (Splits s c) (Ends q) g l = absurd g
 leads_as clues known others found n (Splits s c) (Splits t d) g l =
     subst (λ (x : Cell). Leads clues known others (Splits t x) found n) g.1 (subst (λ (x : List (List ℕ)). Leads clues known others (Splits x c) found n) g.0 l)
 
--- a search of facts that come to something goes on as that leads
+-- a search goes on as the outcome of its first facts leads
 pub leads : LeastIsUnique → (clues : Clues) (known : Rows) (facts : Masks) (others : List Masks) (coming : Coming) (found : Option Rows) (n : ℕ) → Comes clues facts coming
     → Searches clues known (facts ∷ others) found n → Leads clues known others coming found n
 leads unique clues known facts others coming found n c s =
@@ -138,7 +138,7 @@ pub comes_closed : (clues : Clues) (facts first settled : Masks) (outcome : Outc
 comes_closed clues facts first settled outcome coming same c e h =
     comes_of clues facts settled outcome (subst (λ (x : List (List ℕ)). Closes clues x settled outcome) same c) e coming h
 
--- facts that are split are as they were but in the lines that closing named
+-- facts that are to be split differ from those before only in the lines that closing named
 pub splits_but : (facts first settled : Masks) (coming : Coming) (lines : Lines) → first ≡ facts → KeepsOtherLines first settled lines → ComesClosed settled coming → SplitsBut facts coming lines
 splits_but facts first settled Dies lines e kept h = tt
 splits_but facts first settled (Ends picture) lines e kept h = tt

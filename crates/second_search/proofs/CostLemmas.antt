@@ -1,4 +1,4 @@
--- Facts have a cost: they come to something, and what waits then weighs less; and where a search is broken off.
+-- Facts have a cost: closing them has an outcome, and the load of what waits then is less; and where a search is broken off.
 use Rattle.std.proofs.Common.{◌≡◌, ℕ, zero, suc, ◌^◌, ◌<◌, ◌⊎◌, ◌==◌, true, Option, None, Some, List, [], ◌∷◌, ◌++◌, length, get_or, map, refl, sym, ap, subst, ◌∙◌, arith, inl, inr, eqb-true, ◌≤◌}
 use Rattle.std.specs.Prelude.{IsBitSet, slice_index}
 use Rattle.std.specs.List.{All, filter, range_with_len}
@@ -150,7 +150,7 @@ shows facts is all =
           ]
         ]
 
--- ---- what facts come to
+-- ---- the outcome of closing facts
 
 abbrev ComesToSome : Clues → Masks → Type 0
 ComesToSome clues facts = (coming : Coming) × Comes clues facts coming

@@ -1,4 +1,4 @@
--- A search that counts its splits: what waits ends as the first facts do, but for the splits made so far.
+-- A search that counts its splits: the search of what waits ends as that of the first facts, apart from the splits made so far.
 use Rattle.std.proofs.Common.{◌≡◌, ℕ, suc, ◌+◌, ◌<◌, ◌⊎◌, Option, None, Some, List, [], ◌∷◌, ◌++◌, refl, sym, ap, subst, ◌∙◌, arith, inl, inr}
 use Rattle.line_facts.specs.Masks.{Masks}
 use Rattle.picture.specs.Rows.{cell_at, Rows}
@@ -22,7 +22,7 @@ use Rattle.second_search.proofs.TreeLemmas.{ended_lighter, split_lighter, within
 use Rattle.second_search.proofs.WeightLemmas.{load}
 use Rattle.line_facts.specs.Branches.{branches}
 
--- the search of what waits ends as that of the first facts, with n splits less
+-- the search of what waits ends as that of the first facts, with n fewer splits
 pub record Going (clues : Clues) (known : Rows) (first : Masks) (waiting : List Masks) (n : ℕ) : Type 0 where
   pub on : (found : Option Rows) (m : ℕ) → Searches clues known waiting found m → Searches clues known (first ∷ []) found (m + n)
   pub back : (found : Option Rows) (m : ℕ) → Searches clues known (first ∷ []) found m → (k : ℕ) × ((m ≡ k + n) × Searches clues known waiting found k)
@@ -119,7 +119,7 @@ ends_broken_off unique clues known first facts settled cell others n allowance l
 
 -- ---- while facts wait
 
--- what waits ends as the first facts do, but for the splits that were made and counted
+-- the search of what waits ends as that of the first facts, apart from the splits that were made and counted
 pub record Counting (clues : Clues) (known : Rows) (first : Masks) (allowance : Option ℕ) (waiting : List Masks) (budget : Budget) : Type 0 where
   pub made : ℕ
   pub going : Going clues known first waiting made
@@ -178,7 +178,7 @@ split_others facts first settled coming cell lines e f kept =
     let h : KeepsOtherLines facts settled lines = subst (λ (x : Coming). SplitsBut facts x lines) f (subst (λ (x : List (List ℕ)). SplitsBut x coming lines) e kept) in
     others_same facts settled lines h
 
--- ---- what waits weighs less
+-- ---- the load of what waits falls
 
 pub goes_lighter : (clues : Clues) (known : Rows) (s t u : Trailed) (before after : Budget) → Steps clues known s t before after None → t.behind ≡ u.at_hand ∷ u.behind
     → load (u.at_hand ∷ u.behind) < load (s.at_hand ∷ s.behind)

@@ -55,7 +55,7 @@ low_bits a b h = elim (bit_or_not b 0) [
   | inr n ↦ omega (arith, unset b 0 n)
 ]
 
--- a mask without a colour that another has is of fewer colours
+-- a proper subset of a mask has fewer colours
 fewer_colours : (width a b : ℕ) → a < 2 ^ width → ((k : ℕ) → IsBitSet b k → IsBitSet a k) → (a ≡ b → ⊥) → count_ones b + 1 ≤ count_ones a
 fewer_colours zero a b l h d = let le = fewer_le b a h in absurd (d (omega arith))
 fewer_colours (suc width) a b l h d =
@@ -74,7 +74,7 @@ colour_lost a b l h = elim (cases_eq a b) [
   | inr d ↦ omega (arith, changed_once a b, fewer_colours 16 a b l h d)
 ]
 
--- a mask with all its bits below a place has no more of them than there are places
+-- a mask with all its bits below n has at most n of them
 few_below : (n mask : ℕ) → ((k : ℕ) → IsBitSet mask k → k < n) → count_ones mask ≤ n
 few_below zero mask h =
     let none : mask ≡ 0 = same_bits mask 0 (λ k. ((λ s. let l = h k s in absurd (omega arith)), (λ s. absurd (no_bit k s)))) in
@@ -207,7 +207,7 @@ pub same_most : (a b : List (List ℕ)) → SameShape a b → most_to_close a �
 unfolding most_to_close
 same_most a b s = ap (λ (h : ℕ). h + width_of a + 16 * (h * width_of a)) s.rows ∙ ap (λ (w : ℕ). length b + w + 16 * (length b * w)) (s.each 0)
 
--- so often facts were closed: with the facts that wait, and all colours of the splits that are left, that stays within the allowance
+-- how often facts were closed: with the facts that wait, and 16 for each split that is left, this stays within the allowance
 abbrev pub AreLooks : Option ℕ → Masks → ℕ → Option ℕ → ℕ → ℕ → Type 0
 AreLooks None first waiting left p q = Unit {0}
 AreLooks (Some most) first waiting left p q =
@@ -217,7 +217,7 @@ pub looks_start : (allowance : Option ℕ) (first : Masks) (p : ℕ) → AreLook
 looks_start None first p = tt
 looks_start (Some most) first p = (0, (most, (refl, ((omega arith), (omega arith)))))
 
--- a look that goes on takes the facts at hand away, and leaves sixteen others at most where it spends a split
+-- a look takes one of the facts that wait, and puts at most sixteen in its place where it spends a split and the search goes on
 looks_more : (allowance left rest : Option ℕ) (first : Masks) (waiting new p q r : ℕ) → AreLooks allowance first (suc waiting) left p q → r ≤ q + most_to_close first
     → ((rest ≡ left) × (new ≡ waiting)) ⊎ (IsOneLess left rest × (new ≤ 16 + waiting)) → AreLooks allowance first new rest p r
 looks_more None left rest first waiting new p q r a l h = tt
@@ -242,7 +242,7 @@ looks_go clues known allowance first s t before after p q r a l (inr h) =
     let few = few_colours mask in
     looks_more allowance before.left after.left first (length s.behind) (length t.behind) p q r a l (inr (h.1.0, (omega arith)))
 
--- however it ends, the search took so many evaluations at most
+-- however the search ends, it took no more evaluations than its allowance bounds
 pub looks_last : (allowance left : Option ℕ) (first : Masks) (waiting p q r : ℕ) → AreLooks allowance first (suc waiting) left p q → r ≤ q + most_to_close first → AreFew allowance first 1 (r - p)
 unfolding most_to_search
 looks_last None left first waiting p q r a l = tt
@@ -258,7 +258,7 @@ unfolding most_to_search
 few_alike None a b parts n s f = tt
 few_alike (Some most) a b parts n s f = rw (same_most a b s) f
 
--- a search counts one evaluation at least
+-- a search counts at least one evaluation
 pub few_once : (allowance : Option ℕ) (facts : Masks) (n counted : ℕ) → 0 < length facts → AreFew allowance facts 1 n → counted ≡ max n 1 → AreFew allowance facts 1 counted
 unfolding most_to_search most_to_close
 few_once None facts n counted h f e = tt

@@ -64,7 +64,7 @@ shown_clues law books clues settled picture is fits s sized = books (clues_of pi
 
 -- ---- what is found
 
--- another picture than the known one fills some of what waits, or none does
+-- a picture other than the known one fills some of what waits, or none does
 abbrev pub FindsAmong : Clues → Rows → List Masks → Option (List (List ℕ)) → Type 0
 FindsAmong clues known waiting None = (picture : Rows) → (picture ≡ known → ⊥) → FillsSome clues waiting picture → ⊥
 FindsAmong clues known waiting (Some picture) = (picture ≡ known → ⊥) × FillsSome clues waiting picture

@@ -1,4 +1,4 @@
--- What is searched while facts wait: nothing that fills the first facts gets lost; and sound facts.
+-- The facts that wait in a search: nothing that fills the first facts gets lost; and sound facts.
 use Rattle.std.proofs.Common.{◌≡◌, ℕ, ◌^◌, ◌<◌, ◌≤◌, ◌⊎◌, ◌↔◌, ◌==◌, Bool, true, false, cond, eqb-true, Option, None, Some, List, [], ◌∷◌, ◌++◌, length, replicate, refl, sym, ap, subst, ◌∙◌, arith}
 use Rattle.std.proofs.Common.{inl, inr}
 use Rattle.std.specs.Prelude.{IsBitSet}
@@ -97,7 +97,7 @@ split_fills clues facts picture row col is h l =
 
 -- ---- the search
 
--- facts of one shape with the first
+-- facts of the same shape as the first
 abbrev pub AreAlike : Masks → List (List (List ℕ)) → Type 0
 AreAlike first [] = Unit {0}
 AreAlike first (facts ∷ others) = SameShape first facts × AreAlike first others

@@ -43,12 +43,12 @@ pub line_inside : (facts : Masks) (row col : ℕ) → row < length facts → col
 line_inside facts row col h w Across at e = omega arith
 line_inside facts row col h w Down at e = omega arith
 
--- twopen cells on one line share it
+-- two cells on one line share a row or a column
 pub on_one_line : (axis : Axis) (at row col r c : ℕ) → IsAtPlace axis at row col → IsAtPlace axis at r c → ShareLine row col r c
 on_one_line Across at row col r c e f = inl (e ∙ sym f)
 on_one_line Down at row col r c e f = inr (e ∙ sym f)
 
--- a cell on a line stands at its place there
+-- a cell on a line has a place there
 pub at_place : (axis : Axis) (at row col : ℕ) → IsAtPlace axis at row col → (i : ℕ) × ((row ≡ row_on axis at i) × (col ≡ col_on axis at i))
 at_place Across at row col e = (col, (e, refl))
 at_place Down at row col e = (row, (refl, e))
@@ -187,7 +187,7 @@ grown_left facts row col line old new all l g =
       inside = λ other un. g.inside other ((l.unvisited other).0 un).0;
     }
 
--- where no line waits, all cells that are chained are there
+-- where no line waits, the part has all cells that are chained
 closed_step : (facts : Masks) (row col r c s d : ℕ) (growth : Growth) (line : LineId) → IsGrown facts row col growth → ((other : LineId) → HasName growth.waiting other → ⊥) → HasCell growth.cells r c
     → IsOnLine line r c → IsOnLine line s d → IsOpenCell facts s d → HasCell growth.cells s d
 closed_step facts row col r c s d growth line g none h on there o =

@@ -55,7 +55,7 @@ along_inside Down at i picture is l h =
     let m = length-map picture (λ (row : List ℕ). get_or row at 0) in
     omega arith
 
--- a line outside of the part leaves the picture's line alone
+-- a line that is not named leaves only the picture's colours
 outside_line : (cells : List ℕ) (picture : Rows) (facts : Masks) (lines : Lines) (line : LineId) → IsPicture picture → KeepsOutside cells picture facts → NamesLinesOf cells lines → HasLine facts line
     → (HasName lines line → ⊥) → (i : ℕ) → i < length (line_of facts line) → IsOnly (get_or (line_of facts line) i 0) (get_or (line_of picture line) i 0)
 outside_line cells picture facts lines line is k n has not i l =
@@ -97,8 +97,8 @@ show_others cells picture facts lines is k n row col out h l =
 
 -- ---- a cell held in closed facts
 
--- facts in which a cell lies, each line but the two through it is quiet, each row above it settled, and each that is not named shows a
--- known picture
+-- facts with a cell: each line but the two through it is quiet, each row above it is settled, and each row that is not named shows
+-- a known picture
 pub record IsQuietBut (clues : Clues) (known : Rows) (rows : Lines) (facts : Masks) (cell : Cell) : Type 0 where
   pub in_rows : cell.row < length facts
   pub in_columns : cell.col < width_of facts
@@ -161,7 +161,7 @@ each_held clues known rows first settled row col others cells s c f h l a b u o 
 
 -- ---- on to the next facts
 
--- the lines of a set are those of the facts, which have the first ones' shape, each other line is quiet, and each row above one
+-- the facts have the shape of the first ones, the named lines are theirs, each other line is quiet, and each row above `top` is
 -- settled
 pub record IsReady (clues : Clues) (known : Rows) (rows : Lines) (first facts : Masks) (lines : Lines) (top : ℕ) : Type 0 where
   pub same_shape : SameShape first facts
@@ -202,7 +202,7 @@ ready_at clues known rows first facts cell lines is s q names = record {
   others = q.others;
 }
 
--- where a look goes on, nothing changed, or what waits now are branches of closed facts
+-- where the search goes on after a look, nothing changed, or branches of closed facts wait now
 pub quiet_goes : (clues : Clues) (known : Rows) (first : Masks) (rows : Lines) (s t : Trailed) (before after : Budget) → SameShape first s.at_hand → ShowOthers known rows s.at_hand
     → EachQuiet clues known rows first s.behind s.cells → Steps clues known s t before after None → EachQuiet clues known rows first t.behind t.cells
 quiet_goes clues known first rows s t before after shape others q (inl h) = rw h.1.0 q

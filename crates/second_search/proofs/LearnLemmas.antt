@@ -55,7 +55,7 @@ same_outside clues picture other is cells outside off s row col out = elim (case
   ]
 ]
 
--- in a given of the scene that lies in the part, too, there is the picture's colour alone
+-- in a given of the scene, too, another such picture has the picture's colour
 same_given : (clues : Clues) (givens : List ℕ) (facts : Masks) (picture other : Rows) → IsScene clues givens facts picture → (cells : List ℕ) → IsPart facts cells
     → ((row col : ℕ) → (HasCell cells row col → ⊥) → cell_at other row col ≡ cell_at picture row col) → (row col : ℕ) → HasCell givens row col
     → cell_at other row col ≡ cell_at picture row col
@@ -90,7 +90,7 @@ learnt_one fillings clues givens facts picture scene cells outside part off othe
 pub none_put : (cells outside : List ℕ) (row : ℕ) → PutsOutside cells row 0 outside outside
 none_put cells outside row r c = ((λ h. inl h), (λ h. elim h [ inl old ↦ old | inr p ↦ let l = p.1 in absurd (omega arith) ]))
 
--- a cell more of a row is put in
+-- one more cell of a row is put in
 pub one_put : (cells old outside new : List ℕ) (row col : ℕ) → (HasCell cells row col → ⊥) → PutsOutside cells row col old outside → PutsCell outside new row col
     → PutsOutside cells row (col + 1) old new
 one_put cells old outside new row col out so_far put r c = (
@@ -110,7 +110,7 @@ one_put cells old outside new row col out so_far put r c = (
   ]),
 )
 
--- a cell more of a row is not put in
+-- one more cell of a row is not put in
 pub one_left : (cells old outside : List ℕ) (row col : ℕ) → HasCell cells row col → PutsOutside cells row col old outside → PutsOutside cells row (col + 1) old outside
 one_left cells old outside row col has so_far r c = (
   (λ h. elim ((so_far r c).0 h) [
@@ -129,7 +129,7 @@ one_left cells old outside row col has so_far r c = (
 pub none_off : (cells outside : List ℕ) (width : ℕ) → ((row col : ℕ) → HasCell outside row col → ⊥) → HasOff cells 0 width outside
 none_off cells outside width none row col = ((λ h. absurd (none row col h)), (λ h. let l = h.0 in absurd (omega arith)))
 
--- a row more is put in
+-- one more row is put in
 pub row_put_outside : (cells old new : List ℕ) (row width : ℕ) → HasOff cells row width old → PutsOutside cells row width old new → HasOff cells (row + 1) width new
 row_put_outside cells old new row width so_far put r c = (
   (λ h. elim ((put r c).0 h) [

@@ -1,4 +1,4 @@
--- Facts have least closed facts over them: while some line forces an exclusion, one colour more is excluded.
+-- Facts have least closed facts over them: while some line forces an exclusion, one more colour is excluded.
 use Rattle.std.proofs.Common.{◌≡◌, ℕ, zero, suc, ◌^◌, ◌<◌, ◌≤◌, ◌⊎◌, ◌↔◌, List, length, get_or, bit_and, refl, sym, subst, arith, inl, inr, [], ◌∷◌, ap, ◌∙◌}
 use Rattle.std.specs.Prelude.{IsBitSet}
 use Rattle.std.specs.Int.{bit_not, w16}
@@ -171,7 +171,7 @@ closed_line clue left small none i k s = elim (have_or_not clue left i k small) 
       | inr p ↦ absurd (no_bit k (let P : ℕ → Type 0 = λ m. IsBitSet m k in subst P (get_or_past left i 0 p) s))
     ]
 
--- ---- one colour less
+-- ---- one colour fewer
 
 abbrev less : ℕ → ℕ → ℕ
 less mask k = bit_and mask (bit_not w16 (2 ^ k))
@@ -222,7 +222,7 @@ module _ (facts : Masks) (row col k : ℕ) (is : IsFacts facts) (h : row < lengt
   shape : SameShape facts (with_less facts row col k)
   shape = shape_with_cell facts row col (less (cell_at facts row col) k)
 
-  -- what is left then is what was left, but for that colour there
+  -- all that was left is left then, except that colour in that cell
   left_then : (r c j : ℕ) → Leaves facts r c j → ((r ≡ row) × ((c ≡ col) × (j ≡ k)) → ⊥) → Leaves (with_less facts row col k) r c j
   left_then r c j = set_each facts row col (less (cell_at facts row col) k) h wide (λ r c m. Leaves facts r c j → ((r ≡ row) × ((c ≡ col) × (j ≡ k)) → ⊥) → IsBitSet m j)
       (λ s n. (has_less (cell_at facts row col) k (is.masks row col) l j).1 (s, (λ f. n (refl, (refl, f)))))

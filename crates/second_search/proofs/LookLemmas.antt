@@ -23,7 +23,7 @@ use Rattle.trail.proofs.GridLemmas.{same_inside, row_there}
 pub only_small : (facts : Masks) (row col k : ℕ) → IsFacts facts → IsOnly (cell_at facts row col) k → k < 16
 only_small facts row col k is h = bit_below (cell_at facts row col) 16 k (is.masks row col) ((h k).1 refl)
 
--- what holds of each place below one, and there, holds of each below the next
+-- what holds of each place below n, and of n, holds of each place below n + 1
 pub below_next : (P : ℕ → Type 0) (n : ℕ) → ((i : ℕ) → i < n → P i) → P n → (i : ℕ) → i < n + 1 → P i
 below_next P n h here i l = elim (cases_eq i n) [
   | inl e ↦ subst P (sym e) here
@@ -80,7 +80,7 @@ stays_only clues facts settled row col k w fits only = elim (cases_lt col (lengt
       λ j. ((λ s. (only j).0 (w.leaves row col j s)), (λ f. subst (λ (x : ℕ). IsBitSet (cell_at settled row col) x) (e ∙ sym f) there))
 ]
 
--- rows that show a picture's colours alone do so where facts exclude more and some list fits each row
+-- rows that show only a picture's colours still do where facts exclude more and some list fits each row
 pub others_settled : (clues : Clues) (picture : Rows) (facts settled : Masks) (rows : Lines) → IsWithin facts settled → EachFits clues settled → ShowOthers picture rows facts
     → ShowOthers picture rows settled
 others_settled clues picture facts settled rows w fits h r col out l m =
@@ -94,7 +94,7 @@ rows_stay clues facts first settled outcome rows same c e h r col l w =
     let at = h r col l (omega arith) in
     (at.0, stays_only clues facts settled r col at.0 within (c.fits e) at.1)
 
--- and so do rows that show a picture's colours alone
+-- rows that show only a picture's colours stay so, too
 pub others_stay : (clues : Clues) (picture : Rows) (facts first settled : Masks) (outcome : Outcome) (rows : Lines) → first ≡ facts → Closes clues first settled outcome → outcome ≡ Narrowed
     → ShowOthers picture rows facts → ShowOthers picture rows settled
 others_stay clues picture facts first settled outcome rows same c e h =
@@ -104,6 +104,6 @@ others_stay clues picture facts first settled outcome rows same c e h =
 pub others_same : (facts settled : Masks) (lines : Lines) → KeepsOtherLines facts settled lines → AreOthersSame facts settled lines
 others_same facts settled lines kept r col l out = ap (λ (row : List ℕ). get_or row col 0) (sym (kept (across r) out))
 
--- a cell of the facts that leave a picture's colours alone
+-- a cell of the facts that leave only a picture's colours
 pub only_there : OnlyIsClosed → (picture : Rows) (row col : ℕ) → col < length (row_at picture row) → IsOnly (cell_at (only picture) row col) (cell_at picture row col)
 only_there law picture row col l j = ((λ s. ((law.leaves picture row col j).0 s).1), (λ e. (law.leaves picture row col j).1 (l, e)))

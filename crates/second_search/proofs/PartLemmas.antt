@@ -30,7 +30,7 @@ use Rattle.trail.proofs.GridLemmas.{row_there}
 
 -- ---- parts
 
--- a part has with a cell each open cell of a line through it
+-- a part has each open cell of a line through one of its cells
 pub whole_lines : (facts : Masks) (cells : List ℕ) (line : LineId) (row col : ℕ) → IsPart facts cells → GoesThrough line cells → IsOnLine line row col → IsOpenCell facts row col
     → HasCell cells row col
 whole_lines facts cells line row col p t on o =
@@ -95,7 +95,7 @@ picked_picture cells one other few q on =
       ];
     }
 
--- a picture with the clues solves what it has itself
+-- the picture of a scene is one of its solutions
 pub solves_itself : (clues : Clues) (givens : List ℕ) (facts : Masks) (picture : Rows) → IsScene clues givens facts picture → Solves clues (HasCell givens) picture picture
 solves_itself clues givens facts picture s = record {
   is_picture = s.is_picture;
@@ -139,7 +139,7 @@ open_in_picture clues givens facts picture row col s o =
     let l = row_there picture row col near in
     (l, (let w = s.is_picture.rectangular row l in omega arith))
 
--- a cell of the picture that is not open has its colour alone left
+-- in a cell of the picture that is not open only its colour is left
 pub settled_there : (clues : Clues) (givens : List ℕ) (facts : Masks) (picture : Rows) (row col : ℕ) → IsScene clues givens facts picture → row < length picture → col < width_of picture
     → (IsOpenCell facts row col → ⊥) → IsOnly (cell_at facts row col) (cell_at picture row col)
 settled_there clues givens facts picture row col s l m n =

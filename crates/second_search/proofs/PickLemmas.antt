@@ -121,7 +121,7 @@ off_part cells one other row col rect h =
           cell_of_picked cells one other row col l (let w = rect row l in omega arith) ∙ picked_off cells one other row col h
     ]
 
--- the same where both grids have one shape
+-- in cells of the part, a picked grid has those of the first grid, where both have one shape
 pub on_cells : (cells : List ℕ) (one : List (List ℕ)) (other : Rows) (row col : ℕ) → IsRectangle other → SameShape one other → HasCell cells row col
     → cell_at (picked cells one other) row col ≡ cell_at one row col
 on_cells cells one other row col rect s h =
@@ -155,7 +155,7 @@ pub same_count : (a b : List (List ℕ)) → SameShape a b → (axis : Axis) →
 same_count a b s Across = s.rows
 same_count a b s Down = s.each 0
 
--- lines of one length with the same cells are one
+-- lines of one length with the same cells are equal
 pub same_along : (a b : List (List ℕ)) (axis : Axis) (at : ℕ) → length (line_along axis at a) ≡ length (line_along axis at b)
     → ((row col : ℕ) → IsAtPlace axis at row col → cell_at a row col ≡ cell_at b row col) → line_along axis at a ≡ line_along axis at b
 same_along a b Across at e h = ext_get_or 0 (row_at a at) (row_at b at) e (λ c _. h at c refl)
@@ -165,7 +165,7 @@ same_along a b Down at e h =
     let n = length-map b read in
     ext_get_or 0 (map read a) (map read b) e (λ r l. get_or-map read a r [] 0 (omega arith) ∙ (h r at refl ∙ sym (get_or-map read b r [] 0 (omega arith))))
 
--- the cells of lines that are one
+-- the cells of equal lines
 pub cells_along : (a b : List (List ℕ)) (axis : Axis) (at row col : ℕ) → line_along axis at a ≡ line_along axis at b → IsAtPlace axis at row col → cell_at a row col ≡ cell_at b row col
 cells_along a b Across at row col e on = rw on (ap (λ (xs : List ℕ). get_or xs col 0) e)
 cells_along a b Down at row col e on =

@@ -37,7 +37,7 @@ grown_rows facts parts row a here = record {
 pub no_more : (facts : Masks) (parts : List (List ℕ)) (row : ℕ) → HasNoOpenCell facts row → ArePartsAbove facts parts row → ArePartsAbove facts parts (row + 1)
 no_more facts parts row none a = grown_rows facts parts row a (λ col o. absurd (none col o))
 
--- a part has with a cell all that is chained to it
+-- a part has all cells that are chained to one of its cells
 pub part_has : (facts : Masks) (cells : List ℕ) (row col r c : ℕ) → IsPart facts cells → HasCell cells row col → IsChained facts row col r c → HasCell cells r c
 part_has facts cells row col r c p h chain = (p.from.members r c).1 (chain_on facts p.row p.col row col r c ((p.from.members row col).0 h) chain)
 
@@ -45,7 +45,7 @@ pub held_already : (facts : Masks) (parts : List (List ℕ)) (row col : ℕ) →
 held_already facts parts row col first holds a = grown_rows facts parts row a (λ c o.
     (holds.0, (holds.1.0, part_has facts (part_at parts holds.0) row col row c (a.each holds.0 holds.1.0) holds.1.1 (chain_in_row facts row col c first.is_open o))))
 
--- ---- a part more
+-- ---- one more part
 
 new_part : (facts : Masks) (parts : List (List ℕ)) (cells : List ℕ) (row col : ℕ) → IsFirstOpen facts row col → (HoldsCell parts row col → ⊥) → ArePartsAbove facts parts row → IsCellSet cells
     → ((r c : ℕ) → HasCell cells r c ↔ IsChained facts row col r c) → IsPartFrom facts cells row col
@@ -72,7 +72,7 @@ at_new parts cells i e = ap (part_at (parts ++ cells ∷ [])) e ∙ get_or-appen
 one_longer : (parts : List (List ℕ)) (cells : List ℕ) → length (parts ++ cells ∷ []) ≡ length parts + 1
 one_longer parts cells = length-append parts (cells ∷ [])
 
--- an index among one part more: it is old, or the new one
+-- an index after one part was added: it is an old one, or the new one
 old_or_new : (parts : List (List ℕ)) (cells : List ℕ) (i : ℕ) → i < length (parts ++ cells ∷ []) → (i < length parts) ⊎ (i ≡ length parts)
 old_or_new parts cells i l = elim (cases_lt i (length parts)) [
   | inl m ↦ inl m
@@ -158,7 +158,7 @@ within_part : (facts : Masks) (one other : List ℕ) (row col r c : ℕ) → IsP
 within_part facts one other row col r c p q h k x =
     part_has facts other row col r c q k (chain_on facts row col p.row p.col r c (chain_back facts p.row p.col row col ((p.from.members row col).0 h)) ((p.from.members r c).0 x))
 
--- parts that share a cell are one set
+-- parts that share a cell are equal
 pub same_part : SameCellsAreEqual → (facts : Masks) (one other : List ℕ) (row col : ℕ) → IsPart facts one → IsPart facts other → HasCell one row col → HasCell other row col → one ≡ other
 same_part same facts one other row col p q h k =
     same one other p.from.set q.from.set (λ r c l m. (within_part facts one other row col r c p q h k, within_part facts other one row col r c q p k h))

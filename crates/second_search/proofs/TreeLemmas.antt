@@ -252,7 +252,7 @@ split_back clues facts picture cell h f =
     let i = inside_row facts picture cell shape.0 shape.1 h in
     held_some clues facts picture row col i.0 i.1 colours (each_colour (cell_at facts row col)) f
 
--- a picture that fills facts which leave the known one's colours alone is the known one
+-- a picture that fills facts which leave only the known one's colours is the known one
 only_known : (clues : Clues) (known : Rows) (facts : Masks) (picture : Rows) → SameShape known facts → ShowsOnly known facts → Fills clues facts picture → picture ≡ known
 only_known clues known facts picture s only f = same_grid picture known (shape_trans f.same_shape (shape_sym s)) (λ row col. elim (cases_lt col (length (row_at picture row))) [
   | inl l ↦ only row col (cell_at picture row col) (f.leaves row col l)
@@ -324,7 +324,7 @@ module _ (own : OnlyIsClosed) (closing : ClosingKeepsFillings) (clues : Clues) (
   pub tree_is_whole : (facts : Masks) (picture : Rows) (lines : List CertLine) → SameShape known facts → Walks clues known lines (facts ∷ []) [] → (picture ≡ known → ⊥) → Fills clues facts picture → ⊥
   tree_is_whole facts picture lines e w d f = walk_fills facts picture lines (facts ∷ []) [] e (shape_refl facts, tt) w d (inl f)
 
--- ---- what waits weighs less
+-- ---- the load of what waits falls
 
 pub ended_lighter : (facts : Masks) (others : List Masks) → load others < load (facts ∷ others)
 ended_lighter facts others = let more = load_more facts others in let some = pow_pos (5 * weight facts) in omega arith
@@ -460,7 +460,7 @@ turn_on clues known first settled old mid new f h e (Some picture) t =
 abbrev pub Said : Clues → Rows → Masks → Lines → Growing → Type 0
 Said clues known facts start g = (lines : List CertLine) × (Adds start g.lines lines × Walks clues known lines (facts ∷ []) (g.trail.at_hand ∷ g.trail.behind))
 
--- lines more lead from the first facts to the end of a tree
+-- more lines lead from the first facts to the end of a tree
 abbrev pub LeadsToEnd : Clues → Rows → Masks → Lines → Lines → Type 0
 LeadsToEnd clues known facts start end = (lines : List CertLine) × (Adds start end lines × Walks clues known lines (facts ∷ []) [])
 
@@ -469,7 +469,7 @@ starts_said clues known facts first start g f e l =
     let waits : facts ∷ [] ≡ g.trail.at_hand ∷ g.trail.behind = sym (ap (λ (x : Trailed). x.at_hand ∷ x.behind) e ∙ ap (λ (x : List (List ℕ)). x ∷ []) f) in
     ([], (subst (λ (x : Lines). Adds start x []) (sym l) (adds_none start), waits))
 
--- a turn leads on to what waits after
+-- a turn leads on to what waits afterwards
 said_on : (clues : Clues) (known : Rows) (facts : Masks) (start : Lines) (old mid : Growing) → Said clues known facts start old
     → TurnsOn clues known old mid
     → (lines : List CertLine) × (Adds start mid.lines lines × Walks clues known lines (facts ∷ []) mid.trail.behind)

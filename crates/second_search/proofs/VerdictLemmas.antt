@@ -1,4 +1,4 @@
--- What is kept of the parts: from the start, after a search, and what it makes of the picture; and going along them, with counts.
+-- What is kept of the parts: at the start, after a search, and the verdict that follows from it; and going along them, with counts.
 use Rattle.std.proofs.Common.{◌≡◌, ℕ, zero, suc, ◌+◌, ◌-◌, ◌<◌, ◌≤◌, max, Bool, Option, List, [], ◌∷◌, ◌++◌, length, refl, sym, ap, subst, ◌∙◌, arith, inl, inr, ◌^◌, None, Some, get_or}
 use Rattle.std.proofs.lemmas.Bool.{cases_lt}
 use Rattle.std.proofs.lemmas.List.{get_or_append_left, get_or_past, get_or_push, length-map, length_push, get_or_default}
@@ -90,7 +90,7 @@ all_started facts parts kept count are s e =
 answered : (kept : List KeptPart) (i : ℕ) (other : Rows) → i < length kept → answer_at kept i ≡ Filling other → HasFilling kept i
 answered kept i other l e = record { place = l; is = subst IsFilling (sym e) tt }
 
--- the verdict where going along the parts ended so
+-- the verdict that follows from how going along the parts ended
 abbrev pub verdict_of : Ending → Verdict
 verdict_of ending.Nothing = Unique
 verdict_of (ending.Found other) = Other
@@ -248,7 +248,7 @@ known_before clues facts picture allowance kept i part e d = rw e at (by part.an
     by Nothing d = (refl, (refl, refl))
     by (Filling other) d = (refl, (refl, refl))
 
--- a part of which nothing was known was searched, which took an evaluation at least
+-- a part of which nothing was known was searched, which took at least one evaluation
 pub searched_once : (clues : Clues) (facts : Masks) (picture : Rows) (allowance : Option ℕ) (kept : List KeptPart) (i : ℕ) (part : KeptPart) (found : Ending) (splits p q e : ℕ) → part ≡ kept_at kept i
     → part.answer ≡ Unknown → (n : ℕ) × ((splits ≡ raised 0 n) × EndsWithin clues picture (alone part.cells facts picture) allowance found n) → p ≤ q → IsCalled p q → q < 2 ^ 64 → e ≡ max (q - p) 1
     → DoneBy (record { searched = 1; splits = splits; evaluations = e }) p q (EndsPart (board clues facts picture) allowance (kept_at kept i) found)

@@ -1,4 +1,4 @@
--- What facts weigh when they are narrowed, split and searched.
+-- The weight of facts when they are narrowed, split and searched.
 use Rattle.std.proofs.Common.{◌≡◌, ℕ, zero, suc, ◌+◌, ◌-◌, ◌*◌, ◌^◌, ◌<◌, ◌≤◌, ◌==◌, true, List, [], ◌∷◌, ◌++◌, length, get_or, set, refl, sym, ap, subst, arith, inl, inr, eqb-true}
 use Rattle.std.specs.Prelude.{IsBitSet}
 use Rattle.std.specs.List.{All, filter, range_with_len}

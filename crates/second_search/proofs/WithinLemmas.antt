@@ -1,5 +1,5 @@
--- How the search of a part ends where no allowance is set: within some splits of the fixed order, or by what is true; and what is
--- found in a window.
+-- How the search of a part ends where no allowance is set: within some splits of the fixed order, or with an answer that is true;
+-- and what is found in a window.
 use Rattle.std.proofs.Common.{◌≡◌, ℕ, ◌<◌, Option, None, Some, List, refl, subst, inl, inr, length, sym, ap, arith}
 use Rattle.std.specs.Prelude.{IfSome, IsBitSet, slice_index}
 use Rattle.clues.specs.ClueBook.{Clues}
@@ -107,7 +107,7 @@ opened_leaves own clues givens facts picture scene cells new opens r c k s =
           rw (off_part cells facts (only picture) r c rect out) (elim (opens.each r c) [ inl e ↦ rw e at s | inr o ↦ absurd (out o.0) ])
     ]
 
--- and the picture's colours alone outside of them
+-- and only the picture's colours outside of them
 pub opened_outside : OnlyIsClosed → (cells : List ℕ) (picture : Rows) (facts : Masks) (new : List (List ℕ)) → OpensIn cells facts (only picture) new → KeepsOutside cells picture new
 opened_outside own cells picture facts new opens =
     let shape = shape_trans (own.same_shape picture) opens.same_shape in

@@ -1,4 +1,4 @@
--- What is known of the parts of one board, on another one.
+-- What is known of the parts of one board, carried to another board.
 use Rattle.std.specs.Prelude.{◌≡◌, ℕ, ◌<◌, ◌⊎◌, ◌↔◌, List, [], length, slice_index_or}
 use Rattle.picture.specs.declared.line_id.Axis.{Axis}
 use Rattle.picture.specs.declared.line_id.LineId.{LineId}
@@ -12,8 +12,8 @@ use Rattle.second_search.specs.declared.keeper.KeptPart.{KeptPart}
 use Rattle.second_search.specs.JudgedParts.{IsTrueOf, answer_at, cells_at}
 use Rattle.second_search.specs.Parts.{Board, GoesThrough, IsSameLine, KeepsLines, picked}
 
--- what is known of a part, said of a board with another picture: of
--- another filling its colours on the part, with that picture elsewhere
+-- what is known of a part, carried to a board with another picture: another filling keeps its colours on the part,
+-- and gets that picture's elsewhere
 abbrev pub carried : List ℕ → Rows → Answer → Answer
 carried cells picture Unknown = Unknown
 carried cells picture Nothing = Nothing
@@ -26,7 +26,7 @@ pub record IsKept (kept : List KeptPart) (cells : List ℕ) (answer : Answer) : 
   pub cells_are : cells_at kept at ≡ cells
   pub answer_is : answer_at kept at ≡ answer
 
--- of the first parts nothing is known
+-- nothing is known of the first parts
 abbrev pub KnowsNothing : List KeptPart → ℕ → Type 0
 KnowsNothing kept count = (i : ℕ) → i < count → answer_at kept i ≡ Unknown
 
@@ -74,27 +74,27 @@ NamesAlong lines cells axis count = (at : ℕ) → at < count → GoesThrough (r
 
 -- ---- the colours of one picture put on cells of another
 
--- in the first cells of a row the colours of a picture are put on some cells
+-- in the first cells of a row, those of a set get the colours of another picture
 pub record PutsRowOn (cells : List ℕ) (other : Rows) (old new : Rows) (row width : ℕ) : Type 0 where
   pub same_shape : SameShape old new
   pub kept : (col : ℕ) → (HasCell cells row col → ⊥) → cell_at new row col ≡ cell_at old row col
   pub put : (col : ℕ) → col < width → HasCell cells row col → cell_at new row col ≡ cell_at other row col
   pub elsewhere : (r col : ℕ) → (r ≡ row → ⊥) → cell_at new r col ≡ cell_at old r col
 
--- in the first rows the colours of a picture are put on some cells
+-- in the first rows, the cells of a set get the colours of another picture
 pub record PutsOn (cells : List ℕ) (other : Rows) (old new : Rows) (rows : ℕ) : Type 0 where
   pub same_shape : SameShape old new
   pub kept : (row col : ℕ) → (HasCell cells row col → ⊥) → cell_at new row col ≡ cell_at old row col
   pub put : (row col : ℕ) → row < rows → col < width_of old → HasCell cells row col
       → cell_at new row col ≡ cell_at other row col
 
--- what is known of a part has a picture that holds its cells, if it has one
+-- where another filling of a part is known, that picture has all cells of the part
 abbrev pub HoldsCells : List ℕ → Answer → Type 0
 HoldsCells cells Unknown = Unit {0}
 HoldsCells cells Nothing = Unit {0}
 HoldsCells cells (Filling other) = LieInside cells other
 
--- the first of some parts are kept, with what is carried, which is true
+-- the first of some parts are kept, each with what is carried for it, which is true
 pub record CarriesFirst (before after : Board) (givens_after : List ℕ) (old : List KeptPart) (parts : List (List ℕ))
     (new : List KeptPart) (count : ℕ) : Type 0 where
   pub count_is : length new ≡ count

@@ -20,20 +20,20 @@ pub record CostsAreThere : Type 0 where
       → IsScene clues givens facts picture → IsFacts facts
       → (n : ℕ) × HasCost clues picture (alone cells facts picture) n
 
--- a part of which nothing is known costs more than some splits
+-- a part of which nothing is known costs more than `most` splits
 abbrev pub IsDear : Clues → Masks → Rows → ℕ → List KeptPart → ℕ → Type 0
 IsDear clues facts picture most kept i = (answer_at kept i ≡ Unknown)
     × ((cost : ℕ) × (HasCost clues picture (alone (cells_at kept i) facts picture) cost × (most < cost)))
 
--- the first part that costs more than some splits
+-- the first part that costs more than `most` splits
 pub record IsFirstDear (clues : Clues) (facts : Masks) (picture : Rows) (most : ℕ) (kept : List KeptPart)
     (i : ℕ) : Type 0 where
   pub place : i < length kept
   pub is : IsDear clues facts picture most kept i
   pub before : (j : ℕ) → j < i → IsDear clues facts picture most kept j → ⊥
 
--- Under an allowance the search of facts is broken off exactly where they cost more. A picture is left undecided,
--- and its search broken off, at the first part that costs more; where it is not, no part that was searched does.
+-- Under an allowance the search of facts is broken off exactly where they cost more. A picture is left undecided, and
+-- its search broken off, at the first part that costs more; where it is decided, no part that was searched does.
 pub record CostsDecide : Type 0 where
   pub facts : (clues : Clues) (known : Rows) (facts : Masks) (most cost : ℕ) → HasCost clues known facts cost
       → EndsAs clues known facts (Some most) ending.BrokenOff most ↔ (most < cost)

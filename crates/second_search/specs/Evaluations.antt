@@ -3,16 +3,16 @@ use Rattle.std.specs.Prelude.{◌≡◌, ℕ, ◌+◌, ◌*◌, ◌≤◌, Optio
 use Rattle.line_facts.specs.Masks.{Masks}
 use Rattle.picture.specs.Rows.{width_of}
 
--- Facts are closed by one evaluation for each line at most, and one more for each colour that a cell can lose.
+-- Closing facts takes at most one evaluation for each line, and one more for each colour that a cell can lose.
 unfoldable pub most_to_close : Masks → ℕ
 most_to_close facts = length facts + width_of facts + 16 * (length facts * width_of facts)
 
--- They are closed once, and once more for each colour of a cell that is split, of which there are sixteen at most.
+-- A search closes facts once, and once more for each colour of a cell that is split, at most sixteen.
 unfoldable pub most_to_search : Masks → ℕ → ℕ
 most_to_search facts splits = (1 + 16 * splits) * most_to_close facts
 
--- Under an allowance of splits for each, some parts of facts take
--- so many evaluations at most; without one there is no bound.
+-- Under an allowance of splits for each part, the evaluations are at most what the search of this many parts can
+-- take; without an allowance there is no bound.
 abbrev pub AreFew : Option ℕ → Masks → ℕ → ℕ → Type 0
 AreFew None facts parts evaluations = Unit {0}
 AreFew (Some splits) facts parts evaluations = evaluations ≤ parts * most_to_search facts splits

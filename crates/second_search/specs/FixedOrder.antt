@@ -26,28 +26,28 @@ pub record SettlesTo (clues : Clues) (facts settled : Masks) : Type 0 where
   pub least : IsLeast clues facts settled
   pub fits : EachFits clues settled
 
--- What facts come to when they are closed: no list fits some line; or each cell has one colour left, and these make a
--- picture; or there is a first open cell.
+-- The outcome of closing facts: no list fits some line; or each cell has one colour left, and these make a picture; or
+-- there is a first open cell.
 abbrev pub Comes : Clues → Masks → Coming → Type 0
 Comes clues facts Dies = HasDeadLine clues facts
 Comes clues facts (Ends picture) = (settled : Masks) × (SettlesTo clues facts settled × Shows settled picture)
 Comes clues facts (Splits settled cell) = SettlesTo clues facts settled × IsFirstUnsettled settled cell
 
--- what facts that are closed already come to
+-- the outcome for facts that are closed already
 abbrev pub ComesClosed : Masks → Coming → Type 0
 ComesClosed settled Dies = ⊥
 ComesClosed settled (Ends picture) = IsFacts settled × Shows settled picture
 ComesClosed settled (Splits facts cell) = (facts ≡ settled) × (IsFacts settled × IsFirstUnsettled settled cell)
 
--- facts that are split are as others were but in the lines that are named
+-- facts that are to be split differ from the facts before only in the lines that are named
 abbrev pub SplitsBut : Masks → Coming → Lines → Type 0
 SplitsBut facts Dies changed = Unit {0}
 SplitsBut facts (Ends picture) changed = Unit {0}
 SplitsBut facts (Splits settled cell) changed = KeepsOtherLines facts settled changed
 
--- The search through the facts that wait, the first of them first, for another picture than a known one: what it finds,
--- and how often it splits. Facts that come to a first open cell are split: those with this cell held to each colour
--- left, in ascending order, wait in their place.
+-- The search through the facts that wait, the first of them first, for a picture other than a known one: what it finds,
+-- and how often it splits. Facts that have an open cell when closed are split at the first one: branches with this cell
+-- held to each colour left, in ascending order, wait in their place.
 pub data Searches (clues : Clues) (known : Rows) : List Masks → Option Rows → ℕ → Type 0 where
   none_waits : Searches clues known [] None 0
   is_dead : (facts : Masks) (others : List Masks) (found : Option Rows) (n : ℕ) → HasDeadLine clues facts
@@ -63,7 +63,7 @@ pub data Searches (clues : Clues) (known : Rows) : List Masks → Option Rows �
       → Searches clues known (branches settled cell.row cell.col (cell_at settled cell.row cell.col) ++ others) found n
       → Searches clues known (facts ∷ others) found (suc n)
 
--- The search through the facts that wait splits n times, and comes then to a first open cell once more.
+-- The search through the facts that wait splits n times, and then has to split once more.
 pub data SplitsPast (clues : Clues) (known : Rows) : List Masks → ℕ → Type 0 where
   once_more : (facts : Masks) (others : List Masks) (settled : Masks) (cell : Cell)
       → SettlesTo clues facts settled × IsFirstUnsettled settled cell → SplitsPast clues known (facts ∷ others) 0
@@ -77,7 +77,7 @@ pub data SplitsPast (clues : Clues) (known : Rows) : List Masks → ℕ → Type
       → SplitsPast clues known (branches settled cell.row cell.col (cell_at settled cell.row cell.col) ++ others) n
       → SplitsPast clues known (facts ∷ others) (suc n)
 
--- the facts in which a part is searched: those on the part, and elsewhere a picture's colours alone
+-- the facts in which a part is searched: those on the part, and elsewhere only a picture's colours
 abbrev pub alone : List ℕ → Masks → Rows → Masks
 alone cells facts picture = picked cells facts (only picture)
 
@@ -90,13 +90,13 @@ abbrev pub CostsAreUnique : Type 0
 CostsAreUnique = (clues : Clues) (known : Rows) (facts : Masks) (m n : ℕ) → HasCost clues known facts m
     → HasCost clues known facts n → m ≡ n
 
--- so many splits are allowed, where none means that any number is
+-- n splits are allowed; without an allowance any number is
 abbrev pub Allows : Option ℕ → ℕ → Type 0
 Allows None n = Unit {0}
 Allows (Some most) n = n ≤ most
 
 -- How the search from some facts ends after n splits. It found nothing, or another picture, within the allowance. Or it
--- was broken off at the allowance, since it needs a split more: whatever it costs is more than is allowed.
+-- was broken off at the allowance, since it needs one more split: its cost, whatever it is, is more than is allowed.
 abbrev pub EndsAs : Clues → Rows → Masks → Option ℕ → Ending → ℕ → Type 0
 EndsAs clues known facts allowance Nothing n = Searches clues known (facts ∷ []) None n × Allows allowance n
 EndsAs clues known facts allowance (Found picture) n =
@@ -104,7 +104,7 @@ EndsAs clues known facts allowance (Found picture) n =
 EndsAs clues known facts allowance BrokenOff n = (allowance ≡ Some n)
     × (SplitsPast clues known (facts ∷ []) n × ((cost : ℕ) → HasCost clues known facts cost → n < cost))
 
--- what is answered is true of facts: nothing fills them but the known picture, or this one does
+-- the answer is true of facts: nothing but the known picture fills them, or the picture that was found does
 abbrev pub EndsTrue : Clues → Rows → Masks → Ending → Type 0
 EndsTrue clues known facts Nothing = FindsFilling clues facts known None
 EndsTrue clues known facts (Found picture) = FindsFilling clues facts known (Some picture)
@@ -114,20 +114,20 @@ EndsTrue clues known facts BrokenOff = ⊥
 abbrev pub fixed_splits : ℕ
 fixed_splits = 100
 
--- How the search of a part ends that may go past so many splits of the fixed
--- order: as in that order where it ends within them, and else with what is true.
+-- How the search of a part ends if it may go past `most` splits of the fixed order: as in that order if it ends within
+-- them, and otherwise with an answer that is true.
 abbrev pub EndsPast : Clues → Rows → Masks → ℕ → Ending → ℕ → Type 0
 EndsPast clues known facts most found n =
     (EndsAs clues known facts (Some most) found n × (found ≡ BrokenOff → ⊥))
     ⊎ (EndsAs clues known facts (Some most) BrokenOff n × EndsTrue clues known facts found)
 
--- How the search of a part ends: under an allowance as in the fixed order; without one as
--- within so many splits of that order, or, where it splits past them, with what is true.
+-- How the search of a part ends: under an allowance as in the fixed order; without one as in the fixed order within
+-- `fixed_splits` splits, and past them with an answer that is true.
 abbrev pub EndsWithin : Clues → Rows → Masks → Option ℕ → Ending → ℕ → Type 0
 EndsWithin clues known facts (Some most) found n = EndsAs clues known facts (Some most) found n
 EndsWithin clues known facts None found n = EndsPast clues known facts fixed_splits found n
 
--- outside of some cells the facts leave a picture's colour alone
+-- outside of some cells the facts leave only a picture's colours
 pub record KeepsOutside (cells : List ℕ) (picture : Rows) (facts : Masks) : Type 0 where
   pub same_shape : SameShape picture facts
   pub outside : (row col : ℕ) → col < length (row_at facts row) → (HasCell cells row col → ⊥)
@@ -142,6 +142,6 @@ NamesLinesOf cells lines = (row col : ℕ) → HasCell cells row col
 abbrev pub raised : ℕ → ℕ → ℕ
 raised count n = min (count + n) (2 ^ 32 - 1)
 
--- an engine was called once at least: its count of calls is as after one, or beyond
+-- an engine was called at least once: its count of calls is at least that after one call
 abbrev pub IsCalled : ℕ → ℕ → Type 0
 IsCalled before after = counted before 1 ≤ after

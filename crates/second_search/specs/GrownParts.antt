@@ -22,7 +22,7 @@ HasNoOpenCell facts row = (col : ℕ) → IsOpenCell facts row col → ⊥
 abbrev pub HoldsCell : List (List ℕ) → ℕ → ℕ → Type 0
 HoldsCell parts row col = (i : ℕ) × ((i < length parts) × HasCell (part_at parts i) row col)
 
--- the parts whose first cells lie in the rows above one, in order: each open cell of these rows is in one of them
+-- the parts whose first cells lie in the first `rows` rows, in order: each open cell of these rows is in one of them
 pub record ArePartsAbove (facts : Masks) (parts : List (List ℕ)) (rows : ℕ) : Type 0 where
   pub each : (i : ℕ) → i < length parts → IsPart facts (part_at parts i)
   pub ordered : (i j row col r c : ℕ) → i < j → j < length parts → IsPartFrom facts (part_at parts i) row col
@@ -30,15 +30,15 @@ pub record ArePartsAbove (facts : Masks) (parts : List (List ℕ)) (rows : ℕ) 
   pub above : (i row col : ℕ) → i < length parts → IsPartFrom facts (part_at parts i) row col → row < rows
   pub all : (row col : ℕ) → row < rows → IsOpenCell facts row col → HoldsCell parts row col
 
--- a cell is put in, and its lines wait unless they were visited
+-- a cell is added to a part, and its lines wait unless they were visited
 pub record TakesIn (row col : ℕ) (old new : Growth) : Type 0 where
   pub cells : PutsCell old.cells new.cells row col
   pub waiting : (line : LineId)
       → HasName new.waiting line ↔ (HasName old.waiting line ⊎ (HasName old.unvisited line × IsOnLine line row col))
   pub unvisited : new.unvisited ≡ old.unvisited
 
--- Cells that are chained to the first one. A line through one of them waits
--- unless it was visited, and the open cells of a visited line are among them.
+-- A part as it grows: cells that are chained to the first one. A line through one of them waits unless it was
+-- visited, and the open cells of a visited line are among them.
 pub record IsGrown (facts : Masks) (row col : ℕ) (growth : Growth) : Type 0 where
   pub begins : HasCell growth.cells row col
   pub chained : (r c : ℕ) → HasCell growth.cells r c → IsChained facts row col r c
@@ -54,7 +54,7 @@ pub record IsGrown (facts : Masks) (row col : ℕ) (growth : Growth) : Type 0 wh
 abbrev pub HasOpenCellsOf : Masks → LineId → List ℕ → Type 0
 HasOpenCellsOf facts line cells = (r c : ℕ) → IsOnLine line r c → IsOpenCell facts r c → HasCell cells r c
 
--- a line no longer waits, and is one of the visited
+-- a line no longer waits, and counts as visited
 pub record Leaves (line : LineId) (old new : Growth) : Type 0 where
   pub cells : new.cells ≡ old.cells
   pub waiting : TakesOutName old.waiting new.waiting line

@@ -28,7 +28,7 @@ cells_at kept i = (kept_at kept i).cells
 abbrev pub answer_at : List KeptPart → ℕ → Answer
 answer_at kept i = (kept_at kept i).answer
 
--- the parts of which something is kept
+-- the cells of each part that is kept
 abbrev pub parts_of : List KeptPart → List (List ℕ)
 parts_of kept = map (λ (part : KeptPart). part.cells) kept
 
@@ -45,7 +45,7 @@ IsFilling Unknown = ⊥
 IsFilling Nothing = ⊥
 IsFilling (Filling picture) = Unit {0}
 
--- of none of the first parts another filling is kept
+-- no other filling is kept of any of the first parts
 abbrev pub HasNoFilling : List KeptPart → ℕ → Type 0
 HasNoFilling kept n = (i : ℕ) → i < n → IsFilling (answer_at kept i) → ⊥
 
@@ -63,8 +63,8 @@ pub record FirstFilling (kept : List KeptPart) (other : Rows) : Type 0 where
 
 -- ---- going along the parts
 
--- How a part is dealt with, and how many searches and splits that takes: where nothing is known of
--- it, it is searched, and this is how the search ends; where something is, the next part follows.
+-- How a part is dealt with, and how many searches and splits that takes. If nothing is known of it, it is searched, and
+-- `found` is how the search ends; otherwise it is skipped without a search.
 abbrev pub EndsBy : Board → Option ℕ → List ℕ → Answer → Ending → ℕ → ℕ → Type 0
 EndsBy board allowance cells Unknown found searched splits =
     (searched ≡ 1) × EndsWithin board.clues board.picture (alone cells board.facts board.picture) allowance found splits
@@ -77,7 +77,7 @@ abbrev pub EndsPart : Board → Option ℕ → KeptPart → Ending → ℕ → �
 EndsPart board allowance part found searched splits =
     EndsBy board allowance part.cells part.answer found searched splits
 
--- none of the first parts has another filling, and each that was searched took as many splits as are allowed at most
+-- the searches of the first parts find no other filling, and each takes at most as many splits as are allowed
 abbrev pub Passes : Board → Option ℕ → List KeptPart → ℕ → ℕ → ℕ → Type 0
 Passes board allowance kept zero searched splits = (searched ≡ 0) × (splits ≡ 0)
 Passes board allowance kept (suc i) searched splits =
@@ -86,7 +86,7 @@ Passes board allowance kept (suc i) searched splits =
     × (EndsPart board allowance (kept_at kept i) ending.Nothing searched_here splits_here
     × ((searched ≡ searched_before + searched_here) × (splits ≡ splits_before + splits_here)))))))
 
--- the first parts are passed, and the next one ends it
+-- the first `i` parts are passed, and the next one ends with `found`
 pub record StopsAt (board : Board) (allowance : Option ℕ) (kept : List KeptPart)
     (i : ℕ) (found : Ending) (searched splits : ℕ) : Type 0 where
   pub place : i < length kept
@@ -99,7 +99,7 @@ pub record StopsAt (board : Board) (allowance : Option ℕ) (kept : List KeptPar
   pub searched_is : searched ≡ searched_before + searched_here
   pub splits_is : splits ≡ splits_before + splits_here
 
--- all parts are passed, or the next one ends it
+-- all parts are passed, or one has another filling or is broken off
 abbrev pub Stops : Board → Option ℕ → List KeptPart → ℕ → Ending → ℕ → ℕ → Type 0
 Stops board allowance kept i ending.Nothing searched splits =
     (i ≡ length kept) × Passes board allowance kept (length kept) searched splits
@@ -110,8 +110,8 @@ Stops board allowance kept i ending.BrokenOff searched splits =
 
 -- ---- the counts
 
--- Something was done by so many searches and splits, which were added to their counts; each evaluation
--- is a call of the engine, there was at least one for each search, and without a search there was none.
+-- Something was done by some searches and splits, which were added to their counts. Each evaluation is one call of the
+-- engine; there was at least one for each search, and without a search there was none.
 pub record Done (searched_before searched_after splits_before splits_after : ℕ) (meter_before meter_after : Meter)
     (calls_before calls_after : ℕ) (Is : ℕ → ℕ → Type 0) : Type 0 where
   pub searched : ℕ
@@ -124,24 +124,24 @@ pub record Done (searched_before searched_after splits_before splits_after : ℕ
   pub none : searched ≡ 0 → evaluations ≡ 0
   pub at_least : searched ≤ evaluations
 
--- the counts of both, each staying at the largest number of its bits
+-- the sums of both, each of which stays at the largest number of its type
 pub record AddsUp (one more both : Spent) : Type 0 where
   pub searched : both.searched ≡ raised one.searched more.searched
   pub splits : both.splits ≡ raised one.splits more.splits
   pub evaluations : both.evaluations ≡ counted one.evaluations more.evaluations
 
--- a meter that counts so many evaluations alone
+-- a meter with n evaluations and no trials
 abbrev pub evaluated : ℕ → Meter
 evaluated n = record { evaluations = n; trials = 0 }
 
--- something was done by so many searches, splits and evaluations, counted from nothing
+-- something was done by the searches, splits and evaluations that were spent, counted from 0
 abbrev pub DoneBy : Spent → ℕ → ℕ → (ℕ → ℕ → Type 0) → Type 0
 DoneBy spent calls_before calls_after Is =
     Done 0 spent.searched 0 spent.splits (evaluated 0) (evaluated spent.evaluations) calls_before calls_after Is
 
--- ---- what is known then
+-- ---- what is known afterwards
 
--- of the first parts it is known that they have no other filling, and all else is as it was
+-- the first parts are known to have no other filling, and all else is as it was
 pub record Changes (old new : List KeptPart) (end : ℕ) : Type 0 where
   pub count : length new ≡ length old
   pub cells : (i : ℕ) → cells_at new i ≡ cells_at old i
@@ -163,13 +163,13 @@ pub record Finds (old new : List KeptPart) (i : ℕ) (other : Rows) : Type 0 whe
   pub here : answer_at new i ≡ Filling other
   pub behind : (j : ℕ) → i < j → kept_at new j ≡ kept_at old j
 
--- where going along the parts stopped is after the last, or one of them
+-- a place where going along the parts can stop: a part, or after the last one unless another filling was found
 abbrev pub IsPlace : List KeptPart → ℕ → Ending → Type 0
 IsPlace kept i ending.Nothing = i ≤ length kept
 IsPlace kept i (ending.Found other) = i < length kept
 IsPlace kept i ending.BrokenOff = i ≤ length kept
 
--- what is known then is noted; nothing is decided where a search was broken off
+-- what was found is noted; the picture is decided unless a search was broken off
 abbrev pub Notes : List KeptPart → List KeptPart → ℕ → Ending → Bool → Type 0
 Notes old new i ending.Nothing is_decided = IsTrue is_decided × Changes old new i
 Notes old new i (ending.Found other) is_decided = IsTrue is_decided × Finds old new i other
@@ -209,7 +209,7 @@ pub record BreaksOff (board : Board) (allowance : Option ℕ) (old new : List Ke
   pub stops : StopsAt board allowance old at ending.BrokenOff searched splits
   pub noted : Changes old new at
 
--- how a picture is judged, by so many searches and splits, and what is known of the parts then
+-- how a picture is judged, by how many searches and splits, and what is known of the parts before and afterwards
 abbrev pub Judges : Board → Option ℕ → List KeptPart → List KeptPart → Verdict → ℕ → ℕ → Type 0
 Judges board allowance old new Unique searched splits = PassesAll board allowance old new searched splits
 Judges board allowance old new Other searched splits =
@@ -236,13 +236,13 @@ pub record Starts (facts : Masks) (kept : List KeptPart) : Type 0 where
 
 -- ---- what is answered
 
--- the verdict by whether it is decided and what is kept
+-- the verdict that follows from whether the picture is decided and from what is kept
 abbrev pub IsToldBy : Bool → List KeptPart → Verdict → Type 0
 IsToldBy is_decided kept Unique = IsTrue is_decided × HasNoFilling kept (length kept)
 IsToldBy is_decided kept Other = IsTrue is_decided × ((i : ℕ) × HasFilling kept i)
 IsToldBy is_decided kept Undecided = (IsTrue is_decided → ⊥) × HasNoFilling kept (length kept)
 
--- the verdict that an answer stands for; another picture is the first filling that is kept
+-- the verdict that an answer means; another picture is the first other filling that is kept
 abbrev pub AnswersAs : List KeptPart → Judged → Verdict → Type 0
 AnswersAs kept judged.Unique verdict = verdict ≡ Unique
 AnswersAs kept (judged.Other other) verdict = (verdict ≡ Other) × FirstFilling kept other.now

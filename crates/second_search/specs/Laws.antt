@@ -24,8 +24,8 @@ use Rattle.second_search.specs.Parts.{board}
 use Rattle.second_search.specs.Parts.{part_at, picked}
 use Rattle.second_search.specs.Verdict.{Undecided}
 
--- Facts that exclude nothing are sound where there is no given, and so is the base of any givens. They stay sound
--- with a given more, when its cell is left the picture's colour alone, and when they are closed for the clues.
+-- Facts that exclude nothing are sound where there is no given, and so is the base of any givens. They stay sound with
+-- one more given, when only the picture's colour is left in its cell, and when they are closed for the clues.
 pub record SoundFacts : Type 0 where
   pub none : (clues : Clues) (givens : List ℕ) (picture : Rows) → IsPicture picture
       → ((row col : ℕ) → HasCell givens row col → ⊥)
@@ -45,8 +45,8 @@ abbrev pub PartsAreOneList : Type 0
 PartsAreOneList = (facts : Masks) (parts : List (List ℕ)) (others : Masks) → AreParts facts parts
     → AreParts facts others → parts ≡ others
 
--- Two parts that share a cell are one, and a part has with a cell all open cells of each line through it. Its cells are
--- open and lie in the picture; a cell of the picture that is not open has the picture's colour alone left.
+-- Two parts that share a cell are the same, and a part has all open cells of each line through one of its cells. Its
+-- cells are open and lie in the picture; in a cell of the picture that is not open only the picture's colour is left.
 pub record PartsAreApart : Type 0 where
   pub one : (facts : Masks) (parts : List (List ℕ)) → AreParts facts parts → (i j row col : ℕ) → i < length parts
       → j < length parts → HasCell (part_at parts i) row col → HasCell (part_at parts j) row col → i ≡ j
@@ -61,9 +61,9 @@ pub record PartsAreApart : Type 0 where
       → IsScene clues givens facts picture → row < length picture → col < width_of picture
       → (IsOpenCell facts row col → ⊥) → IsOnly (cell_at facts row col) (cell_at picture row col)
 
--- Another picture exists exactly where some part has another filling. With the colours of another picture on one part
--- where it differs, and the picture's elsewhere, there is another
--- filling of that part: each line is one of the two pictures'.
+-- Another picture exists exactly where some part has another filling. The other picture's colours on a part where
+-- it differs, with the picture's elsewhere, are another filling of that part: each line is one of the two
+-- pictures'.
 pub record PartsDecide : Type 0 where
   pub one_part : (clues : Clues) (givens : List ℕ) (facts : Masks) (picture other : Rows) (cells : List ℕ) (row col : ℕ)
       → IsScene clues givens facts picture → IsPart facts cells → IsOther clues (HasCell givens) picture other
@@ -74,7 +74,7 @@ pub record PartsDecide : Type 0 where
       → ((other : Rows) × IsOther clues (HasCell givens) picture other) ↔ ((i : ℕ)
       × ((i < length parts) × ((other : Rows) × IsOtherFilling clues givens picture (part_at parts i) other)))
 
--- The other fillings of a part are what fills the facts on the part, with the picture's colour alone left elsewhere.
+-- The other fillings of a part are the other pictures that fill the facts on it with the picture's colours elsewhere.
 abbrev pub FillingsAreOfFacts : Type 0
 FillingsAreOfFacts = (clues : Clues) (givens : List ℕ) (facts : Masks) (picture other : Rows) (cells : List ℕ)
     → IsScene clues givens facts picture
@@ -120,7 +120,7 @@ AnswersPart clues givens picture cells Nothing = (other : Rows) → IsOtherFilli
 AnswersPart clues givens picture cells (Found other) = IsOtherFilling clues givens picture cells other
 AnswersPart clues givens picture cells BrokenOff = ⊥
 
--- What a part of a scene is decided as is true, within any bounds.
+-- What is decided of a part of a scene is true, within any bounds.
 abbrev pub EndingsAreTrue : Type 0
 EndingsAreTrue = (clues : Clues) (givens : List ℕ) (facts : Masks) (picture : Rows) → IsScene clues givens facts picture
     → (cells : List ℕ) (most : ℕ) (ending : Ending) (n : ℕ) → EndsPast clues picture

@@ -1,4 +1,4 @@
--- Windows, in which alone another picture is looked for at first.
+-- Windows: cells of a part, inside which another filling is looked for.
 use Rattle.std.specs.Prelude.{◌≡◌, ◌⊎◌, List, ℕ}
 use Rattle.line_facts.specs.Masks.{Masks}
 use Rattle.picture.specs.CellSet.{HasCell}
@@ -9,14 +9,14 @@ use Rattle.second_search.specs.declared.near.Window.{Window}
 use Rattle.second_search.specs.CarriedParts.{LieInside}
 use Rattle.second_search.specs.FixedOrder.{NamesLinesOf}
 
--- the cells are among those of a part and lie in the facts, and the lines, which are theirs, go through all of them
+-- cells of a part that lie in the facts, and lines of the facts, among them both lines through each of the cells
 pub record IsWindow (facts : Masks) (part : List ℕ) (window : Window) : Type 0 where
   pub among : (row col : ℕ) → HasCell window.cells row col → HasCell part row col
   pub inside : LieInside window.cells facts
   pub lines : AreLinesOf facts window.lines
   pub through : NamesLinesOf window.cells window.lines
 
--- in some cells, if not in all, the masks of facts are taken for those at home, and elsewhere none
+-- in some of the cells, not necessarily all, the masks of `home` are replaced by those of `facts`, and nowhere else
 pub record OpensIn (cells : List ℕ) (facts : Masks) (home new : List (List ℕ)) : Type 0 where
   pub same_shape : SameShape home new
   pub each : (row col : ℕ) → (cell_at new row col ≡ cell_at home row col)

@@ -1,4 +1,4 @@
--- Open cells, the parts that they make, and other fillings of a part.
+-- Open cells, the parts that they form, and other fillings of a part.
 use Rattle.std.specs.Prelude.{◌≡◌, ℕ, ◌^◌, ◌<◌, ◌⊎◌, ◌↔◌, ◌==◌, Bool, not, if◌then◌else◌, List, [], ◌∷◌, length, map}
 use Rattle.std.specs.Prelude.{slice_index, slice_index_or, bit_and, refl}
 use Rattle.std.specs.List.{range_with_len}
@@ -34,7 +34,7 @@ pub record IsPartFrom (facts : Masks) (cells : List ℕ) (row col : ℕ) : Type 
   pub members : (r c : ℕ) → HasCell cells r c ↔ IsChained facts row col r c
   pub first : (r c : ℕ) → HasCell cells r c → IsBefore r c row col → ⊥
 
--- a part
+-- a part: a connected component of open cells
 pub record IsPart (facts : Masks) (cells : List ℕ) : Type 0 where
   pub row : ℕ
   pub col : ℕ
@@ -71,7 +71,7 @@ abbrev pub picked_row : List ℕ → Rows → Rows → ℕ → List ℕ
 picked_row cells one other row =
     map (λ (col : ℕ). picked_cell cells one other row col) (range_with_len 0 (width_of other))
 
--- one grid on a part, and the other, of its size, elsewhere: of two pictures a picture, of two fact sets a fact set
+-- one grid on a part, another of its size elsewhere: from two pictures a picture, from two fact sets a fact set
 unfoldable pub picked : List ℕ → Rows → Rows → Rows
 picked cells one other = map (λ (row : ℕ). picked_row cells one other row) (range_with_len 0 (length other))
 
@@ -100,8 +100,8 @@ pub record Board : Type 0 where
 abbrev pub board : Clues → Masks → Rows → Board
 board clues facts picture = record { clues = clues; facts = facts; picture = picture }
 
--- a line has, under the same name, the same clue, colours left
--- and cells of the picture on two boards, and so the same length
+-- on two boards a line has, under the same name, the same clue, the same colours left and the same cells of the
+-- picture, and so the same length
 pub record IsSameLine (old new : Board) (line : LineId) : Type 0 where
   pub before : HasLine old.picture line
   pub after : HasLine new.picture line
@@ -115,7 +115,7 @@ KeepsLines old new cells = (line : LineId) → GoesThrough line cells → IsSame
 
 -- ---- worked by hand
 
--- of two 3 by 3 grids the first on the cells in the corners of the upper left square, the second elsewhere
+-- of two 3 by 3 grids, the first on the 2 by 2 square in the upper left corner, the second elsewhere
 worked_corners : picked (3 ∷ 3 ∷ 0 ∷ []) ((1 ∷ 0 ∷ 7 ∷ []) ∷ (0 ∷ 1 ∷ 7 ∷ []) ∷ (7 ∷ 7 ∷ 7 ∷ []) ∷ []) ((0 ∷ 1 ∷ 0 ∷ [])
     ∷ (1 ∷ 0 ∷ 2 ∷ []) ∷ (0 ∷ 2 ∷ 2 ∷ []) ∷ []) ≡ (1 ∷ 0 ∷ 0 ∷ []) ∷ (0 ∷ 1 ∷ 2 ∷ []) ∷ (0 ∷ 2 ∷ 2 ∷ []) ∷ []
 unfolding picked

@@ -7,11 +7,11 @@ use Rattle.second_search.specs.Parts.{Board, IsScene, board}
 abbrev pub IsWhole : Scene → Type 0
 IsWhole scene = IsScene scene.clues.now scene.givens.now scene.facts.now scene.picture.now
 
--- its clues, facts and picture
+-- the clues, facts and picture of a scene
 abbrev pub board_of : Scene → Board
 board_of scene = board scene.clues.now scene.facts.now scene.picture.now
 
--- such a scene, and no line of it is longer than an engine takes
+-- a scene that a search may start from, in which no line is longer than an engine takes
 pub record CanSearch (scene : Scene) (longest : ℕ) : Type 0 where
   pub is_scene : IsScene scene.clues.now scene.givens.now scene.facts.now scene.picture.now
   pub tall : length scene.clues.now.rows ≤ longest

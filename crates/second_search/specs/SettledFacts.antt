@@ -27,13 +27,13 @@ abbrev pub AreOthersSettled : Lines → Masks → Type 0
 AreOthersSettled rows facts = (row col : ℕ) → (HasName rows (across row) → ⊥) → row < length facts
     → col < width_of facts → (k : ℕ) × IsOnly (cell_at facts row col) k
 
--- in the rows that are not named a picture's colours alone are left
+-- in the rows that are not named only a picture's colours are left
 abbrev pub ShowOthers : Rows → Lines → Masks → Type 0
 ShowOthers picture rows facts = (row col : ℕ) → (HasName rows (across row) → ⊥) → row < length facts
     → col < width_of facts → IsOnly (cell_at facts row col) (cell_at picture row col)
 
--- The first cell in row order in which not just one colour is left. Where some list
--- fits each line no cell is left without a colour, so this is the first open cell.
+-- The first cell in row order in which not exactly one colour is left. Where some list fits each line, no cell is
+-- without a colour, so this is the first open cell.
 pub record IsFirstUnsettled (facts : Masks) (cell : Cell) : Type 0 where
   pub is : IsUnsettled facts cell
   pub before : (r c : ℕ) → c < width_of facts → IsBefore r c cell.row cell.col → (k : ℕ) × IsOnly (cell_at facts r c) k

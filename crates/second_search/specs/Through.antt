@@ -1,4 +1,4 @@
--- The lines through some cells, and facts with a picture's colours alone left outside of them.
+-- The lines through some cells, and facts that leave only a picture's colours outside of them.
 use Rattle.std.specs.Prelude.{◌≡◌, ℕ, ◌^◌, ◌<◌, ◌⊎◌, ◌↔◌, List}
 use Rattle.line_facts.specs.Masks.{Masks}
 use Rattle.picture.specs.declared.line_id.LineId.{LineId}
@@ -27,14 +27,14 @@ abbrev pub PutsThrough : List ℕ → Masks → Lines → ℕ → Type 0
 PutsThrough cells facts lines rows = (row col : ℕ) → row < rows → col < width_of facts → HasCell cells row col
     → NamesBoth lines row col
 
--- in the first cells of a row a picture's colours alone are left outside of some cells
+-- in the first cells of a row, outside of some cells, only a picture's colours are left
 pub record LeavesRowAlone (cells : List ℕ) (picture : Rows) (old new : Masks) (row width : ℕ) : Type 0 where
   pub same_shape : SameShape old new
   pub kept : (col : ℕ) → HasCell cells row col → cell_at new row col ≡ cell_at old row col
   pub left : (col : ℕ) → col < width → (HasCell cells row col → ⊥) → cell_at new row col ≡ 2 ^ cell_at picture row col
   pub elsewhere : (r col : ℕ) → (r ≡ row → ⊥) → cell_at new r col ≡ cell_at old r col
 
--- in the first rows a picture's colours alone are left outside of some cells
+-- in the first rows, outside of some cells, only a picture's colours are left
 pub record LeavesAlone (cells : List ℕ) (picture : Rows) (old new : Masks) (rows : ℕ) : Type 0 where
   pub same_shape : SameShape old new
   pub kept : (row col : ℕ) → HasCell cells row col → cell_at new row col ≡ cell_at old row col

@@ -30,15 +30,15 @@ use Rattle.second_search.specs.Weights.{load}
 abbrev pub IsUnsettledAt : Masks → CellNumber → Type 0
 IsUnsettledAt facts cell = (k : ℕ) → IsOnly (cell_at facts (cell.row - 1) (cell.col - 1)) k → ⊥
 
--- the facts gain all that a line forces, and that is something
+-- the facts gain all that a line forces, and this changes the line
 pub record ForcesMore (clues : Clues) (facts : Masks) (line : LineId) (gained : Masks) : Type 0 where
   pub outcome : Outcome
   pub gains : Gains (clue_at clues line) line facts gained outcome
   pub more : line_of facts line ≡ line_of gained line → ⊥
 
--- A line that may come next on a branch, and the branches that it leads to: what the line
--- forces is more than is known; a cell in which not just one colour is left has a branch
--- for each of them; no list fits the line; no colour is left but the known picture's.
+-- A certificate line that may come next on a branch, and the branches that it leads to: a line that forces something
+-- new; a split of a cell in which not just one colour is left, with a branch for each of them; a dead line, which no
+-- list fits; or the end, where no colour is left but the known picture's.
 abbrev pub Stands : Clues → Rows → Masks → CertLine → List (List (List ℕ)) → Type 0
 Stands clues known facts (Line number) next =
     HasLineNumber facts number
@@ -61,27 +61,27 @@ Walks clues known (line ∷ lines) (facts ∷ others) rest =
 
 -- ---- lines that are kept or dropped
 
--- these lines more are kept, or all are dropped
+-- these lines are added to those that are kept, or all are dropped
 abbrev pub Adds : Lines → Lines → List CertLine → Type 0
 Adds (Kept old) (Kept new) lines = new.items ≡ old.items ++ lines
 Adds (Kept old) Dropped lines = ⊥
 Adds Dropped (Kept new) lines = ⊥
 Adds Dropped Dropped lines = Unit {0}
 
--- lines are said that lead from the facts of a branch, and whatever waits after it, to other facts, or to none
+-- lines are added that lead from the facts of a branch to other facts, or to none, whatever waits after it
 pub record Says (clues : Clues) (known : Rows) (facts : Masks) (front : List (List (List ℕ)))
     (old new : Lines) : Type 0 where
   pub lines : List CertLine
   pub adds : Adds old new lines
   pub walks : (others : List Masks) → Walks clues known lines (facts ∷ others) (front ++ others)
 
--- what closing a branch line by line comes to: facts within those, or a dead line, which ends the branch
+-- the outcome of closing a branch line by line: facts that exclude no less, or a dead line, which ends the branch
 abbrev pub Settles : Clues → Masks → Masks → Lines → Lines → Outcome → Type 0
 Settles clues facts settled old new Narrowed =
     IsWithin facts settled × ((known : Rows) → Says clues known facts (settled ∷ []) old new)
 Settles clues facts settled old new NoneFits = (known : Rows) → Says clues known facts [] old new
 
--- another picture than the known one fills the facts
+-- a picture other than the known one fills the facts
 abbrev pub IsOtherIn : Clues → Rows → Masks → Rows → Type 0
 IsOtherIn clues known facts picture = Fills clues facts picture × (picture ≡ known → ⊥)
 
@@ -101,7 +101,7 @@ IsComparedTo known picture (Ends line) = (line ≡ Done) × (picture ≡ known)
 IsComparedTo known picture (Splits cell) = ⊥
 IsComparedTo known picture (Other other) = (other ≡ picture) × (picture ≡ known → ⊥)
 
--- what comes next on a closed branch: a line that ends it, a cell to split, or another picture than the known one
+-- what comes next on a closed branch: a line that ends it, a cell to split, or a picture other than the known one
 abbrev pub Continues : Clues → Rows → Masks → TreeStep → Type 0
 Continues clues known facts (Ends line) = Stands clues known facts line []
 Continues clues known facts (Splits cell) = IsUnsettled facts cell
@@ -109,8 +109,8 @@ Continues clues known facts (Other picture) = IsOtherIn clues known facts pictur
 
 -- ---- a tree
 
--- What a turn on the first branch that waits comes to: lines that
--- lead to what waits then, which weighs less; or another picture.
+-- The outcome of a turn on the first branch that waits: lines that lead to what waits afterwards, the load of which is
+-- less; or another picture.
 pub record TurnsOn (clues : Clues) (known : Rows) (old new : Growing) : Type 0 where
   pub lines : List CertLine
   pub adds : Adds old.lines new.lines lines
@@ -121,14 +121,14 @@ abbrev pub Turns : Clues → Rows → Growing → Growing → Option (List (List
 Turns clues known old new None = TurnsOn clues known old new
 Turns clues known old new (Some picture) = IsOtherIn clues known old.trail.at_hand picture
 
--- the next branch that waits is at hand, or none waits
+-- the next branch that waits becomes the current one (`at_hand`), or none waits
 abbrev pub Advances : Growing → Growing → Bool → Type 0
 Advances old new true = (old.trail.behind ≡ new.trail.at_hand ∷ new.trail.behind) × (new.lines ≡ old.lines)
 Advances old new false = (old.trail.behind ≡ []) × (new.lines ≡ old.lines)
 
 -- ---- what is decided
 
--- no line yet, to be kept where that is said
+-- no line yet, and lines are kept where that is asked
 abbrev pub AreNone : Bool → Lines → Type 0
 AreNone keeps (Kept lines) = (keeps ≡ true) × (lines.items ≡ [])
 AreNone keeps Dropped = keeps ≡ false
@@ -138,12 +138,12 @@ abbrev pub AreKeptWhere : Bool → Lines → Type 0
 AreKeptWhere keeps (Kept lines) = keeps ≡ true
 AreKeptWhere keeps Dropped = keeps ≡ false
 
--- the lines of a tree from facts, where they are kept; else there are some
+-- the lines of a tree from facts, if they are kept; if they are dropped, such lines exist
 abbrev pub AreTree : Clues → Rows → Masks → Lines → Type 0
 AreTree clues known facts (Kept lines) = Walks clues known lines.items (facts ∷ []) []
 AreTree clues known facts Dropped = (lines : List CertLine) × Walks clues known lines (facts ∷ []) []
 
--- a tree, or another picture than the known one
+-- a tree, or a picture other than the known one
 abbrev pub Decides : Clues → Rows → Masks → Bool → Decided → Type 0
 Decides clues known facts keeps (Tree lines) = AreTree clues known facts lines × AreKeptWhere keeps lines
 Decides clues known facts keeps (OtherPicture picture) = IsOtherIn clues known facts picture

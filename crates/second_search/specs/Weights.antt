@@ -1,8 +1,8 @@
--- What facts weigh: the sum of their masks. A search ends since what waits weighs less with each step.
+-- The weight of facts: the sum of their masks. A search ends since the load falls with each step.
 use Rattle.std.specs.Prelude.{ℕ, ◌+◌, ◌*◌, ◌^◌, List, [], ◌∷◌}
 use Rattle.line_facts.specs.Masks.{Masks}
 
--- the sum over a list
+-- the sum of a function over a list
 abbrev pub total : {X : Type 0} → (X → ℕ) → List X → ℕ
 total f [] = 0
 total f (x ∷ xs) = f x + total f xs

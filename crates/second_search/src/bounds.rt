@@ -1,8 +1,9 @@
-//! How far each way of a search goes before the next one is taken.
+//! How far each way of searching goes before the next one is tried.
 
-/// How often a part is split in the fixed order at first, and how often when that is begun anew; how often a search in a window
-/// splits; from how many conflicts a search with lemmas learns, where it is made at all; and how many lines a tree of the whole
-/// picture may evaluate at first, sixteen times as many in a part or after a long judgement. They say which way answers, and never what is true; clauses speak of the first alone.
+/// The bounds of the ways of deciding a part: the splits of the fixed order, and those when it is begun again; the splits of a
+/// search in a window; the conflicts that a search with lemmas learns from, 0 for no such search; and the lines that a tree of the
+/// whole picture may evaluate at first, 16 times as many in a part or after a long judgement. Answers are true whatever the bounds
+/// are. Clauses mention only `fixed_splits`.
 #[derive(Clone, Copy)]
 pub struct Bounds {
     pub fixed_splits: u32,
@@ -12,7 +13,7 @@ pub struct Bounds {
     pub first_bound: u64,
 }
 
-/// Those of the program.
+/// The bounds that the program uses.
 pub const BOUNDS: Bounds = Bounds {
     fixed_splits: 100,
     again_splits: 500,
@@ -21,11 +22,12 @@ pub const BOUNDS: Bounds = Bounds {
     first_bound: 10_000,
 };
 
-// How many times as many lines a tree may evaluate at first in a part, or where judging took long: few small trees close there.
+// How many times as many lines a tree may evaluate at first in a part, or after a long judgement, where few small trees close.
 pub(crate) const LONGER: u64 = 16;
 
-/// How far a search from clues alone goes in its first round: how many lines a tree may evaluate, and from how many conflicts a search
-/// with lemmas learns. From round to round the first grows fourfold, the second eightfold. After so many rounds trees go on alone.
+/// How far a search from clues alone goes in its first round: how many lines a tree may evaluate, and from how many conflicts a
+/// search with lemmas learns. From round to round the first grows fourfold, the second eightfold. After `rounds` rounds only trees
+/// are tried.
 #[derive(Clone, Copy)]
 pub struct Turns {
     pub evaluations: u64,
@@ -33,7 +35,7 @@ pub struct Turns {
     pub rounds: u32,
 }
 
-/// Those of the program.
+/// The bounds of rounds that the program uses.
 pub const TURNS: Turns = Turns {
     evaluations: 10_000,
     conflicts: 4_000,

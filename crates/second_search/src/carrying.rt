@@ -1,4 +1,4 @@
-//! What is known of a part, said of another scene, and the lines that are the same in both.
+//! What is known of a part, carried to another scene, and the lines that are the same in both.
 
 ghost use Rattle.std.specs.Prelude.{◌≡◌, ℕ, ◌<◌, ◌↔◌, length, IfOk, IsTrue, MatchOption};
 ghost use Rattle.picture.specs.CellSet.{HasCell};
@@ -14,7 +14,7 @@ use picture::{Axis, CellSet, LineId, LineSet, LineView, Picture};
 use std::alloc::AllocError;
 use trail::Cell;
 
-// What is known of a part, said of a scene with another picture: another filling gets that picture's colours elsewhere.
+// What is known of a part, carried to a scene with another picture: another filling gets that picture's colours elsewhere.
 pub(crate) fn answer_for(
     answer: &Answer,
     cells: &CellSet,

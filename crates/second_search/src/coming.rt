@@ -1,4 +1,4 @@
-//! What facts come to when they are closed, exactly: a dead line, a picture, or a first open cell.
+//! The exact outcome of closing facts: a dead line, a picture, or a first open cell.
 
 ghost use Rattle.std.specs.Prelude.{◌≡◌, ◌+◌, ◌<◌, ◌≤◌, IfOk, OnOk};
 ghost use Rattle.picture.specs.LineSet.{name_count};
@@ -18,7 +18,7 @@ use std::alloc::AllocError;
 use trail::Cell;
 use worklist::InOrder;
 
-// What facts come to: no list fits some line, or they leave one picture, or a cell is to be split.
+// The outcome of closing facts: no list fits some line, or they leave one picture, or a cell is to be split.
 #[derive(Drop)]
 pub(crate) enum Coming {
     Dies,
@@ -35,8 +35,8 @@ pub(crate) struct Due {
     pub top: u8,
 }
 
-// Closes facts and looks at what they leave, and names the lines in which the facts that are split may differ from them. A line is
-// due, and each line that is not has to be quiet.
+// Closes facts and looks at what they leave. Also names the lines in which facts that are to be split may differ from those before.
+// At least one line must be due, and each line that is not due must be quiet.
 pub(crate) fn come_to<E: LineEngine>(
     engine: &mut E,
     book: &ClueBook,
@@ -71,7 +71,7 @@ pub(crate) fn come_to<E: LineEngine>(
     }
 }
 
-// The first open cell of closed facts, or the picture that they leave. Each row above one has to be settled.
+// The first open cell of closed facts, or the picture that they leave. Each row above `due.top` must be settled.
 fn split_or_end(known: &Picture, settled: Facts, due: &Due) -> Result<Coming, AllocError>
     requires above { AreRowsSettled settled due.now.top }
     requires same_shape { SameShape known.now settled }

@@ -17,8 +17,8 @@ use picture::{LineSet, Picture};
 use std::alloc::{AllocError, Global};
 use trail::Trail;
 
-/// How the search of a part ended, in the words of contracts: there is no other picture, or there is this one, or it would have
-/// split once more than allowed.
+/// How a search ended: there is no other picture, or there is this one, or the search was broken off where it would have split once
+/// more than allowed.
 #[derive(Drop)]
 pub enum Ending {
     Nothing,
@@ -26,7 +26,7 @@ pub enum Ending {
     BrokenOff,
 }
 
-/// What a search came to: how it ended, and how often it split, which stays at the largest number.
+/// The result of a search: how it ended, and how often it split, a count that saturates.
 #[derive(Drop)]
 pub struct Searched {
     pub ending: Ending,
@@ -50,7 +50,7 @@ pub(crate) struct Budget {
 }
 
 impl Budget {
-    // What is left after one split more. None where no split is left.
+    // What is left after one more split. None where no split is left.
     fn spend(self) -> Option<Budget>
         ensures { Spends self result }
     {
@@ -64,7 +64,7 @@ impl Budget {
     }
 }
 
-// A search under way: the branches that wait, what is due at the one at hand, and its splits.
+// A search under way: the branches that wait, what is due at the current one, and the splits that are left and made.
 #[derive(Drop)]
 pub(crate) struct Counted {
     pub trail: Trail,
@@ -72,9 +72,9 @@ pub(crate) struct Counted {
     pub budget: Budget,
 }
 
-// Searches facts for another picture than a known one. A line is named, and each line that is not has to be quiet; after a
-// split the two lines of the split cell alone need not be, since closed facts were split, and the rows above that cell are
-// settled. Of the splits at most so many are made as are allowed, where there is an allowance, and then the evaluations are few.
+// Searches facts for a picture other than a known one. `start` must name at least one line, and each line that it does not name
+// must be quiet. After a split, only the two lines of the split cell need not be quiet, since closed facts were split, and the rows
+// above that cell are settled. An allowance bounds the splits and, with them, the evaluations.
 pub(crate) fn search_counted<E: LineEngine>(
     alloc: Global,
     engine: &mut E,
@@ -133,7 +133,7 @@ pub(crate) fn search_counted<E: LineEngine>(
 }
 
 impl Counted {
-    // Looks at the facts at hand once, and splits them where a split is still allowed. None where the search goes on.
+    // Looks at the current facts once, and splits them if they need it and a split is left. None where the search goes on.
     fn look_once<E: LineEngine>(
         &mut self,
         engine: &mut E,
@@ -172,7 +172,7 @@ impl Counted {
     }
 }
 
-// Goes on where a picture is the known one.
+// None where a picture is the known one, so that the search goes on.
 fn compare(picture: Picture, known: &Picture) -> Option<Ending>
     ensures { Compares known.now picture result }
 {

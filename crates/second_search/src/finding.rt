@@ -1,4 +1,4 @@
-//! A picture with given clues, or another one than a known picture.
+//! Finding a picture with given clues, or one other than a known picture.
 
 ghost use Rattle.std.specs.Prelude.{◌≡◌, ◌≤◌, ℕ, List, false, length, IfOk};
 ghost use Rattle.clues.specs.ClueBook.{clues_of};
@@ -18,7 +18,7 @@ use line_facts::{Facts, LineEngine};
 use picture::{CellSet, Picture};
 use std::alloc::{AllocError, Global};
 
-/// A picture with these clues. There is none exactly where the answer is None. No line is longer than the engine's
+/// Finds a picture with these clues. There is none exactly where the answer is None. No line may be longer than the engine's
 /// `longest`.
 pub fn find_first<E: LineEngine>(
     alloc: Global,
@@ -33,7 +33,7 @@ pub fn find_first<E: LineEngine>(
     find_first_within(alloc, engine, book, TURNS)
 }
 
-/// A picture with these clues as `find_first` finds it, within other bounds. What is answered is true whatever these are.
+/// Finds a picture with these clues as `find_first` does, within other bounds. The answer is true whatever these are.
 pub fn find_first_within<E: LineEngine>(
     alloc: Global,
     engine: &mut E,
@@ -61,9 +61,10 @@ pub fn find_first_within<E: LineEngine>(
     find_in_turns(alloc, engine, &scene, turns)
 }
 
-/// Another picture with these clues, which has the picture's colours in the givens. There is none exactly where the answer
-/// is None. Near pictures are looked for first. The picture has the clues; the facts leave in each given no colour but the
-/// picture's, and exclude nothing that a picture with these clues and givens shows. No line is longer than the engine's `longest`.
+/// Finds another picture with these clues, which has the picture's colours in the givens. There is none exactly where the answer is
+/// None. Near pictures are looked for first. The picture must have the clues; the facts must leave in each given no colour but the
+/// picture's, and exclude nothing that a picture with these clues and givens shows. No line may be longer than the engine's
+/// `longest`.
 pub fn find_other<E: LineEngine>(
     alloc: Global,
     engine: &mut E,
@@ -94,7 +95,8 @@ pub fn find_other<E: LineEngine>(
 }
 
 // A picture that fills the facts of a scene and is not the scene's. There is none exactly where the answer is None. The scene's
-// picture need not have the clues, and is held on to where that is said. A tree may evaluate so many lines at first.
+// picture need not have the clues; `holds` says whether it guides the choice of cells. The first tree may evaluate `first_bound`
+// lines.
 pub(crate) fn find_filling<E: LineEngine>(
     alloc: Global,
     engine: &mut E,

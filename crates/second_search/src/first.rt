@@ -18,8 +18,8 @@ use line_facts::LineEngine;
 use picture::{CellSet, Picture};
 use std::alloc::{AllocError, Global};
 
-// Finds a picture as `find_filling` does: by trees and by lemmas in turn, within bounds that grow, and after some rounds by trees
-// alone. Searches with lemmas prefer background first, and then other colours than those of the scene's picture, which is blank.
+// Finds a picture as `find_filling` does: by trees and by lemmas in turn, within bounds that grow, and after some rounds only by
+// trees. Searches with lemmas prefer background first, and then other colours than those of the scene's picture, which is blank.
 pub(crate) fn find_in_turns<E: LineEngine>(
     alloc: Global,
     engine: &mut E,
@@ -59,8 +59,8 @@ pub(crate) fn find_in_turns<E: LineEngine>(
     find_filling(alloc, engine, scene, false, evaluations)
 }
 
-// Looks for such a picture by lemmas, from so many conflicts each time: first with the colours of a full picture as those to avoid,
-// and then with those of the scene's.
+// Looks for such a picture by two searches with lemmas, each of which learns from at most `conflicts` conflicts: the first avoids
+// the colours of a full picture, the second those of the scene's.
 fn learn_both<E: LineEngine>(
     alloc: Global,
     engine: &mut E,
@@ -80,7 +80,7 @@ fn learn_both<E: LineEngine>(
     learn_first(alloc, engine, scene, scene.picture, conflicts)
 }
 
-// The same, with the colours of a picture as those to avoid. Nothing is promised of what a search finds, so it is compared.
+// One such search, which avoids the colours of a picture. Nothing is promised of what `learn` finds, so it is checked.
 fn learn_first<E: LineEngine>(
     alloc: Global,
     engine: &mut E,

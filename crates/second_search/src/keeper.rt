@@ -1,4 +1,4 @@
-//! Answers of parts that are kept, and a picture judged by them.
+//! What is known of each part, kept from one judgement to the next, and a picture judged by it.
 
 ghost use Rattle.std.specs.Prelude.{◌≡◌, ◌-◌, ◌<◌, ◌≤◌, ◌↔◌, ℕ, length, IfOk, IsTrue, OnErr, MatchOption};
 ghost use Rattle.picture.specs.CellSet.{HasCell};
@@ -42,8 +42,8 @@ use std::alloc::{AllocError, Global};
 use std::marker::Model;
 use trail::Cell;
 
-/// What is known of the other fillings of a part: nothing yet, or that there is none, or one of them. A filling is answered
-/// without a search, a part with none is passed over, and an unknown one is searched.
+/// What is known of the other fillings of a part: nothing yet, or that there is none, or one of them. A judgement answers with a
+/// known filling, skips a part without one, and searches a part of which nothing is known.
 #[derive(Drop)]
 pub enum Answer {
     Unknown,
@@ -82,7 +82,7 @@ pub enum Judged<'a> {
     Undecided,
 }
 
-// How many parts were searched, how often they split, and how many lines were evaluated. Each count stays at the largest number.
+// How many parts were searched, how often they split, and how many lines were evaluated. Each count saturates.
 #[derive(Clone, Copy)]
 pub(crate) struct Spent {
     pub searched: u32,
@@ -97,7 +97,7 @@ const NOTHING_SPENT: Spent = Spent {
 };
 
 impl Spent {
-    // The sums of both.
+    // The sum of each count.
     fn plus(self, more: Spent) -> Spent
         ensures { AddsUp self more result }
     {
@@ -131,11 +131,11 @@ impl Keeper {
         Ok(Keeper { kept })
     }
 
-    /// Keeps the parts of another scene's facts. A part keeps what is known of it where each line through it has, under the
-    /// same name, the same clue, length, colours left and cells of the picture in both scenes; another filling gets the other
-    /// scene's picture elsewhere. Givens need no comparison: a cell of a part is open, so it is not given. Of each other part
-    /// nothing is known. The parts kept so far are those of the facts before, and what is known of them is true; so it is of the
-    /// parts after. Takes memory of the allocator that this was made with.
+    /// Keeps the parts of another scene's facts. A part keeps what is known of it where each line through it has, under the same
+    /// name, the same clue, length, colours left and cells of the picture in both scenes; another filling gets the other scene's
+    /// picture elsewhere. Givens need no comparison: a cell of a part is open, so it is not given. Of each other part nothing is
+    /// known. The parts kept so far must be those of the facts before, and what is known of them true; then what is kept of the
+    /// parts after is true. Allocates with the allocator of this keeper.
     pub fn carry(&self, before: &Scene, after: &Scene) -> Result<Keeper, AllocError>
         requires before { IsScene before.now.clues.now before.now.givens.now before.now.facts.now
             before.now.picture.now }
@@ -177,8 +177,8 @@ impl Keeper {
         true
     }
 
-    // What is known of a part of the scene after: what was known of it, where the lines through it are among those that are
-    // the same.
+    // What is known of a part of the scene after: what was known of it, if all lines through it are the same, and else
+    // nothing.
     fn carried(
         &self,
         before: &Scene,
@@ -240,15 +240,15 @@ impl Keeper {
         None
     }
 
-    /// Judges a picture by its parts, each with an allowance of splits where there is one. Where another filling of a part
-    /// is kept, nothing is searched. Else the parts of which nothing is known are searched in order, up to the first that has
-    /// another filling or costs more splits than are allowed. What the searches that ended found is kept; of one that was
-    /// broken off, nothing is. Adds to `searched` how many parts were searched, the last of them too if it was broken off, and
-    /// to `splits` how often they split in the fixed order, without an allowance at most 100 times each; both stay at the
-    /// largest number. Each part that is searched takes an evaluation at least, and where nothing is searched, no line is
-    /// evaluated. Under an allowance of `n` splits a part takes at most `(1 + 16 n) (l + 16 c)` evaluations, where the facts have
-    /// `l` lines and `c` cells. Where memory runs out, what is kept and both counts stay as they were. The parts kept are those of
-    /// the scene's facts, and what is known of them is true; no line is longer than the engine's `longest`.
+    /// Judges a picture by its parts, each with an allowance of splits where there is one. Where another filling of a part is kept,
+    /// nothing is searched. Otherwise the parts of which nothing is known are searched in order, up to the first that has another
+    /// filling or costs more splits than are allowed. What a search finds is kept, unless it is broken off. Adds to `searched` how
+    /// many parts were searched, the last of them too if it was broken off, and to `splits` how often they split in the fixed
+    /// order, without an allowance at most 100 times each; both counts saturate. Each part that is searched takes at least one
+    /// evaluation, and where nothing is searched, no line is evaluated. Under an allowance of `n` splits a part takes at most
+    /// `(1 + 16 n) (l + 16 c)` evaluations if the facts have `l` lines and `c` cells. Where memory runs out, what is kept and both
+    /// counts stay as they were. The parts kept must be those of the scene's facts, and what is known of them true; no line may be
+    /// longer than the engine's `longest`.
     pub fn judge<E: LineEngine>(
         &mut self,
         engine: &mut E,
@@ -300,7 +300,7 @@ impl Keeper {
         Ok(self.judged(is_decided))
     }
 
-    // What is answered: the first other filling that is kept, and where none is, whether that is decided.
+    // The answer: the first other filling that is kept; where none is kept, unique or undecided.
     fn judged(&self, is_decided: bool) -> Judged<'_>
         ensures { (verdict : Verdict) → IsToldBy is_decided self.now verdict
             → AnswersAs self.now result verdict }
@@ -312,8 +312,8 @@ impl Keeper {
         }
     }
 
-    // Judges a picture by its parts, keeps what the searches that ended found, and tells what they took, and whether none was
-    // broken off.
+    // Judges a picture by its parts, and keeps what the searches that ended found. Returns whether none was broken off, and what
+    // was spent.
     fn decide<E: LineEngine>(
         &mut self,
         engine: &mut E,
@@ -350,7 +350,7 @@ impl Keeper {
         }
     }
 
-    /// Another filling of the first part of which one is kept: after a judgement that answered another picture, that one.
+    /// The first other filling that is kept, if there is one: after a judgement that answered another picture, that picture.
     pub fn other(&self) -> Option<&Picture>
         ensures { MatchOption result (HasNoFilling self.now (length self.now))
             (λ other. FirstFilling self.now other.now) }
@@ -363,9 +363,9 @@ impl Keeper {
         None
     }
 
-    // Goes along the parts, and searches those of which nothing is known, up to the first that has another filling or
-    // costs more than is allowed. Tells at which it stopped, after the last where there is none, and how the search
-    // there ended.
+    // Goes along the parts, and searches those of which nothing is known, up to the first that has another filling or costs more
+    // than is allowed. Returns the place of that part, or the number of parts if there is none, how the search there ended, and
+    // what was spent.
     fn search_parts<E: LineEngine>(
         &self,
         engine: &mut E,
@@ -396,7 +396,7 @@ impl Keeper {
         Ok((self.kept.len(), Ending::Nothing, spent))
     }
 
-    // Searches a part, unless something is known of it already, and tells what that took.
+    // Searches a part, unless something is known of it already. Returns how the search ended, and what was spent.
     fn search_one<E: LineEngine>(
         &self,
         i: usize,
@@ -420,14 +420,14 @@ impl Keeper {
         let before = engine.calls();
         let _ = scene.facts.height();
         let part = &self.kept[i];
-        // A kept filling is not met here, since it is answered before.
+        // No filling is kept here: `decide` answers one before it searches.
         let Answer::Unknown = part.answer else {
             return Ok((Ending::Nothing, NOTHING_SPENT));
         };
         let alloc = *self.kept.allocator();
         let searched = decide_part(alloc, engine, scene, &part.cells, allowance)?;
         let Searched { ending, splits } = searched;
-        // Where the engine's calls have stayed at the largest number, they are no more than before.
+        // A saturated count of the engine's calls does not rise.
         let evaluations = (engine.calls() - before).max(1);
         let spent = Spent {
             searched: 1,
@@ -437,7 +437,7 @@ impl Keeper {
         Ok((ending, spent))
     }
 
-    // Notes what going along the parts found, at the part where it stopped, and tells whether no search was broken off.
+    // Notes what going along the parts found, at the part where it stopped, and returns whether no search was broken off.
     fn note(&mut self, at: usize, ending: Ending) -> bool
         requires { IsPlace self.old at ending }
         ensures { Notes self.old self.new at ending result }
@@ -453,7 +453,7 @@ impl Keeper {
         }
     }
 
-    // Notes of the first parts that they have no other filling.
+    // Notes that the first parts have no other filling.
     fn pass_to(&mut self, end: usize)
         requires { end ≤ length self.old }
         ensures { Changes self.old self.new end }

@@ -1,4 +1,4 @@
-//! The ladder: two ways to choose the cell in turn, each broken off at a bound that grows.
+//! The ladder: trees that choose their cells in one way and the other in turn, each broken off at a bound that grows.
 
 ghost use Rattle.std.specs.Prelude.{◌≡◌, ◌≤◌, IfOk, IfSome};
 ghost use Rattle.fixpoint.specs.ClosedFacts.{AreClosable};
@@ -14,7 +14,7 @@ use picture::Picture;
 use split_choice::Choice;
 use std::alloc::{AllocError, Global};
 
-// How often a bound of one can grow fourfold.
+// How often a bound of 1 grows fourfold until it saturates.
 const MOST_ROUNDS: u32 = 32;
 
 /// What is decided: a tree whose lines prove that there is no other picture, or another picture.
@@ -24,8 +24,9 @@ pub enum Decided {
     OtherPicture(Picture),
 }
 
-/// How the ladder is climbed: how many lines a tree may evaluate at first, how many a judgement evaluated before, and whether the
-/// known picture is held on to, and the lines are kept. Trees that the judgement seems to have broken off are not begun again.
+/// How the ladder is climbed: how many lines a tree may evaluate at first, how many a judgement evaluated before, whether the known
+/// picture guides the choice of cells, and whether the lines are kept. Trees that the judgement seems to have broken off are
+/// skipped.
 #[derive(Clone, Copy)]
 pub struct Ladder {
     pub first_bound: u64,
@@ -34,9 +35,9 @@ pub struct Ladder {
     pub keeps: bool,
 }
 
-/// Writes a tree from a scene's facts, or finds another picture than the scene's, which need not have the clues: by looking ahead
-/// and by the first open cell in turn, each under a bound that grows fourfold, and once it can grow no more, without one. Trees whose bounds
-/// the judgement has spent are passed over.
+/// Writes a tree from a scene's facts, or finds a picture other than the scene's. Cells are chosen by looking ahead and as the
+/// first open one in turn, each under a bound that grows fourfold, and once it can grow no more, without one. Trees whose bounds
+/// the judgement has spent are skipped. The scene's picture need not have the clues.
 pub fn climb<E: LineEngine>(
     alloc: Global,
     engine: &mut E,
@@ -52,8 +53,8 @@ pub fn climb<E: LineEngine>(
     let _ = engine.calls();
     let mut bound = ladder.first_bound;
     let mut spent = ladder.judging;
-    // Judging climbs from the bound of a part. Where it took more than two small rounds, the climb begins there too, and passes over
-    // the trees that it paid for.
+    // A judgement climbs from the bound of a part. Where it took more than four times the first bound, this climb begins there too,
+    // and skips the trees that the judgement paid for.
     if spent > bound.saturating_mul(4) {
         bound = bound.saturating_mul(LONGER);
     } else {
@@ -72,8 +73,8 @@ pub fn climb<E: LineEngine>(
     }
 }
 
-/// Writes a tree by each way in turn, each within a bound of evaluations, as `climb` does. One is passed over for each bound that is
-/// spent. None where both were broken off.
+/// Writes a tree by each of the two ways of `climb`, within a bound of evaluations for each. A tree is skipped if `spent` exceeds
+/// the bound, which is then subtracted from `spent`. None where both were skipped or broken off.
 pub fn take_turn<E: LineEngine>(
     alloc: Global,
     engine: &mut E,
@@ -104,7 +105,7 @@ pub fn take_turn<E: LineEngine>(
     Ok(None)
 }
 
-// The way to write a tree, to be broken off at so many calls of the engine, if at all.
+// The way to write a tree, which is broken off when the engine's calls reach `until`, if that is set.
 fn way_of(ladder: Ladder, choice: Choice, until: Option<u64>) -> Way
     ensures { result.until ≡ until }
 {

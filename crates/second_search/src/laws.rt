@@ -5,8 +5,8 @@ ghost use Rattle.second_search.specs.Laws.{AllowancesBreakOff, EndingsAreTrue, F
 ghost use Rattle.second_search.specs.FixedOrder.{CostsAreUnique};
 
 #[tactic(auto, using(crate::proofs::KnownLaws::sound_facts))]
-/// Facts that exclude nothing are sound where there is no given, and so is the base of any givens; facts stay sound with
-/// a given more, and when they are closed.
+/// Facts that exclude nothing are sound where there is no given, and so is the base of any givens; facts stay sound
+/// with one more given, and when they are closed.
 pub fn sound_facts()
     ensures { SoundFacts }
 {}
@@ -17,20 +17,20 @@ pub fn parts_are_one_list()
 {}
 
 #[tactic(auto, using(crate::proofs::PartLemmas::apart))]
-/// Two parts that share a cell are one, and a part has with a cell all open cells of each line through it. Its cells are
-/// open and lie in the picture; a cell of the picture that is not open has the picture's colour alone left.
+/// Two parts that share a cell are the same, and a part has all open cells of each line through one of its cells. Its
+/// cells are open and lie in the picture; in a cell of the picture that is not open only the picture's colour is left.
 pub fn parts_are_apart()
     ensures { PartsAreApart }
 {}
 
 #[tactic(auto, using(crate::proofs::KnownLaws::parts_decide))]
-/// Another picture exists exactly where some part has another filling: with its colours on one part where it differs, and
-/// the picture's elsewhere, there is another filling of that part.
+/// Another picture exists exactly where some part has another filling: the other picture's colours on a part where it
+/// differs, with the picture's elsewhere, are another filling of that part.
 pub fn parts_decide()
     ensures { PartsDecide }
 {}
 
-/// The other fillings of a part are what fills the facts on the part, with the picture's colour alone left elsewhere.
+/// The other fillings of a part are the other pictures that fill the facts on it, with the picture's colours elsewhere.
 pub fn fillings_are_of_facts()
     ensures { FillingsAreOfFacts }
 {}
@@ -42,7 +42,7 @@ pub fn fillings_stay()
     ensures { FillingsStay }
 {}
 
-/// The search of facts in the fixed order ends after one number of splits at most: their cost.
+/// There is at most one number of splits after which the search of facts in the fixed order ends: their cost.
 pub fn costs_are_unique()
     ensures { CostsAreUnique }
 {}
@@ -66,7 +66,7 @@ pub fn allowances_break_off()
     ensures { AllowancesBreakOff }
 {}
 
-/// What `decide_within` decides a part as is true whatever the bounds are: there is no other filling, or this is one.
+/// What `decide_within` answers for a part is true whatever the bounds are: no other filling exists, or this is one.
 pub fn endings_are_true()
     ensures { EndingsAreTrue }
 {}

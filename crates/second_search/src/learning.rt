@@ -16,8 +16,8 @@ use std::alloc::{AllocError, Global};
 // How many literals the lemmas of a search have together at most.
 pub(crate) const LITERALS: usize = 10_000_000;
 
-// Decides a part by a proof by lemmas that the checker accepts, or by another picture. None where that search learnt from as many
-// conflicts as are allowed, or where none are.
+// Decides a part by a proof by lemmas that the checker accepts, or by another picture. None where neither was made within the
+// bounds of the search, or where no conflicts are allowed.
 pub(crate) fn learn_part<E: LineEngine>(
     alloc: Global,
     engine: &mut E,

@@ -14,7 +14,7 @@ use picture::{LineSet, Picture};
 use std::alloc::{AllocError, Global};
 use trail::{Cell, has_row};
 
-// The first cell in row order in which not just one colour is left, where there is none above a row or in a row that is not named.
+// The first cell in row order in which not just one colour is left. None may be above row `top` or in a row that is not named.
 pub(crate) fn first_unsettled(facts: &Facts, rows: &LineSet, top: u8) -> Option<Cell>
     requires others { AreOthersSettled rows.now facts.now }
     requires above { AreRowsSettled facts.now top }
@@ -29,7 +29,7 @@ pub(crate) fn first_unsettled(facts: &Facts, rows: &LineSet, top: u8) -> Option<
     None
 }
 
-// The first such cell of a row.
+// The column of the first such cell of a row.
 fn unsettled_in_row(facts: &Facts, rows: &LineSet, row: u8) -> Option<u8>
     requires others { AreOthersSettled rows.now facts.now }
     requires in_rows { row < length facts.now }
@@ -60,7 +60,7 @@ pub(crate) fn shown_picture(alloc: Global, facts: &Facts) -> Result<Picture, All
     Ok(shown_on(blank, facts, &all_lines(facts)))
 }
 
-// The picture that settled facts show, made of one that they show in the rows that are not named.
+// The picture that settled facts show, made from one that they show already in the rows that are not named.
 pub(crate) fn shown_on(picture: Picture, facts: &Facts, rows: &LineSet) -> Picture
     requires settled { AreSettled facts.now }
     requires same_shape { SameShape picture facts.now }
@@ -75,7 +75,7 @@ pub(crate) fn shown_on(picture: Picture, facts: &Facts, rows: &LineSet) -> Pictu
     shown
 }
 
-// Shows the settled cells of a row, which are shown already where it is not named.
+// Sets the cells of a row to the settled colours, which it has already if it is not named.
 fn show_row(facts: &Facts, rows: &LineSet, picture: &mut Picture, row: u8)
     requires settled { AreSettled facts.now }
     requires same_shape { SameShape picture.old facts.now }

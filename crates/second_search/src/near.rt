@@ -1,4 +1,4 @@
-//! Near pictures: other ones that differ from the known picture inside of one window of a part.
+//! Near pictures: other pictures that differ from the known one only inside one window of a part.
 
 ghost use Rattle.std.specs.Prelude.{◌≡◌, ◌<◌, ◌≤◌, length, IfOk, IfSome};
 ghost use Rattle.picture.specs.CellSet.{HasCell};
@@ -19,13 +19,13 @@ use picture::{Axis, CellSet, LineId, LineSet, MAX_SIDE, Picture};
 use std::alloc::{AllocError, Global};
 use worklist::InOrder;
 
-/// How many of a part's rows and columns a window has, one size after the other.
+/// How many of a part's rows and columns a window has at most, in the order in which the sizes are tried.
 pub(crate) const SIZES: [u8; 5] = [4, 7, 11, 16, 24];
 
 /// How many of these sizes are small.
 pub(crate) const SMALL: usize = 2;
 
-// A line with the same clue differs in two cells or in none, so another picture differs in two rows and in two columns.
+// Lines with the same clue differ in no cell or in at least two, so another picture differs in at least two rows and two columns.
 const FEWEST: usize = 4;
 
 // The rows and columns of a window, its open cells, the lines through them, and how many splits a search in it may make.
@@ -38,9 +38,9 @@ pub(crate) struct Window<'a> {
     pub splits: u32,
 }
 
-/// Looks for another picture that differs in one window of a part alone, by windows of five sizes and so many splits in each at
-/// most, one part after the other. The parts are those of the scene's facts when they are closed. There may be other pictures
-/// where the answer is None. No line is longer than the engine's `longest`. No clause bounds the splits in a window.
+/// Looks for another picture that differs only in one window of a part, one part after the other, with windows of five sizes and at
+/// most `splits` splits in each. The parts are those of the scene's facts when they are closed. There may be other pictures where
+/// the answer is None. No line may be longer than the engine's `longest`. No clause bounds the splits in a window.
 pub fn find_near_other<E: LineEngine>(
     alloc: Global,
     engine: &mut E,
@@ -92,8 +92,8 @@ fn closed<E: LineEngine>(engine: &mut E, scene: &Scene) -> Result<Option<Facts>,
     }
 }
 
-// Looks for another filling of a part that differs in one window alone, by windows of some sizes, a third of each over the next.
-// There may be others where the answer is None.
+// Looks for another filling of a part that differs only in one window, with windows of some sizes, each of which overlaps the next
+// by a third. There may be others where the answer is None.
 pub(crate) fn find_near<E: LineEngine>(
     alloc: Global,
     engine: &mut E,
@@ -129,8 +129,8 @@ pub(crate) fn find_near<E: LineEngine>(
     Ok(None)
 }
 
-// Looks for another picture that differs in the cells of a window alone, by so many splits at most as it may make. At home the
-// picture's colours alone are left.
+// Looks for another picture that differs only in the cells of a window, with at most as many splits as the window allows. `home`
+// leaves only the picture's colours.
 fn find_inside<E: LineEngine>(
     alloc: Global,
     engine: &mut E,
@@ -164,7 +164,7 @@ fn find_inside<E: LineEngine>(
     }
 }
 
-// The facts at home, with the colours that other facts leave in a window's cells.
+// The facts `home`, with the colours that other facts leave in a window's cells.
 fn open_in(facts: &Facts, home: &Facts, window: &Window) -> Result<Facts, AllocError>
     requires { SameShape home.now facts.now }
     ensures { IfOk result (OpensIn window.now.cells facts.now home.now) }
@@ -219,7 +219,7 @@ fn open_cell(facts: &Facts, cells: &CellSet, row: u8, col: u8, window: &mut Wind
     }
 }
 
-// The places of the names along an axis, rising.
+// The places of the named lines along an axis, in ascending order.
 fn places_along(alloc: Global, lines: &LineSet, axis: Axis) -> Result<Vec<u8>, AllocError> {
     let mut places = Vec::new(alloc);
     for at in 0..MAX_SIDE {
@@ -240,7 +240,7 @@ fn windows_along(places: &[u8], size: u8) -> usize
     (beyond.saturating_add(step - 1) / step).max(1)
 }
 
-// How far it is from a window to the next: a third of it lies over the one before.
+// How many places a window starts after the one before it, which it overlaps by a third.
 fn step_of(size: u8) -> usize
     ensures { 0 < result }
 {

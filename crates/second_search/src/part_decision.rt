@@ -1,5 +1,5 @@
-//! A part decided: by the search of the fixed order, and where that takes long and no allowance is set, by small windows of the
-//! part, the fixed order anew, large windows, lemmas and trees.
+//! How a part is decided: by the search in the fixed order; where that takes long and no allowance is set, then by small windows of
+//! the part, the fixed order again, large windows, lemmas and trees.
 
 ghost use Rattle.std.specs.Prelude.{◌≡◌, ◌-◌, ◌≤◌, ℕ, length, IfOk, OnOk};
 ghost use Rattle.second_search.specs.Parts.{IsPart, IsScene};
@@ -42,9 +42,9 @@ pub(crate) fn decide_part<E: LineEngine>(
     }
 }
 
-/// Decides a part within bounds: by so many splits of the fixed order, and where they do not suffice by windows, by that order
-/// anew, by lemmas and by trees. Only the first splits are counted. What is answered is true whatever the bounds are, and a part is never
-/// left undecided. No line is longer than the engine's `longest`.
+/// Decides whether a part has another filling: by `fixed_splits` splits of the fixed order, and where they do not suffice, by
+/// windows, the fixed order again, lemmas and trees. Only the splits of the first search are counted. The answer is true whatever
+/// the bounds are, and never `BrokenOff`. No line may be longer than the engine's `longest`.
 pub fn decide_within<E: LineEngine>(
     alloc: Global,
     engine: &mut E,
@@ -75,7 +75,7 @@ pub fn decide_within<E: LineEngine>(
 }
 
 // Decides a part that costs more than the first splits: by small windows, by more splits of the fixed order, by large windows, by
-// lemmas, and then by trees of the facts on it, with the picture's colours alone left elsewhere.
+// lemmas, and then by trees of the facts on it, with only the picture's colours left elsewhere.
 fn climb_part<E: LineEngine>(
     alloc: Global,
     engine: &mut E,

@@ -1,4 +1,4 @@
-//! The search of one part: the facts on it, with the picture's colours alone left elsewhere, and the lines through its cells.
+//! The search of one part: the facts on it, with only the picture's colours left elsewhere, and the lines through its cells.
 
 ghost use Rattle.std.specs.Prelude.{◌≡◌, ◌-◌, ◌<◌, ◌≤◌, ℕ, length, IfOk, OnOk};
 ghost use Rattle.picture.specs.Rows.{width_of};
@@ -69,7 +69,7 @@ fn put_through(cells: &CellSet, facts: &Facts, row: u8, lines: &mut LineSet)
     }
 }
 
-// The facts of a scene on some cells, with the picture's colours alone left elsewhere.
+// The facts of a scene on some cells, with only the picture's colours left elsewhere.
 pub(crate) fn facts_on(scene: &Scene, cells: &CellSet) -> Result<Facts, AllocError>
     requires { IsWhole scene.now }
     ensures alone { IfOk result
@@ -83,7 +83,7 @@ pub(crate) fn facts_on(scene: &Scene, cells: &CellSet) -> Result<Facts, AllocErr
     Ok(facts)
 }
 
-// Leaves the picture's colours alone in one row, outside of some cells.
+// Leaves only the picture's colours in one row, outside of some cells.
 fn leave_row_alone(facts: &mut Facts, picture: &Picture, cells: &CellSet, row: u8)
     requires same_shape { SameShape picture.now facts.old }
     requires in_rows { row < length facts.old }

@@ -1,4 +1,4 @@
-//! The open cells of facts in parts, which can be searched apart: no line goes through two of them.
+//! The parts of facts: connected components of open cells, which can be searched apart, as no line goes through two.
 
 ghost use Rattle.std.specs.Prelude.{◌≡◌, ℕ, ◌+◌, ◌<◌, ◌↔◌, length, IfOk, OnOk, IsTrue};
 ghost use Rattle.picture.specs.Rows.{width_of};
@@ -17,9 +17,9 @@ use growth::part_of;
 use open_cells::first_open;
 use trail::Cell;
 
-/// The parts of facts. A cell is open where more than one colour is left, and two open cells are in one part where a chain
-/// of open cells joins them, each sharing a row or a column with the next. The parts stand in the order of their first
-/// cells in row order.
+/// The parts of facts. A cell is open where more than one colour is left, and two open cells are in one part where a chain of
+/// open cells joins them, each sharing a row or a column with the next. The parts are in the order of their first cells, in row
+/// order.
 #[derive(Drop)]
 pub struct Parts {
     parts: Vec<CellSet>,
@@ -34,7 +34,7 @@ impl Model for Parts {
 }
 
 impl Parts {
-    /// The parts of facts. Each line is visited for one part alone.
+    /// Finds the parts of facts. Each line is visited for at most one part.
     pub fn of(alloc: Global, facts: &Facts) -> Result<Parts, AllocError>
         ensures { IfOk result (AreParts facts.now) }
     {
@@ -50,7 +50,7 @@ impl Parts {
         Ok(parts)
     }
 
-    // Adds the part of the first open cell of a row, unless it is there.
+    // Adds the part of the first open cell of a row, unless it was added before.
     fn take_in(&mut self, facts: &Facts, cell: Cell) -> Result<(), AllocError>
         requires in_rows { cell.row < length facts.now }
         requires first { IsFirstOpen facts.now cell.row cell.col }

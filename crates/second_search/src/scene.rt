@@ -1,11 +1,11 @@
-//! What a search for another picture is given: clues, givens, facts, and the picture itself.
+//! The input of a search for another picture: clues, givens, facts, and the picture itself.
 
 use clues::ClueBook;
 use line_facts::Facts;
 use picture::{CellSet, Picture};
 
-/// What another picture is looked for in: a picture with its clues and its givens, and facts that a search may start from. All
-/// four are only lent.
+/// The input of a search for another picture: a picture with its clues and its givens, and facts that a search may start from. All
+/// four are borrowed.
 #[derive(Clone, Copy, Drop)]
 pub struct Scene<'a> {
     pub clues: &'a ClueBook,

@@ -1,5 +1,5 @@
-//! The search that writes a tree, whose lines may be kept or dropped. Each line is lawful where it is written; which cell is split is
-//! free.
+//! The search that writes a tree, whose lines may be kept or dropped. Each line is valid where it is written; the choice of cells
+//! to split is free.
 
 ghost use Rattle.std.specs.Prelude.{◌≡◌, ◌≤◌, None, IfOk, IfSome, IsNone, IsTrue};
 ghost use Rattle.fixpoint.specs.ClosedFacts.{AreClosable};
@@ -17,7 +17,7 @@ use picture::{LineSet, Picture};
 use std::alloc::{AllocError, Global};
 use trail::Trail;
 
-// A tree that is being written: the branches that wait, the lines so far, and those that are due at the branch at hand.
+// A tree that is being written: the branches that wait, its lines so far, and the rows and columns due at the current branch.
 #[derive(Drop)]
 pub(crate) struct Growing {
     pub trail: Trail,
@@ -25,8 +25,8 @@ pub(crate) struct Growing {
     pub due: LineSet,
 }
 
-// Writes a tree one way from the facts of a scene, or finds another picture than the scene's, which need not have the clues. None
-// where it was broken off.
+// Writes a tree in one way from the facts of a scene, or finds a picture other than the scene's. None where it was broken off. The
+// scene's picture need not have the clues.
 pub(crate) fn write_tree<E: LineEngine>(
     alloc: Global,
     engine: &mut E,
@@ -83,7 +83,7 @@ fn is_over(way: Way, calls: u64) -> bool
 }
 
 impl Growing {
-    // Closes the branch at hand, and ends or splits it; or finds another picture.
+    // Closes the current branch, and ends or splits it; or finds another picture.
     fn turn<E: LineEngine>(
         &mut self,
         alloc: Global,

@@ -15,11 +15,11 @@ use picture::{LineId, LineSet};
 use std::alloc::AllocError;
 use worklist::{Agenda, InOrder};
 
-// More lines are never due on one branch: each evaluation but the first of a line goes with a colour that was excluded.
+// More lines are never due on one branch: each evaluation of a line after its first follows the exclusion of a colour.
 const MOST_LINES: u32 = 100_000_000;
 
 #[tactic(auto, using(crate::proofs::KeepLemmas::sized_lines))]
-// Closes facts from some lines on, and writes the lines that force something, or a dead one, where there is one.
+// Closes facts, starting with the dirty lines, and writes each line that forces something, and a dead line if there is one.
 pub(crate) fn close_written<E: LineEngine>(
     engine: &mut E,
     clues: &ClueBook,

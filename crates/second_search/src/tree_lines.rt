@@ -8,8 +8,8 @@ use picture::LineId;
 use std::alloc::AllocError;
 use trail::Cell;
 
-/// The lines of a tree from its root: all that were written, or none, where a search needs no more than to know that they lead
-/// to its end.
+/// The lines of a tree from its root: all that were written, or none, where a search only needs to know that the tree is
+/// complete.
 #[derive(Drop)]
 pub enum Lines {
     Kept(Vec<CertLine>),
@@ -17,7 +17,7 @@ pub enum Lines {
 }
 
 impl Lines {
-    // Writes one line more.
+    // Writes one more line.
     pub(crate) fn add(&mut self, line: CertLine) -> Result<(), AllocError>
         ensures { OnOk result (Adds self.old self.new (line ∷ [])) }
     {

@@ -19,7 +19,7 @@ use split_choice::{Choice, Chosen, Node, Puzzle, choose, filled, fills_all, leav
 use std::alloc::{AllocError, Global};
 use trail::Cell;
 
-// What comes next: a line that ends the branch, a cell to split, or another picture than the known one.
+// What comes next: a line that ends the branch, a cell to split, or a picture other than the known one.
 #[derive(Drop)]
 pub(crate) enum TreeStep {
     Ends(CertLine),
@@ -28,7 +28,7 @@ pub(crate) enum TreeStep {
 }
 
 // How a tree is written: how cells are chosen, at how many of the engine's calls the tree is broken off, if at all, and whether the
-// known picture is held on to.
+// known picture guides the choice.
 #[derive(Clone, Copy)]
 pub(crate) struct Way {
     pub choice: Choice,
@@ -36,9 +36,9 @@ pub(crate) struct Way {
     pub holds: bool,
 }
 
-// What comes next on a branch. Where it is not closed, that is still a lawful step. Where no cell is chosen, it is the first in
-// which not just one colour is left; or, where each has one, the picture that the branch shows is the known one or another, or some line
-// is dead.
+// What comes next on a branch; the step is valid even where the branch is not closed. Where `choose` names no cell, the first one
+// in which not just one colour is left is split; where each has one, the picture that the branch shows is the known one or another,
+// or some line is dead.
 pub(crate) fn next_step<E: LineEngine>(
     alloc: Global,
     engine: &mut E,
@@ -86,7 +86,7 @@ pub(crate) fn next_step<E: LineEngine>(
     }
 }
 
-// The branch as it is chosen on.
+// The branch as `choose` takes it.
 fn node_at<'a>(scene: &Scene<'a>, facts: &'a Facts, way: Way) -> Node<'a>
     ensures { result.facts.now ≡ facts.now }
 {
@@ -112,7 +112,7 @@ fn other_here(alloc: Global, scene: &Scene, node: &Node) -> Result<Option<Pictur
     other_in(alloc, scene, &node.puzzle, node.facts, node.facts)
 }
 
-// Another picture on a branch: that which facts show, with the held picture's colours in open cells.
+// Another picture on a branch: the one that `shown` shows, with the held picture's colours in open cells.
 fn other_in(
     alloc: Global,
     scene: &Scene,

@@ -1,4 +1,4 @@
--- What is answered is what a session says.
+-- The answers of the program are what a session says.
 use Rattle.std.proofs.Common.{◌≡◌, ℕ, ◌<◌, ◌≤◌, true, false, Bool, List, [], ◌++◌, length, Option, None, Some, Result, Ok, Err, IfErr, IfOk, IfSome, OnErr, OnOk, MatchResult, inl, inr, refl, sym, ap}
 use Rattle.std.proofs.Common.{subst, ◌∙◌, arith}
 use Rattle.std.proofs.lemmas.Bool.Decides.{nat_tests}
@@ -140,7 +140,7 @@ pub unjudged_now : {E : Type 0} (old last : Seen) (outcome : Result Verdict E) (
 unjudged_now {E} old last outcome e is told =
     (told.1.0, subst (λ (x : Result Verdict E). MatchResult x (Tells old last) (λ _. IsAsBefore old last)) is told.1.1)
 
--- nothing that a report shows changes where its verdict is asked for
+-- what a report shows does not change while its verdict is asked for
 pub reported : (old new : Seen) (word front text : List ℕ) (past future : ℕ) → (asked : (verdict : Verdict) × (JudgesAs old new verdict × (word ≡ verdict_word verdict)))
     → front ≡ front_text old.history.document old.clues old.book.facts → text ≡ front ++ ending_text word past future
     → past ≡ length new.history.past → future ≡ length new.history.future → text ≡ report_on old asked.0
@@ -153,7 +153,7 @@ reported old new word front text past future asked begun is back forth =
 
 -- ---- parts of answers
 
--- a text that was begun with nothing
+-- a text that was empty at first
 pub from_nothing : (has front text : List ℕ) → has ≡ front ++ text → front ≡ [] → has ≡ text
 from_nothing has front text is none = is ∙ ap (λ (xs : List ℕ). xs ++ text) none
 

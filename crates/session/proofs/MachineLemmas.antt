@@ -1,4 +1,4 @@
--- A session's lines over the machine of a history and an allowance.
+-- The effect of a session's lines on the machine of a history and an allowance.
 use Rattle.std.proofs.Common.{◌≡◌, ◌≤◌, ◌⊎◌, ℕ, Bool, true, false, List, [], ◌∷◌, ◌++◌, Option, Some, None, inl, inr, refl, sym, ap, subst, ◌∙◌, arith, if◌then◌else◌}
 use Rattle.std.specs.Option.{unwrap_or}
 use Rattle.edits.specs.declared.fault.EditFault.{EditFault}
@@ -29,11 +29,11 @@ machine_of s = machine s.history s.allowance
 stays : (old new : Seen) → IsAudited old → new ≡ old → IsAt (machine_of old) new
 stays old new a e = record { audited = subst IsAudited (sym e) a; machine_is = ap machine_of e }
 
--- but the engine's calls
+-- nothing changes but the engine's calls
 as_before : (old new : Seen) → IsAudited old → IsAsBefore old new → IsAt (machine_of old) new
 as_before old new a e = record { audited = still_audited old new a old.allowance e; machine_is = ap machine_of e }
 
--- or the allowance
+-- nothing changes but the allowance
 allows : (old new : Seen) (allowance : Option ℕ) → IsAudited old → new ≡ record old { allowance = allowance } → IsAt (machine old.history allowance) new
 allows old new allowance a e = record { audited = still_audited old new a allowance e; machine_is = ap machine_of e }
 
@@ -53,14 +53,14 @@ led_on stroke old new h =
     ap (λ (x : History). machine x new.allowance) h.history ∙ ap (λ (x : Option ℕ). machine (after_stroke old.history stroke) x) h.book.allowance
     ∙ sym (ap (after_lawful (machine_of old) stroke) h.lawful)
 
--- the text of a stroke that is accepted is not that of memory
+-- the text of an accepted stroke is not `refused: Memory`
 not_memory : (text : List ℕ) (m n : Machine) → text ≡ done_text → (if is_word text memory_line then m else n) ≡ n
 not_memory text m n e =
     let P : List ℕ → Type 0 = λ t. (if is_word t memory_line then m else n) ≡ n in
     let done : P done_text = refl in
     subst P (sym e) done
 
--- a stroke that is refused leaves the machine as it is: by an error, or for memory
+-- a refused stroke leaves the machine as it is, whether by an error or because memory ran out
 left : (m : Machine) (stroke : Stroke) (found : Option EditFault) (fault : EditFault) (text : List ℕ) → fault ≡ unwrap_or found Memory → text ≡ edit_line fault
     → (if is_word text memory_line then m else after_lawful m stroke found) ≡ m
 left m stroke (Some f) fault text e t = either (is_word text memory_line) m

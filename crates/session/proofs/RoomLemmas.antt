@@ -14,7 +14,7 @@ ten_digits n small = length-decimal-le 10 n (omega arith) (omega arith) (omega a
 
 pub ruleset numbers = (ten_digits, append_assoc)
 
--- a verdict on a document fits where its picture and the longest line of the others do
+-- a verdict on a document takes at most 21 bytes and the room of the document's picture
 pub verdict_fits : (d : Design) (allowance : Option ℕ) (verdict : Verdict) → IsVerdictOn d allowance verdict → verdict_room verdict ≤ 21 + picture_room d.rows
 verdict_fits d allowance Unique right = omega arith
 verdict_fits d allowance (Ambiguous other) right =

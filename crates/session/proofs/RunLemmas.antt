@@ -13,7 +13,7 @@ use Rattle.command_text.specs.Words.{Texts}
 use Rattle.session.specs.Run.{HasRun}
 use Rattle.session.specs.Session.{BrokenOff, Runs, Says, SaysToAll}
 
--- a call that answers a line has cut it, and one that answers none has met the end
+-- a call that answers a line has cut it, and one that answers none has reached the end
 pub cuts_one : {E : Type 0} (had have : Option (List ℕ)) (old new : Lines) (found : Option Request) (asked : Request) (r : Result (Option Request) E) → r ≡ Ok found → found ≡ Some asked
     → Hands had have old new r → CutsOne had have old new asked
 cuts_one {E} had have old new found asked r was is h = let P : Result (Option Request) E → Type 0 = λ o. Hands had have old new o in subst P (was ∙ ap Ok is) h
@@ -44,11 +44,11 @@ run_begins had held s l none on = record {
   wrote = Appends-nil held;
 }
 
--- what may come after more bytes may come after the bytes and those
+-- if `rest` may come after a call that read `more`, then `more ++ rest` may come after the bytes read before that call
 may_more : (old new : Lines) (more rest : List ℕ) → (old.ended ≡ true → (more ≡ []) × (new.ended ≡ true)) → MayCome new rest → MayCome old (more ++ rest)
 may_more old new more rest behind may met = let b = behind met in ap (λ (xs : List ℕ). xs ++ rest) b.0 ∙ may b.1
 
--- the end was not met if it is not met
+-- the end was not reached before if it is not reached now
 still_on : (old new : Lines) (more : List ℕ) → (old.ended ≡ true → (more ≡ []) × (new.ended ≡ true)) → new.ended ≡ false → old.ended ≡ false
 still_on old new more behind on = elim (cases_Bool old.ended) [
   | inl met ↦ let ended = (behind met).1 in absurd cc
@@ -99,7 +99,7 @@ run_is_cut had mid have held holds first old l run b =
     run.ended b.unended b.came ∙ ap (λ (xs : Texts). run.front ++ xs) b.unfinished ∙ append-nil run.front in
     (read, (Consumes-trans had mid have run.came b.came run.read b.read, (run.said, (subst (λ lines. SaysToAll lines first run.said old) (sym all) run.answered, run.wrote))))
 
--- what went out of a line that was being answered, after the lines in front of it
+-- a line of whose answer a prefix was written, after the answers to the lines before it
 broken_off : (lines : Texts) (held wrote holds : Option (List ℕ)) (first old new : Seen) (front behind : Texts) (line said text : List ℕ) → lines ≡ front ++ line ∷ behind
     → SaysToAll front first said old → Appends held wrote said → Says old (request_of line) text new → AppendsFront wrote holds text → BrokenOff lines held holds first new
 broken_off lines held wrote holds first old new front behind line said text cut answered wrote_said says sent = record {

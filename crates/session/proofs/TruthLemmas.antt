@@ -70,7 +70,7 @@ map_of s a = record {
 
 -- ---- the verdict
 
--- a part at which going along the parts is broken off is split past the allowance
+-- the part at which the search of the parts is broken off costs more than the allowance
 splits_past : (clues : Clues) (facts : Masks) (picture : Rows) (allowance : Option ℕ) (cells : List ℕ) (answer : Answer) (searched n most : ℕ) → allowance ≡ Some most
     → EndsBy (board clues facts picture) allowance cells answer ending.BrokenOff searched n → SplitsPast clues picture (alone cells facts picture ∷ []) most
 splits_past clues facts picture None cells Unknown searched n most e h = absurd cc
@@ -81,7 +81,7 @@ splits_past clues facts picture (Some allowed) cells Unknown searched n most e h
 splits_past clues facts picture allowance cells Nothing searched n most e h = let no = h.0 in absurd cc
 splits_past clues facts picture allowance cells (Filling other) searched n most e h = let no = h.0 in absurd cc
 
--- the facts in which a part is searched: those of the map on the part, and elsewhere the picture's colours alone
+-- the facts in which a part is searched: those of the map on the part, and elsewhere only the picture's colours
 past_of : (s : Seen) (cells : List ℕ) (most : ℕ) → IsAudited s → IsPart s.book.facts cells
     → SplitsPast (clues_of s.history.document.rows) s.history.document.rows (alone cells s.book.facts s.history.document.rows ∷ []) most
     → IsPastSplits s.history.document s.book.facts most
@@ -110,7 +110,7 @@ past_of s cells most a is past =
       goes_on = past;
     }
 
--- where a bench's picture is left undecided, some part of its map is one
+-- where a bench's picture is left undecided, some part of its map costs more than the allowance
 breaks_off : (s new : Seen) (searched splits most : ℕ) → IsAudited s → s.allowance ≡ Some most
     → BreaksOff (board s.clues s.book.facts s.history.document.rows) s.allowance s.kept new.kept searched splits → IsPastSplits s.history.document s.book.facts most
 breaks_off s new searched splits most a e b =
@@ -319,7 +319,7 @@ told_in_part lines had has old new a b =
       went_out = subst (λ (xs : List ℕ). Appends had has (xs ++ take b.front b.text)) all.text_is b.went_out;
     }
 
--- what a session says from an audited bench is true
+-- what a session says on an audited bench is true
 pub tells_truth : (had have held holds : Option (List ℕ)) (old new : Seen) (r : Result (Unit {0}) SessionFault) → IsAudited old → Runs had have held holds old new r
     → TellsTruth had have held holds (machine_of old) (machine_of new) r
 unfolding Runs

@@ -1,4 +1,4 @@
--- What is answered to a line, as the bytes that are written.
+-- The answers to lines, as the bytes that are written.
 use Rattle.std.specs.Prelude.{◌≡◌, ◌≤◌, ◌⊎◌, ℕ, true, false, List, [], codes, Result, Ok, Err}
 use Rattle.std.specs.declared.vec.Vec.{Vec}
 use Rattle.std.specs.declared.alloc.Global.{Global}
@@ -21,17 +21,17 @@ answer_text Done = codes "ok\n"
 answer_text (Text text) = text.items
 answer_text (Refused refusal) = refusal_line refusal
 
--- what is answered to a stroke
+-- the answer to a stroke
 abbrev pub stroke_said : Result (Unit {0}) EditFault → Answer
 stroke_said (Ok done) = Done
 stroke_said (Err fault) = Refused (Edit fault)
 
--- to what shows a text, where memory may have been wanting
+-- the answer that shows a text, or that memory ran out
 abbrev pub text_said : {E : Type 0} → Result (Vec ℕ Global) E → Answer
 text_said (Ok text) = Text text
 text_said (Err e) = Refused Memory
 
--- The .non text, where no cell has a colour above 1, and else that refusal; out of memory apart.
+-- The .non text, or out of memory, where no cell has a colour above 1; else the refusal `TwoColoursOnly`.
 abbrev pub GivesNon : Rows → Answer → Type 0
 GivesNon rows Silence = ⊥
 GivesNon rows Done = ⊥
@@ -41,8 +41,8 @@ GivesNon rows (Refused fault) =
 
 -- ---- where a verdict was asked for
 
--- A text that the verdict decides; where memory is wanting for
--- either, nothing changes but the engine's calls, which do not fall.
+-- The text that shows the verdict; or memory ran out for one of
+-- the two, and nothing changed but the engine's calls. These do not fall.
 abbrev pub IsAsked : {E : Type 0} → (Verdict → List ℕ) → Seen → Seen → Result (Vec ℕ Global) E → Type 0
 IsAsked shown old new (Ok text) =
     (old.calls ≤ new.calls) × ((verdict : Verdict) × (JudgesAs old new verdict × (text.items ≡ shown verdict)))

@@ -1,4 +1,4 @@
--- The laws of sessions: what lines come to, over a machine of a history and an allowance.
+-- The laws of sessions: the effect of lines, in terms of a machine of a history and an allowance.
 use Rattle.std.specs.Prelude.{◌≡◌, ◌≤◌, ℕ, List, [], ◌∷◌, Option, None, Some, Result, if◌then◌else◌}
 use Rattle.std.specs.List.{concat}
 use Rattle.edits.specs.declared.fault.EditFault.{EditFault}
@@ -18,7 +18,7 @@ use Rattle.command_text.specs.Words.{Texts, is_word}
 
 -- ---- the machine
 
--- a stroke leads the history on where no error refuses it
+-- a stroke changes the history where no error refuses it
 abbrev pub after_lawful : Machine → Stroke → Option EditFault → Machine
 after_lawful m stroke None = machine (after_stroke m.history stroke) m.allowance
 after_lawful m stroke (Some fault) = m
@@ -26,8 +26,8 @@ after_lawful m stroke (Some fault) = m
 abbrev pub after_asked : Machine → Stroke → Machine
 after_asked m stroke = after_lawful m stroke (stroke_fault m.history stroke)
 
--- An edit, an undo and a redo lead the history on where no error refuses them, and an allowance is the new one. All
--- other commands leave the machine as it is.
+-- An edit, an undo and a redo change the history where no error refuses them, and `allow` sets the allowance. All other
+-- commands leave the machine as it is.
 abbrev pub after_command : Machine → Command → Machine
 after_command m (command.Edit e) = after_asked m (Edits e)
 after_command m command.Undo = after_asked m Undoes
@@ -63,7 +63,7 @@ pub record IsAt (m : Machine) (s : Seen) : Type 0 where
   pub audited : IsAudited s
   pub machine_is : machine s.history s.allowance ≡ m
 
--- the text is what an audited bench says to a line, whose history and allowance are the machine's before and after it
+-- the text is what an audited bench says to a line that leads it from one machine's history and allowance to the next's
 pub record IsAnswer (m next : Machine) (line text : List ℕ) : Type 0 where
   pub old : Seen
   pub new : Seen
@@ -71,7 +71,7 @@ pub record IsAnswer (m next : Machine) (line text : List ℕ) : Type 0 where
   pub says : Says old (request_of line) text new
   pub after : IsAt next new
 
--- so it is for each line, one after the other
+-- each text is such an answer to its line, from the machine after the lines before it
 abbrev pub AreAnswers : Machine → Texts → Texts → Type 0
 AreAnswers m [] [] = Unit {0}
 AreAnswers m [] (text ∷ texts) = ⊥
@@ -80,9 +80,9 @@ AreAnswers m (line ∷ lines) (text ∷ texts) =
     IsAnswer m (after_answer m (request_of line) text) line text
     × AreAnswers (after_answer m (request_of line) text) lines texts
 
--- What lines come to: there is one text for each line, and it is the one that the definitions give. After them the
--- bench is audited, its history and allowance are the machine's over the lines whose text is not `refused: Memory`, and
--- the engine's calls did not fall.
+-- The effect of lines: there is one text for each line, and it is one that the definitions allow. After them the bench
+-- is audited, its history and allowance are the machine's after the lines whose text is not `refused: Memory`, and the
+-- engine's calls did not fall.
 pub record Follows (lines : Texts) (old : Seen) (text : List ℕ) (new : Seen) : Type 0 where
   pub texts : Texts
   pub text_is : text ≡ concat texts
@@ -90,12 +90,12 @@ pub record Follows (lines : Texts) (old : Seen) (text : List ℕ) (new : Seen) :
   pub last : IsAt (after_lines (machine old.history old.allowance) lines texts) new
   pub calls : old.calls ≤ new.calls
 
--- from an audited bench, after whatever lines
+-- any lines have this effect on an audited bench
 abbrev pub SessionsStayAudited : Type 0
 SessionsStayAudited = (lines : Texts) (old new : Seen) (text : List ℕ) → IsAudited old
     → SaysToAll lines old text new → Follows lines old text new
 
--- A session that runs on an audited bench tells the truth of its history and its allowance.
+-- What a session says on an audited bench is true of the bench's history and allowance.
 abbrev pub SessionsAreTrue : Type 0
 SessionsAreTrue = (had have held holds : Option (List ℕ)) (old new : Seen) (ended : Result (Unit {0}) SessionFault)
     → IsAudited old → Runs had have held holds old new ended

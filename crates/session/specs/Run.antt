@@ -1,4 +1,4 @@
--- A session that still goes on.
+-- A session that is still running.
 use Rattle.std.specs.Prelude.{◌≡◌, ℕ, true, false, List, ◌++◌, Option}
 use Rattle.std.specs.Io.KnownBytes.{Appends, Consumes, IsAtEnd}
 use Rattle.live_audit.specs.Bench.{Seen}
@@ -7,7 +7,7 @@ use Rattle.command_text.specs.Lines.{MayCome, ended_lines_of, lines_of}
 use Rattle.command_text.specs.Words.{Texts}
 use Rattle.session.specs.Session.{SaysToAll}
 
--- The lines in front are answered, and the others are those of the bytes that wait and what comes.
+-- The first lines are answered; the others are those of the bytes that wait and of what is yet to come.
 pub record HasRun (had have held holds : Option (List ℕ)) (old new : Seen) (l : Lines) : Type 0 where
   pub front : Texts
   pub came : List ℕ

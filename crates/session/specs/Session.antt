@@ -1,6 +1,6 @@
 -- What a session says: a relation of the state of the bench, a line's request, the text that is written, and the state
--- after it. The text is fixed by the request and the state, but for the other picture that is shown, the premises of a
--- reason, and a refusal since memory ran out.
+-- after it. The request and the state determine the text, except for the other picture that is shown, a reason, a
+-- certificate, and whether memory ran out.
 use Rattle.std.specs.Prelude.{◌≡◌, ◌≤◌, ◌⊎◌, ℕ, true, false, List, [], ◌∷◌, ◌++◌, length, take, codes, Option}
 use Rattle.std.specs.Prelude.{Result, Ok, Err}
 use Rattle.std.specs.Io.KnownBytes.{Appends, Consumes, IsAtEnd}
@@ -53,11 +53,11 @@ SaysStroke stroke old text new =
     ((text ≡ done_text) × (Accepts stroke old new × IsAudited new))
     ⊎ ((fault : EditFault) × ((text ≡ edit_line fault) × Refuses stroke fault old new))
 
--- what leaves the state shows a text of it
+-- the text is this one, and the state stays as it is
 abbrev pub ShowsText : List ℕ → Seen → List ℕ → Seen → Type 0
 ShowsText shown old text new = (text ≡ shown) × (new ≡ old)
 
--- and where the text is of what follows from the picture, it follows from the present one
+-- the same, on an audited bench: so what the text shows is right for the present picture
 abbrev pub ShowsAudit : List ℕ → Seen → List ℕ → Seen → Type 0
 ShowsAudit shown old text new = IsAudited old × ShowsText shown old text new
 
@@ -66,12 +66,12 @@ abbrev pub JudgesAs : Seen → Seen → Verdict → Type 0
 JudgesAs old new verdict =
     Tells old new verdict × (IsAudited new × IsVerdictOn old.history.document old.allowance verdict)
 
--- Memory ran out, and the state is as before.
+-- Memory ran out, and nothing changed but the engine's calls.
 abbrev pub LacksMemory : Seen → List ℕ → Seen → Type 0
 LacksMemory old text new = (text ≡ memory_line) × IsAsBefore old new
 
--- Where it may be: an edit, an undo and a redo have it among their own refusals, an allowance
--- takes no memory, and a cell or a picture that is refused otherwise takes none either.
+-- The commands for which memory may run out in this way. An edit, an undo and a redo have it among their refusals;
+-- an allowance takes no memory, and neither does a cell or a picture that is refused for another reason.
 abbrev pub IsShort : Command → Seen → List ℕ → Seen → Type 0
 IsShort (command.Edit e) old text new = ⊥
 IsShort command.Undo old text new = ⊥
@@ -109,7 +109,7 @@ SaysTo old command.Certify text new =
     × (Certifies old.history.document found × ((text ≡ certified_text found) × (Learns old new × IsAudited new)))
 SaysTo old (command.Allow allowance) text new = (text ≡ done_text) × (new ≡ record old { allowance = allowance })
 
--- The line is answered, or memory ran out; and the engine's calls do not fall.
+-- The command is answered, or memory ran out; and the engine's calls do not fall.
 unfoldable pub Replies : Command → Seen → List ℕ → Seen → Type 0
 Replies c old text new = (SaysTo old c text new ⊎ IsShort c old text new) × (old.calls ≤ new.calls)
 
@@ -129,11 +129,11 @@ SaysToAll (line ∷ lines) old text new =
     (between : Seen) × ((first : List ℕ) × ((rest : List ℕ) × ((text ≡ first ++ rest)
     × (Says old (request_of line) first between × SaysToAll lines between rest new))))
 
--- exactly that text went out
+-- all lines are answered, and exactly their text was written
 abbrev pub Answered : Texts → Option (List ℕ) → Option (List ℕ) → Seen → Seen → Type 0
 Answered lines had has old new = (text : List ℕ) × (SaysToAll lines old text new × Appends had has text)
 
--- The first lines are answered completely. Of the text for the next one a prefix went out, and the state is the one
+-- The first lines are answered completely. Of the text for the next one a prefix was written, and the state is the one
 -- after that line.
 pub record BrokenOff (lines : Texts) (had has : Option (List ℕ)) (old new : Seen) : Type 0 where
   pub before : Texts
@@ -150,14 +150,14 @@ pub record BrokenOff (lines : Texts) (had has : Option (List ℕ)) (old new : Se
 
 -- ---- a whole session
 
--- The line that was being answered is one whose line feed had
--- come, or the last one of an input that was read to its end.
+-- The line that was being answered is one whose line feed had been
+-- read, or the last one of an input that was read to its end.
 abbrev pub IsBrokenOff : List ℕ → Option (List ℕ) → Option (List ℕ) → Option (List ℕ) → Seen → Seen → Type 0
 IsBrokenOff read have held holds old new =
     BrokenOff (ended_lines_of read) held holds old new ⊎ (IsAtEnd have × BrokenOff (lines_of read) held holds old new)
 
--- All bytes were read to the end and all lines answered. After a failed read the lines are answered whose line feed
--- had come. After a failed write all lines before one are answered whole, and the bench holds the effect of that one.
+-- The input was read to its end and all lines are answered. After a failed read, the lines whose line feed had been
+-- read are answered. After a failed write, all lines before one are answered, and the bench has that one's effect.
 unfoldable pub Runs : Option (List ℕ) → Option (List ℕ) → Option (List ℕ) → Option (List ℕ) → Seen → Seen
     → Result (Unit {0}) SessionFault → Type 0
 Runs had have held holds old new (Ok done) =

@@ -1,4 +1,4 @@
--- The texts of answers, by what they tell.
+-- The texts of answers, by what they say.
 use Rattle.std.specs.Prelude.{ℕ, List, [], ◌++◌, codes, Option, Some, None}
 use Rattle.picture.specs.Writers.{number_text}
 use Rattle.picture.specs.Document.{Content}

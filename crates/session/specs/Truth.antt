@@ -1,5 +1,5 @@
--- What each line of a session is answered, told of the history and
--- the allowance alone: nothing of how it is found, kept or counted.
+-- The answer to each line of a session, in terms of the history and the
+-- allowance alone, without how it is found or what is kept and counted.
 use Rattle.std.specs.Prelude.{◌≡◌, ◌<◌, ◌⊎◌, ℕ, true, false, List, [], ◌∷◌, ◌++◌, length, take, codes, Option}
 use Rattle.std.specs.Prelude.{None, Result, Ok, Err, unwrap_or}
 use Rattle.std.specs.List.{AllByRecursion, concat}
@@ -49,16 +49,16 @@ use Rattle.session.specs.Texts.{content, done_text, verdict_text, verdict_word}
 
 -- ---- what is true of a document
 
--- what the givens of a document exclude, and the map: the least closed exclusions that hold these
+-- what the givens of a document alone exclude, and the map: the least closed exclusions that include this
 pub record MapOf (d : Design) : Type 0 where
   pub base : Masks
   pub map : Masks
   pub givens : AreGivens d base
   pub least : IsLeast (clues_of d.rows) base map
 
--- A part of the map, the open cells that are chained to one, costs more than so many splits: its search in the fixed
--- order makes these, and needs one more. The facts that are searched are those of the map on the part, and leave the
--- picture's colours alone elsewhere.
+-- A part of the map costs more than this number of splits: its search in the fixed order makes that many, and needs one
+-- more. The part is the open cells that are chained to the one at `row`, `col`. The facts that are searched are those
+-- of the map on the part, and leave only the picture's colours elsewhere.
 pub record IsPastSplits (d : Design) (map : Masks) (splits : ℕ) : Type 0 where
   pub row : ℕ
   pub col : ℕ
@@ -75,7 +75,8 @@ pub record IsTrueVerdict (d : Design) (map : Masks) (allowance : Option ℕ) (ve
   pub is_true : IsVerdictOn d allowance verdict
   pub undecided : (splits : ℕ) → verdict ≡ Undecided splits → IsPastSplits d map splits
 
--- A line forces that colour k is not in a cell, from premises that the map excludes, of which none can be left out.
+-- A line excludes colour k from a cell, by premises that hold in the map. Without what they say of any one cell, it
+-- does not.
 pub record IsReason (d : Design) (map : Masks) (row col k : ℕ) (line : LineId)
     (premises : List Premise) : Type 0 where
   pub place : ℕ
@@ -89,7 +90,7 @@ pub record IsReason (d : Design) (map : Masks) (row col k : ℕ) (line : LineId)
       (clue_at (clues_of d.rows) line) (length (line_of d.rows line)) (SaysBut premises i) place k
   pub apart : Says premises place k → ⊥
 
--- The colour is left; or the givens alone exclude it; or they do not, and the text is a reason.
+-- The colour is left; or the givens alone exclude it; or they do not, and the text gives a reason.
 abbrev pub TellsWhy : (d : Design) → MapOf d → ℕ → ℕ → ℕ → List ℕ → Type 0
 TellsWhy d m row col k text =
     ((text ≡ codes "possible\n") × Leaves m.map row col k)
@@ -97,8 +98,8 @@ TellsWhy d m row col k text =
     ⊎ (Leaves m.base row col k × ((line : LineId) × ((premises : List Premise)
     × (IsReason d m.map row col k line premises × (text ≡ reason_text line premises))))))
 
--- A certificate that proves the document's picture, its colours numbered as they appear, from exactly the document's
--- givens; and there is no other picture for it.
+-- A certificate that proves the picture of the ordered document from exactly the document's givens; and there is no
+-- other picture for the document.
 pub record IsCertificateOf (d : Design) (cert : Certificate) : Type 0 where
   pub version : ((cert.version ≡ 1) × (cert.givens ≡ [])) ⊎ ((cert.version ≡ 2) × (cert.givens ≡ [] → ⊥))
   pub givens : NamesMarks (ordered d) cert.givens
@@ -106,26 +107,26 @@ pub record IsCertificateOf (d : Design) (cert : Certificate) : Type 0 where
   pub proof : IsProof (ordered d).rows cert
   pub no_other : (other : Rows) → IsOtherFor d other → ⊥
 
--- that, or there is another picture
+-- the text of such a certificate, or `ambiguous` where there is another picture
 abbrev pub TellsProof : Design → List ℕ → Type 0
 TellsProof d text =
     ((text ≡ codes "ambiguous\n") × ((other : Rows) × IsOtherFor d other))
     ⊎ ((cert : Certificate) × (IsCertificateOf d cert × (text ≡ cert_text cert)))
 
--- ---- what a command is answered
+-- ---- the answer to a command
 
--- An edit, an undo or a redo leads to the history after it where no error refuses it. Else the first error is said, or
--- that memory ran out.
+-- Where no error refuses it, an edit, an undo or a redo leads to the history after it. Otherwise, or where memory runs
+-- out, the text is the error's line and nothing changes.
 abbrev pub TellsStroke : Machine → Option EditFault → History → List ℕ → Machine → Type 0
 TellsStroke m fault after text next =
     ((fault ≡ None) × ((text ≡ done_text) × (next ≡ machine after m.allowance)))
     ⊎ ((text ≡ edit_line (unwrap_or fault Memory)) × (next ≡ m))
 
--- what is right of the text, or that memory ran out
+-- the text is right, as `Is` says, or memory ran out
 abbrev pub OrMemory : List ℕ → Type 0 → Type 0
 OrMemory text Is = Is ⊎ (text ≡ memory_line)
 
--- The text of what is shown or asked is right, by the map.
+-- The text for a command that only shows or asks is right, by the map.
 abbrev pub IsShown : (h : History) → Option ℕ → MapOf h.document → Command → List ℕ → Type 0
 IsShown h allowance m command.Clues text = OrMemory text (text ≡ clues_text (clues_of h.document.rows))
 IsShown h allowance m command.Map text = OrMemory text (text ≡ map_text m.map)
@@ -144,7 +145,7 @@ IsShown h allowance m command.Report text = OrMemory text ((verdict : Verdict)
 IsShown h allowance m command.Certify text = OrMemory text (TellsProof h.document text)
 IsShown h allowance m c text = ⊥
 
--- A command's answer, with the history and the allowance after it. What is shown and asked leaves both.
+-- A command's answer, with the history and the allowance after it. A command that only shows or asks changes neither.
 abbrev pub IsAnswered : Machine → Command → List ℕ → Machine → Type 0
 IsAnswered m (command.Edit e) text next =
     TellsStroke m (edit_fault m.history.document e) (after_edit m.history e) text next
@@ -154,7 +155,7 @@ IsAnswered m (command.Allow allowance) text next = (text ≡ done_text) × (next
 IsAnswered m c text next =
     ((map : MapOf m.history.document) × IsShown m.history m.allowance map c text) × (next ≡ m)
 
--- A line's answer: a blank line has none, and one that is no command the name of its first error.
+-- A line's answer: a blank line has none, and a line that is not a command has the name of its first error.
 abbrev pub IsReply : Machine → Request → List ℕ → Machine → Type 0
 IsReply m request.Nothing text next = (text ≡ []) × (next ≡ m)
 IsReply m (request.Refused fault) text next = (text ≡ refused (name_of fault)) × (next ≡ m)
@@ -169,13 +170,13 @@ AreReplies m (line ∷ lines) (text ∷ texts) last =
     (next : Machine) × (IsReply m (request_of line) text next × AreReplies next lines texts last)
 AreReplies m lines texts last = ⊥
 
--- all lines are answered, and these texts went out
+-- all lines are answered, and these texts were written
 pub record AreTold (lines : Texts) (had has : Option (List ℕ)) (m last : Machine) : Type 0 where
   pub texts : Texts
   pub replies : AreReplies m lines texts last
   pub went_out : Appends had has (concat texts)
 
--- The first lines are answered; of the last text a prefix went out.
+-- The first lines, at most `answered` of them, are answered; of the text of the last one a prefix was written.
 pub record AreToldInPart (lines : Texts) (had has : Option (List ℕ)) (m last : Machine) : Type 0 where
   pub answered : ℕ
   pub texts : Texts
@@ -184,8 +185,8 @@ pub record AreToldInPart (lines : Texts) (had has : Option (List ℕ)) (m last :
   pub front : ℕ
   pub went_out : Appends had has (concat texts ++ take front text)
 
--- A session that ended tells the truth to all lines that it read. After a failed read the lines are answered whose line
--- feed had come. A failed write comes at one of these, or at the last line of an input that was read to its end.
+-- A session that ended gave true answers to all lines that it read. After a failed read, the lines whose line feed had
+-- been read are answered. A failed write comes at one of these, or at the last line of an input that was read whole.
 abbrev pub TellsTruth : Option (List ℕ) → Option (List ℕ) → Option (List ℕ) → Option (List ℕ)
     → Machine → Machine → Result (Unit {0}) SessionFault → Type 0
 TellsTruth had have held holds m last (Ok done) =

@@ -1,4 +1,4 @@
-//! What a session answers to a line: all that takes memory comes before the first byte goes out.
+//! The answers of a session to its lines. All memory is allocated before the first byte of an answer is written.
 
 ghost use Rattle.std.specs.Prelude.{◌≡◌, ◌+◌, ◌++◌, ◌<◌, ◌≤◌, [], codes, vec_capacity, vec_len, Option, IfOk, OnErr, OnOk};
 ghost use Rattle.picture.specs.Content.{content_of};
@@ -35,19 +35,19 @@ use report_text::{
 };
 use std::alloc::{AllocError, Global};
 
-// How many bytes `undecided`, a number of at most ten digits and the line's end take.
+// How many bytes `undecided `, a number of at most ten digits and a line feed take.
 const UNDECIDED_ROOM: usize = 21;
 
-/// What is answered to a line.
+/// The answer to a line of a session.
 #[derive(Drop)]
 pub(crate) enum Answer {
-    /// Nothing, to a line without a word.
+    /// Nothing: the line has no word.
     Silence,
     /// `ok`.
     Done,
-    /// A text, made whole.
+    /// A text, complete.
     Text(Vec<u8>),
-    /// A refusal, whose line takes no memory.
+    /// A refusal. Its line is static, so it needs no memory.
     Refused(Refusal),
 }
 
@@ -91,7 +91,7 @@ fn map_text(alloc: Global, map: &Facts) -> Result<Vec<u8>, AllocError>
     Ok(text)
 }
 
-// Why a colour is not in a cell; a cell outside the picture is refused.
+// Says whether a colour is excluded from a cell, and why. A cell outside the picture is refused.
 fn answer_why<E: LineEngine + Drop, A: Agenda + Drop>(
     alloc: Global,
     bench: &Bench<E, A>,
@@ -111,7 +111,7 @@ fn answer_why<E: LineEngine + Drop, A: Agenda + Drop>(
     }
 }
 
-// Whether the cell is one of the picture's.
+// Whether the picture has a cell in this row and column.
 fn has_cell(picture: &Picture, row: u8, col: u8) -> bool
     ensures { result ≡ has_cell picture.now row col }
 {
@@ -148,7 +148,7 @@ fn verdict_text<E: LineEngine + Drop, A: Agenda + Drop>(
     Ok(text)
 }
 
-// An empty text with room for each verdict on a picture.
+// An empty text with room for any verdict on a picture.
 fn room_for_verdict(alloc: Global, picture: &Picture) -> Result<Vec<u8>, AllocError>
     ensures empty { IfOk result (λ text. text.items ≡ []) }
     ensures room { IfOk result
@@ -191,7 +191,7 @@ fn push_undecided(text: &mut Vec<u8>, splits: u32) -> Result<(), AllocError>
     Ok(text.push(b'\n')?)
 }
 
-// The report. All its memory is taken before its verdict is asked for, since that may change what is kept.
+// The report. All its memory is allocated before the verdict is asked for, since that may change what the bench keeps.
 fn report_text<E: LineEngine + Drop, A: Agenda + Drop>(
     alloc: Global,
     bench: &mut Bench<E, A>,
@@ -227,7 +227,7 @@ fn ppm_text(alloc: Global, document: &Document) -> Result<Vec<u8>, AllocError>
     Ok(text)
 }
 
-// The .non text of a picture, or that it has more than two colours.
+// The .non text of a picture, or a refusal: a cell has a colour above 1, or memory ran out.
 fn non_answer(alloc: Global, picture: &Picture) -> Answer
     ensures { GivesNon picture.now result }
 {
@@ -239,7 +239,7 @@ fn non_answer(alloc: Global, picture: &Picture) -> Answer
     }
 }
 
-// The certificate's text, or that there is another picture. What its search came to know is kept once the text is made.
+// The certificate's text, or that there is another picture. What the search found is kept once the text is complete.
 fn certificate_text<E: LineEngine + Drop, A: Agenda + Drop>(
     alloc: Global,
     bench: &mut Bench<E, A>,
@@ -268,7 +268,7 @@ fn push_found(text: &mut Vec<u8>, found: &Option<Cert>) -> Result<(), AllocError
     }
 }
 
-// What is answered to a command.
+// The answer to a command, which also takes effect on the bench.
 fn answer_command<E: LineEngine + Drop, A: Agenda + Drop>(
     alloc: Global,
     bench: &mut Bench<E, A>,
@@ -297,7 +297,7 @@ fn answer_command<E: LineEngine + Drop, A: Agenda + Drop>(
 }
 
 #[tactic(auto, unfolding(crate::specs::Session::Says))]
-// What is answered to a line, and what the line does to the bench.
+// The answer to a line's request, which also takes effect on the bench.
 pub(crate) fn answer_to<E: LineEngine + Drop, A: Agenda + Drop>(
     alloc: Global,
     bench: &mut Bench<E, A>,

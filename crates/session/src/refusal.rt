@@ -9,18 +9,18 @@ use edits::EditFault;
 // Why a line of a session is refused.
 #[derive(Clone, Copy)]
 pub(crate) enum Refusal {
-    // It is no command.
+    // The line is not a command.
     Line(CommandFault),
     // The edit, the undo or the redo was refused.
     Edit(EditFault),
-    // A cell has a colour above 1, and the text that is asked for has two colours.
+    // A .non text is asked for, and a cell has a colour above 1.
     TwoColoursOnly,
     // Memory ran out.
     Memory,
 }
 
 impl Refusal {
-    // The line that is printed, whole: so it takes no memory.
+    // The whole line that is printed. It is static, so it needs no memory.
     pub(crate) fn line(&self) -> &'static [u8]
         ensures { result.now ≡ refusal_line self.now }
     {

@@ -16,9 +16,9 @@ use std::io::{Read, Write};
 /// Answers each line of the reader's input on the writer, until the input ends.
 ///
 /// Each answer is true of the document that the lines before it lead to. A refused command prints its refusal and the
-/// session goes on. After a failed read each line is answered whose line feed had come, and an unfinished one is not.
-/// After a failed write a prefix of the right text went out, and the bench holds the effect of the command that was
-/// being answered.
+/// session continues. After a failed read, the lines whose line feed had been read are answered, and an unfinished
+/// one is not. After a failed write, a prefix of the right text was written, and the bench has the effect of the
+/// command that was being answered.
 pub fn run_session<R: Read, W: Write, E: LineEngine + Drop, A: Agenda + Drop>(
     alloc: Global,
     reader: &mut R,
@@ -36,7 +36,7 @@ pub fn run_session<R: Read, W: Write, E: LineEngine + Drop, A: Agenda + Drop>(
     answer_lines(alloc, reader, writer, bench)
 }
 
-// Answers the lines, told of the bench's whole state: with what is kept and counted.
+// Answers the lines. The contract is about the bench's whole state, with what it keeps and counts.
 fn answer_lines<R: Read, W: Write, E: LineEngine + Drop, A: Agenda + Drop>(
     alloc: Global,
     reader: &mut R,

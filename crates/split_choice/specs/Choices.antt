@@ -6,7 +6,7 @@ use Rattle.trail.specs.declared.cell.Cell.{Cell}
 use Rattle.split_choice.specs.declared.choosing.Chosen.{Chosen}
 use Rattle.split_choice.specs.declared.choosing.Chosen.TheVariants.{Splits, Fills, Nothing}
 
--- a cell in which not just one colour is left
+-- a cell of the facts that is not settled: no colour is left in it, or more than one
 pub record IsUnsettled (facts : Masks) (cell : Cell) : Type 0 where
   pub in_rows : cell.row < length facts
   pub in_columns : cell.col < width_of facts

@@ -12,7 +12,7 @@ use picture::MAX_SIDE;
 use std::alloc::{AllocError, Global};
 use trail::Cell;
 
-/// What is chosen: a cell to split, or facts inside those at hand that the held picture's colours fill, or nothing.
+/// What is chosen: a cell to split, or narrower facts that the held picture's colours fill, or nothing.
 #[derive(Drop)]
 pub enum Chosen {
     Splits(Cell),
@@ -20,9 +20,9 @@ pub enum Chosen {
     Nothing,
 }
 
-/// Chooses a cell in which not just one colour is left, and ends looking ahead at so many of the engine's calls. Where there is
-/// such a cell, none may be chosen all the same, and of facts that are answered nothing is promised. The engine's calls do not
-/// fall.
+/// Chooses a cell that is not settled, that is, without exactly one colour left. Looking ahead ends once the engine has counted
+/// `until` calls. Nothing may be chosen even where there is such a cell, and nothing is promised of the facts in `Fills`. The
+/// engine's count of calls does not fall.
 pub fn choose<E: LineEngine>(
     alloc: Global,
     engine: &mut E,
@@ -48,7 +48,7 @@ pub fn choose<E: LineEngine>(
     }
 }
 
-// A cell to split, where it is one of the facts in which not just one colour is left.
+// A cell to split, where it is a cell of the facts that is not settled.
 fn split_at(facts: &Facts, cell: Cell) -> Chosen
     ensures { CanSplit facts.now result }
 {
@@ -69,8 +69,8 @@ fn first_in(open: &OpenCells, region: &Region) -> Cell {
     Cell { row, col }
 }
 
-// The cell that tells most when its colours are held; at once one of which at most one branch goes on, on the held picture's own
-// branch none but its own.
+// The cell that tells most when its colours are tried. A cell of which at most one tried colour lives is chosen at once; on the
+// held picture's own branch, where its colours are not tried, one of which none does.
 fn look_ahead<E: LineEngine>(
     engine: &mut E,
     node: &Node,

@@ -16,13 +16,13 @@ use std::alloc::{AllocError, Global};
 // No line has more cells.
 const MOST_CELLS: usize = MAX_SIDE as usize;
 
-/// Whether each line has its clue where open cells have the held picture's colours. Where none is held, no line has.
+/// Whether each line has its clue when the open cells take the held picture's colours. False where no picture is held.
 pub fn fills_all(puzzle: &Puzzle, facts: &Facts) -> bool {
     are_filled(puzzle, facts, Axis::Across, !(u128::MAX << facts.height()))
         && are_filled(puzzle, facts, Axis::Down, !(u128::MAX << facts.width()))
 }
 
-/// The same of the lines along an axis at the places of a mask.
+/// The same for the lines along an axis at the places that a mask has.
 pub(crate) fn are_filled(puzzle: &Puzzle, facts: &Facts, axis: Axis, places: u128) -> bool {
     let mut rest = places;
     while let Some(at) = take_place(&mut rest) {
@@ -33,7 +33,7 @@ pub(crate) fn are_filled(puzzle: &Puzzle, facts: &Facts, axis: Axis, places: u12
     true
 }
 
-/// Whether there is a line in facts, and a clue of it.
+/// Whether the facts have a line, and the clue book its clue.
 pub(crate) fn is_there(clues: &ClueBook, facts: &Facts, line: LineId) -> bool
     ensures line { IsTrue result → HasLine facts.now line }
     ensures clue { IsTrue result → HasClue clues.now line }
@@ -44,7 +44,7 @@ pub(crate) fn is_there(clues: &ClueBook, facts: &Facts, line: LineId) -> bool
     }
 }
 
-/// Whether a line has its clue where its open cells have the held picture's colours. A line that is not there has none.
+/// Whether a line has its clue when its open cells take the held picture's colours. False for a line that is not there.
 pub(crate) fn is_filled(puzzle: &Puzzle, facts: &Facts, line: LineId) -> bool {
     let Some(held) = puzzle.held else {
         return false;
@@ -73,7 +73,7 @@ pub(crate) fn is_filled(puzzle: &Puzzle, facts: &Facts, line: LineId) -> bool {
     without_run(blocks, run).is_some_and(|rest| rest.is_empty())
 }
 
-/// The picture of the colours that are shown, with those of the held picture in open cells, and background elsewhere.
+/// The picture with the colours of settled cells, with those of the held picture in open cells, and background elsewhere.
 pub fn filled(alloc: Global, puzzle: &Puzzle, facts: &Facts) -> Result<Picture, AllocError> {
     let mut picture = Picture::blank(alloc, facts.height(), facts.width())?;
     for row in 0..facts.height() {
@@ -107,8 +107,8 @@ pub fn leaves(facts: &Facts, picture: &Picture) -> bool
     true
 }
 
-// The colour that a cell shows with these colours left, or, where it is open, the held one. Where no such colour is left, 16, which is
-// none.
+// The only colour that is left, or the held one where it and others are left. Where there is no such colour, 16, which is
+// no colour.
 fn colour_of(left: u16, held: u8) -> u8 {
     let open = left & left.wrapping_sub(1) != 0;
     let shown = if open {

@@ -1,4 +1,4 @@
-//! Which cell a search splits. Choices are free: of what is chosen no more is proved than that it can be split.
+//! Which cell a search splits. It is proved only that the chosen cell can be split, so any heuristic will do.
 #![tactic(auto)]
 
 mod choosing;

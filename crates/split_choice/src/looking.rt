@@ -1,4 +1,4 @@
-//! Looking ahead: each colour of a cell is held and closed in turn.
+//! Looking ahead: each colour of a cell is tried, that is, the cell is held to it and the facts are closed.
 
 ghost use Rattle.std.specs.Prelude.{◌≡◌, ◌<◌, ◌≤◌, length, IsTrue};
 ghost use Rattle.picture.specs.Rows.{width_of};
@@ -12,17 +12,17 @@ use std::alloc::AllocError;
 use trail::Cell;
 use worklist::{Agenda, InOrder};
 
-// More lines are not evaluated in one trial: each colour of each cell is excluded once at the most. No set has so many names.
+// No trial evaluates more lines, as each colour of each cell is excluded at most once, and no set of lines has more names.
 const MOST_LINES: u32 = 10_000_000;
 
-/// What holding each colour of a cell came to; or facts that the held picture's colours fill.
+/// The result of trying each colour of a cell; or facts that the held picture's colours fill.
 #[derive(Drop)]
 pub(crate) enum Look {
     Seen(Tally),
     Fills(Facts),
 }
 
-/// How many colours live, the sum and the product of their changes, and whether another colour dies.
+/// How many tried colours live, the sum and the product of their changes, and whether some colour dies (leaves a dead line).
 #[derive(Clone, Copy)]
 pub(crate) struct Tally {
     pub alive: u64,
@@ -32,7 +32,7 @@ pub(crate) struct Tally {
 }
 
 impl Tally {
-    // Counts one colour more that lives.
+    // Counts one more colour that lives, by how many cells it changed.
     fn lives(&mut self, changes: usize) {
         let changes = changes as u64;
         self.alive = self.alive.saturating_add(1);
@@ -52,7 +52,7 @@ impl Tally {
     }
 }
 
-/// Holds each colour of a cell in turn but that of the held picture, where that is still a filling, and closes the facts.
+/// Tries each colour of a cell, but not that of the held picture where that picture still fills the facts.
 pub(crate) fn look_at<E: LineEngine>(
     engine: &mut E,
     node: &Node,
@@ -85,7 +85,7 @@ pub(crate) fn look_at<E: LineEngine>(
     Ok(Look::Seen(tally))
 }
 
-// Whether a colour is left in a cell, and is not that of the held picture where that is still a filling.
+// Whether a colour is left in a cell, and is not that of the held picture where that picture still fills the facts.
 fn is_tried(node: &Node, cell: Cell, colour: u8) -> bool
     requires { colour < MAX_COLOURS }
     ensures in_rows { IsTrue result → cell.row < length node.now.facts.now }
@@ -100,14 +100,14 @@ fn is_tried(node: &Node, cell: Cell, colour: u8) -> bool
     !node.own || held_at(node.puzzle.held, cell.row, cell.col) != colour
 }
 
-// What a trial changed: the lines that crossed a change, and how many cells changed, once for each line that changed them.
+// What a trial changed: the lines through the held cell or a changed one, and how many cells the evaluations changed in all.
 #[derive(Clone, Copy)]
 struct Settled {
     touched: LineSet,
     changes: usize,
 }
 
-// Closes facts in which a cell was held, from its two lines on. None where a line is dead.
+// Closes facts in which a cell was held, beginning with its two lines. None where a line is dead.
 fn settle<E: LineEngine>(
     engine: &mut E,
     clues: &ClueBook,
@@ -143,7 +143,7 @@ fn settle<E: LineEngine>(
     Some(settled)
 }
 
-// Whether the held picture's colours fill all lines. Those that were touched are asked first.
+// Whether the held picture's colours fill all lines. Those that were touched are checked first.
 fn is_all_filled(puzzle: &Puzzle, facts: &Facts, touched: &LineSet) -> bool {
     let mut agenda = InOrder::make();
     agenda.put_all(touched);

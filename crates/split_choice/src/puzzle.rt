@@ -4,15 +4,15 @@ use clues::ClueBook;
 use line_facts::Facts;
 use picture::Picture;
 
-/// Clues, and a picture with these clues to hold on to, where one is known. Both are only lent.
+/// The clues of a search, and the held picture: one with these clues, where one is known. Both are borrowed.
 #[derive(Clone, Copy, Drop)]
 pub struct Puzzle<'a> {
     pub clues: &'a ClueBook,
     pub held: Option<&'a Picture>,
 }
 
-/// Where a search stands: the facts at hand, and whether the held picture still fills them, so that its own colours need no
-/// look.
+/// A node of a search: its puzzle, its facts, and whether the held picture still fills them, so that its colours need not
+/// be tried.
 #[derive(Clone, Copy, Drop)]
 pub struct Node<'a> {
     pub puzzle: Puzzle<'a>,
@@ -25,6 +25,6 @@ pub struct Node<'a> {
 pub enum Choice {
     /// The first open cell in row order.
     First,
-    /// Of the most telling open cells the one whose colours die or narrow most when each is held and closed in turn.
+    /// Of the most telling open cells, the one whose colours die or narrow the facts most when each is tried.
     Look,
 }

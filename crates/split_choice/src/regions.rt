@@ -1,5 +1,5 @@
-//! The open cells of facts, those in which more than one colour is left, and their parts, told by their lines: a part has all
-//! open cells of each line that it has one of.
+//! The open cells of facts, in which more than one colour is left, and their parts, each given by its lines: a part has
+//! either all open cells of a line or none.
 
 ghost use Rattle.std.specs.Prelude.{◌<◌, length, IfSome};
 
@@ -11,7 +11,7 @@ use picture::{Axis, MAX_SIDE};
 // No picture has more rows or columns.
 const SIDES: usize = MAX_SIDE as usize;
 
-/// For each row the columns of its open cells, and for each column the rows.
+/// The open cells of facts: for each row a mask of their columns, and for each column a mask of their rows.
 #[derive(Clone, Copy)]
 pub(crate) struct OpenCells {
     pub rows: [u128; SIDES],
@@ -41,8 +41,8 @@ impl OpenCells {
 }
 
 #[tactic(auto, using(std::proofs::lemmas::Nat::and_le_r))]
-/// Takes the first place out of a mask, if it has one. A place after the last line of a picture is answered as that of
-/// the last.
+/// Takes the first place out of a mask, if it has one. A place that no picture has is returned as the last one that a
+/// picture can have.
 pub(crate) fn take_place(places: &mut u128) -> Option<u8>
     ensures place { IfSome result (λ at. at < MAX_SIDE) }
     ensures fewer { IfSome result (λ _. places.new < places.old) }
@@ -55,7 +55,7 @@ pub(crate) fn take_place(places: &mut u128) -> Option<u8>
     Some(at as u8)
 }
 
-// The masks at the places of a mask, all in one, and how many places they have together.
+// The union of the masks at the places of a mask, and the sum of their numbers of places.
 fn united(masks: &[u128; SIDES], places: u128) -> (u128, u32) {
     let mut rest = places;
     let mut union = 0;
@@ -68,7 +68,7 @@ fn united(masks: &[u128; SIDES], places: u128) -> (u128, u32) {
     (union, count)
 }
 
-/// The rows and the columns of a part, and how many open cells it has.
+/// A part of the open cells: masks of its rows and its columns, and how many cells it has.
 #[derive(Clone, Copy)]
 pub(crate) struct Region {
     pub rows: u128,
@@ -76,7 +76,7 @@ pub(crate) struct Region {
     pub cells: u32,
 }
 
-/// The smallest part that the held picture's colours do not fill; where they fill all, or none is held, the smallest.
+/// The smallest part that the held picture's colours do not fill; where there is none, or no picture is held, the smallest.
 pub(crate) fn smallest_unfilled(node: &Node, open: &OpenCells) -> Option<Region> {
     let mut smallest = None;
     let mut unfilled = None;

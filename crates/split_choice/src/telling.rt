@@ -1,4 +1,4 @@
-//! How telling an open cell is.
+//! How telling an open cell is likely to be, before its colours are tried.
 
 ghost use Rattle.std.specs.Prelude.{◌<◌, ◌≤◌};
 
@@ -9,10 +9,10 @@ use picture::{Axis, LineId, MAX_SIDE};
 use std::alloc::{AllocError, Global};
 use trail::Cell;
 
-// How many of the most telling cells are looked at. A native model closes as many pictures with 12 of them.
+// How many of the most telling cells are tried.
 const MOST_CELLS: usize = 40;
 
-// What a settled neighbour counts, and a line that the held picture's colours do not fill.
+// How much a settled neighbour adds to a rank, and a line that the held picture's colours do not fill.
 const NEIGHBOUR: u16 = 16;
 
 const UNFILLED: u16 = 12;
@@ -48,7 +48,7 @@ pub(crate) fn most_telling(
     Ok(places)
 }
 
-// Takes a place in among the best, the best first, of equal ones the earlier, unless there are enough better ones.
+// Inserts a place among the best ones, the best first and of equal ones the earlier, and keeps at most `MOST_CELLS`.
 fn offer(places: &mut Vec<Place>, place: Place) -> Result<(), AllocError> {
     let behind = places.len();
     if behind >= MOST_CELLS && places[behind - 1].rank >= place.rank {
@@ -65,7 +65,7 @@ fn offer(places: &mut Vec<Place>, place: Place) -> Result<(), AllocError> {
     Ok(())
 }
 
-// What the neighbours of a cell and the open cells on its lines count.
+// The rank of a cell by its settled neighbours and by how few open cells one of its lines has.
 fn rank_of(open: &OpenCells, row: u8, col: u8) -> u16
     requires in_rows { row < MAX_SIDE }
     requires in_columns { col < MAX_SIDE }
@@ -77,7 +77,7 @@ fn rank_of(open: &OpenCells, row: u8, col: u8) -> u16
     settled * NEIGHBOUR + (128 - fewest as u16)
 }
 
-// How many of a place's two neighbours on a line are not open. Beside the line none is.
+// How many of a place's two neighbours on a line are not open. Outside of the line none is open.
 fn settled_beside(line: u128, at: u8) -> u16
     requires { at < MAX_SIDE }
     ensures { result ≤ 2 }
@@ -87,7 +87,7 @@ fn settled_beside(line: u128, at: u8) -> u16
     u16::from(before) + u16::from(behind)
 }
 
-// The lines along an axis, of some, that the held picture's colours do not fill. Where none is held, there is no such line.
+// Those of some lines along an axis that the held picture's colours do not fill. None where no picture is held.
 fn unfilled_along(node: &Node, axis: Axis, places: u128) -> u128 {
     let mut unfilled = 0;
     if node.own || node.puzzle.held.is_none() {

@@ -10,7 +10,7 @@ use clues::{Block, Clue, ClueBook};
 use picture::{Axis, LineId};
 use std::alloc::{AllocError, Global};
 
-/// The clue of blocks, joined by `,`.
+/// The clue of blocks joined by `,`, or of `0` for none.
 pub fn clue_in(alloc: Global, word: &str) -> Result<Clue> {
     let mut blocks = Vec::new(alloc);
     if word != "0" {
@@ -40,7 +40,7 @@ fn block_in(word: &str) -> Result<Block> {
     })
 }
 
-// The length that digits say.
+// The length that digits write.
 fn length_in(digits: &[u8]) -> Result<u8> {
     let mut len = 0u16;
     for digit in digits {

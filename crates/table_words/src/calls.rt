@@ -2,7 +2,7 @@
 
 use std::alloc::{AllocError, Global};
 
-/// The words of a line that is a call, cut at spaces. A blank line, a comment (`#`) and what is expected (`=`) are none.
+/// The words of a line that is a call, split at spaces. None for a blank line, a comment (`#`) or an answer (`=`).
 pub fn call_in<'a>(alloc: Global, line: &'a str) -> Result<Option<Vec<&'a str>>, AllocError> {
     let words: Vec<&str> = line
         .split(' ')

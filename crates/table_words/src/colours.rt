@@ -3,10 +3,10 @@
 use anyhow::{Result, bail};
 use picture::Rgb;
 
-/// All sixteen colours.
+/// The mask of all sixteen colours.
 pub const ALL: u16 = u16::MAX;
 
-/// The number of a colour, and whether a cell of it is given.
+/// A cell: the number of its colour, and whether it is given.
 #[derive(Clone, Copy, Debug, PartialEq, Eq)]
 pub struct Cell {
     pub colour: u8,
@@ -34,7 +34,7 @@ pub fn letter_of(colour: u8) -> char {
     }
 }
 
-/// The letter of a given of a colour.
+/// The letter of a given with this colour.
 pub fn capital_of(colour: u8) -> char {
     match colour {
         0 => ',',

@@ -5,10 +5,10 @@ use anyhow::{Context, Result, bail, ensure};
 use line_facts::Facts;
 use std::alloc::{AllocError, Global};
 
-// So many masks that are equal are printed as one.
+// A run of more equal masks than this is printed as one mask with a count.
 const MANY: usize = 4;
 
-/// How often a word is meant, and the word: `3x.a` is three times `.a`.
+/// How often a word is repeated, and the word: `3x.a` is three times `.a`.
 pub fn repeated(part: &str) -> Result<(u8, &str)> {
     let Some((count, word)) = part.split_once('x') else {
         return Ok((1, part));
@@ -93,7 +93,7 @@ pub fn push_mask(text: &mut String, mask: u16) -> Result<(), AllocError> {
     Ok(())
 }
 
-/// Appends the masks of a line to a text. More than four equal ones are put together.
+/// Appends the masks of a line to a text. More than four equal ones are printed as one.
 pub fn push_masks(text: &mut String, masks: &[u16]) -> Result<(), AllocError> {
     if masks.is_empty() {
         return text.push_str("none");
@@ -114,7 +114,7 @@ pub fn push_masks(text: &mut String, masks: &[u16]) -> Result<(), AllocError> {
     Ok(())
 }
 
-// Appends so many equal masks to a text.
+// Appends a run of equal masks to a text.
 fn push_run(text: &mut String, mask: u16, count: usize) -> Result<(), AllocError> {
     if count > MANY {
         write!(text, "{count}x")?;

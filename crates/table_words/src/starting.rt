@@ -1,6 +1,6 @@
-//! What calls begin with.
+//! The size of the buffers of calls.
 
 use picture::MAX_SIDE;
 
-/// How many cells a line has at the most.
+/// The most cells that a line can have.
 pub const MOST: usize = MAX_SIDE as usize;

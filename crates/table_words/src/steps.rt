@@ -30,8 +30,8 @@ pub fn push_steps(text: &mut String, steps: &[Step]) -> Result<(), AllocError> {
     Ok(())
 }
 
-/// Appends what is excluded in cells of a line to a text: `2=.a` where only `.` and `a` are left, and `2-b` where few
-/// colours go.
+/// Appends what is excluded in cells of a line to a text: `2-b` where it is `b`, and `2=.a` where it is all but `.`
+/// and `a`. The second form is for more than eight colours.
 pub fn push_premises(text: &mut String, premises: &[Premise]) -> Result<(), AllocError> {
     for premise in premises {
         let place = u16::from(premise.at) + 1;

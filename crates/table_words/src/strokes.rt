@@ -5,7 +5,7 @@ use anyhow::{Context, Result, bail, ensure};
 use edits::Edit;
 use picture::{Axis, LineId, Rgb};
 
-/// The edit of words.
+/// The edit that words ask for, as in a session.
 pub fn edit_in(words: &[&str]) -> Result<Edit> {
     match words {
         ["paint", row, col, colour] => paint_in(row, col, colour),
@@ -48,7 +48,7 @@ fn recolour_in(source: &str, target: &str) -> Result<Edit> {
     })
 }
 
-// A colour is added, or one of the palette is another.
+// A colour is added to the palette, or one of its colours is changed.
 fn palette_edit_in(words: &[&str]) -> Result<Edit> {
     match words {
         ["add", r, g, b] => Ok(Edit::AddColour {
@@ -62,7 +62,7 @@ fn palette_edit_in(words: &[&str]) -> Result<Edit> {
     }
 }
 
-// A cell is pinned or set free.
+// A cell is pinned or unpinned.
 fn pin_in(is_pinned: bool, row: &str, col: &str) -> Result<Edit> {
     let (row, col) = (place_in(row)?, place_in(col)?);
     if is_pinned {
@@ -72,7 +72,7 @@ fn pin_in(is_pinned: bool, row: &str, col: &str) -> Result<Edit> {
     }
 }
 
-// Lines are put in, taken out or exchanged.
+// A line is inserted or deleted, or two are swapped.
 fn line_edit_in(what: &str, axis: Axis, places: &[&str]) -> Result<Edit> {
     match (what, places) {
         ("insert", [at]) => Ok(Edit::InsertLine {

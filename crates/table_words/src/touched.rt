@@ -8,7 +8,7 @@ use clues::Change;
 use picture::{Axis, LineId, Picture};
 use std::alloc::AllocError;
 
-/// Appends the names of the lines of a new picture that its change from an old one touches to a text, each with a space
+/// Appends to a text the names of the new picture's lines that the change from the old one touches, each with a space
 /// before it.
 pub fn push_touched(
     text: &mut String,

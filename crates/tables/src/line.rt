@@ -1,6 +1,6 @@
 //! Evaluates one line many times.
 //! The words are the engine (`plain` or `mask`, or `sweep` for leaving out what is not needed to force what the line
-//! excludes), the number of cells up to 120, the number of blocks from 1 on, what is
+//! excludes), the number of cells up to 120, the number of blocks from 1 on, how many cells are
 //! settled (`open`, `half`, `nearly` or `settled`) and the number of rounds.
 
 ghost use Rattle.std.specs.Prelude.{◌≡◌, ◌≤◌, length};
@@ -45,8 +45,8 @@ struct Task {
     ghost short: { cells ≤ MAX_SIDE },
 }
 
-/// Evaluates the line that the words name, and says how often and how many cells stay open; or leaves out on it, and says how
-/// many cells keep their mask.
+/// Evaluates the line that the words name, and prints how often and how many cells stay open; with `sweep` it leaves out what
+/// is not needed, and prints how many cells keep their mask.
 pub fn tell(rt: &(impl AllocGlobal + Print), words: &[&str]) -> Result<()> {
     let [engine, cells, blocks, settled, rounds] = words else {
         bail!("line ENGINE CELLS BLOCKS SETTLED ROUNDS");
@@ -107,7 +107,7 @@ fn clue_of(alloc: Global, task: &Task) -> Result<Clue, AllocError> {
     Clue::from_blocks(alloc, &blocks)
 }
 
-// The colours left in a cell: its own where it is settled, and else all.
+// The colours left in a cell: only its own where it is settled, and otherwise all.
 fn left_in(task: &Task, cell: usize) -> u16 {
     let period = usize::from(task.len) + 1;
     let is_block = cell % period != period - 1 && cell / period < usize::from(task.blocks);
@@ -120,7 +120,7 @@ fn left_in(task: &Task, cell: usize) -> u16 {
     }
 }
 
-// Evaluates the line, and says how often, and how many cells have more than one colour in the end.
+// Evaluates the line, and returns how often, and how many cells have more than one colour left in the end.
 fn evaluate<E: LineEngine>(alloc: Global, engine: &mut E, task: &Task) -> Result<(u64, usize)>
     requires { MAX_SIDE ≤ E.longest engine.old }
 {
@@ -142,7 +142,7 @@ fn evaluate<E: LineEngine>(alloc: Global, engine: &mut E, task: &Task) -> Result
     Ok((count, open))
 }
 
-// Evaluates so many times.
+// Evaluates the line `rounds` times. Returns the count, and the last outcome.
 fn narrow_often<E: LineEngine>(
     engine: &mut E,
     clue: &Clue,
@@ -161,7 +161,7 @@ fn narrow_often<E: LineEngine>(
     (count, outcome)
 }
 
-// Leaves out on the line what is not needed to force all that it excludes, and says how many cells keep their mask.
+// Leaves out on the line what is not needed to force all that it excludes, and returns how many cells keep their mask.
 fn sweep(alloc: Global, task: &Task) -> Result<usize> {
     let clue = clue_of(alloc, task)?;
     let mut engine = MaskEngine::make(alloc, MOST as u8)?;

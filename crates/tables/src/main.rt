@@ -1,6 +1,6 @@
-//! A program for tests and for measuring. Without words it answers a table: each line of standard input names a public call
-//! with its arguments in the small language of `table`, and what it answers is printed. With the word `line` and four more
-//! it evaluates one line many times (`line`), so that the work of it can be measured from outside.
+//! A program for tests and for measuring. Without arguments it answers a table: each line of standard input names a public
+//! call with its arguments in the small language of `table`, and the call's answer is printed. With `line` and five more
+//! arguments it evaluates one line many times (`line`), so that this work can be measured from outside.
 #![tactic(auto)]
 
 mod line;

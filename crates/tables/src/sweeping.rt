@@ -1,4 +1,4 @@
-//! Sweeping a line: what is drawn on it, and leaving out what is not needed for that.
+//! Sweeping a line: drawing what it excludes, and leaving out what is not needed for that.
 
 ghost use Rattle.std.specs.Prelude.{◌≡◌, ℕ, ◌≤◌, length, slice_index, IsBitSet};
 ghost use Rattle.line_settle.specs.LeftOut.{ForcesAll};
@@ -20,7 +20,7 @@ fn take_out(left: &[u16], out: &[u16], drawn: &mut [u16])
     }
 }
 
-/// Draws what a line forces by one evaluation, with a buffer for its answer.
+/// Draws what a line excludes, by one evaluation. `out` is a buffer for its answer.
 pub fn draw<E: LineEngine>(
     engine: &mut E,
     clue: &Clue,
@@ -38,7 +38,7 @@ pub fn draw<E: LineEngine>(
     take_out(left, out, drawn);
 }
 
-/// Leaves out so many times what is not needed to force what is drawn.
+/// Leaves out what is not needed to force what is drawn, `rounds` times from the start.
 pub fn leave_out_often(clue: &Clue, drawn: &[u16], left: &[u16], rounds: u32, kept: &mut [u16])
     requires same_drawn { length drawn.now ≡ length left.now }
     requires same_kept { length kept.old ≡ length left.now }

@@ -1,9 +1,9 @@
 //! Tables of calls and answers.
 //!
 //! Each line of standard input names a call, with its arguments as words after it, cut at spaces. A blank line, a
-//! comment (`#`) and what is expected (`=`) are passed over. The first word says which module answers, and that prints
-//! the answer. A line that no module can read, or that breaks what a call asks for, is told by `cannot read:` and the
-//! line.
+//! comment (`#`) and an expected answer (`=`) are skipped. The first word says which module answers, and that prints
+//! the answer. For a line that no module can read, or whose arguments a call does not allow, `cannot read:` and the
+//! line are printed.
 
 mod agendas;
 mod books;

@@ -7,7 +7,7 @@ use Rattle.picture.specs.Rows.{row_at, cell_at, with_cell}
 use Rattle.line_facts.specs.FactSets.{SameShape}
 use Rattle.line_facts.proofs.GridLaws.{shape_sym, shape_trans, at_with_cell, off_with_cell, shape_with_cell}
 
--- grids of one shape with the same cells are one
+-- grids of one shape with the same cells are equal
 pub same_grid : (a b : List (List ℕ)) → SameShape a b → ((r c : ℕ) → cell_at a r c ≡ cell_at b r c) → a ≡ b
 same_grid a b s h = ext_get_or [] a b s.rows (λ r _. ext_get_or 0 (row_at a r) (row_at b r) (s.each r) (λ c _. h r c))
 
@@ -18,7 +18,7 @@ row_there a row col l = elim (cases_lt row (length a)) [
   | inr p ↦ absurd (let none = ap length (get_or_past a row [] p) in omega arith)
 ]
 
--- grids of one shape with the same cells inside are one
+-- grids of one shape with the same cells inside are equal
 pub same_inside : (a b : List (List ℕ)) (width : ℕ) → SameShape a b → ((i : ℕ) → i < length b → length (row_at b i) ≡ width) → ((r c : ℕ) → r < length b → c < width → cell_at a r c ≡ cell_at b r c)
     → a ≡ b
 same_inside a b width s rect h = same_grid a b s (λ r c. elim (cases_lt r (length b)) [
@@ -32,7 +32,7 @@ same_inside a b width s rect h = same_grid a b s (λ r c. elim (cases_lt r (leng
       ap (λ (row : List ℕ). get_or row c 0) (get_or_past a r [] (omega arith)) ∙ sym (ap (λ (row : List ℕ). get_or row c 0) (get_or_past b r [] p))
 ])
 
--- two things that are so or not
+-- where two statements each hold or not, so do both together
 pub both_or_not : {A B : Type 0} → A ⊎ (A → ⊥) → B ⊎ (B → ⊥) → (A × B) ⊎ (A × B → ⊥)
 both_or_not (inl a) (inl b) = inl (a, b)
 both_or_not (inl a) (inr n) = inr (λ p. n p.1)

@@ -1,4 +1,4 @@
--- The colours of a mask, and facts told from notes.
+-- The colours of a mask, and the branches that notes record.
 use Rattle.std.proofs.Common.{◌≡◌, ◌≢◌, ℕ, zero, suc, ◌+◌, ◌*◌, ◌%◌, ◌^◌, ◌<◌, ◌≤◌, ◌==◌, Bool, true, false, cond, List, [], ◌∷◌, ◌++◌, length, map, bit_and, reverse, refl, sym, ap, subst, ◌∙◌, arith}
 use Rattle.std.proofs.Common.{inl, inr, eqb-true, eq-eqb}
 use Rattle.std.specs.List.{filter, range_with_len}
@@ -141,7 +141,7 @@ begins_held s t u row col mask lowest rest p q l r et eu =
     ap (λ xs. xs ++ s.cells) (ap (λ (xs : List ℕ). map (λ (k : ℕ). place row col) xs) (lowest_colour mask p q))
     ∙ (ap (λ n. place row col ∷ (places row col n ++ s.cells)) others ∙ ap (λ xs. place row col ∷ xs) cells)
 
--- a branch with no colours left is none
+-- a note of a cell with no colour left to try records no branch
 pub skips : (facts : Masks) (height width : ℕ) (notes more : List Note) (cell : CellMask) → notes ≡ more ++ Branch (Each cell) ∷ [] → cell.mask ≡ 0 → (waiting facts (reverse notes)
     ≡ waiting facts (reverse more)) × ((cells_held (reverse notes) ≡ cells_held (reverse more)) × (AreInside height width (reverse notes) → AreInside height width (reverse more)))
 skips facts height width notes more cell e z =

@@ -1,4 +1,4 @@
--- Facts that wait, and the notes from which they are told.
+-- The branches that wait on a trail, and the notes that record them.
 use Rattle.std.specs.Prelude.{◌≡◌, ℕ, ◌^◌, ◌<◌, Option, None, Some, List, [], ◌∷◌, ◌++◌, length, map}
 use Rattle.line_facts.specs.Masks.{Masks}
 use Rattle.picture.specs.LineSet.{Lines, HasName}
@@ -30,14 +30,14 @@ abbrev pub places_of : Wait → List Cell
 places_of (Each cell) = places cell.row cell.col cell.mask
 places_of (Whole cell) = place cell.row cell.col ∷ []
 
--- The facts that wait after those at hand, told from the notes, the newest first: a cell gets its mask back, or
+-- The facts of the branches that wait, as the notes record them, the newest first: a cell gets its mask back, or
 -- branches begin.
 abbrev pub waiting : Masks → List Note → List (List (List ℕ))
 waiting facts [] = []
 waiting facts (Restore cell ∷ notes) = waiting (with_cell facts cell.row cell.col cell.mask) notes
 waiting facts (Branch wait ∷ notes) = begun facts wait ++ waiting facts notes
 
--- of each of these facts the cell that is held in them
+-- for each of these branches, the cell that is held in it
 abbrev pub cells_held : List Note → List Cell
 cells_held [] = []
 cells_held (Restore cell ∷ notes) = cells_held notes
@@ -58,18 +58,18 @@ AreInside height width [] = Unit {0}
 AreInside height width (Restore cell ∷ notes) = IsInside height width cell × AreInside height width notes
 AreInside height width (Branch wait ∷ notes) = LiesInside height width wait × AreInside height width notes
 
--- a branch can begin: of a cell that lies inside, and a colour is still to be tried where each is
+-- a branch can begin: its cell lies inside, and where each colour is tried there is one left to try
 abbrev pub CanBegin : ℕ → ℕ → Wait → Type 0
 CanBegin height width (Each cell) = (0 < cell.mask) × IsInside height width cell
 CanBegin height width (Whole cell) = IsInside height width cell
 
--- Cells got their masks back down to the first branches that wait; or there were none, and nothing waits.
+-- Cells got their masks back, down to the newest note of branches that wait; or no branch waits.
 abbrev pub PutsBack : Masks → List Note → Masks → List Note → Option Wait → Type 0
 PutsBack old notes new rest None = waiting old notes ≡ []
 PutsBack old notes new rest (Some wait) =
     (waiting old notes ≡ begun new wait ++ waiting new rest) × (cells_held notes ≡ places_of wait ++ cells_held rest)
 
--- the facts at hand, and those that wait after them, of each of which a cell was held last
+-- the facts at hand, those of the branches that wait, and for each of these the cell that is held in it
 pub record Trailed : Type 0 where
   pub at_hand : List (List ℕ)
   pub behind : List (List (List ℕ))
@@ -93,7 +93,7 @@ abbrev pub AreOthersSame : Masks → Masks → Lines → Type 0
 AreOthersSame facts settled rows = (row col : ℕ) → row < length settled → (HasName rows (across row) → ⊥)
     → cell_at facts row col ≡ cell_at settled row col
 
--- the next facts that wait are at hand, in which this cell is held, or none do
+-- the next branch that waited, in which this cell is held, is at hand; or no branch waits
 abbrev pub GoesOn : Trailed → Trailed → Option Cell → Type 0
 GoesOn old new (Some cell) = (old.behind ≡ new.at_hand ∷ new.behind) × (old.cells ≡ cell ∷ new.cells)
 GoesOn old new None = old.behind ≡ []

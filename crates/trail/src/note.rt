@@ -15,7 +15,7 @@ pub(crate) enum Wait {
     Whole(CellMask),
 }
 
-// What a search has noted, to go back and go on: the mask that a cell had, or branches that wait.
+// A note for backtracking: the mask that a cell had, or branches that wait.
 #[derive(Clone, Copy)]
 pub(crate) enum Note {
     Restore(CellMask),

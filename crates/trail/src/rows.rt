@@ -6,7 +6,7 @@ ghost use Rattle.trail.specs.Through.{across};
 
 use picture::{Axis, LineId, LineSet, MAX_SIDE};
 
-/// Whether a row is named.
+/// Whether a set of lines names a row.
 pub fn has_row(rows: &LineSet, row: u8) -> bool
     requires { row < MAX_SIDE }
     ensures { IsTrue result ↔ HasName rows.now (across row) }

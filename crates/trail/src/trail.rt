@@ -1,4 +1,4 @@
-//! The trail: the facts of the branch at hand, and a stack of notes that tells which others wait.
+//! The trail: the facts of the current branch, and a stack of notes that record which branches wait.
 
 ghost use Rattle.std.specs.Prelude.{◌≡◌, ℕ, ◌<◌, [], ◌∷◌, ◌++◌, length, reverse, IfOk, OnOk, IfSome};
 ghost use Rattle.picture.specs.Rows.{width_of, cell_at, with_cell};
@@ -14,12 +14,12 @@ use picture::LineSet;
 use std::alloc::{AllocError, Global};
 use std::marker::Model;
 
-/// The trail by which a search or a walk over a tree backtracks: the facts of the branch at hand, and the notes that
-/// tell which others wait after them, the newest last.
+/// The trail by which a search or a walk over a tree backtracks: the facts of the current branch, called the facts at
+/// hand, and notes that record which other branches wait, the newest last.
 ///
 /// A cell's mask is noted only where it changes, and a branch only while it has colours to try. So where `advance` follows each
-/// split, and colours are only taken from cells, cells and colours bound the notes, however deep a search goes. After lack of
-/// memory a trail is only for throwing away.
+/// split, and colours are only taken from cells, the number of notes is bounded by the cells and colours, however deep a search
+/// goes. After a call has run out of memory, a trail can only be dropped.
 #[derive(Drop)]
 pub struct Trail {
     facts: Facts,
@@ -39,7 +39,7 @@ impl Model for Trail {
 }
 
 impl Trail {
-    /// A trail with these facts at hand, and none after them.
+    /// A trail with these facts at hand, on which no branch waits.
     pub fn start(alloc: Global, facts: Facts) -> Trail
         ensures { result ≡ trail_of facts [] [] }
     {
@@ -49,15 +49,15 @@ impl Trail {
         }
     }
 
-    /// The facts at hand.
+    /// The facts of the current branch.
     pub fn at_hand(&self) -> &Facts
         ensures { result.now ≡ self.now.at_hand }
     {
         &self.facts
     }
 
-    /// Narrows the facts at hand to others of their shape, which are the same in rows that are not named, and notes each cell
-    /// that changes.
+    /// Replaces the facts at hand by `settled`, and notes each cell that changes. Both have the same shape, and the same rows
+    /// where `rows` does not name them.
     pub fn narrow(&mut self, settled: &Facts, rows: &LineSet) -> Result<(), AllocError>
         requires same_shape { SameShape self.old.at_hand settled.now }
         requires others { AreOthersSame self.old.at_hand settled.now rows.now }
@@ -69,7 +69,7 @@ impl Trail {
         Ok(())
     }
 
-    // Narrows a row of the facts at hand to that of others of their shape.
+    // Replaces a row of the facts at hand by that of `settled`.
     fn narrow_row(&mut self, settled: &Facts, rows: &LineSet, row: u8) -> Result<(), AllocError>
         requires same_shape { SameShape self.old.at_hand settled.now }
         requires others { AreOthersSame self.old.at_hand settled.now rows.now }
@@ -88,7 +88,7 @@ impl Trail {
         Ok(())
     }
 
-    /// Holds a cell of the facts at hand to some colours, and notes the mask that it had where they differ.
+    /// Sets the mask of a cell of the facts at hand, and notes the mask that it had where the two differ.
     #[inline]
     pub fn hold(&mut self, row: u8, col: u8, held: u16) -> Result<(), AllocError>
         requires in_rows { row < length self.old.at_hand }
@@ -105,7 +105,7 @@ impl Trail {
         Ok(())
     }
 
-    /// Puts the branches of a cell before the facts that wait: one for each colour left in it.
+    /// Splits a cell: a branch for each colour left in it waits, before those that waited already.
     pub fn split(&mut self, cell: Cell) -> Result<(), AllocError>
         requires in_rows { cell.row < length self.old.at_hand }
         requires in_columns { cell.col < width_of self.old.at_hand }
@@ -135,7 +135,7 @@ impl Trail {
         Ok(())
     }
 
-    /// Puts the facts at hand, with a cell held to some colours, before the facts that wait.
+    /// Adds one branch before those that wait: the facts at hand with a cell held to the colours of a mask.
     pub fn part(&mut self, row: u8, col: u8, held: u16) -> Result<(), AllocError>
         requires in_rows { row < length self.old.at_hand }
         requires in_columns { col < width_of self.old.at_hand }
@@ -152,8 +152,8 @@ impl Trail {
         Ok(())
     }
 
-    /// Leaves the facts at hand, and goes on to the next that wait. Answers the cell that is held in them; there are none
-    /// exactly where the answer is None.
+    /// Drops the facts at hand and begins the next branch that waits. Returns the cell that is held in it, or None exactly
+    /// where no branch waits.
     pub fn advance(&mut self) -> Result<Option<Cell>, AllocError>
         ensures goes_on { IfOk result (GoesOn self.old self.new) }
         ensures same_shape { IfOk result (λ _. SameShape self.old.at_hand self.new.at_hand) }
@@ -175,7 +175,7 @@ impl Trail {
         Ok(Some(Cell { row, col }))
     }
 
-    // Holds a cell to the lowest colour of a mask, and puts the branches of the others before the facts that wait.
+    // Holds a cell to the lowest colour of a mask. The branches of its other colours wait before those that waited already.
     fn begin(&mut self, cell: CellMask) -> Result<(), AllocError>
         requires inside { IsInside (length self.old.at_hand) (width_of self.old.at_hand) cell }
         requires some { 0 < cell.mask }
@@ -193,7 +193,7 @@ impl Trail {
     }
 }
 
-// Puts back what the newest notes say, down to a branch that waits, which it takes off.
+// Restores masks by the newest notes, down to the first note of branches that wait, which is popped too.
 fn put_back(facts: &mut Facts, notes: &mut Vec<Note>) -> Option<Wait>
     requires { AreInside (length facts.old) (width_of facts.old) (reverse notes.old.items) }
     ensures puts_back { PutsBack facts.old (reverse notes.old.items) facts.new

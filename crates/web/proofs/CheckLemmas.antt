@@ -1,4 +1,4 @@
--- Why a certificate or a proof was not accepted or not made, as the host is told it.
+-- Why a certificate or a proof was not accepted or not made, as the host sees it.
 use Rattle.std.proofs.Common.{◌≡◌, ◌⊎◌, inl, inr, ℕ, List, Option, Result, Err}
 use Rattle.program_options.specs.declared.fault.ProgramFault.{ProgramFault}
 use Rattle.program_options.specs.declared.fault.ProgramFault.TheVariants.{Memory, Write}

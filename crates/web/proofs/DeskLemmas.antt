@@ -28,7 +28,7 @@ split_none s ss o e = elim (eqb_tells s.handle o) [ inl t ↦ absurd (none_some 
 
 -- ---- places
 
--- the first bench with the handle stands there
+-- the first bench with the handle is at that place
 abbrev IsAt : List Seat → ℕ → ℕ → Type 0
 IsAt [] h k = ⊥
 IsAt (s ∷ ss) h zero = s.handle ≡ h
@@ -74,7 +74,7 @@ at_handle (s ∷ ss) h (suc k) d i = at_handle ss h k d i.1
 
 -- ---- a bench is set
 
--- the bench that stands at a place has that handle
+-- where a new bench with the same handle is set, other handles keep their benches
 at_set : (ss : List Seat) (h k o : ℕ) (new : Seat) → IsAt ss h k → new.handle ≡ h → h ≢ o → bench_of (set ss k new) o ≡ bench_of ss o
 at_set [] h k o new i e n = absurd i
 at_set (s ∷ ss) h zero o new i e n = skip new ss o (λ f. n (sym e ∙ f)) ∙ sym (skip s ss o (λ f. n (sym i ∙ f)))

@@ -1,4 +1,4 @@
--- What the host's words ask for.
+-- The arguments of the calls, as values.
 use Rattle.std.specs.Prelude.{ℕ, ◌==◌, ◌||◌, ◌&&◌, Bool, List, [], ◌∷◌, Option, None, Some, is_some, nat_lt}
 use Rattle.std.specs.Prelude.{if◌then◌else◌}
 use Rattle.std.specs.Option.{option_map}
@@ -6,7 +6,7 @@ use Rattle.picture.specs.declared.rgb.Rgb.{Rgb}
 use Rattle.program_options.specs.declared.options.Options.{Options}
 use Rattle.program_options.specs.Background.{background_of}
 
--- a background, none where the word is empty; and nothing where the word is no colour
+-- the background that a word names: `Some None` if it is empty, None if it is no colour
 abbrev pub background_asked : List ℕ → Option (Option Rgb)
 background_asked [] = Some None
 background_asked (b ∷ word) = option_map Some (background_of (b ∷ word))

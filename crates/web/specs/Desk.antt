@@ -1,4 +1,4 @@
--- The benches that are open, and what a call makes of them.
+-- The benches that are open, and what each call does to them.
 use Rattle.std.specs.Prelude.{◌≡◌, ◌⊎◌, ℕ, ◌+◌, ◌==◌, List, [], ◌∷◌, ◌++◌, Option, None, Some, Result, Ok, Err}
 use Rattle.std.specs.Prelude.{position, remove, slice_index_or, slice_set}
 use Rattle.picture.specs.declared.rgb.Rgb.{Rgb}
@@ -16,15 +16,15 @@ use Rattle.answers.specs.Verify.{IsOnlyByLemmas, IsVerifyOf}
 use Rattle.web.specs.declared.desk.Desk.{Desk}
 use Rattle.web.specs.declared.desk.Seat.{Seat}
 
--- where the bench of a handle stands, if one does
+-- the place of the bench with a handle, if one is open
 abbrev pub place_of : List Seat → ℕ → Option ℕ
 place_of seats handle = position (λ seat. seat.handle == handle) seats
 
--- the same benches are open, and no handle was given
+-- the same benches are open, and no new handle was given
 abbrev pub IsKept : Desk → Desk → Type 0
 IsKept old new = (new.seats.items ≡ old.seats.items) × (new.given ≡ old.given)
 
--- the options were refused: nothing was asked, and there is no text
+-- the options were refused: nothing was done, and there is no text
 abbrev pub IsUnasked : Desk → Desk → ℕ → Type 0
 IsUnasked old new status = (status ≡ 6) × ((new.text.items ≡ []) × IsKept old new)
 
@@ -34,20 +34,20 @@ IsClosed old new status = (status ≡ 5) × ((new.text.items ≡ []) × IsKept o
 
 -- ---- lines
 
--- The number that tells how a session ended: whole, or early,
--- where memory for its text was refused or it reads no further.
+-- The status of a session: 0 if it ended with its input, and 4 if it ended
+-- early, because memory for its text was refused or it reads no further.
 abbrev pub status_after : Result (Unit {0}) SessionFault → ℕ
 status_after (Ok done) = 0
 status_after (Err fault) = 4
 
--- A session on a bench with these bytes as its whole input, what it wrote after what stood there, and the status of its
--- end.
+-- A session on a bench with these bytes as its whole input. It writes after the text that was there, and has the status
+-- of how it ended.
 abbrev pub RunsOver : List ℕ → List ℕ → List ℕ → Seen → Seen → ℕ → Type 0
 RunsOver lines had has old new status =
     (ended : Result (Unit {0}) SessionFault) × ((status ≡ status_after ended)
     × ((left : Option (List ℕ)) × Runs (Some lines) left (Some had) (Some has) old new ended))
 
--- What is said to a bench at a place: that session, and the other benches are as before; or no bench has the handle.
+-- Lines for the bench at a place: that session runs, and the other benches are as before; or no bench has the handle.
 abbrev pub SaysAt : Option ℕ → List ℕ → Desk → Desk → ℕ → Type 0
 SaysAt None lines old new status = IsClosed old new status
 SaysAt (Some at) lines old new status =
@@ -55,7 +55,7 @@ SaysAt (Some at) lines old new status =
     × ((d : Seat) → (seat.handle ≡ (slice_index_or old.seats.items at d).handle)
     × RunsOver lines [] new.text.items (slice_index_or old.seats.items at d).bench seat.bench status)))
 
--- what is said to the bench of a handle
+-- lines for the bench of a handle
 abbrev pub Says : ℕ → List ℕ → Desk → Desk → ℕ → Type 0
 Says handle lines old new status = SaysAt (place_of old.seats.items handle) lines old new status
 
@@ -69,7 +69,7 @@ Tells fault text status = (text ≡ fault_text fault) × (status ≡ status_of f
 abbrev pub IsShort : List ℕ → ℕ → Type 0
 IsShort text status = (status ≡ 4) × (text ≡ [])
 
--- Memory was refused, or there is an error for which this holds, and text and status are its.
+-- Memory was refused; or there is an error for which `Is` holds, and the text and the status are that error's.
 abbrev pub IsRefused : (ProgramFault → Type 0) → List ℕ → ℕ → Type 0
 IsRefused Is text status = IsShort text status ⊎ ((fault : ProgramFault) × (Is fault × Tells fault text status))
 
@@ -84,7 +84,7 @@ IsOpened file options old new handle =
     (handle ≡ old.given + 1) × ((new.given ≡ handle) × ((bench : Seen)
     × (IsStarted file options bench × (new.seats.items ≡ old.seats.items ++ seat handle bench ∷ []))))
 
--- What comes of a file that a bench is to be opened on. The handle is 0, which is never given, where it is refused.
+-- What happens where a bench is to be opened on a file. If none is opened, the handle is 0, which is never given.
 abbrev pub Opens : List ℕ → Options → Desk → Desk → ℕ → ℕ → Type 0
 Opens file options old new status handle =
     ((status ≡ 0) × ((new.text.items ≡ []) × IsOpened file options old new handle))
@@ -101,7 +101,7 @@ Closes handle old new status = ClosesAt (place_of old.seats.items handle) old ne
 
 -- ---- certificates
 
--- What is said to a certificate of a picture. Where it is accepted, no other picture has the clues and the givens.
+-- The check of a certificate of a picture. Where it is accepted, no other picture has the clues and the givens.
 abbrev pub Checks : List ℕ → Option Rgb → List ℕ → List ℕ → ℕ → Type 0
 Checks file background cert text status =
     ((status ≡ 0) × (IsCheckOf file background cert (Ok text) × IsOnlyPicture file background cert))
@@ -109,7 +109,7 @@ Checks file background cert text status =
 
 -- ---- proofs by lemmas
 
--- What is said to a proof by lemmas of a picture. If it is accepted, no other picture has the clues and the givens.
+-- The check of a proof by lemmas of a picture. If it is accepted, no other picture has the clues and the givens.
 abbrev pub Verifies : List ℕ → Option Rgb → List ℕ → List ℕ → ℕ → Type 0
 Verifies file background proof text status =
     ((status ≡ 0) × (IsVerifyOf file background proof (Ok text) × IsOnlyByLemmas file background proof))

@@ -15,7 +15,7 @@ held_owns alloc = box_owns (ghosts.dealloc_token alloc) the_row
 abbrev pub desk_coded : Coded the_row.Denot
 desk_coded = the_row.coded
 
--- what a host's cell owns: nothing where no desk lies there, whatever pointer it holds
+-- what a host's cell owns: nothing where there is no desk, whatever pointer it holds
 abbrev pub cell_owns : Global → Ptr → Option the_row.Denot → Fml
 cell_owns alloc ptr None = ftrue
 cell_owns alloc ptr (Some desk) = held_owns alloc ptr desk

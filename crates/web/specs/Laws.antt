@@ -19,34 +19,34 @@ abbrev pub AreGiven : ℕ → List Seat → Type 0
 AreGiven given [] = Unit {0}
 AreGiven given (seat ∷ seats) = ((1 ≤ seat.handle) × (seat.handle ≤ given)) × AreGiven given seats
 
--- no two benches have one handle
+-- no two benches have the same handle
 abbrev pub AreApart : List Seat → Type 0
 AreApart [] = Unit {0}
 AreApart (seat ∷ seats) = (bench_of seats seat.handle ≡ None) × AreApart seats
 
--- The handles of the open benches differ, and each is 1 to the one that was given last.
+-- The handles of the open benches differ, and each is from 1 to the one that was given last.
 pub record IsOrderly (desk : Desk) : Type 0 where
   pub given : AreGiven desk.given desk.seats.items
   pub apart : AreApart desk.seats.items
 
 -- ---- calls
 
--- What a host asks of a desk. All calls that are not named leave its benches: those for
--- the text, for the version, for certificates and proofs, and an opening whose options are refused.
+-- What a host asks of a desk. `Other` is any call that changes no bench: for the text, the version,
+-- a certificate or a proof, or an opening whose options are refused.
 pub data Call : Type 0 where
   Open : List ℕ → Options → Call
   Say : ℕ → List ℕ → Call
   Close : ℕ → Call
   Other : Call
 
--- what a call makes of a desk, whatever it answers
+-- what a call does to a desk, whatever it answers
 abbrev pub Does : Call → Desk → Desk → Type 0
 Does (Open file options) old new = (status : ℕ) × ((handle : ℕ) × Opens file options old new status handle)
 Does (Say handle lines) old new = (status : ℕ) × Says handle lines old new status
 Does (Close handle) old new = (status : ℕ) × Closes handle old new status
 Does Other old new = IsKept old new
 
--- so it is for each call, one after the other
+-- what calls do, one after the other
 abbrev pub DoesAll : List Call → Desk → Desk → Type 0
 DoesAll [] old new = IsKept old new
 DoesAll (call ∷ calls) old new = (between : Desk) × (Does call old between × DoesAll calls between new)
@@ -65,7 +65,7 @@ pub record DesksStayOrderly : Type 0 where
   pub empty : (desk : Desk) → IsEmpty desk → IsOrderly desk
   pub kept : (calls : List Call) (old new : Desk) → IsOrderly old → DoesAll calls old new → IsOrderly new
 
--- A handle that was closed is refused by what is said to it and by a second closing, after any list of calls.
+-- A handle that was closed is refused, for lines and for a second closing, after any list of calls.
 pub record ClosedStayClosed : Type 0 where
   pub say : (handle : ℕ) (calls : List Call) (old closed new last : Desk) (lines : List ℕ) (status : ℕ)
       → IsOrderly old → Closes handle old closed 0 → DoesAll calls closed new → Says handle lines new last status
@@ -74,7 +74,7 @@ pub record ClosedStayClosed : Type 0 where
       → IsOrderly old → Closes handle old closed 0 → DoesAll calls closed new → Closes handle new last status
       → IsClosed new last status
 
--- A call leaves the benches of all handles that were given but the one that it is on.
+-- A call leaves all benches of given handles as they are, except the one that it is on.
 abbrev pub OthersStay : Type 0
 OthersStay = (call : Call) (old new : Desk) (handle : ℕ) → handle ≤ old.given → ¬ (IsOn handle call) → Does call old new
     → bench_of new.seats.items handle ≡ bench_of old.seats.items handle

@@ -1,4 +1,4 @@
-//! What the calls are asked, as values.
+//! The arguments of the calls, as values.
 
 ghost use Rattle.std.specs.Prelude.{◌≡◌, IfSome};
 ghost use Rattle.program_options.specs.Options.{IsLawful};
@@ -8,7 +8,7 @@ use answers::{Options, background_in};
 use edits::MAX_DEPTH;
 use picture::Rgb;
 
-/// The colour of a background as the host words it: none where the word is empty.
+/// The background of a word: `Some(None)` if it is empty, None if it is no colour.
 pub fn background_of(word: &[u8]) -> Option<Option<Rgb>>
     ensures { result ≡ background_asked word.now }
 {
@@ -18,7 +18,7 @@ pub fn background_of(word: &[u8]) -> Option<Option<Rgb>>
     background_in(word).map(Some)
 }
 
-/// The options of a bench, where they are lawful.
+/// The options of a bench. None where `word` is no colour or they are not `IsLawful`.
 pub fn options_of(non: bool, word: &[u8], history: u32) -> Option<Options>
     ensures value { result ≡ options_asked non word.now history }
     ensures lawful { IfSome result IsLawful }

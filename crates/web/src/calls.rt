@@ -20,7 +20,7 @@ use answers::VERSION;
 use core::mem::replace_with;
 use std::alloc::Global;
 
-/// Puts the version out, as far as there is room, and says how many bytes it has.
+/// Copies the version to `out`, as far as there is room, and returns its length in bytes.
 #[unsafe(no_mangle)]
 pub extern "C" fn nonobench_version(out: &mut [u8]) -> usize
     ensures all { result ≡ length VERSION.now }
@@ -30,7 +30,7 @@ pub extern "C" fn nonobench_version(out: &mut [u8]) -> usize
     copy_front(VERSION.as_bytes(), out)
 }
 
-/// Makes an empty desk, and puts its pointer in a cell that holds none. All other calls but the version's are handed that cell.
+/// Makes an empty desk, and puts its pointer in a cell that holds none. All other calls but the version's take that cell.
 #[unsafe(no_mangle)]
 pub extern "C" fn nonobench_start(alloc: Global, out: &mut DeskCell) -> u32
     requires { out.old.desk ≡ None }
@@ -58,7 +58,7 @@ pub extern "C" fn nonobench_end(cell: DeskCell)
     }
 }
 
-/// Opens a bench on a file, and puts its handle out, or 0 where none is opened. An error is the text.
+/// Opens a bench on a file, and sets `handle` to its handle, or to 0 where none is opened. The file's error is the text.
 #[unsafe(no_mangle)]
 pub extern "C" fn nonobench_open(
     held: &mut Held,
@@ -92,7 +92,7 @@ pub extern "C" fn nonobench_say(held: &mut Held, handle: u32, lines: &[u8]) -> u
     replace_with(held, (handle, lines), say_in)
 }
 
-/// Puts the text of the last call out, as far as there is room, and says how many bytes it has.
+/// Copies the text of the last call to `out`, as far as there is room, and returns its length in bytes.
 #[unsafe(no_mangle)]
 pub extern "C" fn nonobench_take(held: &mut Held, out: &mut [u8]) -> usize
     ensures all { result ≡ length held.old.desk.text.items }

@@ -10,7 +10,7 @@ use crate::held::Held;
 use std::alloc::Global;
 use std::marker::Model;
 
-/// The pointer, as C sees it, and the desk that lies there, where one does. Where none does, the pointer may be any.
+/// A pointer, as C sees it, and the desk that it points to, if any. Where there is none, it may be any pointer.
 #[repr(C)]
 #[derive(Drop)]
 pub struct DeskCell {
@@ -32,7 +32,7 @@ impl DeskCell {
         DeskCell { ptr, alloc }
     }
 
-    /// The desk, or None where the pointer is null.
+    /// Takes the desk out, or None where the pointer is null.
     pub fn into_held(self) -> Option<Held>
         requires { self.desk ≡ None → self.ptr ≡ null_ptr }
         ensures { MatchOption result (self.ptr ≡ null_ptr) (λ held. self.desk ≡ Some held.desk) }

@@ -32,7 +32,7 @@ pub struct Desk {
 }
 
 impl Desk {
-    /// No bench is open.
+    /// A desk without benches.
     pub fn make(alloc: Global) -> Result<Box<Desk>, AllocError>
         ensures seats { IfOk result (λ desk. desk.value.seats.items ≡ []) }
         ensures given { IfOk result (λ desk. desk.value.given ≡ 0) }
@@ -46,8 +46,8 @@ impl Desk {
         Ok(Box::new(alloc, desk)?)
     }
 
-    /// Opens a bench on a file, and tells the status and the handle, which was never given before, or 0. An error is
-    /// the text.
+    /// Opens a bench on a file, and returns the status and its handle, which was never given before, or 0 where none is
+    /// opened. The file's error is the text.
     pub fn open(&mut self, file: &[u8], options: &Options) -> (u32, u32)
         requires { IsLawful options.now }
         ensures { Opens file.now options.now self.old self.new result.0 result.1 }
@@ -141,7 +141,7 @@ impl Desk {
         Ok(handle)
     }
 
-    // Takes why a call was refused as the text, and tells its status. Where memory was refused, now too, there is no text.
+    // Makes the text say why a call was refused, and returns the status. Where memory was or is refused, there is no text.
     fn refuse(&mut self, fault: &ProgramFault) -> u32
         ensures tells { IsShort self.new.text.items result
             ⊎ Tells fault.now self.new.text.items result }
@@ -150,7 +150,7 @@ impl Desk {
         ensures kept { IsKept self.old self.new }
     {
         self.text.clear();
-        // A growth of the text that was refused is met as a failed write.
+        // A write to the text fails only where memory for it is refused.
         if matches!(fault, ProgramFault::Memory | ProgramFault::Write) {
             return MEMORY;
         }
@@ -161,7 +161,7 @@ impl Desk {
         u32::from(fault.status())
     }
 
-    // Where the bench of a handle stands.
+    // The place of the bench with a handle.
     fn place(&self, handle: u32) -> Option<usize>
         ensures place { result ≡ place_of self.now.seats.items handle }
         ensures within { IfSome result (λ at. at < length self.now.seats.items) }
@@ -170,8 +170,8 @@ impl Desk {
     }
 }
 
-// Runs a session on one bench. It ends early where memory for its text is refused, or a read more than a session makes is wanted:
-// where the lines have more than 4,294,963,200 bytes.
+// Runs a session on one bench. It ends early where memory for its text is refused, or where it needs more reads than a session
+// makes: where the lines have more than 4,294,963,200 bytes.
 fn say_at(alloc: Global, seat: &mut Seat, lines: &[u8], text: &mut Vec<u8>) -> u32
     ensures handle { seat.new.handle ≡ seat.old.handle }
     ensures runs { RunsOver lines.now text.old.items text.new.items seat.old.bench seat.new.bench

@@ -9,7 +9,7 @@ use crate::parts::Parts;
 use std::alloc::Global;
 use std::marker::Model;
 
-/// The pointer, as C sees it, and the desk that lies there.
+/// A pointer, as C sees it, and the desk that it points to.
 #[repr(C)]
 pub struct Held {
     pub(crate) ptr: *mut u8,

@@ -9,7 +9,7 @@ use answers::Options;
 use picture::Rgb;
 use std::mem::replace;
 
-/// Opens a bench on a file, by its options: the status and the handle.
+/// Opens a bench on a file with options, and returns the status and the handle.
 pub fn open_in(held: Held, asked: (&[u8], Options)) -> (Held, (u32, u32))
     requires { IsLawful asked.1 }
     ensures { Opens asked.entry.0.now asked.entry.1 held.desk
@@ -38,7 +38,7 @@ pub fn close_in(held: Held, handle: u32) -> (Held, u32)
     (Held::new(desk), status)
 }
 
-/// Checks a certificate: a file, its certificate and the background.
+/// Checks a certificate. `asked` is the file, the certificate and the background.
 pub fn check_in(held: Held, asked: (&[u8], &[u8], Option<Rgb>)) -> (Held, u32)
     ensures checks { Checks asked.entry.0.now asked.entry.2 asked.entry.1.now
         result.0.desk.text.items result.1 }
@@ -49,7 +49,7 @@ pub fn check_in(held: Held, asked: (&[u8], &[u8], Option<Rgb>)) -> (Held, u32)
     (Held::new(desk), status)
 }
 
-/// Checks a proof by lemmas: a file, its proof and the background.
+/// Checks a proof by lemmas. `asked` is the file, the proof and the background.
 pub fn verify_in(held: Held, asked: (&[u8], &[u8], Option<Rgb>)) -> (Held, u32)
     ensures verifies { Verifies asked.entry.0.now asked.entry.2 asked.entry.1.now
         result.0.desk.text.items result.1 }
@@ -60,7 +60,7 @@ pub fn verify_in(held: Held, asked: (&[u8], &[u8], Option<Rgb>)) -> (Held, u32)
     (Held::new(desk), status)
 }
 
-/// Makes a proof by lemmas: a file and the background.
+/// Makes a proof by lemmas. `asked` is the file and the background.
 pub fn prove_in(held: Held, asked: (&[u8], Option<Rgb>)) -> (Held, u32)
     ensures proves { Proves asked.entry.0.now asked.entry.1 result.0.desk.text.items result.1 }
     ensures kept { IsKept held.desk result.0.desk }
@@ -101,7 +101,7 @@ pub fn keep_text(held: Held, text: Vec<u8>) -> (Held, ())
     (Held::new(desk), ())
 }
 
-/// Copies as many bytes as there is room for, and says how many there are.
+/// Copies as many bytes as there is room for, and returns the length of the text.
 pub fn copy_front(text: &[u8], out: &mut [u8]) -> usize
     ensures all { result ≡ length text.now }
     ensures front { out.new ≡ take (length out.old) text.now ++ drop (length text.now) out.old }

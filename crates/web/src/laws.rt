@@ -1,4 +1,4 @@
-//! Laws of the desk, over any list of calls. A function does nothing, and its contract is the law.
+//! Laws of the desk, over any list of calls. Each function does nothing, and its contract is the law.
 
 ghost use Rattle.web.specs.Laws.{ClosedStayClosed, DesksStayOrderly, OthersStay};
 

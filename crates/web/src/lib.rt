@@ -1,4 +1,4 @@
-//! The workbench for a host that is not Rattle: benches under handles, bytes in, bytes out.
+//! The workbench as a library for hosts in other languages: benches under handles, bytes in, bytes out.
 #![tactic(auto)]
 
 mod asked;

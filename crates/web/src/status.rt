@@ -1,4 +1,4 @@
-//! What a call tells the host in a number.
+//! The statuses that calls return to the host.
 
 /// The call did what it was asked for.
 pub const DONE: u32 = 0;
@@ -9,5 +9,5 @@ pub const MEMORY: u32 = 4;
 /// No bench has that handle: it was closed, or never given.
 pub const CLOSED: u32 = 5;
 
-/// The options are not those of a bench.
+/// The options or the background are not lawful.
 pub const OPTIONS: u32 = 6;

@@ -1,4 +1,4 @@
--- Laws of sets of line names: which are one, how many names they have, and where they are empty.
+-- Laws of sets of line names: which are equal, how many names they have, and where they are empty.
 use Rattle.std.proofs.Common.{◌≡◌, ◌+◌, ◌≤◌, ◌↔◌, sym, subst, arith, inl, inr}
 use Rattle.std.proofs.lemmas.Nat.{ones-le}
 use Rattle.picture.specs.declared.line_id.Axis.TheVariants.{Across, Down}
@@ -7,7 +7,7 @@ use Rattle.picture.specs.LineSet.{Lines, IsLineSet, HasName, PutsNames, TakesOut
 use Rattle.picture.proofs.BitLaws.{same_bits}
 use Rattle.picture.proofs.LineSetLaws.{members, fewer_out}
 
--- sets that have the same names are one, whatever their tables
+-- sets that have the same names are equal
 pub same_lines : (a b : Lines) → ((line : LineId) → HasName a line ↔ HasName b line) → a ≡ b
 same_lines a b h =
     let r : a.rows ≡ b.rows = same_bits a.rows b.rows (λ k. h (record { axis = Across; at = k })) in
@@ -20,7 +20,7 @@ no_name_is_empty lines h = same_lines lines no_names (λ line. ((λ s. absurd (h
 pub few_names : (lines : Lines) → IsLineSet lines → name_count lines ≤ 240
 few_names lines is = omega (arith, ones-le 120 lines.rows is.rows_within, ones-le 120 lines.columns is.columns_within)
 
--- one line less
+-- one line fewer
 pub take_counts : (old new : Lines) (line : LineId) → HasName old line → TakesOutName old new line → name_count old ≡ name_count new + 1
 take_counts old new line h t = sym (fewer_out old new line t h)
 

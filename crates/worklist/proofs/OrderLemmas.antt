@@ -1,4 +1,4 @@
--- The first name that waits, going round, and the newest one.
+-- The first name that waits, in cyclic order, and the newest one.
 use Rattle.std.proofs.Common.{◌≡◌, ◌≢◌, ℕ, ◌+◌, ◌-◌, ◌<◌, ◌≤◌, List, [], ◌∷◌, ◌++◌, length, set, take, refl, sym, ap, subst, ◌∙◌, arith, ◌⊎◌, inl, inr}
 use Rattle.std.specs.Prelude.{IsBitSet}
 use Rattle.std.proofs.lemmas.Bool.{cases_lt}
@@ -19,7 +19,7 @@ axis_or_other Across Down = inr refl
 axis_or_other Down Across = inr refl
 axis_or_other Down Down = inl refl
 
--- ---- how far on a place of one axis or the other is
+-- ---- how far ahead a place on one axis or the other is
 
 on_ahead : (axis : Axis) (from at : ℕ) → from ≤ at → at < 120 → places_on (place_along axis from) (place_along axis at) ≡ at - from
 on_ahead Across from at h l = omega arith
@@ -117,7 +117,7 @@ newest_taken old stack len lines e h l =
     let s : len ≡ len - 1 + 1 = omega arith in
     sym (ap (λ (p : Pile). p.order) e) ∙ (ap (λ n. take n stack) s ∙ take_more stack (len - 1) (record { axis = Across; at = 0 }) (omega arith))
 
--- ---- what came above what waited
+-- ---- what is new, after what waited
 
 pub nothing_above : (old : List LineId) → PutsAbove old old
 nothing_above old = ([], sym (append-nil old))

@@ -6,7 +6,7 @@ use Rattle.picture.specs.declared.line_id.LineId.{LineId}
 use Rattle.picture.specs.declared.picture.TheConstants.{MAX_SIDE}
 use Rattle.picture.specs.LineSet.{Lines, IsLineSet, HasName, TakesOutName, name_count, no_names}
 
--- a name leaves the set, or the set is empty
+-- a name is taken out of the set, or the set is empty
 abbrev pub Takes : Lines → Lines → Option LineId → Type 0
 Takes old new None = (old ≡ no_names) × (new ≡ no_names)
 Takes old new (Some line) = HasName old line × TakesOutName old new line

@@ -1,4 +1,4 @@
--- In which order agendas give their lines.
+-- The orders in which agendas give their lines.
 use Rattle.std.specs.Prelude.{◌≡◌, ℕ, ◌+◌, ◌-◌, ◌*◌, ◌%◌, ◌≤◌, List, [], ◌∷◌, ◌++◌, Option, None, Some}
 use Rattle.picture.specs.declared.line_id.Axis.{Axis}
 use Rattle.picture.specs.declared.line_id.Axis.TheVariants.{Across, Down}
@@ -6,9 +6,9 @@ use Rattle.picture.specs.declared.line_id.LineId.{LineId}
 use Rattle.picture.specs.declared.picture.TheConstants.{MAX_SIDE}
 use Rattle.picture.specs.LineSet.{Lines, HasName}
 
--- ---- going round
+-- ---- in cyclic order
 
--- all names stand in a circle: the rows by number, then the columns by number
+-- the place of a name in the circle of all names: the rows by number, then the columns by number
 abbrev pub place_along : Axis → ℕ → ℕ
 place_along Across at = at
 place_along Down at = MAX_SIDE + at
@@ -24,11 +24,11 @@ pub record Round : Type 0 where
 abbrev pub round : Lines → ℕ → Round
 round waiting from = record { waiting = waiting; from = from }
 
--- how many places one follows another, going round
+-- how many places one place follows another in the circle
 abbrev pub places_on : ℕ → ℕ → ℕ
 places_on from place = (place + 2 * MAX_SIDE - from) % (2 * MAX_SIDE)
 
--- the first name that waits, going round
+-- the first name that waits, in cyclic order from where the agenda goes on
 pub record IsNextRound (before : Round) (line : LineId) : Type 0 where
   pub waits : HasName before.waiting line
   pub first : (other : LineId) → HasName before.waiting other
@@ -54,7 +54,7 @@ pub record PutsNewest (old new : Pile) (line : LineId) : Type 0 where
   pub known : HasName old.waiting line → new.order ≡ old.order
   pub fresh : ¬ HasName old.waiting line → new.order ≡ old.order ++ line ∷ []
 
--- what came stands above what waited, which keeps its order
+-- what is new comes after what waited, which keeps its order
 abbrev pub PutsAbove : List LineId → List LineId → Type 0
 PutsAbove old new = (added : List LineId) × (new ≡ old ++ added)
 

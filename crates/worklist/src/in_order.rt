@@ -1,4 +1,4 @@
-//! The worklist that goes round: rows, then columns, by number.
+//! The worklist in cyclic order: rows, then columns, by number.
 
 ghost use Rattle.std.specs.Prelude.{◌≡◌, ◌<◌, ◌≤◌, MatchOption};
 ghost use Rattle.picture.specs.LineSet.{PutsName, PutsNames, no_names};
@@ -9,8 +9,8 @@ use crate::agenda::Agenda;
 use picture::{Axis, LineId, LineSet, MAX_SIDE};
 use std::marker::Model;
 
-/// An agenda that goes round: rows by number, then columns by number, on from the line that was taken last. It begins
-/// with the first row, and again after `clear`. Its table is fixed, so it takes no memory.
+/// An agenda in cyclic order: rows by number, then columns by number, on from the line that was taken last. It begins
+/// with the first row, and does so again after `clear`. Its table has a fixed size, so it allocates nothing.
 #[derive(Drop)]
 pub struct InOrder {
     lines: LineSet,
@@ -32,7 +32,7 @@ impl Model for InOrder {
 }
 
 impl InOrder {
-    /// The agenda without a line.
+    /// The empty agenda.
     pub fn make() -> InOrder
         ensures { result ≡ round no_names 0 }
     {
@@ -81,7 +81,7 @@ impl Agenda for InOrder {
     }
 }
 
-// The first line from a place on, going round.
+// The first line from a place on, in cyclic order.
 fn next_line(lines: &LineSet, axis: Axis, from: u8) -> Option<LineId>
     requires { from ≤ MAX_SIDE }
     ensures { MatchOption

@@ -13,8 +13,8 @@ use std::marker::Model;
 // How many lines a picture has at most.
 const MOST_LINES: usize = 2 * MAX_SIDE as usize;
 
-/// An agenda that takes the line that was put on last and is still there. A line that is put on while it waits keeps its
-/// place. Its table is fixed, so it takes no memory.
+/// An agenda that takes the line that was put on last and is still there. A line that is put on while it waits keeps
+/// its place. Its table has a fixed size, so it allocates nothing.
 #[derive(Drop)]
 pub struct NewestFirst {
     stack: [LineId; MOST_LINES],
@@ -35,7 +35,7 @@ impl Model for NewestFirst {
 }
 
 impl NewestFirst {
-    /// The agenda without a line.
+    /// The empty agenda.
     pub fn make() -> NewestFirst
         ensures { result ≡ pile no_names [] }
     {
@@ -48,7 +48,7 @@ impl NewestFirst {
         }
     }
 
-    // Puts the lines of a set along an axis on the agenda, by number.
+    // Puts the lines of a set along an axis on the agenda, in ascending order.
     fn put_along(&mut self, lines: &LineSet, axis: Axis)
         ensures members { PutsAlong axis lines.now self.old.waiting self.new.waiting }
         ensures newest { PutsAbove self.old.order self.new.order }

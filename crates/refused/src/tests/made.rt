@@ -1,4 +1,4 @@
-//! What the tests begin with, made again where a growth was refused.
+//! What the tests begin with, made again where an allocation was refused.
 
 use super::{Memory, first_of};
 use clues::ClueBook;
@@ -20,7 +20,7 @@ pub const PAIR: &[u8] = b"P3 2 2 255 0 0 0 255 255 255 255 255 255 0 0 0\n";
 pub const DIAGONALS: &[u8] =
     b"P3 4 4 1 0 0 0 1 1 1 1 1 1 1 1 1 1 1 1 0 0 0 1 1 1 1 1 1 1 1 1 1 1 1 1 0 0 1 1 1 1 1 1 1 1 1 1 1 1 1 0 0\n";
 
-/// How many cells the row has: so many that what a step draws takes memory.
+/// How many cells the row has: enough for a step to allocate memory for what it draws.
 pub const CELLS: u8 = 20;
 
 pub fn document_of(rt: &impl Abort, alloc: Global, memory: Memory, file: &[u8]) -> Document {
@@ -59,7 +59,7 @@ pub fn clues_of_row(rt: &impl Abort, alloc: Global, memory: Memory) -> ClueBook 
     first_of(rt, memory, AllocError, first, row_clues(rt, alloc))
 }
 
-/// Exclusions by which of the row's cells the last one alone may have colour 1.
+/// Exclusions that leave colour 1 only in the last cell of the row.
 pub fn row_base(rt: &impl Abort, alloc: Global) -> Result<Facts, AllocError> {
     let mut facts = Facts::none(alloc, 1, CELLS)?;
     for at in 0..CELLS - 1 {
@@ -73,7 +73,7 @@ fn row_book(rt: &impl Abort, alloc: Global) -> Result<Book, AllocError> {
     Book::start(alloc, row_base(rt, alloc)?)
 }
 
-/// The book without a step over these exclusions.
+/// A book without a step over the exclusions of `row_base`.
 pub fn book_of_row(rt: &impl Abort, alloc: Global, memory: Memory) -> Book {
     let first = row_book(rt, alloc);
     first_of(rt, memory, AllocError, first, row_book(rt, alloc))

@@ -1,5 +1,5 @@
-//! Benches. Two of them are asked the same, the second one a call behind, so that a bench that refused is compared with one that
-//! was not asked yet.
+//! Benches. Two of them get the same calls, the second one a call later, so that a bench that refused a call is compared with
+//! one that did not get it yet.
 
 use super::made::{PAIR, document_of};
 use super::shown::{cells_of, same_audit};
@@ -15,7 +15,7 @@ use std::process::Abort;
 
 type Desk = Bench<MaskEngine, InOrder>;
 
-// What is asked of a bench.
+// A call of a bench.
 #[derive(Clone, Copy)]
 enum Call {
     Make(Edit),
@@ -27,7 +27,7 @@ enum Call {
     Why,
 }
 
-// What is answered, with how many parts were searched for a verdict.
+// The answer to a call. A verdict has the number of parts that were searched for it.
 #[derive(Clone, Copy, PartialEq, Eq)]
 enum Said {
     Done,
@@ -43,9 +43,9 @@ const RED: Rgb = Rgb { r: 255, g: 0, b: 0 };
 // The other picture with the clues of `a.` above `.a`.
 const OTHER: [u8; 16] = [0, 1, 0, 0, 1, 0, 0, 0, 0, 0, 0, 0, 0, 0, 0, 0];
 
-// A pair is judged under allowances, a given decides it, and a red cell is painted beside the given. The other picture is lent
-// again as long as it is kept, whatever is allowed, also where a certificate's call found it. Row 2 has a black cell; that it is
-// not its first one follows from the first column's one block, which the given is.
+// `PAIR` is judged under allowances, a given decides it, and a red cell is painted beside the given. While the other picture is
+// kept, it is returned again whatever the allowance, also where `certify` found it. Row 2 has a black cell; that it is not the
+// first one follows from the one block of the first column, which is the given.
 const SCRIPT: [(Call, Said); 19] = [
     (Call::Allow(0), Said::Done),
     (Call::Judge, Said::Undecided(1)),
@@ -89,7 +89,7 @@ fn judged(bench: &mut Desk) -> Result<Said, AllocError> {
     })
 }
 
-// From how many premises the first cell of row 2 is not black.
+// The number of premises from which it follows that the first cell of row 2 is not black.
 fn explained(rt: &impl Abort, bench: &Desk) -> Result<Said, AllocError> {
     let picture = &bench.document().picture;
     assert!(rt; picture.height() == 2 && picture.width() == 2);
@@ -118,7 +118,7 @@ fn answer(rt: &impl Abort, bench: &mut Desk, call: Call) -> Result<Said, EditFau
     Ok(Said::Done)
 }
 
-// Asks the first bench, and again where a growth was refused.
+// Makes a call of the first bench, and makes it again where an allocation was refused.
 fn asks(rt: &impl Abort, memory: Memory, bench: &mut Desk, still: &Desk, call: Call) -> Said {
     match answer(rt, bench, call) {
         Ok(said) => said,
@@ -130,7 +130,7 @@ fn asks(rt: &impl Abort, memory: Memory, bench: &mut Desk, still: &Desk, call: C
     }
 }
 
-// Asks the second bench, and again where a growth was refused.
+// Makes a call of the second bench, and makes it again where an allocation was refused.
 fn follows(rt: &impl Abort, memory: Memory, bench: &mut Desk, call: Call) -> Said {
     match answer(rt, bench, call) {
         Ok(said) => said,
@@ -141,7 +141,7 @@ fn follows(rt: &impl Abort, memory: Memory, bench: &mut Desk, call: Call) -> Sai
     }
 }
 
-// A bench that can take back two edits, with a copy of a document.
+// A bench for a copy of a document, which can undo two edits.
 fn bench_with(rt: &impl Abort, alloc: Global, document: &Document) -> Result<Desk, AllocError> {
     let engine = MaskEngine::make(alloc, MAX_SIDE)?;
     assert!(rt; engine.longest() == MAX_SIDE);
@@ -159,7 +159,7 @@ fn bench_of(rt: &impl Abort, alloc: Global, memory: Memory, document: &Document)
     )
 }
 
-// Leads two benches through the script.
+// Makes the calls of the script on two benches.
 fn leads(rt: &impl Abort, memory: Memory, one: &mut Desk, other: &mut Desk) {
     for (call, want) in SCRIPT.iter() {
         let said = asks(rt, memory, one, other, *call);

@@ -1,4 +1,4 @@
-//! Books that are closed, run through and kept.
+//! Books that are closed, extended by a schedule, and kept.
 
 ghost use Rattle.std.specs.List.{All};
 ghost use Rattle.justify.specs.Book.{IsDerivation};
@@ -17,7 +17,7 @@ use retract::{Kept, keep};
 use std::alloc::{AllocError, Global};
 use std::process::Abort;
 
-// The first column, the row and the last column, of which the first two draw a step each.
+// The first column, the row and the last column. Each of the first two draws a step.
 const LINES: [LineId; 3] = [
     LineId {
         axis: Axis::Down,
@@ -33,7 +33,7 @@ const LINES: [LineId; 3] = [
     },
 ];
 
-// Stops where a book of the row does not follow from the clues.
+// Panics where a book of the row is not a derivation from the clues.
 fn follows(rt: &impl Abort, engine: &mut MaskEngine, book: &Book, clues: &ClueBook)
     ensures { IsDerivation clues.now book.now }
 {
@@ -43,7 +43,7 @@ fn follows(rt: &impl Abort, engine: &mut MaskEngine, book: &Book, clues: &ClueBo
     assert!(rt; stands);
 }
 
-// Stops where a line is none of the facts.
+// Panics where some line is not a line of the facts.
 fn are_lines(rt: &impl Abort, facts: &Facts, lines: &[LineId])
     ensures { All (HasLine facts.now) lines.now }
 {
@@ -55,7 +55,7 @@ fn are_lines(rt: &impl Abort, facts: &Facts, lines: &[LineId])
     }
 }
 
-// Closes a book of which every line may say something new.
+// Closes a book of which every line is dirty.
 fn closed(
     rt: &impl Abort,
     engine: &mut MaskEngine,
@@ -108,7 +108,7 @@ fn kept(
     keep(alloc, book, clues, clues, &change, base)
 }
 
-// Stops where a book has another number of steps, or does not leave colour 1 in the last cell alone.
+// Panics unless a book has this number of steps and settles all cells, only the last to colour 1.
 fn is_settled(rt: &impl Abort, book: &Book, steps: usize) {
     let facts = book.facts();
     equal(rt, "steps", book.steps().len(), steps);

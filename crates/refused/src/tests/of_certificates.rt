@@ -62,7 +62,7 @@ fn read(rt: &impl Abort, alloc: Global, memory: Memory) -> Cert {
     first_of(rt, memory, CertFault::Memory, first, read_cert(alloc, TEXT))
 }
 
-// Writes it into memory that is there, so that none is taken.
+// Writes it into a text that has room for it, so that nothing is allocated.
 fn writes(rt: &impl Abort, alloc: Global, memory: Memory, cert: &Cert) {
     let room = Vec::with_capacity(alloc, TEXT.len());
     let again = Vec::with_capacity(alloc, TEXT.len());
@@ -95,7 +95,7 @@ fn checks(
     first_of(rt, memory, CertFault::Memory, first, second);
 }
 
-// Makes one with the red cell as its given.
+// Makes a certificate with the red cell as its given.
 fn made(
     rt: &impl Abort,
     alloc: Global,

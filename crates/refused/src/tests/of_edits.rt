@@ -1,5 +1,5 @@
-//! Pictures, their texts and edits. Two studios are asked the same, the second one a call behind, so that a studio that refused
-//! is compared with one that was not asked yet.
+//! Pictures, their texts and edits. Two studios get the same calls, the second one a call later, so that a studio that refused
+//! a call is compared with one that did not get it yet.
 
 ghost use Rattle.std.specs.Prelude.{IfOk};
 ghost use Rattle.edits.specs.History.{IsPlanFor};
@@ -12,7 +12,7 @@ use picture::{Axis, Document, LineId, Rgb};
 use std::alloc::{AllocError, Global};
 use std::process::Abort;
 
-// What is asked of a studio.
+// A call of a studio.
 #[derive(Clone, Copy)]
 enum Call {
     Make(Edit),
@@ -71,7 +71,7 @@ const EDITS: [Edit; 11] = [
 
 const LAST: [u8; 16] = [2, 2, 1, 0, 0, 0, 0, 0, 0, 0, 0, 0, 0, 0, 0, 0];
 
-// What a call comes to, which the studio can take.
+// Prepares the step of a call, which the studio can then commit.
 fn prepared(alloc: Global, studio: &Studio, call: Call) -> Result<Prepared, EditFault>
     ensures { IfOk result (λ p. IsPlanFor studio.now p) }
 {
@@ -88,7 +88,7 @@ fn same_studio(rt: &impl Abort, one: &Studio, other: &Studio) {
     equal(rt, "the future", one.future_len(), other.future_len());
 }
 
-// Asks the first studio, and again where a growth was refused.
+// Makes a call of the first studio, and makes it again where an allocation was refused.
 fn takes(
     rt: &impl Abort,
     alloc: Global,
@@ -108,8 +108,8 @@ fn takes(
     }
 }
 
-// Asks the second studio, and again where a growth was refused. The document that is lent before the step is taken is the one
-// that it leads to.
+// Makes a call of the second studio, and makes it again where an allocation was refused. The document of the prepared step is
+// that of the first studio, which has taken it.
 fn follows(
     rt: &impl Abort,
     alloc: Global,
@@ -130,7 +130,7 @@ fn follows(
     same_studio(rt, studio, ahead);
 }
 
-// Two studios, the second one a call behind.
+// Two studios, of which the second gets each call later.
 #[derive(Drop)]
 struct Pair {
     first: Studio,
@@ -167,7 +167,7 @@ fn makes_all(rt: &impl Abort, alloc: Global, memory: Memory, pair: &mut Pair) {
     equal(rt, "colours", document.palette.len(), 4);
 }
 
-// Takes all edits back, and makes one again.
+// Undoes all edits, and redoes one.
 fn takes_all_back(
     rt: &impl Abort,
     alloc: Global,

@@ -48,7 +48,7 @@ fn read(rt: &impl Abort, alloc: Global, memory: Memory) -> LemmaProof {
     )
 }
 
-// Writes it into memory that is there, so that none is taken.
+// Writes it into a text that has room for it, so that nothing is allocated.
 fn writes(rt: &impl Abort, alloc: Global, memory: Memory, proof: &LemmaProof) {
     let room = Vec::with_capacity(alloc, TEXT.len());
     let again = Vec::with_capacity(alloc, TEXT.len());
@@ -82,7 +82,7 @@ fn checks(
     first_of(rt, memory, CertFault::Memory, first, second);
 }
 
-// Makes one with the red cell as its given.
+// Makes a proof with the red cell as its given.
 fn made(
     rt: &impl Abort,
     alloc: Global,

@@ -20,7 +20,7 @@ use second_search::{Judged, Keeper, Scene, find_first, find_other, laws};
 use std::alloc::{AllocError, Global};
 use std::process::Abort;
 
-// The two diagonals with one red cell more: the second part is settled, and each line through the first is the same.
+// The two diagonals with one more red cell: the second part is now settled, and the lines through the first are as before.
 const PAINTED: &[u8] =
     b"P3 4 4 1 0 0 0 1 1 1 1 1 1 1 1 1 1 1 1 0 0 0 1 1 1 1 1 1 1 1 1 1 1 1 1 0 0 1 1 1 1 1 1 1 1 1 1 0 0 1 0 0\n";
 
@@ -116,7 +116,7 @@ fn puzzle_of(
     Ok(puzzle_with(picture, book, start, facts))
 }
 
-// Makes a puzzle, if need be again.
+// Makes a puzzle, and makes it again where an allocation was refused.
 fn first_puzzle(
     rt: &impl Abort,
     alloc: Global,
@@ -135,7 +135,7 @@ fn first_puzzle(
     }
 }
 
-// Keeps the parts of a puzzle, if need be after a refusal.
+// Starts a keeper for the parts of a puzzle, again where an allocation was refused.
 fn first_keeper(rt: &impl Abort, alloc: Global, memory: Memory, puzzle: &Puzzle) -> Keeper
     ensures parts { AreParts puzzle.now.facts (parts_of result) }
     ensures true_answers { AreTrue puzzle.now.book puzzle.now.givens puzzle.now.picture result }
@@ -182,7 +182,7 @@ fn other(
     find_other(alloc, engine, book, givens, facts, picture)
 }
 
-// Looks for another picture in the whole.
+// Looks for another picture with the clues of the puzzle.
 fn finds_other(
     rt: &impl Abort,
     alloc: Global,
@@ -198,7 +198,7 @@ fn finds_other(
     assert!(rt; puzzle.book.has_clues(&other) && !other.same(&puzzle.picture));
 }
 
-// The other picture that a judgement lends, and how many parts were searched and how often they split.
+// The other picture that a judgement returns, and how many parts were searched with how many splits.
 #[derive(Clone, Copy, PartialEq, Eq)]
 struct Report {
     other: Option<[u8; 16]>,
@@ -240,7 +240,7 @@ fn judge(
     })
 }
 
-// Judges a picture, if need be again: where a growth is refused nothing is kept.
+// Judges a picture, again where an allocation was refused; then no other filling was kept.
 fn judge_again(
     rt: &impl Abort,
     memory: Memory,
@@ -293,8 +293,8 @@ fn carry(keeper: &Keeper, before: &Puzzle, after: &Puzzle) -> Result<Keeper, All
     keeper.carry(&before, &after)
 }
 
-// Judges a picture, of which the first part is searched, and carries that to another one. The picture that is lent is the one
-// that is kept, and it is lent again without a search.
+// Judges a picture, whose first part is searched, and carries what is kept to another picture. The other picture that is
+// returned is the one that is kept, and it is returned again without a search.
 fn judges(
     rt: &impl Abort,
     memory: Memory,

@@ -16,7 +16,7 @@ const ROW: LineId = LineId {
     at: 0,
 };
 
-// Puts the step into the book that a row gives next, and says whether it gave one.
+// Adds the next step of a row to the book, and says whether the row gave one.
 fn draw(
     rt: &impl Abort,
     engine: &mut MaskEngine,
@@ -41,7 +41,7 @@ fn draw(
     }
 }
 
-// Lets the row draw, a second time where a growth was refused.
+// Lets the row draw, and draw again where an allocation was refused.
 fn draws(
     rt: &impl Abort,
     memory: Memory,
@@ -61,7 +61,7 @@ fn draws(
     assert!(rt; is_drawn);
 }
 
-// The step draws on each cell, from what is given on all but the last.
+// The step draws on each cell, from premises on all cells but the last.
 fn has_the_step(rt: &impl Abort, book: &Book) {
     let steps = book.steps();
     assert!(rt; steps.len() == 1);
@@ -110,7 +110,7 @@ fn explains(
     );
 }
 
-// The book of the step.
+// The book with the step of the row.
 fn drawn(
     rt: &impl Abort,
     alloc: Global,

@@ -1,4 +1,4 @@
-//! Whether two values show the same.
+//! Compares what two values show.
 
 use super::equal;
 use clues::{Clue, ClueBook};
@@ -10,7 +10,7 @@ use picture::{Axis, Document, LineId, Picture};
 use propagate::InOrder;
 use std::process::Abort;
 
-/// Stops where two benches show other documents, clues, books, maps, histories or counts of work.
+/// Panics where two benches differ in document, clues, book, map, history or counts of work.
 pub fn same_audit(
     rt: &impl Abort,
     one: &Bench<MaskEngine, InOrder>,
@@ -74,7 +74,7 @@ fn same_step(rt: &impl Abort, one: &Step, other: &Step) {
     equal(rt, "drawn", one.drawn.as_slice(), other.drawn.as_slice());
 }
 
-/// Stops where two books have another base, other steps or other facts.
+/// Panics where two books differ in their base, steps or facts.
 pub fn same_book(rt: &impl Abort, one: &Book, other: &Book) {
     same_facts(rt, one.base(), other.base());
     equal(rt, "steps", one.steps().len(), other.steps().len());

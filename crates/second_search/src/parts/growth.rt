@@ -73,7 +73,7 @@ impl Growth {
         });
     }
 
-    // A line waits unless it was visited.
+    // Lets a line wait, unless it was visited.
     fn wait_for(&mut self, line: LineId)
         requires { line.at < MAX_SIDE }
         ensures waiting { (other : LineId) → HasName self.new.waiting other
@@ -135,7 +135,7 @@ impl Growth {
         }
     }
 
-    // A line was visited.
+    // Marks a line as visited.
     fn leave(&mut self, line: LineId)
         requires near { line.at < MAX_SIDE }
         requires unvisited { HasName self.old.unvisited line }

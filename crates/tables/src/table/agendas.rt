@@ -1,7 +1,7 @@
 //! Agendas, which say in what order lines are evaluated.
 //!
-//! `agenda inorder WORD ..` or `agenda newest WORD ..`: a line waits, or several that are joined by commas do at once; `clear`
-//! forgets them; `take` takes one, whose name is printed, and `-` where none waits.
+//! `agenda inorder WORD ..` or `agenda newest WORD ..`: the name of a line puts it, or several names joined by commas at once;
+//! `clear` forgets all; `take` takes a line and prints its name, or `-` where none waits.
 
 use anyhow::{Result, bail, ensure};
 use picture::{LineSet, MAX_SIDE};
@@ -9,7 +9,7 @@ use propagate::{Agenda, InOrder, NewestFirst};
 use std::alloc::Global;
 use table_words::{line_in, push_line};
 
-/// Tells in what order an agenda gives lines.
+/// Prints in what order an agenda gives lines.
 pub fn tell(rt: &(impl AllocGlobal + Print), words: &[&str]) -> Result<()> {
     let taken = match words {
         [_, "inorder", turns @ ..] => taken_by(rt.alloc(), &mut InOrder::make(), turns)?,

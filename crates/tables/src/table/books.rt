@@ -2,9 +2,9 @@
 //!
 //! `go-on PICTURE ; TURN ; TURN ..` begins a book without a step over what the picture's givens exclude, and prints its
 //! steps and facts after the last turn. A turn is lines, as `r1,c2`, which are evaluated one after the other; `close`
-//! or `close newest`, with all lines waiting; or an edit, `undo` or `redo` in a session's words, after which what
-//! stands is kept, and the dirty lines are told. The evaluations of each turn are counted. Both engines have to say the
-//! same.
+//! or `close newest`, with all lines waiting; or an edit, `undo` or `redo` in a session's words, after which the steps
+//! that stand are kept, and the dirty lines are printed. The evaluations of each turn are counted. Both engines must
+//! give the same text.
 
 ghost use Rattle.std.specs.Prelude.{◌≡◌, IfOk, OnOk};
 ghost use Rattle.std.specs.List.{All};
@@ -38,7 +38,7 @@ struct Desk {
     ghost follows: { IsDerivation clues book },
 }
 
-/// Tells what becomes of a book.
+/// Prints what becomes of a book.
 pub fn tell(rt: &(impl AllocGlobal + Print), words: &[&str]) -> Result<()> {
     let alloc = rt.alloc();
     let mut mask = MaskEngine::make(alloc, MAX_SIDE)?;
@@ -50,7 +50,7 @@ pub fn tell(rt: &(impl AllocGlobal + Print), words: &[&str]) -> Result<()> {
     Ok(())
 }
 
-// What an engine makes of a book.
+// The text of a book's turns, with one engine.
 fn told_by<E: LineEngine>(alloc: Global, engine: &mut E, words: &[&str]) -> Result<String> {
     let [_, picture, ..] = words else {
         bail!("go-on PICTURE ; TURN ..");
@@ -176,7 +176,7 @@ fn go_further<E: LineEngine>(
     }
 }
 
-// Stops where an engine or clues do not fit a book.
+// An error where an engine or clues do not fit a book.
 fn fits<E: LineEngine>(engine: &E, book: &Book, clues: &ClueBook) -> Result<()>
     ensures { OnOk result (AreClosable clues.now (E.longest engine.now) book.now.facts
         × AreClosable clues.now (E.longest engine.now) book.now.base) }
@@ -225,7 +225,7 @@ fn lines_in(alloc: Global, word: &str) -> Result<Vec<LineId>> {
     Ok(lines)
 }
 
-// Stops where a line is none of the facts.
+// An error where some line is not a line of the facts.
 fn are_lines(facts: &Facts, lines: &[LineId]) -> Result<()>
     ensures { OnOk result (All (HasLine facts.now) lines.now) }
 {
@@ -257,7 +257,7 @@ fn close_all<E: LineEngine, A: Agenda>(
     Ok(book)
 }
 
-// Takes an edit, or a step along those that were made, and keeps what stands of the book.
+// Takes an edit, an undo or a redo, and keeps the steps of the book that stand.
 fn keep_after(alloc: Global, desk: Desk, turn: &[&str], text: &mut String) -> Result<Desk> {
     let prepared = prepared_by(alloc, &desk.studio, turn_in(turn)?)?;
     let (clues, kept) = kept_of(alloc, &desk, &prepared)?;
@@ -280,7 +280,7 @@ fn gone_on(desk: Desk, prepared: Prepared, clues: ClueBook, book: Book) -> Desk
     }
 }
 
-/// An edit, or a step along those that were made.
+/// An edit, an undo or a redo.
 #[derive(Drop)]
 enum Turn {
     Edit(Edit),
@@ -297,7 +297,7 @@ fn turn_in(words: &[&str]) -> Result<Turn> {
     }
 }
 
-// What a turn comes to.
+// A turn, as the studio prepares it.
 fn prepared_by(alloc: Global, studio: &Studio, turn: Turn) -> Result<Prepared>
     ensures plan { IfOk result (IsPlanFor studio.now) }
     ensures change { IfOk result

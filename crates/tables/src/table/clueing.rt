@@ -1,6 +1,6 @@
 //! Clues over an edit.
 //!
-//! `refresh ROWS EDIT ..` makes an edit and goes on with the clues from before it: the new
+//! `refresh ROWS EDIT ..` makes an edit and refreshes the clues from before it: the new
 //! picture, its clues and the lines of it that the edit touches are printed.
 
 ghost use Rattle.std.specs.Prelude.{◌≡◌, IfOk};
@@ -14,7 +14,7 @@ use picture::{Document, Picture};
 use std::alloc::Global;
 use table_words::{document_in, edit_in, push_clues, push_rows, push_touched};
 
-/// Tells how clues go on.
+/// Prints clues as an edit refreshes them.
 pub fn tell(rt: &(impl AllocGlobal + Print), words: &[&str]) -> Result<()> {
     let alloc = rt.alloc();
     let ["refresh", rows, edit @ ..] = words else {
@@ -34,7 +34,7 @@ fn refresh_text(alloc: Global, rows: &str, edit: &[&str]) -> Result<String> {
     changed_text(alloc, old, prepared.document(), prepared.change())
 }
 
-// What a change to a document comes to.
+// The new picture of a change, its clues and the lines that are touched.
 fn changed_text(alloc: Global, old: &Document, new: &Document, change: &Change) -> Result<String>
     requires { IsChangeOf change.now old.now.picture new.now.picture }
 {
@@ -48,7 +48,7 @@ fn changed_text(alloc: Global, old: &Document, new: &Document, change: &Change) 
     Ok(text)
 }
 
-// The clues of a picture from those of the one before, as a caller learns it from clauses alone.
+// The clues of a picture, refreshed from those of the one before. The clauses of `clues` prove them right.
 fn refreshed(alloc: Global, old: &Picture, new: &Picture, change: &Change) -> Result<ClueBook>
     requires { IsChangeOf change.now old.now new.now }
     ensures { IfOk result (λ book. book ≡ clues_of new.now) }

@@ -1,7 +1,7 @@
 //! Edits and what is kept of them.
 //!
-//! `edit PICTURE EDIT ..` prints the error of an edit in a session's words; or what is kept of it, the picture after it
-//! with the lines that it touches, and the picture after it is taken back with the lines that this touches.
+//! `edit PICTURE EDIT ..` takes an edit in a session's words, and prints its error; or what is kept of it, the picture
+//! after it with the lines that it touches, and the picture after it is undone with the lines that this touches.
 
 ghost use Rattle.clues.specs.Change.{IsChangeOf};
 ghost use Rattle.edits.specs.History.{IsPlanFor};
@@ -12,7 +12,7 @@ use picture::Rgb;
 use std::alloc::{AllocError, Global};
 use table_words::{document_in, edit_in, letter_of, push_rows, push_touched};
 
-/// Tells what becomes of an edit.
+/// Prints what becomes of an edit.
 pub fn tell(rt: &(impl AllocGlobal + Print), words: &[&str]) -> Result<()> {
     let alloc = rt.alloc();
     let ["edit", picture, edit @ ..] = words else {
@@ -53,7 +53,7 @@ fn made_text(alloc: Global, studio: &mut Studio, prepared: Prepared) -> Result<S
     Ok(text)
 }
 
-// Appends to a text what taking the last edit back comes to.
+// Appends to a text what undoing the last edit prepares.
 fn push_undone(text: &mut String, studio: &Studio) -> Result<()> {
     let prepared = studio.prepare_undo()?;
     push_prepared(text, studio, &prepared)

@@ -1,11 +1,11 @@
 //! Calls on one line.
 //!
-//! `narrow CLUE MASKS` lets both engines narrow a line, and prints what is left, or `dead`. `engine CELLS` prints what a line engine
-//! for so many cells says of itself. `leave-out CLUE MASKS AMONG` draws of some colours those that the line forces, and prints them and
-//! the masks that are needed for that. `force FACTS LINE CLUE` forces a line of a picture, and prints the facts and the lines that cross it
-//! where it changed.
+//! `narrow CLUE MASKS` lets both engines narrow a line, and prints what is left, or `dead`. `engine CELLS` prints the `longest`
+//! and the `calls` of line engines for this number of cells. `leave-out CLUE MASKS AMONG` draws those of the colours AMONG that the
+//! line excludes, and prints them and the masks that are needed for that. `force FACTS LINE CLUE` forces a line of a picture, and
+//! prints the facts and the lines that cross it where it changed.
 //!
-//! `engines LENGTH` compares both engines with a listing, on all clues and masks in two colours, `random COUNT SEED` one with the
+//! `engines LENGTH` compares both engines with brute force, on all clues and masks in two colours, `random COUNT SEED` one with the
 //! other on random lines, `leaving-out LENGTH` what is left out with a trial of each cell.
 
 mod chance;
@@ -69,7 +69,7 @@ fn narrow_text(alloc: Global, clue: &str, masks: &str) -> Result<String> {
     Ok(text)
 }
 
-// Appends what is left of so many cells to a text.
+// Appends what is left of the first `cells` cells to a text.
 fn push_narrowed(text: &mut String, narrowed: &Narrowed, cells: usize) -> Result<()> {
     ensure!(cells <= 120, "a line has at most 120 cells");
     let left = &narrowed.left[..cells];
@@ -84,7 +84,7 @@ fn push_narrowed(text: &mut String, narrowed: &Narrowed, cells: usize) -> Result
     Ok(())
 }
 
-// What engines for so many cells say of themselves.
+// The `longest` and `calls` of both engines for this number of cells.
 fn engine_text(alloc: Global, cells: &str) -> Result<String> {
     let cells: u8 = cells.parse().context("a number of cells")?;
     ensure!(cells <= 120, "at most 120 cells");
@@ -97,7 +97,7 @@ fn engine_text(alloc: Global, cells: &str) -> Result<String> {
     )?)
 }
 
-// What a line forces of some colours, and what is needed for that.
+// Which of some colours a line excludes, and what is needed for that.
 fn leave_out_text(alloc: Global, clue: &str, masks: &str, among: &str) -> Result<String> {
     let clue = clue_in(alloc, clue)?;
     let left = masks_in(alloc, masks)?;
@@ -105,7 +105,7 @@ fn leave_out_text(alloc: Global, clue: &str, masks: &str, among: &str) -> Result
     left_out_text(alloc, &clue, &left, &among)
 }
 
-// What a line forces of some colours, given as masks, and what is needed for that.
+// Which of some colours, as masks, a line excludes, and what is needed for that.
 fn left_out_text(alloc: Global, clue: &Clue, left: &[u16], among: &[u16]) -> Result<String> {
     let mut engine = MaskEngine::make(alloc, 120)?;
     let (drawn, kept) = drawing::draw_and_leave_out(&mut engine, clue, left, among)?;

@@ -19,6 +19,7 @@ loop-i-preserved g c = record {
   can = subst (CanCheck c.args.claim.now.picture.now c.args.claim.now.clues.now) (sym c.in_ok-going.ensures.same_longest) c.loop-i.invariant.can;
   same_longest = c.in_ok-going.ensures.same_longest ∙ c.loop-i.invariant.same_longest;
   work = (let once = c.in_ok-going.ensures.work in let so_far = c.loop-i.invariant.work in omega arith);
+  calls = (let once = c.in_ok-going.ensures.calls in let so_far = c.loop-i.invariant.calls in omega arith);
   so_far = taken_first _ _ c.loop-i.trail _ c.loop-i.going c.in_ok-going.going c.args.first c.loop-i.i c.args.lines.now _ _ c.loop-i.invariant.so_far
       (omega arith) c.if-not-going.false refl c.in_ok-going.ensures.takes;
 }

@@ -28,7 +28,7 @@ loop-search-init g c =
       same_longest = refl;
     }
 
--- a look takes no more evaluations than the first facts would
+-- a look takes no more evaluations than closing the first facts would
 one_look : (first facts : Masks) (q r : ℕ) → SameShape first facts → r ≤ q + most_to_close facts → r ≤ q + most_to_close first
 one_look first facts q r s l = rw (same_most first facts s) l
 

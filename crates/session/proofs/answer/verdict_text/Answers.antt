@@ -11,7 +11,7 @@ returns-in_err-verdict g c =
     let p = err_from_is_err_and c.from_residual-in_err-verdict.result c.from_residual-in_err-verdict.ensures.1 in
     rw p.1 (unjudged_now c.args.bench.now c.verdict.follows.lender-at-none c.verdict.result _ c.in_err-verdict.was c.verdict.follows.holds-at-none)
 
--- there was room for each verdict
+-- there was room for any verdict
 pub returns-in_err-push_verdict : goal.returns-in_err-push_verdict
 returns-in_err-push_verdict g c =
     let s = c.args.bench.now in

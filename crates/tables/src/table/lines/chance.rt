@@ -1,4 +1,4 @@
-//! Both engines are compared on random lines.
+//! A comparison of both engines on random lines.
 
 use super::narrowing::Engines;
 use anyhow::{Result, ensure};
@@ -36,7 +36,7 @@ fn paint(picture: &mut Picture, cell: usize, colour: u8) -> Result<()> {
 }
 
 /// The colours left in a cell that has this colour: of four cells `open` keep every colour, and some of the others keep a
-/// few more than their own. With no `open` each keeps its own alone. One cell in 400 may lose its own.
+/// few more than their own. Without `open` each keeps only its own. One cell in 400 may lose its own.
 pub fn draw_left(state: &mut u64, open: Option<u64>, colour: u8) -> u16 {
     let own = 1u16 << (colour % 16);
     if draw(state) % 400 == 0 {
@@ -63,7 +63,7 @@ pub struct RandomLine {
     pub left: [u16; 120],
 }
 
-/// Draws a line of up to so many cells.
+/// Draws a line of up to `most` cells.
 pub fn draw_line(state: &mut u64, most: u64) -> RandomLine {
     let len = (1 + draw(state) % most.clamp(1, 120)) as usize;
     let colours = 2 + draw(state) % 3;
@@ -88,7 +88,7 @@ pub fn draw_line(state: &mut u64, most: u64) -> RandomLine {
     line
 }
 
-/// Compares both engines on so many lines of up to 120 cells.
+/// Compares both engines on `count` lines of up to 120 cells.
 pub fn compare_all(alloc: Global, count: u32, seed: u32) -> Result<String> {
     let mut engines = Engines::make(alloc, 120)?;
     let mut state = u64::from(seed);

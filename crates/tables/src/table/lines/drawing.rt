@@ -7,7 +7,7 @@ use clues::Clue;
 use line_facts::LineEngine;
 use line_settle::leave_out;
 
-/// Draws of some colours those that a line forces, and leaves out what they don't need. What is drawn and what is kept.
+/// Draws those of some colours that a line excludes, and leaves out what they don't need. Returns drawn and kept masks.
 pub fn draw_and_leave_out<E: LineEngine>(
     engine: &mut E,
     clue: &Clue,
@@ -33,7 +33,7 @@ pub fn draw_and_leave_out<E: LineEngine>(
     Ok((drawn, kept))
 }
 
-// What is drawn and what is kept, into buffers of the length of the line.
+// The same, into buffers of the length of the line.
 fn draw<E: LineEngine>(
     engine: &mut E,
     clue: &Clue,
@@ -54,7 +54,7 @@ fn draw<E: LineEngine>(
     leave_out(clue, drawn, kept);
 }
 
-// Draws of some colours those that are not left.
+// Draws those of some colours that are not left.
 fn draw_among(out: &[u16], among: &[u16], drawn: &mut [u16])
     requires same_length { length out.now ≡ length drawn.old }
     requires same_colours { length among.now ≡ length drawn.old }

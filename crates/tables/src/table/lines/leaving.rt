@@ -1,4 +1,4 @@
-//! What is left out is compared with a plain trial of each cell in turn.
+//! A comparison of `leave_out` with a plain trial of each cell in turn.
 
 use super::drawing::draw_and_leave_out;
 use super::listing::{MOST, clue_by_number, left_by_number, power};
@@ -10,8 +10,8 @@ use line_settle::PlainEngine;
 use std::alloc::Global;
 use table_words::ALL;
 
-/// Compares on all lines of one to so many cells, all clues whose blocks have at most one cell less, and every choice of `.`, `a`
-/// and `b` left in each cell.
+/// Compares on all lines of 1 to `most` cells, all clues whose blocks have fewer than `most` cells in all, and every choice of
+/// `.`, `a` and `b` left in each cell.
 pub fn compare_all(alloc: Global, most: u32) -> Result<String> {
     ensure!(0 < most && most <= MOST, "listed lines are short");
     let mut engine = PlainEngine::make(alloc, 120)?;
@@ -46,7 +46,7 @@ impl Tally {
     }
 }
 
-// Compares all lines of one to so many cells with a clue.
+// Compares all lines of 1 to `most` cells with a clue.
 fn compare_lines<E: LineEngine>(
     engine: &mut E,
     clue: &Clue,
@@ -64,7 +64,7 @@ fn compare_lines<E: LineEngine>(
     Ok(())
 }
 
-// Compares both on a line; answers how many cells kept a mask.
+// Compares both on a line, and returns how many cells kept a mask.
 fn compare<E: LineEngine>(
     engine: &mut E,
     clue: &Clue,

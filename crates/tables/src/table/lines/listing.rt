@@ -1,4 +1,4 @@
-//! Both engines are compared with a plain listing of all lines, on short lines in two colours.
+//! A comparison of both engines with brute force, on short lines in two colours.
 
 use super::narrowing::{Engines, Narrowed};
 use anyhow::{Result, ensure};
@@ -7,11 +7,11 @@ use line_facts::Outcome;
 use std::alloc::Global;
 use table_words::clue_in;
 
-/// How many cells a listed line has at the most.
+/// The most cells of a line that is tried by brute force.
 pub const MOST: u32 = 4;
 
-/// Compares on all lines of up to so many cells, all clues whose blocks have up to one cell more, and every choice of `.`, `a`
-/// and `b` left in each cell.
+/// Compares on all lines of up to `most` cells, all clues whose blocks have up to `most` + 1 cells in all, and every choice of
+/// `.`, `a` and `b` left in each cell.
 pub fn compare_all(alloc: Global, most: u32) -> Result<String> {
     ensure!(most <= MOST, "listed lines are short");
     let mut engines = Engines::make(alloc, 120)?;
@@ -41,8 +41,8 @@ pub fn power(base: u32, exponent: u32) -> u32 {
     value
 }
 
-/// The clue of a number in base 3, whose blocks have so many cells: a digit for each cell, from the last one on, 0 where it goes on
-/// with the block before it, and else the colour of a new block. The first cell begins a block.
+/// The clue that a number in base 3 names, whose blocks have `cells` cells in all. Digits are read from the lowest on. A digit 0
+/// lengthens the next block by a cell; 1 and 2 end a block, which is `a` or `b`. None where the last digit read is 0.
 pub fn clue_by_number(alloc: Global, code: u32, cells: u32) -> Result<Option<Clue>> {
     let mut word = String::new(alloc);
     let mut rest = code;
@@ -70,7 +70,7 @@ pub fn clue_by_number(alloc: Global, code: u32, cells: u32) -> Result<Option<Clu
     Ok(Some(clue_in(alloc, word.as_str())?))
 }
 
-// Compares all lines of a length with a clue; answers how many there are.
+// Compares all masks of a length with a clue, and returns how many there are.
 fn compare_lines(alloc: Global, engines: &mut Engines, clue: &Clue, len: u32) -> Result<u32> {
     let lines = lines_with(alloc, clue, len)?;
     let mut count = 0u32;
@@ -88,7 +88,7 @@ fn compare_lines(alloc: Global, engines: &mut Engines, clue: &Clue, len: u32) ->
     Ok(count)
 }
 
-/// Four cells with any of three colours left, by a number in base 8.
+/// The masks of four cells, with any of three colours left, by a number in base 8.
 pub fn left_by_number(code: u32) -> [u16; 4] {
     let mut left = [0; 4];
     let mut rest = code;
@@ -152,7 +152,7 @@ fn has_blocks(cells: &[u8], blocks: &[Block]) -> bool {
     ended == blocks.len()
 }
 
-// What the lines of a list leave that have a colour that is left in each of the first cells.
+// The colours that the listed lines leave, of those lines whose first `len` cells all have a colour in `left`.
 fn listed(lines: &[[u16; 4]], left: &[u16; 4], len: u32) -> Narrowed {
     let mut listed = Narrowed {
         outcome: Outcome::Dead,

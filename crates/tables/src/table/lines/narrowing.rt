@@ -8,7 +8,7 @@ use line_facts::{LineEngine, Outcome};
 use line_settle::{MaskEngine, PlainEngine};
 use std::alloc::Global;
 
-/// How the comparison of a line with its clue ended, and what is left of up to 120 cells.
+/// The outcome of an evaluation, and what is left of up to 120 cells.
 #[derive(Clone, Copy, PartialEq, Eq)]
 pub struct Narrowed {
     pub outcome: Outcome,
@@ -23,7 +23,7 @@ pub struct Engines {
 }
 
 impl Engines {
-    /// Engines for lines of so many cells.
+    /// Engines for lines of up to `cells` cells.
     pub fn make(alloc: Global, cells: u8) -> Result<Engines> {
         ensure!(cells <= 120, "a line has at most 120 cells");
         Ok(Engines {

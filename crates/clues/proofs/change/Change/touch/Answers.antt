@@ -1,4 +1,4 @@
--- One line more is touched.
+-- One more line is touched.
 use Rattle.clues.specs.Change.{moves_from}
 use Rattle.clues.proofs.TouchedLines.{follows_more}
 use Rattle.clues.proofs.change.Change.touch.Goals as goal

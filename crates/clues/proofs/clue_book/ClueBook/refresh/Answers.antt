@@ -1,4 +1,4 @@
--- The clues that are copied are the old picture's, and stand.
+-- The copied clues are those of the old picture, and right for the new one.
 use Rattle.std.proofs.Common.{◌∙◌}
 use Rattle.clues.proofs.MovedLines.{clues_stand}
 use Rattle.clues.proofs.RefreshedClues.{refreshed_book}

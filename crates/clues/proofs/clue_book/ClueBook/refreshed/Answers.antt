@@ -1,4 +1,4 @@
--- One line more has its clue.
+-- One more line has its clue.
 use Rattle.std.proofs.Common.{◌+◌, ap, ◌∙◌}
 use Rattle.std.proofs.lemmas.List.{length_push}
 use Rattle.clues.proofs.RefreshedClues.{old_clues_more, new_clues_more}

@@ -1,4 +1,4 @@
--- `into_held` compares the pointer with null, and what lies after it goes with the two fields.
+-- `into_held` compares the pointer with null, and what it points to goes with the two fields.
 use mathlib.Core.Path.{◌≡◌, refl, sym, subst}
 use mathlib.Core.List.{List, [], ◌∷◌, ◌++◌}
 use Prim.Native.Nat.{ℕ}
@@ -112,7 +112,7 @@ module _ {M : Type 1} {𝓤 : Ura M} (𝓛 : Logic 𝓤) (at_mem : Memory → SP
         suffices ! _ (ends_at 𝓛 F.ended stayed (F.clauses 𝓛 at_mem run) z (live 1 (of_list (w ∷ []))) (Some made) (tt, tt) (tt, tt)) $ says ! e $
         nothing ! $ nothing ! $ fjoin ! $ join ! $ nothing ! $ join ! $ done !)))
 
-    -- by what lies there, and by the pointer's form
+    -- by whether a desk is there, and by the pointer's form
     at : (hv : Val) → Fits E.al hv → (s : Ptr) (d : Option Desk.the_row.Denot) → z.0.3.0.ptr ≡ s → z.0.3.0.desk ≡ d → (d ≡ None → s ≡ null_ptr)
         → ent 𝓤 (From_host s d hv) (WpFn 𝓤 H 𝓣.C 𝓣.Λ code.function (word_at hv s ∷ []) Post)
     at hv fa null_ptr None e f none_there = none hv fa e
