@@ -1,5 +1,6 @@
 """What the tests of nonobench-audit share: small puzzles worked by hand, a folder of their own, and runs of the program."""
 
+import contextlib
 import json
 import os
 import subprocess
@@ -104,8 +105,9 @@ class Case(unittest.TestCase):
 
 
 def children(pid):
-    """The processes that a process started."""
+    """The processes that a process started, so far as they can be read: its threads may end meanwhile."""
     found = []
     for task in Path(f"/proc/{pid}/task").iterdir():
-        found += [int(word) for word in (task / "children").read_text().split()]
+        with contextlib.suppress(OSError):
+            found += [int(word) for word in (task / "children").read_text().split()]
     return found

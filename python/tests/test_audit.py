@@ -553,6 +553,7 @@ class Running(Case):
         rows = self.rows("site", "--seconds", "2", status=1)
         hard = rows["site/hard.ppm"]
         self.assertEqual((hard["verdict"], hard["rows"], hard["limit"]), ("undecided", 60, "2 s"))
+        self.assertGreaterEqual(hard["seconds"], 2)
         self.assertNotIn("lines", hard)
         self.assertEqual(rows["site/one.ppm"]["verdict"], "unique")
         hard = self.rows("site", "--allow", "10", status=1)["site/hard.ppm"]

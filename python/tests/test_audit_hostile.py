@@ -4,6 +4,7 @@ Files that are cut, huge, bombs or traps; names that are markup, formulas or way
 that die, hang or take too much. Each test names what must come out.
 """
 
+import json
 import os
 import pty
 import resource
@@ -19,6 +20,8 @@ from pathlib import Path
 sys.path.insert(0, str(Path(__file__).resolve().parent))
 from audit_parts import AMBIGUOUS, ROOT, UNIQUE, Case, chequered, children, p3, webpbn  # noqa: E402
 from test_audit import p3_of_letters  # noqa: E402
+
+from nonobench.collection.outputs import Failure, Output  # noqa: E402
 
 SIGN = b"\x89PNG\r\n\x1a\n"
 MEBIBYTE = bytes(1 << 20)
@@ -201,6 +204,22 @@ class Outputs(Case):
                 self.assertIn("nonobench-audit: /dev/full: No space left on device", done.stderr)
                 self.assertNotIn("Traceback", done.stderr)
 
+    def test_rows_on_standard_output_that_is_a_file(self):
+        place = os.path.join(self.folder, "rows")
+        with open(place, "wb") as rows:
+            done = subprocess.run(self.words("site", "--jsonl", "-"), cwd=self.folder, env=self.env(), stdout=rows, stderr=subprocess.PIPE, text=True)
+        self.assertEqual((done.returncode, done.stderr), (1, ""))
+        with open(place, encoding="utf-8") as rows:
+            self.assertEqual([json.loads(line)["file"] for line in rows], ["site/one.ppm", "site/two.ppm"])
+
+    def test_an_old_file_that_cannot_be_emptied(self):
+        place = self.put("rows.csv", "old\n")
+        output = Output(str(place))
+        output.file.close()
+        output.file = open(place, "rb")
+        with self.assertRaisesRegex(Failure, "rows.csv: "):
+            output.close()
+
     def limited(self, *words):
         """A run whose files may have so few bytes."""
         bound = lambda: resource.setrlimit(resource.RLIMIT_FSIZE, (40, 40))  # noqa: E731
@@ -303,9 +322,11 @@ class Processes(Case):
         process = self.start("site", "--jobs", "1", "--seconds", "1.5", "--jsonl", "rows", "--no-grade")
         deadline = time.monotonic() + 60
         # Until it runs its program, who started it waits for it.
-        while time.monotonic() < deadline and not any(b"serving" in cmdline_of(pid) for pid in children(process.pid)):
+        serving = []
+        while time.monotonic() < deadline and not serving:
             time.sleep(0.01)
-        os.kill(children(process.pid)[0], signal.SIGSTOP)
+            serving = [pid for pid in children(process.pid) if b"serving" in cmdline_of(pid)]
+        os.kill(serving[0], signal.SIGSTOP)
         said = process.communicate(timeout=120)[1]
         self.assertIn(process.returncode, (0, 1), said)
         self.assertEqual(len(self.read("rows")), 12)
@@ -385,8 +406,11 @@ class Terminal(Case):
 
 
 def cmdline_of(pid):
-    """The command line of a process, while it is there."""
-    return Path(f"/proc/{pid}/cmdline").read_bytes()
+    """The command line of a process, empty once it is gone."""
+    try:
+        return Path(f"/proc/{pid}/cmdline").read_bytes()
+    except OSError:
+        return b""
 
 
 def cpu_of(pid):

@@ -3,8 +3,10 @@
 Usage, in the folder tests: python3 -m reference PICTURE.ppm FILE [R,G,B]
 
 FILE is a certificate or a proof by lemmas, and R,G,B the background, white if none is named. It prints what `nonobench check` and
-`nonobench verify` print, and ends with their status: 0 if the file is accepted, 1 if it is refused, 2 if the arguments are wrong.
+`nonobench verify` print, without the name of the program, and ends with their status: 0 if the file is accepted, 1 if it is refused,
+2 if the arguments are wrong, 3 if a file cannot be read.
 """
+import re
 import sys
 from pathlib import Path
 
@@ -30,11 +32,15 @@ def answer(picture, text, background=None):
 
 def main():
     """The command."""
-    if len(sys.argv) not in (3, 4):
+    if len(sys.argv) not in (3, 4) or not re.fullmatch('[0-9]+,[0-9]+,[0-9]+', (sys.argv[3:] or ['0,0,0'])[0]):
         print(__doc__.strip(), file=sys.stderr)
         return 2
-    picture, text = (Path(name).read_bytes() for name in sys.argv[1:3])
     background = tuple(int(sample) for sample in sys.argv[3].split(',')) if len(sys.argv) == 4 else None
+    try:
+        picture, text = (Path(name).read_bytes() for name in sys.argv[1:3])
+    except OSError as error:
+        print(error, file=sys.stderr)
+        return 3
     line, status = answer(picture, text, background)
     print(line, file=sys.stderr if status else sys.stdout)
     return status

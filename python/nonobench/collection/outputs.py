@@ -80,9 +80,13 @@ class Output:
 
     def _empty(self) -> None:
         """Takes away what the file had."""
-        if self._is_old:
-            self._is_old = False
+        if not self._is_old:
+            return
+        self._is_old = False
+        try:
             self.file.truncate(0)
+        except OSError as error:
+            raise failure(self.name, error) from error
 
     def put(self, data: bytes) -> None:
         """Puts bytes, which go out within a moment where `flush` is called now and then."""
@@ -97,8 +101,8 @@ class Output:
             return
         data, self._parts, self._size = memoryview(b"".join(self._parts)), [], 0
         self._since = time.monotonic()
+        self._empty()
         try:
-            self._empty()
             while data:
                 data = data[self.file.write(data) :]
         except OSError as error:
@@ -142,7 +146,7 @@ class Lines:
     def close(self, is_whole: bool) -> None:
         """Ends the file. Where all puzzles were answered, it has their rows alone, in order."""
         self._output.flush()
-        if is_whole and is_regular(self._output.file):
+        if is_whole and self._name != "-" and is_regular(self._output.file):
             self._put_in_order()
         self._output.close()
 

@@ -63,6 +63,7 @@ class Task(NamedTuple):
     before: str  # what its content was when it was judged before
     start: int  # the first puzzle that is wanted
     mode: int
+    spent: float = 0.0  # the seconds of a try that took too long
 
 
 def serve() -> None:
@@ -233,7 +234,7 @@ class Judging:
 
     def _put(self, task: Task, about: About, row: Row, kind: str, certificate: str = "") -> None:
         if self._settings.has_times:
-            row["seconds"] = round(time.perf_counter() - about.begun, 6)
+            row["seconds"] = round(task.spent + time.perf_counter() - about.begun, 6)
         row["content"], row["made"] = about.content, self._settings.made
         if row["verdict"] == "undecided":
             row["limit"] = self._settings.limit

@@ -214,7 +214,7 @@ class Pool:
         if answer.is_last or task.mode == GLANCE:
             hand.tasks.popleft()
             if not answer.is_last:
-                self._again.appendleft(task._replace(start=task.start + 1, mode=FULL))
+                self._again.appendleft(task._replace(start=task.start + 1, mode=FULL, spent=0.0))
         else:
             hand.tasks[0] = task._replace(start=json.loads(answer.text)["puzzle"] + 1)
 
@@ -259,9 +259,11 @@ class Pool:
         if hand.known is not None:
             _, _, verdict, text, kind = hand.known
             row: Row = {**json.loads(text), "note": f"its certificate: {why}"}
+            if is_late and "seconds" in row:
+                row["seconds"] = self._seconds
             yield from self._give_up(task, row, kind == "more")
         elif is_late and task.mode == FULL:
-            self._again.appendleft(task._replace(mode=GLANCE))
+            self._again.appendleft(task._replace(mode=GLANCE, spent=self._seconds))
         elif not is_late and (task.number, task.start) not in self._died:
             self._died.add((task.number, task.start))
             self._again.appendleft(task)
@@ -279,4 +281,4 @@ class Pool:
         """Tells the row of a puzzle whose process is gone. The puzzles after it are still to come."""
         yield Answer(task.number, not has_more, row["verdict"], text_of(row))
         if has_more:
-            self._again.appendleft(task._replace(start=row["puzzle"] + 1, mode=FULL))
+            self._again.appendleft(task._replace(start=row["puzzle"] + 1, mode=FULL, spent=0.0))
