@@ -79,7 +79,7 @@ keepOffline();
 function nameParts() {
   const names = {
     menus: phrase('main.menus'), quick: phrase('main.historyView'), start: phrase('main.start'), work: phrase('main.picture'), tools: phrase('main.tools'), stage: phrase('main.pictureClues'), panels: phrase('main.whatBenchSays'),
-    audit: phrase('main.verdict'), colours: phrase('main.colours'), out: phrase('main.saveExport'), cell: phrase('main.cell'), lines: phrase('main.rowsColumns'),
+    audit: phrase('import.verdict'), colours: phrase('view.colours'), out: phrase('export.saveExport'), cell: phrase('view.cell'), lines: phrase('view.rowsColumns'),
   };
   for (const [id, name] of Object.entries(names)) $(id).setAttribute('aria-label', name);
   Object.assign(document.documentElement, { lang: LANGUAGE, dir: DIRECTION });
@@ -89,7 +89,7 @@ function nameParts() {
 // ---- what the whole page does with the bench
 
 function makeQuickButtons() {
-  for (const [id, name, short] of [['undo', phrase('main.undo'), '↶'], ['redo', phrase('main.redo'), '↷'], ['zoom-out', '−'], ['fit', phrase('main.fit')], ['zoom-in', '+']]) {
+  for (const [id, name, short] of [['undo', phrase('view.undo'), '↶'], ['redo', phrase('view.redo'), '↷'], ['zoom-out', '−'], ['fit', phrase('main.fit')], ['zoom-in', '+']]) {
     const button = actionButton(actions.get(id), { 'aria-label': actions.get(id).name, title: `${actions.get(id).name} (${keyText(actions.get(id).key.split(' ')[0])})`, 'data-short': short });
     button.textContent = name;
     $('quick').append(button);

@@ -27,8 +27,8 @@ echo 'no library' | tee libnonobench.so nonobench.h >/dev/null
 cp "$examples"/{given,diagonal}.{ppm,cert} .
 printf 'P3\n2 2\n1\n0 0 0 1 1 1\n1 1 1 0 0 0\n' >cross.ppm
 printf 'nonocert 2\ngiven 1 1\ngiven 1 2\ngiven 2 1\ngiven 2 2\ndone\n' >cross.cert
-expect 0 'taken: certificate accepted' diagonal.ppm diagonal.cert
-expect 0 'taken: certificate accepted, givens 1' given.ppm given.cert 1,1
+expect 0 'certificate accepted' diagonal.ppm diagonal.cert
+expect 0 'certificate accepted, givens 1' given.ppm given.cert 1,1
 expect 1 'refused: certificate UnpublishedGiven at line 2' given.ppm given.cert
 expect 1 'refused: certificate UnpublishedGiven at line 2' cross.ppm cross.cert
 expect 1 'refused: certificate UnpublishedGiven at line 4' cross.ppm cross.cert 1,2 1,1 2,2
@@ -38,8 +38,8 @@ printf 'nonolemma 1\npart 1 1 a\nline r 1\ndead c 2\nline r 1\nline c 1\nline r 
 printf 'nonolemma 1\ngiven 1 1\nline r 1\nline c 1\nline r 2\ndone\n' >given.proof
 printf 'nonolemma 1\ngiven 1 1\ngiven 1 2\ngiven 2 1\ngiven 2 2\ndone\n' >cross.proof
 printf nonolemma >cut.proof
-expect 0 'taken: proof accepted' diagonal.ppm diagonal.proof
-expect 0 'taken: proof accepted, givens 1' given.ppm given.proof 2,2 1,1
+expect 0 'proof accepted' diagonal.ppm diagonal.proof
+expect 0 'proof accepted, givens 1' given.ppm given.proof 2,2 1,1
 expect 1 'refused: certificate UnpublishedGiven at line 2' given.ppm given.proof
 expect 1 'refused: certificate UnpublishedGiven at line 4' cross.ppm cross.proof 1,2 1,1 2,2
 expect 1 'refused: certificate NotDead at line 4' given.ppm diagonal.proof
@@ -47,13 +47,13 @@ expect 1 'refused: certificate NotCert at line 1' diagonal.ppm cut.proof
 # What stands behind a MiB is read too.
 { cat diagonal.ppm; head -c 1048576 /dev/zero | tr '\0' ' '; } >blank.ppm
 cat blank.ppm <(echo '99 9 9') >more.ppm
-expect 0 'taken: certificate accepted' blank.ppm diagonal.cert
+expect 0 'certificate accepted' blank.ppm diagonal.cert
 expect 1 "refused: ppm TrailingToken at byte $(wc -c <blank.ppm)" more.ppm diagonal.cert
 { cat diagonal.cert; head -c 1048576 /dev/zero | tr '\0' ' '; } >more.cert
 expect 1 'refused: certificate BadLine at line 10' diagonal.ppm more.cert
 # 16 MiB, and a byte more.
 { cat diagonal.ppm; head -c $((16777216 - $(wc -c <diagonal.ppm))) /dev/zero | tr '\0' ' '; } >most.ppm
-expect 0 'taken: certificate accepted' most.ppm diagonal.cert
+expect 0 'certificate accepted' most.ppm diagonal.cert
 echo >>most.ppm
 expect 1 'refused: input too long' most.ppm diagonal.cert
 expect 1 'refused: input too long' diagonal.ppm most.ppm

@@ -2,12 +2,13 @@
 // are made by hand after Netpbm's ppm page and webpbn.com/pbn_fmt.html. Run: node --test tests/page_files.mjs
 import assert from 'node:assert/strict';
 import { test } from 'node:test';
+import { cluesOf } from '../page/test/clues.mjs';
 import '../page/test/limits.mjs';
 import { ABOUT, docOf, emptyDoc, packedDoc, sameBenchPart, sameDoc, unpackedDoc } from '../page/document/document.js';
 import { FileFault } from '../page/document/limits.js';
 import { readPpm } from '../page/formats/ppm.js';
 import { docOfNotes, ppmTextOf } from '../page/formats/ppm_notes.js';
-import { cluesOfRows, inksOf, leavesOut, webpbnText } from '../page/formats/webpbn.js';
+import { inksOf, leavesOut, webpbnText } from '../page/formats/webpbn.js';
 import { readWebpbn } from '../page/formats/webpbn_reading.js';
 import { readXml } from '../page/formats/xml.js';
 import { docOfImage, kindOfFile } from '../page/import/images.js';
@@ -15,6 +16,7 @@ import { docOfImage, kindOfFile } from '../page/import/images.js';
 const bytes = (text) => Uint8Array.from(text, (sign) => sign.charCodeAt(0));
 const plain = (value) => JSON.parse(JSON.stringify(value));
 const pixels = (image) => Array.from({ length: image.width * image.height }, (_, at) => [...image.data.subarray(at * 4, at * 4 + 3)]);
+const withClues = (doc) => webpbnText(doc, cluesOf(doc.picture));
 const refused = (f, wanted) => assert.throws(f, (fault) => fault instanceof FileFault && wanted.test(fault.message));
 
 test('a P3 picture with comments', () => {
@@ -146,6 +148,9 @@ test('a puzzle of webpbn.com', () => {
     assert.deepEqual(doc.colours, [[255, 255, 255], [0, 0, 0], [0, 176, 0]]);
     assert.equal(doc.about.title, 'Tree & <b>root</b>');
     refused(() => readWebpbn(PUZZLE.replace('<count color="green">3', '<count color="green">2')), /clues of the rows/);
+    refused(() => readWebpbn(PUZZLE.replace('<line><count>1</count></line>\n</clues>', '</clues>')), /clues of the rows/);
+    refused(() => readWebpbn(PUZZLE.replace('<count color="green">1</count><count>', '<count>1</count><count color="green">')), /clues of the columns/);
+    refused(() => readWebpbn('<puzzle><clues type="rows"></clues><solution><image>|..|</image></solution></puzzle>'), /clues of the rows/);
     refused(() => readWebpbn(PUZZLE.replace('|.X.|', '|.Y.|')), /'Y'/);
     refused(() => readWebpbn(PUZZLE.replace('|.X.|', '|.X|')), /rows of the puzzle/);
     refused(() => readWebpbn(PUZZLE.replace('00B000', '00B00')), /hexadecimal/);
@@ -172,7 +177,7 @@ test('signs in a solution: sets, backslashes, colours that are not declared', ()
 test('the XML that is written is read back, givens and all', () => {
     const doc = { rows: 2, columns: 4, maxval: 255, colours: [[40, 0, 0], [255, 255, 255], [0, 0, 0], [200, 100, 50]], picture: ['aab.', '.ccb'], givens: new Set([2, 7]) };
     const clues = { rows: [[{ length: 2, letter: 'a' }, { length: 1, letter: 'b' }], [{ length: 2, letter: 'c' }, { length: 1, letter: 'b' }]], columns: [[{ length: 1, letter: 'a' }], [{ length: 1, letter: 'a' }, { length: 1, letter: 'c' }], [{ length: 1, letter: 'b' }, { length: 1, letter: 'c' }], [{ length: 1, letter: 'b' }]] };
-    assert.deepEqual(plain(cluesOfRows(doc.picture)), clues);
+    assert.deepEqual(cluesOf(doc.picture), clues);
     const text = webpbnText({ ...doc, about: { title: 'A < B & "C"' } }, clues);
     assert.match(text, /<title>A &lt; B &amp; &quot;C&quot;<\/title>/);
     assert.match(text, /<color name="background" char="-">280000<\/color>/);
@@ -183,6 +188,15 @@ test('the XML that is written is read back, givens and all', () => {
     assert.equal(back.about.title, 'A < B & "C"');
     assert.deepEqual(back.inks, [{ name: 'background', sign: '-' }, { name: 'white', sign: '.' }, { name: 'black', sign: 'X' }, { name: 'orange', sign: 'c' }]);
     assert.doesNotMatch(webpbnText({ ...doc, givens: new Set() }, clues), /saved/);
+});
+
+test('the clues of the XML are those that are handed in, and none are written without', () => {
+    const doc = docOf({ ...emptyDoc(2, 1), picture: ['a.'] });
+    const told = { rows: [[{ length: 9, letter: 'a' }]], columns: [[{ length: 8, letter: 'a' }], []] };
+    const counts = (text) => [...text.matchAll(/<line>(.*)<\/line>/g)].map(([, line]) => line.replace(/<[^>]*>/g, ' ').trim());
+    assert.deepEqual(counts(webpbnText(doc, told)), ['8', '', '9'], 'columns, then rows');
+    assert.doesNotMatch(webpbnText(doc), /<clues|<line|<count/);
+    assert.doesNotMatch(webpbnText({ ...doc, clues: told }), /<clues|<line|<count/);
 });
 
 test('any picture goes out as XML and as P3, and comes back', () => {
@@ -199,10 +213,11 @@ test('any picture goes out as XML and as P3, and comes back', () => {
         const inks = colours.map((_, at) => ({ name: `ink ${at} & "x"`, sign: '.X-abc#%123|[]?'[(at + round) % 15], ...(chance(3) ? {} : { locked: true }) }));
         const locks = new Set(Array.from({ length: chance(4) }, () => chance(rows * columns)));
         const doc = docOf({ rows, columns, maxval: 255, colours, picture, givens, about, inks, locks });
-        const xml = readWebpbn(webpbnText(doc)).doc;
+        const xml = readWebpbn(withClues(doc)).doc;
         assert.ok(sameBenchPart(xml, doc));
         assert.deepEqual([xml.about, [...xml.locks].sort(), xml.inks.map((ink) => [ink.name, Boolean(ink.locked)])], [{ source: 'nonobench', ...about }, [...locks].sort(), inks.map((ink) => [ink.name, Boolean(ink.locked)])]);
-        assert.ok(sameDoc(readWebpbn(webpbnText(xml)).doc, xml), 'written again it is the same');
+        assert.ok(sameDoc(readWebpbn(withClues(xml)).doc, xml), 'written again it is the same');
+        assert.ok(sameDoc(readWebpbn(webpbnText(doc)).doc, xml), 'without clues, too');
         const text = ppmTextOf(doc);
         assert.match(text, /^[\n -~]*$/);
         assert.ok(sameDoc(docOfNotes(text, readPpm(bytes(text))), doc));
@@ -253,9 +268,9 @@ const ELEMENTS = {
 };
 for (const [what, text] of Object.entries(ELEMENTS)) {
     test(`XML is read and written again: ${what}`, () => {
-        const written = webpbnText(readWebpbn(WHOLE).doc);
+        const written = withClues(readWebpbn(WHOLE).doc);
         assert.ok(written.includes(text), `${text} is not in ${written}`);
-        assert.equal(webpbnText(readWebpbn(written).doc), written);
+        assert.equal(withClues(readWebpbn(written).doc), written);
     });
 }
 

@@ -2,9 +2,10 @@
 // a second tab is told. Run: node --test tests/page_keep.mjs
 import assert from 'node:assert/strict';
 import { test } from 'node:test';
-import '../page/test/limits.mjs';
+import { needsModule, saidLine, workers } from '../page/test/worker.mjs';
 import { baseOf } from '../page/document/cover.js';
 import { docOf, emptyDoc, packedDoc, sameDoc } from '../page/document/document.js';
+import { Client } from '../page/engine/client.js';
 import { crcOf, readZip, writeZip } from '../page/formats/zip.js';
 import { archiveOf, readArchive } from '../page/import/archives.js';
 import { Keeper } from '../page/library/keeper.js';
@@ -166,15 +167,18 @@ test('a card that is missing or damaged is made of its record', async () => {
     assert.deepEqual((await keeper.cards()).map(({ id, verdict }) => [id, verdict]), [['b', null], ['a', null]]);
 });
 
-test('an archive of all, and back', async () => {
+test('an archive of all, and back', needsModule, async () => {
+    saidLine();
+    const zipOf = (records) => archiveOf(records, [], () => new Client(workers()()));
     assert.equal(crcOf(new TextEncoder().encode('123456789')), 0xcbf43926); // the check value of CRC-32
     const docs = [{ ...painted(emptyDoc(3, 2), 1), about: { title: 'Tr\u00e4um <1>' }, givens: new Set([4]), locks: new Set([1]) }, emptyDoc(2, 5)];
-    const bytes = archiveOf([{ name: 'leaf', doc: docs[0] }, { name: 'Leaf', doc: docs[1] }, { name: 'a/b: "c"', doc: docs[1] }]);
+    const records = [{ name: 'leaf', doc: docs[0] }, { name: 'Leaf', doc: docs[1] }, { name: 'a/b: "c"', doc: docs[1] }];
+    const bytes = await zipOf(records);
     assert.deepEqual((await readZip(bytes)).map((file) => file.name), ['leaf.xml', 'Leaf 2.xml', 'a b   c.xml']);
     const { docs: back, unread } = await readArchive(bytes);
     assert.deepEqual([back.map((one) => one.name), unread], [['leaf', 'Leaf 2', 'a b   c'], []]);
     assert.deepEqual([back[0].doc.picture, back[0].doc.about.title, [...back[0].doc.givens], [...back[0].doc.locks]], [docs[0].picture, 'Tr\u00e4um <1>', [4], [1]]);
-    assert.deepEqual(bytes, archiveOf([{ name: 'leaf', doc: docs[0] }, { name: 'Leaf', doc: docs[1] }, { name: 'a/b: "c"', doc: docs[1] }]));
+    assert.deepEqual(bytes, await zipOf(records));
 });
 
 test('archives of others: what is no puzzle is left, what is damaged is refused', async () => {

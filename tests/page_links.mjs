@@ -42,6 +42,12 @@ test('a link holds the whole document', async () => {
     }
 });
 
+test('a link has no clues, not even of a picture that is open', async () => {
+    const doc = noise(5, 6, 3, 9);
+    const clues = { rows: Array(5).fill([{ length: 1, letter: 'a' }]), columns: Array(6).fill([]) };
+    for (const way of ['play', 'edit']) assert.equal(await fragmentOf({ ...doc, clues }, way), await fragmentOf(doc, way));
+});
+
 test('the smallest and the largest pictures', async () => {
     for (const doc of [noise(1, 1, 2, 1), noise(120, 120, 16, 2), noise(1, 120, 16, 3), docOf(emptyDoc(120, 120, [255, 255, 255]))]) {
         const { doc: read } = await readFragment(await fragmentOf(doc, 'edit'));

@@ -70,7 +70,7 @@ export async function stopping({ trial, page }) {
     assert.ok(spent[0] < 200 * SLACK, 'a stroke ends the search at once');
     assert.ok(spent[1] < 250 * SLACK, `the stroke took ${spent[1]} ms`);
     assert.equal(spent[2], null);
-    assert.match(await trial.text('#said'), /ended by a stroke/);
+    assert.match(await trial.text('#said'), /search for a certificate was stopped/);
     await page.run(() => { document.getElementById('seconds').value = '5'; document.getElementById('seconds').dispatchEvent(new Event('change')); searches.stop(); });
 }
 

@@ -1,9 +1,9 @@
 // Trials of the page's ways out, in Chromium: saving, exports and print. Each is a test of the runner tests/page_test.mjs.
 import assert from 'node:assert/strict';
 import { execFileSync } from 'node:child_process';
-import { readFileSync, writeFileSync } from 'node:fs';
+import { readFileSync, readdirSync, writeFileSync } from 'node:fs';
 import { join } from 'node:path';
-import { act, coloursAt, downloaded, drop, examples, fresh, isOpen, menu } from './page_hands.mjs';
+import { NO_PICKERS, act, clean, coloursAt, downloaded, drop, examples, fresh, isKept, isOpen, menu, said } from './page_hands.mjs';
 import { SLACK, ppmOf } from './page_trial.mjs';
 
 /** Ctrl+S downloads an XML text under the document's name that opens as it was, texts and names too; then nothing asks on leaving. */
@@ -104,6 +104,11 @@ export async function exportsAndPrint({ browser, url, folder }) {
     await trial.judged();
     await act(page, 'certificate');
     assert.match((await downloaded(page, own, '.cert')).content.toString(), /^nonocert 2\ngiven 1 3\ngiven 1 5\n/);
+    await menu(page, 'export-site');
+    await downloaded(page, own, '-site.zip');
+    const site = execFileSync('unzip', ['-Z1', join(own, 'key-site.zip')], { encoding: 'utf8' }).trim().split('\n');
+    assert.deepEqual(site, ['key.ppm', 'key.cert', 'key.givens']);
+    assert.equal(execFileSync('unzip', ['-p', join(own, 'key-site.zip'), 'key.givens'], { encoding: 'utf8' }), 'given 1 3\ngiven 1 5\n');
     await menu(page, 'export-cells');
     const { content } = await downloaded(page, own, '-cells.png');
     assert.deepEqual([content.readUInt32BE(16), content.readUInt32BE(20)], [10, 5]);
@@ -119,6 +124,13 @@ export async function exportsAndPrint({ browser, url, folder }) {
     const pdf = Buffer.from(data, 'base64');
     writeFileSync(join(own, 'sheet.pdf'), pdf);
     assert.equal(pdf.toString('latin1').match(/\/Type ?\/Page\b/g).length, 2);
+    await page.run(() => openDoc({ rows: 3, columns: 3, maxval: 255, colours: [[0, 0, 40], [200, 40, 40]], picture: ['a..', '.a.', 'aaa'], givens: new Set() }, { name: 'night' }));
+    await trial.judged();
+    await menu(page, 'export-site');
+    await downloaded(page, own, 'night-site.zip');
+    const night = (...words) => execFileSync('unzip', [...words], { cwd: own, encoding: 'utf8' });
+    assert.equal(night('-Z1', 'night-site.zip'), 'night.ppm\nnight.cert\nnight.background\n');
+    assert.equal(night('-p', 'night-site.zip', 'night.background'), '0,0,40\n');
     await page.close();
 }
 
@@ -224,6 +236,125 @@ export async function pdfOfSheets({ browser, url, folder }) {
     const list = execFileSync('unzip', ['-Z1', join(own, 'diagonal-print.zip')], { encoding: 'utf8' }).trim().split('\n');
     assert.deepEqual(list, [1, 2, 3, 4, 5].map((at) => `diagonal 0${at}.svg`));
     assert.ok(content.length > 10000);
+    await page.close();
+}
+
+// ---- whose clues leave the page
+
+// Engines that tell another clue of the first row, and memory that ends once a test says so: then no engine opens anything.
+const OTHER_CLUES = `${NO_PICKERS} window.texts = []; const { fillText } = CanvasRenderingContext2D.prototype;
+    CanvasRenderingContext2D.prototype.fillText = function (...words) { window.texts.push(words[0]); return fillText.apply(this, words); };
+    const OwnWorker = window.Worker; window.Worker = class extends OwnWorker {
+        set onmessage(hear) { super.onmessage = ({ data }) => hear({ data: typeof data.ok === 'string' ? { ...data, ok: data.ok.replace(/^r 1: .*$/m, 'r 1: 47b') } : data }); }
+        postMessage(data) { return window.isShort && data.call === 'open' ? this.dispatchEvent(new ErrorEvent('error', { message: 'out of memory' })) : super.postMessage(data); }
+    };`;
+// The first colours of the palette are not the first that are seen, and one is not used.
+const SHORE = { first: ['c.a', 'cca'], second: ['.ac', 'aaa'], third: ['ccc', 'a.a'] };
+
+// Three pictures in the library, the last one open, on a page whose engines tell another clue.
+async function shore({ browser, url, folder }, name) {
+    const own = await fresh(browser, url, folder, name, { before: OTHER_CLUES });
+    await clean(own.page);
+    for (const [title, rows] of Object.entries(SHORE)) {
+        await own.page.run((one, picture) => openDoc({ rows: 2, columns: 3, maxval: 255, colours: [[255, 255, 255], [0, 0, 0], [200, 40, 40], [40, 80, 200]], picture, givens: new Set() }, { name: one, isSaved: false }), title, rows);
+        await isKept(own.page);
+    }
+    await own.page.run(() => { window.print = () => { window.isPrinted = true; }; });
+    return own;
+}
+
+// Prints all of the library, or saves the sheets, with letters.
+async function printAll(page, button = 'button.main') {
+    await page.run(() => document.getElementById('print').replaceChildren());
+    await page.press('Control+p');
+    await page.until(() => document.querySelector('#print-others'), 3000 * SLACK);
+    await page.run(() => { document.getElementById('print-show').value = 'letters'; });
+    await page.click('#print-others summary');
+    await page.click('#print-all');
+    await page.click(`dialog .buttons ${button}`);
+}
+
+const printedClues = (page) => page.run(() => [...document.querySelectorAll('.printed text')].map((one) => one.textContent).filter((text) => /^\d+[abc]$/.test(text)));
+const unzipped = (own, name) => execFileSync('unzip', ['-p', join(own, name)], { encoding: 'utf8' });
+// The clues of XML texts: lengths by the names of colours, a line a text.
+const xmlClues = (text) => [...text.matchAll(/<line>(.*)<\/line>/g)].map(([, line]) => [...line.matchAll(/color="([^"]*)">(\d+)/g)].map(([, name, length]) => `${length} ${name}`).join(' '));
+const SHORE_XML = { first: ['2 blue', '1 blue', '2 black', '47 red', '2 blue 1 black'], second: ['1 black', '2 black', '1 blue 1 black', '47 red', '3 black'], third: ['1 blue 1 black', '1 blue', '1 blue 1 black', '47 red', '1 black 1 black'] };
+
+/** Each clue that leaves the page is the one that the engine tells: in XML, on sheets, in images and in archives, of pictures that are not open, too. */
+export async function cluesOfTheEngine(all) {
+    const { page, own } = await shore(all, 'told');
+    await act(page, 'export-xml');
+    assert.deepEqual(xmlClues((await downloaded(page, own, 'third.xml')).content.toString()), SHORE_XML.third);
+    await page.run(() => { window.texts.length = 0; });
+    await act(page, 'export-empty');
+    await downloaded(page, own, '-puzzle.png');
+    assert.deepEqual((await page.run(() => window.texts)).sort(), ['1', '1', '1', '1', '1', '1', '1', '47'].sort(), 'the image');
+    await page.run(() => dispatchEvent(new Event('beforeprint')));
+    assert.deepEqual((await printedClues(page)).length, 0, 'in colours');
+    assert.ok(await page.run(() => [...document.querySelectorAll('.printed text')].some((one) => one.textContent === '47')), 'by the browser\'s own print');
+    await printAll(page);
+    await page.until(() => window.isPrinted, 8000 * SLACK);
+    // By hand, first, second, third: rows, then columns, each from its cells outward.
+    const wanted = ['47b', '1a', '2c', '2c', '1c', '2a', '47b', '3a', '1a', '2a', '1a', '1c', '47b', '1a', '1a', '1a', '1c', '1c', '1a', '1c'];
+    assert.deepEqual(await printedClues(page), wanted, 'on paper');
+    await printAll(page, 'button:not(.main):not(:first-child)');
+    await downloaded(page, own, '-print.zip');
+    assert.deepEqual([...unzipped(own, 'third-print.zip').matchAll(/>(\d+[abc])</g)].map(([, text]) => text), wanted, 'in SVG');
+    await page.run(() => runAction('new'));
+    await page.until(() => document.querySelectorAll('#library .kept').length === 3, 8000 * SLACK);
+    await page.click('#library-export');
+    await downloaded(page, own, 'library.zip');
+    for (const [name, lines] of Object.entries(SHORE_XML)) assert.deepEqual(xmlClues(execFileSync('unzip', ['-p', join(own, 'nonobench library.zip'), `${name}.xml`], { encoding: 'utf8' })), lines, name);
+    assert.match(await said(page), /^3 pictures saved as/);
+    assert.deepEqual(page.faults, []);
+    await page.close();
+}
+
+/** So they are of several files at once. */
+export async function cluesOfFiles(all) {
+    const { page, own } = await shore(all, 'files');
+    const paths = Object.entries(SHORE).map(([name, rows]) => {
+        const path = join(own, `${name}.ppm`);
+        writeFileSync(path, ppmOf(rows));
+        return path;
+    });
+    for (const type of ['dragEnter', 'dragOver', 'drop']) await page.send('Input.dispatchDragEvent', { type, x: 600, y: 400, data: { items: [], files: paths, dragOperationsMask: 1 } });
+    await page.until(() => document.querySelectorAll('#several tbody tr').length === 3, 8000 * SLACK);
+    await page.click('dialog[open] .buttons button:nth-of-type(2)');
+    await downloaded(page, own, 'puzzles.zip');
+    const lines = xmlClues(unzipped(own, 'nonobench puzzles.zip'));
+    assert.deepEqual([lines.length, lines.filter((line) => /^47 /.test(line)).length], [15, 3]);
+    await page.close();
+}
+
+/** Where a picture of the library does not open, nothing is printed or saved, and the page says so. */
+export async function nothingLeaves(all) {
+    const { page, own } = await shore(all, 'short');
+    await page.run(() => { window.isShort = true; });
+    const wanted = /^Nothing was saved or printed, as “(first|second)” could not be opened: there is not enough memory for it$/;
+    for (const button of ['button.main', 'button:not(.main):not(:first-child)']) {
+        await printAll(page, button);
+        await page.until(() => document.getElementById('said').dataset.kind === 'alarm', 8000 * SLACK);
+        assert.match(await said(page), wanted);
+        await page.click('#said');
+    }
+    assert.deepEqual(await page.run(() => [document.querySelectorAll('.printed').length, window.isPrinted ?? false]), [0, false]);
+    await page.run(() => runAction('new'));
+    await page.until(() => document.querySelectorAll('#library .kept').length === 3, 8000 * SLACK);
+    await page.click('#library-export');
+    await page.until(() => document.getElementById('said').dataset.kind === 'alarm', 8000 * SLACK);
+    assert.match(await said(page), /^Nothing was saved or printed, as “(first|second|third)” could not be opened: there is not enough memory for it$/);
+    await page.run(() => { window.isShort = false; });
+    await page.click('#library-export');
+    await downloaded(page, own, 'library.zip');
+    assert.deepEqual(readdirSync(own), ['nonobench library.zip'], 'once there is memory');
+    // A record that is damaged, whose card is not: it is not left out of a book unsaid.
+    await page.click('#start-back');
+    await page.run(async () => { const { id } = (await keep.keeper.cards()).find(({ name }) => name === 'first'); await keep.keeper.shelf.put(`work:${id}`, { version: 2, id, doc: null }); });
+    await printAll(page);
+    await page.until(() => document.getElementById('said').dataset.kind === 'alarm', 8000 * SLACK);
+    assert.equal(await said(page), '“first”: This picture of the library is damaged and could not be opened.');
+    assert.deepEqual(await page.run(() => [document.querySelectorAll('.printed').length, window.isPrinted ?? false]), [0, false]);
     await page.close();
 }
 

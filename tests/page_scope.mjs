@@ -37,6 +37,15 @@ test('a room asks only rooms below it, and only modules that are there', () => {
     }
 });
 
+test('no room that writes files or sheets works out clues: those are the engine\'s', () => {
+    const working = ['grade/lines.js', 'grade/puzzle.js', 'play/crossing.js'];
+    for (const file of modules.filter((one) => ['formats', 'draw', 'library', 'import', 'export'].includes(dirname(one)))) {
+        for (const other of importsOf(file)) assert.ok(!working.includes(fileOf(file, other)), `${file} imports ${other}`);
+    }
+    const given = [...read('formats/webpbn_reading.js').matchAll(/^export (?:async )?(?:function|const|class) (\w+)/gm)].map(([, name]) => name);
+    assert.deepEqual(given, ['readWebpbn'], 'what compares a file\'s clues with its picture stays there');
+});
+
 test('each module is reached from main or the worker', () => {
     const reached = new Set();
     const go = (file) => {

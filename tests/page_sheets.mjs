@@ -2,6 +2,7 @@
 // values are counted by hand from the pictures. Run: node --test tests/page_sheets.mjs
 import assert from 'node:assert/strict';
 import { test } from 'node:test';
+import { cluesOf } from '../page/test/clues.mjs';
 import '../page/test/limits.mjs';
 
 const { entryOf, legendOf, namesOf, SHEET_TEXTS } = await import('../page/export/entries.js');
@@ -11,7 +12,8 @@ const docOf = (picture, colours, more = {}) => ({ rows: picture.length, columns:
 const BLACK = [[255, 255, 255], [0, 0, 0]];
 const CROSS = docOf(['.a.', 'aaa', '.a.'], BLACK);
 const options = (more = {}) => ({ paper: 'a4', isWide: false, margin: 12, perSheet: 1, show: 'colours', answers: false, hasGrade: true, texts: SHEET_TEXTS, ...more });
-const sheets = (docs, more = {}) => sheetsOf(docs.map((doc, at) => entryOf({ doc, name: `puzzle ${at + 1}`, grade: 'easy' }, options(more))), options(more));
+const sheetsWith = (puzzles, more = {}) => sheetsOf(puzzles.map((one, at) => entryOf({ name: `puzzle ${at + 1}`, grade: 'easy', ...one }, options(more))), options(more));
+const sheets = (docs, more = {}) => sheetsWith(docs.map((doc) => ({ doc, clues: cluesOf(doc.picture) })), more);
 
 // The texts of a drawing with their places, and its rectangles.
 const textsOf = ({ svg }) => [...svg.matchAll(/<text ([^>]*)>([^<]*)<\/text>/g)].map(([, words, text]) => ({ text, ...wordsOf(words) }));
@@ -28,6 +30,20 @@ test('two colours: black digits on white, and no boxes', () => {
     assert.equal(rectsOf(sheet)[0].fill, '#fff');
     assert.match(sheet.svg, /viewBox="0 0 210 297" width="210mm" height="297mm"/);
     assert.deepEqual(textsOf(sheet).slice(0, 2).map(({ text }) => text), ['puzzle 1', '3 by 3, easy']);
+});
+
+test('the clues of a sheet are those that are handed in, whatever the picture is', () => {
+    const doc = docOf(['b.a', '.b.'], [[255, 255, 255], [0, 0, 0], [200, 40, 40], [40, 80, 200]]); // c is not used, and b comes first
+    const block = (text) => ({ length: Number(text.slice(0, -1)), letter: text.at(-1) });
+    const clues = { rows: [['7c', '8a'], []].map((line) => line.map(block)), columns: [['9b'], [], ['6c', '5b']].map((line) => line.map(block)) };
+    const wanted = ['8a', '7c', '0', '9b', '0', '5b', '6c']; // rows, then columns, each from its cells outward
+    assert.deepEqual(digitsOf(sheetsWith([{ doc, clues }], { show: 'letters' })[0]), wanted);
+    assert.deepEqual(digitsOf(sheetsWith([{ doc, clues }], { show: 'signs' })[0]), ['8■', '7▲', '0', '9●', '0', '5●', '6▲']);
+    assert.throws(() => sheetsWith([{ doc }]), TypeError, 'without clues there is no sheet');
+    // A large puzzle, over several sheets.
+    const large = docOf(Array(61).fill('a'), BLACK);
+    const all = sheetsWith([{ doc: large, clues: { rows: Array(61).fill([{ length: 4, letter: 'a' }]), columns: [[{ length: 77, letter: 'a' }]] } }]);
+    assert.deepEqual(all.map((sheet) => digitsOf(sheet).filter((text) => text === '77' || text === '4').length), [36, 26]);
 });
 
 test('each fifth line and the border are clearly heavier', () => {

@@ -3,11 +3,13 @@
 # compared with sessions of `nonobench work` on the same picture. A table at the end says which of the page's points hold, by
 # size and input. CI does not run it, since it has no browser.
 # Usage: tests/page_test.sh [FOLDER [TEST ..]], where FOLDER gets pictures of the page (none: a scratch folder).
-# PAGE is the built page (dist/nonobench.html), NONOBENCH the program (none: nothing is compared), SLACK a factor for the
-# bounds of time, CHROMIUM the browser.
+# PAGE is the built page (web/out/nonobench.html if it is there, else dist/nonobench.html), NONOBENCH the program (none: nothing
+# is compared), SLACK a factor for the bounds of time, CHROMIUM the browser.
 set -euo pipefail
 cd "$(dirname "$0")/.."
-export PAGE="${PAGE:-$PWD/dist/nonobench.html}"
+built=$PWD/web/out/nonobench.html
+[ -f "$built" ] || built=$PWD/dist/nonobench.html
+export PAGE="${PAGE:-$built}"
 program="$PWD/crates/nonobench/out/nonobench"
 if [ -z "${NONOBENCH+set}" ] && [ -x "$program" ]; then NONOBENCH=$program; fi
 export NONOBENCH="${NONOBENCH:-}"

@@ -72,8 +72,8 @@ test('each language has the texts of English, in its order, with the same places
 });
 
 // Words that are the same in German.
-const SAME = ['formats.maxval', 'view.name', 'play.pause', 'library.name', 'library.form', 'import.name', 'import.dithering', 'import.palette', 'import.format', 'import.gimpGpl', 'import.jascPal',
-    'import.1Gib', 'import.256Mib', 'import.16Mib', 'export.copyright', 'export.usLetter', 'export.linkField', 'start.name', 'main.start'];
+const SAME = ['formats.maxval', 'view.name', 'play.pause', 'library.form', 'import.dithering', 'import.palette', 'import.gimpGpl', 'import.jascPal',
+    'import.1Gib', 'import.256Mib', 'import.16Mib', 'export.copyright', 'export.usLetter', 'export.linkField', 'main.start'];
 
 test('no English is left in German', () => {
     assert.deepEqual(Object.keys(EN).filter((name) => DE[name] === EN[name]).sort(), [...SAME].sort());
@@ -116,7 +116,7 @@ test('places are filled: texts as they are, numbers as the language writes them,
 const INSIDE = ['document/cover.js', 'document/named.js', 'draw/surface.js', 'engine/answers.js', 'engine/bench.js', 'engine/client.js', 'engine/opening.js', 'engine/serve.js', 'formats/palettes.js', 'formats/ppm_notes.js', 'formats/webpbn.js', 'grade/grade.js', 'grade/tree.js', 'library/keeper.js', 'library/shelf.js', 'repair/asker.js'];
 const KEYS = /^report\.csv$|^(Escape|Enter|Tab|Home|End|Page(Up|Down)|Arrow(Up|Down|Left|Right)|Backspace|Delete|Shift|Control|Ctrl|Alt|Meta|Space)(\+|$)|^(Ctrl|Alt)\+|^(Abort|QuotaExceeded)Error$|^(Undo|Redo)Empty$|^(Memory|NoChange|TwoColoursOnly|Files)$|^NS_|\.js$|\.zip$/;
 const COMMAND = /^(paint|fill|pin|unpin|colour (add|set)|insert|delete|swap|recolour|write|why|allow) ?(\{|\d|off|row|column|non|ppm|$)/;
-const STYLE = /px\b|%|rgb\(|hsl\(|sans-serif|prefers-|translate\(|^@page|:not\(|^<|^nonobench|^(work|card|data|https?):|[a-z], [a-z]+, [a-z]+$|^width \{\}\n|– nonobench$|^row-clue|^(palette|spots|tone) \{\}|^\.\.aa/;
+const STYLE = /px\b|%|rgb\(|hsl\(|sans-serif|prefers-|translate\(|^@page|:not\(|^<iframe |^nonobench|^(work|card|data|https?):|[a-z], [a-z]+, [a-z]+$|^width \{\}\n|– nonobench$|^row-clue|^(palette|spots|tone) \{\}|^\.\.aa/;
 const TEXT = /[A-Z][a-z]+|[a-z]{2,} [a-z]+|[a-z]{2,}[.…!?]| [a-z]{2,}|[a-z]{2,} /;
 const NAMES = new Set(['class', 'id', 'type', 'role', 'key', 'place', 'group', 'icon', 'd', 'for', 'list', 'accept', 'viewBox', 'popover', 'ending', 'fill', 'stroke']);
 const TAKERS = /^(phrase|PaletteFault|on|tell|querySelector|querySelectorAll|matchMedia|getPropertyValue|includes|startsWith|endsWith|error|getElementById|\$|closest|matches|addEventListener|setAttribute|getAttribute|Error|test|claim)$/;

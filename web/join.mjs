@@ -118,4 +118,5 @@ if (spawnSync('esbuild', ['--version']).error) {
 const [, version] = /VERSION: &str = "([^"]+)"/.exec(read('crates', 'program_options', 'src', 'version.rt'));
 const [alone, served] = pageTexts(version);
 writeFileSync(join(folder, 'nonobench.html'), alone);
+console.log(`web/join.mjs: the page has ${Buffer.byteLength(alone)} bytes, of at most 524288`);
 writeSite(join(folder, 'site'), served);

@@ -723,10 +723,10 @@ test('the example checks an upload in a thread of its own, and its status tells 
   try {
     const one = file('one', 'given 1 1\n'), cross = file('cross.ppm', 'P3\n2 2\n1\n0 0 0 1 1 1\n1 1 1 0 0 0\n');
     const proof = file('cross.cert', 'nonocert 2\ngiven 1 1\ngiven 1 2\ngiven 2 1\ngiven 2 2\ndone\n');
-    assert.deepEqual(said('diagonal.ppm', 'diagonal.cert'), ['taken: certificate accepted\n', 0]);
-    assert.deepEqual(said('given.ppm', 'given.cert', one), ['taken: certificate accepted, givens 1\n', 0]);
+    assert.deepEqual(said('diagonal.ppm', 'diagonal.cert'), ['certificate accepted\n', 0]);
+    assert.deepEqual(said('given.ppm', 'given.cert', one), ['certificate accepted, givens 1\n', 0]);
     const lemmas = file('given.proof', 'nonolemma 1\ngiven 1 1\nline r 1\nline c 1\nline r 2\ndone\n');
-    assert.deepEqual(said('given.ppm', lemmas, one), ['taken: proof accepted, givens 1\n', 0]);
+    assert.deepEqual(said('given.ppm', lemmas, one), ['proof accepted, givens 1\n', 0]);
     assert.deepEqual(said('given.ppm', lemmas), ['refused: certificate UnpublishedGiven at line 2\n', 1]);
     assert.deepEqual(said('given.ppm', 'given.cert'), ['refused: certificate UnpublishedGiven at line 2\n', 1]);
     assert.deepEqual(said('given.ppm', 'diagonal.cert'), ['refused: certificate NotDead at line 5\n', 1]);
@@ -737,7 +737,7 @@ test('the example checks an upload in a thread of its own, and its status tells 
     assert.equal(said('given.ppm', 'given.cert', cross)[1], 3);
     assert.equal(said('given.ppm')[1], 2);
     const [text, status] = uploadedBy(join(folder, 'none.wasm'), join(root, 'examples'), 'diagonal.ppm', 'diagonal.cert');
-    assert.match(text, /^check_upload: ENOENT: .*none\.wasm'\n$/);
+    assert.match(text, /^check_upload: the package nonobench is not installed here, and ENOENT: .*none\.wasm'\n$/);
     assert.equal(status, 3);
   } finally {
     rmSync(folder, { recursive: true, force: true });
@@ -756,7 +756,7 @@ test('the example loads nothing from the current folder', () => {
     writeFileSync(join(folder, 'package.json'), '{"imports": {"#x": "./index.js"}, "main": "index.js"}');
     writeFileSync(join(folder, 'nonobench.wasm'), 'no module');
     const pair = ['diagonal.ppm', 'diagonal.cert'].map((name) => join(root, 'examples', name));
-    assert.deepEqual(uploaded(folder, ...pair), ['taken: certificate accepted\n', 0]);
+    assert.deepEqual(uploaded(folder, ...pair), ['certificate accepted\n', 0]);
     assert.ok(!existsSync(mark));
   } finally {
     rmSync(folder, { recursive: true, force: true });

@@ -1,6 +1,6 @@
 """Checks a certificate by the package for Python, with the cells that are published: ask.py PICTURE CERTIFICATE [ROW,COLUMN ..].
 
-It prints, and ends, as c/example.c does.
+It prints what c/example.c prints, and has its exit statuses.
 """
 
 import sys
@@ -18,7 +18,7 @@ def main(names: list[str]) -> int:
         print("refused: certificate", fault.name, "at line", fault.line)
         return 1
     count = len(result.givens)
-    print("taken: certificate accepted" + (f", givens {count}" if count else ""))
+    print("certificate accepted" + (f", givens {count}" if count else ""))
     return 0
 
 

@@ -32,7 +32,8 @@ export const columnOf = (doc, place) => place % doc.columns;
 export const placeOf = (doc, place) => `${rowOf(doc, place) + 1} ${columnOf(doc, place) + 1}`;
 
 const sameSet = (one, other) => one === other || (one.size === other.size && [...one].every((place) => other.has(place)));
-const sameValue = (one, other) => one === other || JSON.stringify(one) === JSON.stringify(other);
+/** Whether two plain values are the same. */
+export const sameValue = (one, other) => one === other || JSON.stringify(one) === JSON.stringify(other);
 
 /** Whether the module's part of two documents is the same. */
 export function sameBenchPart(one, other) {

@@ -5,7 +5,6 @@ import { lightness, plainHexOf } from '../document/colours.js';
 import { eightBitDoc } from '../document/document.js';
 import { LETTERS } from '../document/limits.js';
 import { hasOneInk, signsOf } from '../draw/papers.js';
-import { cluesOfRows } from '../formats/webpbn.js';
 import { gradeName } from '../grade/names.js';
 import { phrase } from '../texts/phrase.js';
 import { inkName } from '../view/dress.js';
@@ -53,7 +52,7 @@ function factsOf(doc, grade) {
   return [sizeText(doc), given, grade, doc.about.author ? phrase('export.by', { author: doc.about.author }) : ''].filter(Boolean).join(', ');
 }
 
-/** What is printed of a document. */
-export function entryOf({ doc, name, grade = null }, { show, hasGrade }) {
-  return { doc, clues: cluesOfRows(doc.picture), title: doc.about.title || name, facts: factsOf(doc, hasGrade && grade ? gradeName(grade) : null), legend: legendOf(doc, show) };
+/** What is printed of a document and its clues, which the engine told. */
+export function entryOf({ doc, clues, name, grade = null }, { show, hasGrade }) {
+  return { doc, clues, title: doc.about.title || name, facts: factsOf(doc, hasGrade && grade ? gradeName(grade) : null), legend: legendOf(doc, show) };
 }

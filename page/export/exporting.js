@@ -3,14 +3,16 @@
 
 import { $, make, say } from '../base/elements.js';
 import { bareName, clamp } from '../base/words.js';
-import { docOf, sameDoc } from '../document/document.js';
+import { docOf, eightBitDoc, sameDoc } from '../document/document.js';
 import { drawPaper, sizeOfPaper } from '../draw/papers.js';
 import { drawSmall, penOf } from '../draw/small.js';
 import { CanvasSurface } from '../draw/surface.js';
 import { bench } from '../engine/bench.js';
+import { ppmTextOf } from '../formats/ppm_notes.js';
+import { writeZip } from '../formats/zip.js';
 import { GRADE_MARK } from '../grade/grade.js';
 import { keep } from '../library/keep.js';
-import { SAVE_TYPES, download, exportAs, saved, saving, showFileName, textAs } from '../library/saving.js';
+import { exportAs, saveDownload, saving, showFileName } from '../library/saving.js';
 import { phrase } from '../texts/phrase.js';
 import { addAction, runAction } from '../view/actions.js';
 import { openDialog } from '../view/dialogs.js';
@@ -18,10 +20,9 @@ import { nearText } from '../view/palette.js';
 import { gradeAtHand, gradeLine } from '../view/grading.js';
 import { asSeen, heard } from '../view/tools.js';
 import { certificateText } from '../view/verdict.js';
-import { WARNINGS, startPrinting } from './printing.js';
+import { WARNINGS, atHand, startPrinting } from './printing.js';
 
 const PNG_SIDE = 1600; // pixels that the longer side of a PNG comes near to
-const puzzleAtHand = () => ({ doc: docOf(bench.state), clues: bench.state.clues });
 const pngCell = ({ rows, columns }) => clamp(Math.floor(PNG_SIDE / Math.max(rows, columns)), 8, 32);
 
 function exportPng(canvas, suffix, more = '') {
@@ -34,9 +35,9 @@ const warningText = () => (WARNINGS[bench.state.verdict.word] ? ` ${WARNINGS[ben
 /** The picture, some pixels a cell, without lines. */
 async function exportPicture(side) {
   await asSeen();
-  const { doc } = puzzleAtHand();
+  const { state } = bench;
   const canvas = make('canvas');
-  drawSmall(canvas, doc, side * Math.max(doc.rows, doc.columns));
+  drawSmall(canvas, state, side * Math.max(state.rows, state.columns));
   exportPng(canvas, side === 1 ? '-cells' : '-picture');
 }
 
@@ -52,24 +53,36 @@ async function exportEmpty() {
   await asSeen();
   const near = nearText(bench.state);
   if (near) return say(phrase('export.coloursPuzzleCannotTold', { near }), 'alarm');
-  const { doc, clues } = puzzleAtHand();
-  return exportPng(puzzleImage({ doc, clues }, pngCell(doc)), '-puzzle', warningText());
+  return exportPng(puzzleImage(atHand(), pngCell(bench.state)), '-puzzle', warningText());
 }
 
 async function exportText(form) {
   await asSeen();
+  await saveDownload(form, warningText());
+}
+
+// The document that is open, and its certificate or proof with the form that it has; null where there is none of that document.
+async function certified() {
+  await asSeen();
   const doc = docOf(bench.state);
-  const text = await textAs(form);
-  if (text === null) return;
-  download(text, bench.name + SAVE_TYPES[form].ending, SAVE_TYPES[form].type);
-  saved(doc, bench.name + SAVE_TYPES[form].ending, form, warningText());
+  const text = await certificateText();
+  return text && bench.state && sameDoc(doc, bench.state) ? { doc: eightBitDoc(doc), text, form: text.startsWith('nonolemma') ? 'proof' : 'cert' } : null;
 }
 
 async function exportCertificate() {
-  await asSeen();
-  const before = docOf(bench.state);
-  const text = await certificateText();
-  if (text && bench.state && sameDoc(before, bench.state)) exportAs(text.startsWith('nonolemma') ? 'proof' : 'cert', text);
+  const found = await certified();
+  if (found) exportAs(found.form, found.text);
+}
+
+// What a site checks a puzzle by, as nonobench-audit calls it: the picture, its certificate or proof, and what lies beside it.
+async function exportForSite() {
+  const found = await certified();
+  if (!found) return;
+  const { doc, text, form } = found;
+  const ground = doc.colours[0].join(',');
+  const parts = { ppm: ppmTextOf(doc), [form]: text, givens: (text.match(/^given .*\n/gm) ?? []).join(''), background: ground === '255,255,255' ? '' : `${ground}\n` };
+  const files = Object.entries(parts).filter(([, part]) => part).map(([ending, part]) => ({ name: `${bench.name}.${ending}`, bytes: new TextEncoder().encode(part) }));
+  exportAs('zip', writeZip(files), '-site');
 }
 
 const ABOUT_FIELDS = { title: phrase('export.title'), author: phrase('export.author'), copyright: phrase('export.copyright'), description: phrase('export.description'), note: phrase('export.note') };
@@ -108,6 +121,7 @@ export function startExporting() {
   addAction({ id: 'export-ppm', name: phrase('export.exportPlainPpm'), place: 'file', group: 'export', run: () => exportText('ppm') });
   addAction({ id: 'export-non', name: phrase('export.exportNonTwoColours'), place: 'file', group: 'export', can: () => bench.state.colours.length <= 2 || !/[b-o]/.test(bench.state.picture.join('')), run: () => exportText('non') });
   addAction({ id: 'certificate', name: phrase('export.exportCertificate'), place: 'file', group: 'export', run: exportCertificate });
+  addAction({ id: 'export-site', name: phrase('export.exportForSite'), place: 'file', group: 'export', run: exportForSite });
   startPrinting();
 }
 
@@ -115,5 +129,5 @@ export function startExporting() {
 export function showExportPanel() {
   const button = (id, name) => make('button', { type: 'button', 'data-action': id, onclick: (event) => runAction(id, event) }, name);
   $('out').replaceChildren(make('h2', {}, phrase('export.saveExport')), make('p', { class: 'group' },
-    button('save', phrase('export.save')), button('export-xml', 'XML'), button('export-empty', phrase('export.puzzlePng')), button('export-picture', phrase('export.picturePng')), button('print', phrase('export.printAction')), button('certificate', phrase('export.certificate'))));
+    button('save', phrase('library.save')), button('export-xml', 'XML'), button('export-empty', phrase('export.puzzlePng')), button('export-picture', phrase('export.picturePng')), button('print', phrase('export.printAction')), button('certificate', phrase('library.certificate'))));
 }

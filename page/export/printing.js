@@ -7,6 +7,7 @@ import { bench } from '../engine/bench.js';
 import { writeZip } from '../formats/zip.js';
 import { gradeName, verdictName } from '../grade/names.js';
 import { keep } from '../library/keep.js';
+import { withClues } from '../library/open.js';
 import { SAVE_TYPES, download, exportAs } from '../library/saving.js';
 import { LANGUAGE, phrase } from '../texts/phrase.js';
 import { addAction } from '../view/actions.js';
@@ -18,7 +19,7 @@ import { SHEET_TEXTS, entryOf } from './entries.js';
 import { GRIDS, PAPERS, isLarge, partsOf, sheetsOf } from './sheets.js';
 
 const PAPER_NAMES = { a4: 'A4', a5: 'A5', letter: phrase('export.usLetter'), book: phrase('export.sixByNine') };
-const SHOWN = { colours: phrase('export.colours'), letters: phrase('export.letters'), signs: phrase('export.signs') };
+const SHOWN = { colours: phrase('view.colours'), letters: phrase('export.letters'), signs: phrase('export.signs') };
 const MARGINS = [5, 40]; // millimetres
 const LEAST_CELL = 3; // millimetres that are read and filled easily
 const USUAL = { paper: 'a4', isWide: false, margin: 12, perSheet: 1, show: 'colours', answers: true, hasGrade: false };
@@ -31,7 +32,8 @@ export const WARNINGS = {
   undecided: phrase('export.notKnownYetWhether'),
 };
 
-const atHand = () => ({ doc: docOf(bench.state), name: bench.name, grade: gradeAtHand()?.word ?? null, verdict: bench.state.verdict.word });
+/** The puzzle at hand with its clues, as the engine told them. */
+export const atHand = () => ({ doc: docOf(bench.state), clues: bench.state.clues, name: bench.name, grade: gradeAtHand()?.word ?? null, verdict: bench.state.verdict.word });
 
 const sheetsFor = (puzzles, options) => sheetsOf(puzzles.map((one) => entryOf(one, options)), { ...options, texts: SHEET_TEXTS });
 
@@ -56,7 +58,7 @@ function fillPrint(sheets) {
 function saveSvg(sheets) {
   if (sheets.length === 1) return exportAs('svg', sheets[0].svg, '-print');
   const files = sheets.map(({ svg }, at) => ({ name: `${bench.name} ${String(at + 1).padStart(2, '0')}.svg`, bytes: new TextEncoder().encode(svg) }));
-  download(new Blob([writeZip(files)], { type: SAVE_TYPES.zip.type }), `${bench.name}-print.zip`, SAVE_TYPES.zip.type);
+  download(writeZip(files), `${bench.name}-print.zip`, SAVE_TYPES.zip.type);
   return say(phrase('export.sheetsSavedPrintZip', { sheets: files.length, name: bench.name }));
 }
 
@@ -75,11 +77,11 @@ async function otherCards() {
 }
 
 function libraryPart(cards) {
-  const boxes = cards.map((card) => make('input', { type: 'checkbox', value: card.id }));
+  const boxes = cards.map(() => make('input', { type: 'checkbox' }));
   const all = make('input', { type: 'checkbox', id: 'print-all', onchange: () => { for (const box of boxes) box.checked = all.checked; } });
   const facts = (card) => [card.name, sizeText(card.doc), card.verdict && card.verdict !== 'unique' ? verdictName(card.verdict) : ''].filter(Boolean).join(', ');
   const part = make('details', { id: 'print-others' }, make('summary', {}, phrase('export.othersLibrary', { count: cards.length })), make('label', {}, all, phrase('export.all')), ...cards.map((card, at) => make('label', {}, boxes[at], facts(card))));
-  return { part: cards.length ? part : '', ids: () => boxes.filter((box) => box.checked).map((box) => box.value) };
+  return { part: cards.length ? part : '', chosen: () => cards.filter((_, at) => boxes[at].checked) };
 }
 
 function printFields(near, graded) {
@@ -120,15 +122,17 @@ async function printPuzzle() {
   if (!way) return;
   Object.assign(chosen, readFields(fields));
   const title = fields.title.value.trim();
-  /** @type {any[]} */
-  const puzzles = [{ ...own, doc: { ...own.doc, about: { ...own.doc.about, title } } }];
-  for (const id of others.ids()) {
-    const [record, card] = [await keep.keeper.record(id), (await keep.keeper.cards()).find((one) => one.id === id)];
-    if (record) puzzles.push({ doc: record.doc, name: record.name, grade: card?.grade ?? null });
+  const records = [];
+  for (const { id, name, grade } of others.chosen()) {
+    const record = await keep.keeper.record(id);
+    if (!record) return say(phrase('import.certificateSays', { name, text: phrase('library.pictureLibraryDamagedCould') }), 'alarm');
+    records.push({ ...record, grade });
   }
-  const alike = puzzles.slice(1).find(({ doc }) => chosen.show === 'colours' && nearText(doc));
+  const alike = records.find(({ doc }) => chosen.show === 'colours' && nearText(doc));
   if (alike) return say(phrase('export.printLettersSigns', { name: alike.name, near: nearText(alike.doc) }), 'alarm');
-  const sheets = sheetsFor(puzzles.sort(byName), chosen);
+  const opened = await withClues(records);
+  if (!opened) return;
+  const sheets = sheetsFor([{ ...own, doc: { ...own.doc, about: { ...own.doc.about, title } } }, ...opened].sort(byName), chosen);
   const least = Math.min(...sheets.map(({ cell }) => cell ?? Infinity));
   if (least < LEAST_CELL) say(phrase('export.smallestCellsMmWide', { value: Math.round(least * 10) / 10 }), 'alarm');
   if (way === 'svg') return saveSvg(sheets);

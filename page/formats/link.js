@@ -29,7 +29,7 @@ async function bytesOf(signs) {
 
 /** The fragment, with its '#', that opens a document to be solved ('play') or changed ('edit'). */
 export async function fragmentOf(doc, way) {
-  const text = webpbnText(doc).replace(/<clues[^]*?<\/clues>/g, '').replace(/>\n\s*</g, '><');
+  const text = webpbnText(doc).replace(/>\n\s*</g, '><');
   const bytes = new TextEncoder().encode(text);
   return `#${way}=${toSigns(joined([sumOf(bytes), await deflated(bytes)]))}`;
 }

@@ -13,17 +13,6 @@ export const LOCKED_COLOURS = 'locked colours: ';
 const NO_SIGNS = '?|\\[]'; // what means something else in an image
 const MORE_SIGNS = '#%*+=o@&$~^:;!0123456789ABCDEFGHIJKLMNOPQRSTUVWXYZpqrstuvwxyz';
 
-/** The blocks of one line of letters, as the session's clues have them. */
-function blocksOfLine(letters) {
-  return [...letters.matchAll(/([a-o])\1*/g)].map(([run, letter]) => ({ length: run.length, letter }));
-}
-
-/** The clues of rows of letters. */
-export function cluesOfRows(picture) {
-  const columns = [...picture[0]].map((_, col) => picture.map((row) => row[col]).join(''));
-  return { rows: picture.map(blocksOfLine), columns: columns.map(blocksOfLine) };
-}
-
 // What a colour is called where it has no name or sign of its own. White is `.` and black is `X`, as the format has them from the start.
 function usualInk(hex, triple, at) {
   if (hex === 'ffffff') return { name: 'white', sign: '.' };
@@ -103,7 +92,7 @@ function puzzleOf(doc, clues) {
     `<puzzle type="grid" defaultcolor="${xmlText(usual.name)}" backgroundcolor="${xmlText(inks[0].name)}">`,
     ...elements({ source: 'nonobench', ...about }, ['source', 'id', 'title', 'author', 'authorid', 'copyright', 'description']),
     ...inks.map(({ name, sign, hex }) => `<color name="${xmlText(name)}" char="${xmlText(sign)}">${hex}</color>`),
-    ...axis('columns'), ...axis('rows'),
+    ...(clues ? ['columns', 'rows'].flatMap(axis) : []),
     `<solution type="goal"${goal.id ? ` id="${xmlText(goal.id)}"` : ''}>`, ...imageOf(doc.picture.map((row) => [...row].map((letter) => of(letter).sign))), ...(goal.notes ?? []).flatMap((note) => element('note', note)), '</solution>',
     ...(extras?.solutions ?? []).filter((one) => isFitting(one, doc, inks)).flatMap(solutionOf),
     ...savedPart(doc, inks, doc.givens, WEBPBN_GIVENS, 'The cells that are given with the puzzle.'),
@@ -113,8 +102,8 @@ function puzzleOf(doc, clues) {
   ];
 }
 
-/** The XML text of a document and its clues. */
-export function webpbnText(given, clues = cluesOfRows(given.picture)) {
+/** The XML text of a document with the clues that the engine told of it; without clues where none are given. */
+export function webpbnText(given, clues = null) {
   const doc = eightBitDoc(given);
   const set = doc.extras?.set ?? {};
   return [

@@ -1,9 +1,9 @@
 // Web Paint-by-Number's XML puzzle sets, read: the picture, and all else that the format has, so that writing it again loses nothing.
 
-import { unpackedDoc } from '../document/document.js';
+import { sameValue, unpackedDoc } from '../document/document.js';
 import { FileFault, LETTERS, MOST_COLOURS } from '../document/limits.js';
 import { phrase } from '../texts/phrase.js';
-import { LOCKED_COLOURS, WEBPBN_GIVENS, WEBPBN_LOCKS, cluesOfRows } from './webpbn.js';
+import { LOCKED_COLOURS, WEBPBN_GIVENS, WEBPBN_LOCKS } from './webpbn.js';
 import { readWebpbnImage } from './webpbn_image.js';
 import { readXml } from './xml.js';
 
@@ -132,13 +132,15 @@ function docOfSigns(signs, colours, ground) {
   return { doc, names: order.map((one) => one.name) };
 }
 
-function checkClues(doc, clues, letterOf) {
-  const own = cluesOfRows(doc.picture);
+// The runs of a line of letters, to compare a file's clues with its picture. Clues that leave the page come from the engine alone.
+const runsOf = (letters) => (letters.match(/([a-o])\1*/g) ?? []).map((run) => run.length + run[0]).join(' ');
+
+function checkClues({ picture }, clues, letterOf) {
+  const lines = { rows: picture, columns: [...picture[0]].map((_, col) => picture.map((row) => row[col]).join('')) };
   for (const axis of ['rows', 'columns']) {
     if (!clues[axis]) continue;
-    const told = clues[axis].map((blocks) => blocks.map(({ length, name }) => `${length}${letterOf(name)}`).join(' '));
-    const wanted = own[axis].map((blocks) => blocks.map(({ length, letter }) => `${length}${letter}`).join(' '));
-    if (told.length !== wanted.length || told.some((line, at) => line !== wanted[at])) throw new FileFault(axis === 'rows' ? phrase('formats.cluesRowsNotThose') : phrase('formats.cluesColumnsNotThose'));
+    const told = clues[axis].map((blocks) => blocks.map(({ length, name }) => length + letterOf(name)).join(' '));
+    if (!sameValue(told, lines[axis].map(runsOf))) throw new FileFault(axis === 'rows' ? phrase('formats.cluesRowsNotThose') : phrase('formats.cluesColumnsNotThose'));
   }
 }
 

@@ -96,7 +96,7 @@ export function readXml(text) {
       else if (run.trim()) throw reader.fault(phrase('formats.textStandsOutsideAll'));
     } else readXmlTag(reader, open);
   }
-  if (open.length > 1) throw reader.fault(`<${open.at(-1).name}> is not closed`);
+  if (open.length > 1) throw reader.fault(phrase('formats.elementNotClosed', { name: open.at(-1).name }));
   if (top.children.length !== 1) throw reader.fault(phrase('formats.thereNotOneOutermost'));
   return top.children[0];
 }
@@ -117,7 +117,7 @@ function readXmlTag(reader, open) {
   } else if (begins('</')) {
     const name = reader.name();
     reader.space();
-    if (!begins('>') || open.length === 1 || inside.name !== name) throw reader.fault(`</${name}> closes nothing`);
+    if (!begins('>') || open.length === 1 || inside.name !== name) throw reader.fault(phrase('formats.tagClosesNothing', { name }));
     open.pop();
   } else {
     reader.at++;

@@ -5,6 +5,7 @@ import { bareName, cleanName } from '../base/words.js';
 import { webpbnText } from '../formats/webpbn.js';
 import { readZip, writeZip } from '../formats/zip.js';
 import { keep } from '../library/keep.js';
+import { withClues } from '../library/open.js';
 import { recordOfDoc } from '../library/records.js';
 import { SAVE_TYPES, download } from '../library/saving.js';
 import { phrase } from '../texts/phrase.js';
@@ -21,10 +22,19 @@ function freeName(name, taken) {
   }
 }
 
-/** A zip of records, each as an XML file, and of what else goes with them. */
-export function archiveOf(records, others = []) {
+/** A zip of records, each as an XML file, and of what else goes with them. Null, told, where a record does not open. */
+export async function archiveOf(records, others = [], start = undefined) {
+  const opened = await withClues(records, start);
   const taken = new Set();
-  return writeZip([...others, ...records.map(({ name, doc }) => ({ name: `${freeName(cleanName(name), taken)}.xml`, bytes: new TextEncoder().encode(webpbnText(doc)) }))]);
+  return opened && writeZip([...others, ...opened.map(({ name, doc, clues }) => ({ name: `${freeName(cleanName(name), taken)}.xml`, bytes: new TextEncoder().encode(webpbnText(doc, clues)) }))]);
+}
+
+/** Hands records to the user as an archive under a name, and says a text of it. */
+export async function saveArchive(records, { file, text, kind = '', others = [] }) {
+  const bytes = await archiveOf(records, others);
+  if (!bytes) return;
+  download(bytes, file, SAVE_TYPES.zip.type);
+  say(text, kind);
 }
 
 /** Hands all pictures of the library to the user as one archive. */
@@ -35,8 +45,8 @@ export async function exportAll() {
   for (const { id } of cards) records.push(await keeper.record(id));
   const sound = records.filter(Boolean);
   if (!sound.length) return say(phrase('import.libraryNoPictures'));
-  download(new Blob([archiveOf(sound)], { type: SAVE_TYPES.zip.type }), 'nonobench library.zip', SAVE_TYPES.zip.type);
-  return say(phrase('import.picturesSavedNonobenchLibrary', { pictures: sound.length, count: sound.length < cards.length ? phrase('import.onesLeftOut', { ones: cards.length - sound.length }) : '' }), sound.length < cards.length ? 'alarm' : '');
+  const ones = cards.length - sound.length;
+  return saveArchive(sound, { file: 'nonobench library.zip', text: phrase('import.picturesSavedNonobenchLibrary', { pictures: sound.length, count: ones ? phrase('import.onesLeftOut', { ones }) : '' }), kind: ones ? 'alarm' : '' });
 }
 
 /** The documents that a file of puzzles holds; none where it has no picture that opens by itself. */

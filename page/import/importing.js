@@ -20,7 +20,7 @@ import { thresholdFor } from './tone.js';
 const TEXT = {
   title: (name) => phrase('import.turnImageIntoPuzzle', { name }), create: phrase('import.createPuzzle'), done: (name) => phrase('import.madeFromImageVerdict', { name }),
   preview: phrase('import.puzzle'), drag: phrase('import.dragOverImageSelect'), part: phrase('import.partImagePixels'), left: phrase('import.left'), top: phrase('import.top'), wide: phrase('import.width'), high: phrase('import.height'), whole: phrase('import.wholeImage'), trim: phrase('import.trimMargin'),
-  cells: phrase('import.cells'), columns: phrase('import.columns'), rows: phrase('import.rows'), keeps: phrase('import.keepProportions'), sharp: phrase('import.pixelArtOnePixel'), colours: phrase('import.colours'), count: phrase('import.howManyBackground'),
+  cells: phrase('import.cells'), columns: phrase('view.columns'), rows: phrase('view.rows'), keeps: phrase('import.keepProportions'), sharp: phrase('import.pixelArtOnePixel'), colours: phrase('view.colours'), count: phrase('import.howManyBackground'),
   two: phrase('import.twoColoursLightness'), inverted: phrase('import.drawLightParts'), threshold: phrase('import.darkBelow'), lines: phrase('import.lineArtAreaDark'), area: phrase('import.percentCell'),
   light: phrase('import.lightDots'), brightness: phrase('import.brightness'), contrast: phrase('import.contrast'), dither: phrase('import.dithering'), specks: phrase('import.removeSpecksUpSo'),
   facts: ({ columns, rows, colours }) => phrase('import.cellsColoursBackground', { columns, rows, colours: colours.length }),

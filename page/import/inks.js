@@ -10,8 +10,8 @@ import { readPalette } from '../formats/palettes.js';
 import { phrase } from '../texts/phrase.js';
 
 const TEXT = {
-  palette: phrase('import.palette'), background: phrase('import.background'), lock: phrase('import.locked'), replace: phrase('import.replace'), drop: phrase('import.drop'), reset: phrase('import.startAgain'), file: phrase('import.paletteFile'), name: phrase('import.nameColour'), nameHint: phrase('import.orName'),
-  lockHint: phrase('import.staysHoweverManyColours'), unknown: (text) => phrase('import.noColourName', { text }), from: (name) => phrase('import.coloursAlone', { name }),
+  palette: phrase('import.palette'), background: phrase('import.background'), lock: phrase('view.lockedBox'), replace: phrase('import.replace'), drop: phrase('import.drop'), reset: phrase('import.startAgain'), file: phrase('import.paletteFile'), name: phrase('import.nameColour'), nameHint: phrase('import.orName'),
+  lockHint: phrase('import.staysHoweverManyColours'), unknown: (text) => phrase('view.noColourName', { text }), from: (name) => phrase('import.coloursAlone', { name }),
   share: (percent) => `${percent} %`, isGround: 'background', isLocked: 'locked', wrong: (name, fault) => phrase('import.fileNotRead', { name, fault }),
 };
 const same = (one, other) => one.join() === other.join();

@@ -18,7 +18,7 @@ import { placeOfTriple } from './flat.js';
 import { farness } from './spots.js';
 
 const TEXT = {
-  open: phrase('import.coloursFromPaletteFile'), save: phrase('import.savePalette'), format: phrase('import.format'), kinds: { gpl: phrase('import.gimpGpl'), pal: phrase('import.jascPal'), hex: phrase('import.hexadecimalHex') }, saved: (name) => phrase('import.paletteSaved', { name }),
+  open: phrase('import.coloursFromPaletteFile'), save: phrase('import.savePalette'), format: phrase('library.form'), kinds: { gpl: phrase('import.gimpGpl'), pal: phrase('import.jascPal'), hex: phrase('import.hexadecimalHex') }, saved: (name) => phrase('import.paletteSaved', { name }),
   title: (name) => phrase('import.coloursOf', { name }), hint: phrase('import.chooseColoursAddPicture'),
   add: phrase('import.addChosen'), near: phrase('import.takeNearest'), none: phrase('import.chooseColourFirst'), full: (free) => phrase('import.paletteRoomColours', { colours: free }), few: phrase('import.fewerColoursPicture'),
   noPicture: (name) => phrase('import.paletteOpenPictureFirst', { name }), wrong: (name, fault) => phrase('import.fileNotRead', { name, fault }),
@@ -98,7 +98,7 @@ async function savePalette() {
   if (!kind) return;
   await asSeen();
   const name = `${cleanName(bench.name)}.${kind}`;
-  download(new Blob([paletteText(paletteOf(bench.state, bench.name), kind)], { type: 'text/plain' }), name, 'text/plain');
+  download(paletteText(paletteOf(bench.state, bench.name), kind), name, 'text/plain');
   say(TEXT.saved(name));
 }
 

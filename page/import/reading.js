@@ -51,7 +51,7 @@ export async function docOfNon(text, page = {}, engine = startEngine()) {
     await engine.open(text, { history: 1, background: null });
     const lines = ['allow 0', 'report'];
     const [, report] = answersTo(lines, await engine.say(lines), null);
-    if (report.kind !== 'report') throw new FileFault(phrase('import.thereNotEnoughMemory'));
+    if (report.kind !== 'report') throw new FileFault(phrase('library.thereNotEnoughMemory'));
     return docOf(stateOf(report, null, null, pageOf(page)));
   } finally {
     engine.end();

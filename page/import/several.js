@@ -8,15 +8,14 @@ import { gradeName, verdictName } from '../grade/names.js';
 import { keep } from '../library/keep.js';
 import { faultText, openDoc } from '../library/open.js';
 import { recordOfDoc } from '../library/records.js';
-import { SAVE_TYPES, download } from '../library/saving.js';
 import { phrase } from '../texts/phrase.js';
 import { openDialog } from '../view/dialogs.js';
 import { secondsChosen } from '../view/verdict.js';
-import { archiveOf, docsOfBytes } from './archives.js';
+import { docsOfBytes, saveArchive } from './archives.js';
 
 const MOST_SECONDS = 30; // for a picture
 const MOST_BYTES = 16 * 1024 * 1024; // of a file
-const HEADS = [phrase('import.name'), phrase('import.size'), phrase('import.colours'), phrase('import.verdict'), phrase('import.grade')];
+const HEADS = [phrase('view.name'), phrase('import.size'), phrase('view.colours'), phrase('import.verdict'), phrase('import.grade')];
 
 /** A picture out of a file, with what is known about it so far. */
 class Row {
@@ -90,8 +89,7 @@ async function keepAll(rows) {
 
 function exportRows(rows, all) {
   const report = { name: 'report.csv', bytes: new TextEncoder().encode(`\ufeff${valuesText(all)}\r\n`) };
-  download(new Blob([archiveOf(rows, [report])], { type: SAVE_TYPES.zip.type }), 'nonobench puzzles.zip', SAVE_TYPES.zip.type);
-  say(phrase('import.picturesSavedNonobenchPuzzles', { pictures: rows.length }));
+  return saveArchive(rows, { file: 'nonobench puzzles.zip', text: phrase('import.picturesSavedNonobenchPuzzles', { pictures: rows.length }), others: [report] });
 }
 
 // Opens the row that was chosen, and closes the table by that.
@@ -125,7 +123,7 @@ export async function takeSeveral(files, imageDocs) {
   const judge = new Judge({ seconds: Math.min(MOST_SECONDS, secondsChosen()) });
   const chosen = openDialog({
     title: phrase('import.puzzles', { puzzles: rows.length }), wide: true, content: make('div', {}, count, make('div', { class: 'scrolls' }, table)),
-    buttons: [{ name: phrase('import.close'), value: null }, ...(puzzles.length ? [{ name: phrase('import.saveAllZip'), value: 'zip' }, { name: phrase('import.addLibrary'), value: 'library', main: true }] : [])],
+    buttons: [{ name: phrase('view.close'), value: null }, ...(puzzles.length ? [{ name: phrase('import.saveAllZip'), value: 'zip' }, { name: phrase('import.addLibrary'), value: 'library', main: true }] : [])],
   });
   const judged = (async () => {
     for (const [at, row] of puzzles.entries()) {
@@ -137,6 +135,6 @@ export async function takeSeveral(files, imageDocs) {
   judge.end();
   await judged;
   if (way === 'library') await keepAll(puzzles);
-  if (way === 'zip') exportRows(puzzles, rows);
+  if (way === 'zip') await exportRows(puzzles, rows);
   return true;
 }

@@ -93,7 +93,7 @@ async function openNon(text, name, page, handle = null) {
   /** @type {any} */
   let dialog = null;
   const timer = setTimeout(() => {
-    openDialog({ title: phrase('import.opening', { name }), content: phrase('import.searchingPictureTheseClues'), buttons: [{ name: phrase('import.stop'), value: null, main: true }] }).then(() => engine.end('stopped'));
+    openDialog({ title: phrase('import.opening', { name }), content: phrase('import.searchingPictureTheseClues'), buttons: [{ name: phrase('view.stop'), value: null, main: true }] }).then(() => engine.end('stopped'));
     dialog = $('dialogs').lastElementChild;
   }, STOP_AFTER);
   let doc;

@@ -1,10 +1,12 @@
-// Opens documents in place of the one at hand, and tells what is refused.
+// Opens documents in place of the one at hand, or beside it for their clues alone, and tells what is refused.
 
 import { say } from '../base/elements.js';
 import { baseOf } from '../document/cover.js';
 import { pageOf } from '../document/document.js';
 import { FileFault, MOST_CELLS } from '../document/limits.js';
 import { bench } from '../engine/bench.js';
+import { startEngine } from '../engine/client.js';
+import { openedIn } from '../engine/opening.js';
 import { phrase } from '../texts/phrase.js';
 import { confirmDialog } from '../view/dialogs.js';
 import { keep } from './keep.js';
@@ -31,6 +33,29 @@ export async function openDoc(doc, { name, isSaved = true, id = null, strokes = 
   await keep.begin(id, isBlank);
   showFileName();
   return true;
+}
+
+/**
+ * Puzzles that are not open, each `{ doc, name, .. }`, as an engine has them: with the document that it reports, and its `clues`. One
+ * worker opens them, one after the other. Null, told, where one does not open: then nothing may leave the page.
+ */
+export async function withClues(puzzles, start = startEngine) {
+  if (!puzzles.length) return [];
+  const [engine, opened] = [start(), []];
+  say(`${phrase('start.pictures', { pictures: puzzles.length })} …`);
+  try {
+    for (const one of puzzles) {
+      const doc = await openedIn(engine, baseOf(one.doc), pageOf(one.doc));
+      opened.push({ ...one, doc, clues: doc.clues });
+    }
+    say('');
+    return opened;
+  } catch (fault) {
+    say(phrase('library.nothingSavedPrinted', { name: puzzles[opened.length].name, fault: faultText(fault) }), 'alarm');
+    return null;
+  } finally {
+    engine.end();
+  }
 }
 
 /** Goes on with a picture of the library; says whether it is open. */

@@ -44,7 +44,7 @@ const nonHead = ({ title, author, copyright }) => [['title', title], ['by', auth
   .filter(([, text]) => text).map(([word, text]) => `${word} "${text.replaceAll('"', '\'').replace(/\s+/g, ' ')}"\n`).join('');
 
 /** The text of the document in one of the forms that hold it, or null, told, where it has none. */
-export async function textAs(form) {
+async function textAs(form) {
   const { state } = bench;
   if (form === 'ppm') return ppmTextOf(eightBitDoc(state));
   if (form === 'xml') return webpbnText(state, state.clues);
@@ -94,7 +94,7 @@ export async function save() {
 }
 
 /** Notes that a file has the document, and tells it; what the file has no place for is told, and is not saved by that. */
-export function saved(doc, file, form, more = '') {
+function saved(doc, file, form, more = '') {
   const without = leftOut(form, doc);
   if (!without) bench.saved(doc);
   keep.now();
@@ -123,13 +123,14 @@ async function saveByPicker() {
   }
 }
 
-async function saveDownload(form) {
+/** Saves in a form as a download, and tells `more` with it; says whether it did. */
+export async function saveDownload(form, more = '') {
   const doc = docOf(bench.state);
   const { type, ending } = SAVE_TYPES[form];
   const content = await textAs(form);
   if (content === null) return false;
   download(content, bench.name + ending, type);
-  saved(doc, bench.name + ending, form);
+  saved(doc, bench.name + ending, form, more);
   return true;
 }
 
@@ -140,7 +141,7 @@ export async function saveAs() {
   if (globalThis.showSaveFilePicker) return saveByPicker();
   const name = make('input', { type: 'text', value: bench.name, maxlength: '80' });
   const form = make('select', {}, ...DOCUMENT_FORMS.map((one) => make('option', { value: one, selected: one === saving.form }, SAVE_TYPES[one].what)));
-  const content = make('div', { class: 'rows' }, make('label', {}, phrase('library.name'), name), make('label', {}, phrase('library.form'), form));
+  const content = make('div', { class: 'rows' }, make('label', {}, phrase('view.name'), name), make('label', {}, phrase('library.form'), form));
   if (!(await openDialog({ title: phrase('library.saveAs'), content, buttons: [{ name: phrase('library.save'), value: true, main: true }] }))) return false;
   bench.name = bareName(name.value);
   saving.form = form.value;

@@ -9,7 +9,7 @@ import { play } from './play.js';
 /** A puzzle of the picture that is played. */
 export const puzzleOf = (state) => new Puzzle(state.rows, state.columns, cellsOf(state.picture), state.givens);
 
-const lineName = (line) => (line < play.state.rows ? phrase('play.rowLine', { line: line + 1 }) : phrase('play.columnLine', { rows: line - play.state.rows + 1 }));
+const lineName = (line) => (line < play.state.rows ? phrase('view.rowLine', { line: line + 1 }) : phrase('play.columnLine', { rows: line - play.state.rows + 1 }));
 const placeIn = (line, index) => (line < play.state.rows ? (index % play.state.columns) + 1 : Math.floor(index / play.state.columns) + 1);
 
 /** Places along a line in words, as in “columns 2–4, 7”. */

@@ -30,7 +30,7 @@ export async function openPlay({ isAlone = false } = {}) {
   else Object.assign(play, { state, marks: marksOf(state), letter: state.colours.length > 1 ? 'a' : '.', past: [], future: [], wrong: new Set(), at: { row: 0, col: 0 }, drag: null, isSolved: false, shown: null, heat: null, hint: null });
   searches.stop();
   const dialog = make('dialog', { id: 'play-room', 'aria-label': phrase('play.play') });
-  dialog.append(playBar(), walkBar(), make('p', { id: 'play-said', role: 'status' }), playBoard(), make('div', { id: 'play-palette', role: 'radiogroup', 'aria-label': phrase('play.colour') }));
+  dialog.append(playBar(), walkBar(), make('p', { id: 'play-said', role: 'status' }), playBoard(), make('div', { id: 'play-palette', role: 'radiogroup', 'aria-label': phrase('view.colourLabel') }));
   dialog.addEventListener('close', () => {
     endWalk();
     dialog.remove();
@@ -60,12 +60,12 @@ const playButton = (id, name, run, more = {}) => make('button', { type: 'button'
 function playBar() {
   return make('div', { class: 'group', id: 'play-bar' },
     make('h2', {}, phrase('play.play')),
-    playButton('play-undo', phrase('play.undo'), () => playTurn('past', 'future')), playButton('play-redo', phrase('play.redo'), () => playTurn('future', 'past')),
-    playButton('play-check', phrase('play.check'), checkPlay, { title: phrase('play.marksCellsNotYour') }),
+    playButton('play-undo', phrase('view.undo'), () => playTurn('past', 'future')), playButton('play-redo', phrase('view.redo'), () => playTurn('future', 'past')),
+    playButton('play-check', phrase('view.check'), checkPlay, { title: phrase('play.marksCellsNotYour') }),
     playButton('play-hint', phrase('play.hint'), hintPlay, { title: phrase('play.lineTellsMoreAgain') }),
     playButton('play-clear', phrase('play.startOver'), clearPlay), playButton('play-walk', phrase('play.walkThrough'), startWalk),
     playButton('play-smaller', '−', () => zoomPlay(-1), { 'aria-label': phrase('play.smallerCells') }), playButton('play-larger', '+', () => zoomPlay(1), { 'aria-label': phrase('play.largerCells') }),
-    playButton('play-help', '?', () => runAction('guide'), { 'aria-label': phrase('play.guide'), title: phrase('play.guide') }),
+    playButton('play-help', '?', () => runAction('guide'), { 'aria-label': phrase('view.guide'), title: phrase('view.guide') }),
     playButton('play-close', phrase('play.backPicture'), () => $('play-room').close()));
 }
 
@@ -84,7 +84,7 @@ function playPalette() {
   const { colours, maxval } = play.state;
   const choices = [...LETTERS.slice(1, colours.length), '.', '?'];
   $('play-palette').replaceChildren(...choices.map((letter) => {
-    const name = letter === '.' ? phrase('play.background') : letter === '?' ? phrase('play.wipe') : nameOf(colours[LETTERS.indexOf(letter)], maxval);
+    const name = letter === '.' ? phrase('view.background') : letter === '?' ? phrase('play.wipe') : nameOf(colours[LETTERS.indexOf(letter)], maxval);
     const sign = { '.': '×', '?': '⌫' }[letter] ?? letter;
     const button = playButton(null, sign, () => choosePlay(letter), { role: 'radio', 'data-letter': letter, 'aria-label': name, title: name });
     if (letter !== '?') {

@@ -126,9 +126,9 @@ function reasonOf(puzzle, { index, colour }, answer) {
 
 function textOf(step) {
   const { state } = play;
-  const place = (index) => phrase('play.place', { value: Math.floor(index / state.columns) + 1, columns: (index % state.columns) + 1 });
+  const place = (index) => phrase('view.placeOfCell', { value: Math.floor(index / state.columns) + 1, columns: (index % state.columns) + 1 });
   const line = (at) => (at < state.rows ? phrase('play.rowStep', { at: at + 1 }) : phrase('play.columnStep', { rows: at - state.rows + 1 }));
-  if (step.kind === 'suppose') return phrase('play.suppose', { place: place(step.index), colour: step.colour === 0 ? phrase('play.background') : nameOf(state.colours[step.colour], state.maxval) });
+  if (step.kind === 'suppose') return phrase('play.suppose', { place: place(step.index), colour: step.colour === 0 ? phrase('view.background') : nameOf(state.colours[step.colour], state.maxval) });
   if (step.kind === 'dead') return phrase('play.thenCannotFilledNot', { line: line(step.line) });
   if (step.kind === 'done') return phrase('play.picture');
   if (step.kind === 'only') return phrase('play.allTriedNoOther');

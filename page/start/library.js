@@ -48,10 +48,10 @@ export function makeLibrary(goBack) {
   view.list = make('ul', { class: 'tiles', id: 'library' });
   view.room = make('p', { class: 'faint', id: 'room' });
   const search = make('input', { type: 'search', id: 'library-search', 'aria-label': phrase('start.searchName'), placeholder: phrase('start.search'), oninput: showCards });
-  const order = make('select', { id: 'library-order', 'aria-label': phrase('start.order'), onchange: showCards }, ...Object.entries(ORDERS).map(([value, [name]]) => make('option', { value }, name)));
+  const order = make('select', { id: 'library-order', 'aria-label': phrase('play.order'), onchange: showCards }, ...Object.entries(ORDERS).map(([value, [name]]) => make('option', { value }, name)));
   view.section = make('section', { id: 'kept', class: 'card wide', 'aria-labelledby': 'kept-title', hidden: true },
     make('div', { class: 'library-head' }, make('h2', { id: 'kept-title' }, phrase('start.library')), search, order,
-      make('button', { type: 'button', id: 'library-export', onclick: exportAll }, phrase('start.saveAllZip'))),
+      make('button', { type: 'button', id: 'library-export', onclick: exportAll }, phrase('import.saveAllZip'))),
     view.list, view.room);
   fillLibrary();
   return view.section;
@@ -107,9 +107,9 @@ function tileOf(card) {
 // What can be done to a picture, in a menu of its own.
 function menuOf(card, isOpen) {
   const list = make('div', { class: 'menu', role: 'menu', popover: 'auto', 'aria-label': card.name });
-  const button = make('button', { type: 'button', class: 'quiet', 'aria-haspopup': 'menu', 'aria-label': phrase('start.moreFor', { name: card.name }), title: phrase('start.more') }, '⋯');
+  const button = make('button', { type: 'button', class: 'quiet', 'aria-haspopup': 'menu', 'aria-label': phrase('start.moreFor', { name: card.name }), title: phrase('view.more') }, '⋯');
   const item = (name, run) => make('button', { type: 'button', role: 'menuitem', onclick: () => { list.hidePopover(); run(); } }, name);
-  list.append(item(phrase('start.renameAction'), () => rename(card)), item(phrase('start.duplicate'), () => duplicate(card)), ...(isOpen ? [] : [item(phrase('start.delete'), () => remove([card]))]));
+  list.append(item(phrase('start.renameAction'), () => rename(card)), item(phrase('start.duplicate'), () => duplicate(card)), ...(isOpen ? [] : [item(phrase('view.delete'), () => remove([card]))]));
   list.addEventListener('toggle', (event) => { if (event.newState === 'open') list.querySelector('button').focus(); });
   list.addEventListener('keydown', (event) => {
     const items = [...list.children];
@@ -127,7 +127,7 @@ function menuOf(card, isOpen) {
 }
 
 async function rename(card) {
-  const field = make('input', { type: 'text', value: card.name, maxlength: '80', 'aria-label': phrase('start.name') });
+  const field = make('input', { type: 'text', value: card.name, maxlength: '80', 'aria-label': phrase('view.name') });
   if (!(await openDialog({ title: phrase('start.rename'), content: field, buttons: [{ name: phrase('start.rename'), value: true, main: true }] }))) return;
   const name = cleanName(field.value);
   await keep.keeper.rename(card.id, name);
@@ -148,8 +148,8 @@ async function duplicate(card) {
 async function remove(cards) {
   const gone = [];
   for (const { id } of cards) gone.push(await keep.keeper.drop(id));
-  const what = cards.length === 1 ? phrase('start.quoted', { name: cards[0].name }) : phrase('start.pictures', { pictures: cards.length });
-  say(phrase('start.deleted', { what }), '', { name: phrase('start.undo'), run: async () => {
+  const what = cards.length === 1 ? phrase('import.quoted', { name: cards[0].name }) : phrase('start.pictures', { pictures: cards.length });
+  say(phrase('start.deleted', { what }), '', { name: phrase('view.undo'), run: async () => {
     for (const one of gone) await keep.keeper.restore(one);
     say(phrase('start.broughtBack', { what }));
     fillLibrary();
@@ -172,7 +172,7 @@ async function makeRoom() {
     warn.textContent = lost ? phrase('start.picturesNotSaved', { pictures: lost }) : '';
   });
   const test = () => (chosen().length ? '' : phrase('start.chooseLeastOnePicture'));
-  if (!(await openDialog({ title: phrase('start.makeRoom'), content, buttons: [{ name: phrase('start.delete'), value: true, main: true, test }] }))) return;
+  if (!(await openDialog({ title: phrase('start.makeRoom'), content, buttons: [{ name: phrase('view.delete'), value: true, main: true, test }] }))) return;
   for (const { id } of chosen()) await keep.keeper.drop(id);
   keep.wasTold = false;
   say('');

@@ -24,7 +24,7 @@ function newCard() {
   const ground = make('input', { type: 'color', id: 'new-background', value: '#ffffff' });
   const form = make('form', { class: 'card', 'aria-labelledby': 'new-title' },
     make('h2', { id: 'new-title' }, phrase('start.new')),
-    make('p', { class: 'fields' }, make('label', {}, phrase('start.columns'), columns), make('label', {}, phrase('start.rows'), rows), make('label', {}, phrase('start.background'), ground)),
+    make('p', { class: 'fields' }, make('label', {}, phrase('view.columns'), columns), make('label', {}, phrase('view.rows'), rows), make('label', {}, phrase('import.background'), ground)),
     make('button', { type: 'submit', class: 'main', id: 'new-go' }, phrase('start.startPainting')));
   form.addEventListener('submit', (event) => {
     event.preventDefault();
@@ -73,7 +73,7 @@ export function startStart() {
   startLibrary();
   addAction({ id: 'new', name: phrase('start.newOpen'), place: 'file', group: 'open', needs: false, run: showStart });
   addAction({ id: 'open', name: phrase('start.openFile'), key: 'Ctrl+O', place: 'file', group: 'open', needs: false, run: () => chooseFile() });
-  addAction({ id: 'save', name: phrase('start.save'), key: 'Ctrl+S', place: 'file', group: 'save', run: save });
+  addAction({ id: 'save', name: phrase('library.save'), key: 'Ctrl+S', place: 'file', group: 'save', run: save });
   addAction({ id: 'save-as', name: phrase('start.saveAs'), key: 'Ctrl+Shift+S', place: 'file', group: 'save', run: saveAs });
 
   on('opened', hideStart);

@@ -11,13 +11,24 @@ export const hasModule = existsSync(file);
 export const needsModule = { skip: hasModule ? false : `no module at ${file}: set WASM` };
 const bytes = hasModule ? readFileSync(file) : null;
 
+/** The line in which the page speaks, in place of the browser's: its `text` and `dataset.kind` are what was said last. */
+export function saidLine() {
+  const line = { dataset: {}, text: '', replaceChildren(text) { line.text = text; } };
+  globalThis.document = { getElementById: (id) => (id === 'said' ? line : null) };
+  return line;
+}
+
 /** An engine of the module in this thread. */
 export const engine = () => load(bytes);
 
-/** Makes what stands for `new Worker(..)`; `made` gets each of them, `fails` says at which texts a worker ends by itself. */
-export function workers({ fails = (text, worker) => false, made = [] } = {}) {
+/**
+ * Makes what stands for `new Worker(..)`; `made` gets each of them, `fails` says at which texts a worker ends by itself, and `told`
+ * makes another text of what the engine tells.
+ */
+export function workers({ fails = (text, worker) => false, made = [], told = (text) => text } = {}) {
   return () => {
-    const scope = { postMessage: (data) => setImmediate(() => !worker.isEnded && worker.onmessage({ data })) };
+    const heard = (data) => (typeof data.ok === 'string' ? { ...data, ok: told(data.ok) } : data);
+    const scope = { postMessage: (data) => setImmediate(() => !worker.isEnded && worker.onmessage({ data: heard(data) })) };
     serve(scope, () => engine());
     const worker = {
       isEnded: false, said: [], onmessage: null, onerror: null,

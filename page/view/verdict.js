@@ -210,7 +210,7 @@ export async function certificateText() {
   const why = {
     time: phrase('view.noCertificateFoundWithin', { secondsChosen: secondsChosen() }),
     stopped: phrase('view.searchCertificateStopped'),
-    stroke: 'The search for a certificate was ended by a stroke.',
+    stroke: phrase('view.searchCertificateStopped'),
   }[verdictView.ended];
   if (text === null && why) say(why);
   return text;
