@@ -1,5 +1,6 @@
-/* Checks a certificate of a picture, as files, with the cells that are published: example PICTURE CERTIFICATE [ROW,COLUMN ..], where
- * CERTIFICATE may be a proof by lemmas. Ends with status 0 where it is accepted, 1 where it is refused, 2 for wrong arguments and 3 for a file that cannot be read. */
+/* Checks a picture with its certificate, given the cells that are published: example PICTURE CERTIFICATE [ROW,COLUMN ..], where
+ * CERTIFICATE may be a proof by lemmas. Exits with status 0 if it is accepted, 1 if it is refused, 2 for bad arguments, and 3 if a
+ * file cannot be read. */
 #include "nonobench.h"
 #include <errno.h>
 #include <inttypes.h>
@@ -14,18 +15,18 @@ typedef struct file {
     size_t size;
 } file;
 
-/* Says what is wrong with a file, and ends. */
+/* Says what is wrong with a file, and exits. */
 static void leave(const char *name, const char *what) {
     fprintf(stderr, "example: %s: %s\n", name, what);
     exit(3);
 }
 
-/* Reads a whole file; of one that is too long a byte more than the library takes, which then says so. */
+/* Reads a whole file. Of one that is too long it reads a byte more than the library takes, so that the library says so. */
 static file read_file(const char *name) {
     FILE *stream = fopen(name, "rb");
     if (!stream) leave(name, strerror(errno));
     file whole = {malloc(NONOBENCH_MOST_BYTES + 1), 0};
-    if (!whole.bytes) leave(name, "memory");
+    if (!whole.bytes) leave(name, "out of memory");
     whole.size = fread(whole.bytes, 1, NONOBENCH_MOST_BYTES + 1, stream);
     if (ferror(stream)) leave(name, strerror(errno));
     fclose(stream);
@@ -38,7 +39,7 @@ static bool is_proof(const file *whole) {
     return whole->size >= sizeof FRONT - 1 && memcmp(whole->bytes, FRONT, sizeof FRONT - 1) == 0;
 }
 
-/* Reads the cells of some arguments; false where one is no cell. */
+/* Reads cells from arguments; false if one is not a cell. */
 static bool read_places(char **words, size_t count, nonobench_place *places) {
     char end;
     for (size_t at = 0; at < count; at++) {
@@ -59,7 +60,7 @@ int main(int count, char **names) {
     file picture = read_file(names[1]), certificate = read_file(names[2]);
     uint32_t status = (is_proof(&certificate) ? nonobench_verify_pair : nonobench_check_pair)(
         picture.bytes, picture.size, certificate.bytes, certificate.size, &options, &text);
-    printf(status == NONOBENCH_DONE ? "taken: %s" : "refused: %s\n", said);
+    printf(status == NONOBENCH_DONE ? "%s" : "refused: %s\n", said);
     free(picture.bytes);
     free(certificate.bytes);
     return status == NONOBENCH_DONE ? 0 : 1;

@@ -30,7 +30,7 @@ extern "C" {
 #endif
 
 /* The version of this header. nonobench_version gives the version of the library. */
-#define NONOBENCH_VERSION "0.5.0"
+#define NONOBENCH_VERSION "0.6.0"
 
 /* How many bytes a picture, a certificate or a proof may have, as for the program. The library itself accepts any length. */
 #define NONOBENCH_MOST_BYTES ((size_t)16777216)
