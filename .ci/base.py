@@ -4,7 +4,7 @@
 For each claim it takes the clauses and laws by name. From the names in them, through the imports of each file, it collects all
 definitions in specs/ that they need, in reading order. docs/BASE.md lists these with file, line and the comment's first sentence. It
 must be what this script makes, no claim may need more lines than MOST says, no name may mean two things in the base of a claim, and
-docs/PROOF.md must quote the whole base of QUOTED. And no line of an .antt file may have more columns than WIDTHS says.
+docs/PROOF.md must quote the whole base of QUOTED. README.md must name the lines of FIGURES. And no line of an .antt file may have more columns than WIDTHS says.
 
 Usage: .ci/base.py [--write | --counts]: --write writes docs/BASE.md, and --counts prints only the counts.
 """
@@ -40,6 +40,11 @@ MOST = {
 }
 # The most columns of a line: definitions are read by whoever audits a claim, proofs by whoever mends them.
 WIDTHS = {'specs': 120, 'proofs': 200}
+# What README.md says of the lines that a claim needs.
+FIGURES = {
+    'The verdict is true': '{} lines for the verdict',
+    'A certificate proves uniqueness': '{} for an accepted certificate',
+}
 # The claim whose base docs/PROOF.md quotes whole.
 QUOTED = 'A certificate proves uniqueness'
 HEAD = '''# What the claims depend on
@@ -274,6 +279,15 @@ def wide_lines():
                     yield f'{path.relative_to(ROOT)}:{number}: {len(line)} columns, and at most {width} are allowed'
 
 
+def figures(found):
+    """What README.md should say of the lines that claims need, and does not."""
+    readme = (ROOT / 'README.md').read_text(encoding='utf-8')
+    for title, text in FIGURES.items():
+        said = text.format(size(found[title]))
+        if said not in readme:
+            yield f'README.md does not say: {said}'
+
+
 def main():
     found = bases()
     if '--counts' in sys.argv[1:]:
@@ -283,7 +297,7 @@ def main():
         return 0
     if '--write' in sys.argv[1:]:
         PAGE.write_text(page(found), encoding='utf-8')
-    told = [*faults(found), *wide_lines()]
+    told = [*faults(found), *figures(found), *wide_lines()]
     for fault in told:
         print(fault)
     print(f'{len(found)} claims, {len(told)} faults')
