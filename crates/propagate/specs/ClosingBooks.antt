@@ -25,8 +25,9 @@ ClosesBook clues old (Ok new) = IsClosedBook clues old new
 ClosesBook clues old (Err fault.Dead) = HasDeadLine clues old.base
 ClosesBook clues old (Err fault.Memory) = Unit {0}
 
--- How many evaluations close a book: at least one for each line that waited, at least one for each
--- step that was added, and at most one for each of those lines and each cell on which a step draws.
+-- How many evaluations close a book: at least one for each line that waited, and at least one for
+-- each step that was added. At most there is one for each of those lines and each cell on which a
+-- step draws.
 pub record SufficeToClose (dirty : Lines) (added : List Step) (evaluations : ℕ) : Type 0 where
   pub at_least_lines : name_count dirty ≤ evaluations
   pub at_least_steps : length added ≤ evaluations

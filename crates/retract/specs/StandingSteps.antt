@@ -36,8 +36,8 @@ abbrev pub ExcludesAll : Masks → LineId → ℕ → ℕ → Type 0
 ExcludesAll facts line place colours =
     (k : ℕ) → IsBitSet colours k → Excludes facts (row_on line.axis line.at place) (col_on line.axis line.at place) k
 
--- A step stands on a line of the new picture, where these exclusions are known: the step's old line is now that line,
--- with the same length and the same clue; each cell that the step mentions keeps its place along it; and each premise
+-- A step stands on a line of the new picture, where these exclusions are known. The step's old line is now that line,
+-- with the same length and the same clue. Each cell that the step mentions keeps its place along it, and each premise
 -- is known there.
 pub record Stands (moves : Moves) (old new : Clues) (Known : ℕ → ℕ → ℕ → Type 0) (step : Step)
     (to : LineId) : Type 0 where
