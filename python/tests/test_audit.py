@@ -3,6 +3,7 @@
 Pictures and what is expected of them are worked by hand. Pillow, defusedxml and jinja2 are needed.
 """
 
+import contextlib
 import csv
 import io
 import json
@@ -20,7 +21,7 @@ from audit_parts import (  # noqa: E402
 )
 
 import nonobench  # noqa: E402
-from nonobench.collection import judging, readers, serving  # noqa: E402
+from nonobench.collection import arguments, judging, readers, serving, tally  # noqa: E402
 from nonobench.collection.puzzles import Unreadable  # noqa: E402
 
 # One solution, whose certificate says much twice: it is three times as long as a proof by lemmas.
@@ -286,6 +287,26 @@ class Running(Case):
         self.assertEqual((made / "learnt.proof").read_bytes(), proof)
         self.rows("site", "--certify", "certs", "--prove", "9999999", "--resume", status=0)
         self.assertFalse((made / "learnt.proof").exists())
+
+    def test_puzzles_without_a_certificate_are_counted(self):
+        counts = tally.Tally()
+        for verdict, text in (("unique", '{"lines":7}'), ("unique", '{"note":"\\"lines\\":"}'), ("ambiguous", "{}")):
+            counts.put(verdict, text)
+        for certify, wanted in (("certs", "nonobench-audit: unique, but no certificate made in time or memory: 1\n"), (None, "")):
+            said = io.StringIO()
+            with contextlib.redirect_stderr(said):
+                counts.warn(arguments.Options(["site"], certify=certify), True, False)
+            self.assertEqual(said.getvalue(), wanted)
+
+    def test_a_proof_beside_a_puzzle_stays(self):
+        self.put("learnt.ppm", p3(LEARNT))
+        proof = nonobench.prove(p3(LEARNT)).proof
+        self.put("learnt.proof", proof)
+        rows = self.rows("site", "--certify", "site", "--prove", "9999999", status=0)
+        self.assertEqual(rows["site/learnt.ppm"]["lemmas"], {"accepted": True})
+        self.assertNotIn("proof", rows["site/learnt.ppm"])
+        self.assertEqual((self.folder / "site" / "learnt.proof").read_bytes(), proof)
+        self.assertEqual(sorted(place.name for place in (self.folder / "site").iterdir()), ["learnt.cert", "learnt.ppm", "learnt.proof"])
 
     def test_a_proof_is_told_before_its_certificate_is_made(self):
         class Slow(judging.Desk):

@@ -295,12 +295,12 @@ class Processes(Case):
         self.put("z.ppm", p3(UNIQUE))
         return self.start("site", "--jobs", "1", "--seconds", "300", "--jsonl", "rows", "--no-grade")
 
-    def hurt(self, process, number, before):
-        """Sends a signal to the process that judges, once there is another one than before, and it is at work."""
+    def hurt(self, process, number, before, seconds=0.5):
+        """Sends a signal to the process that judges, once there is another one than before, and it has worked for some time."""
         deadline = time.monotonic() + 60
         while time.monotonic() < deadline:
             found = [pid for pid in children(process.pid) if pid != before]
-            if found and cpu_of(found[0]) > 0.5:
+            if found and cpu_of(found[0]) > seconds:
                 os.kill(found[0], number)
                 return found[0]
             time.sleep(0.05)
@@ -315,6 +315,22 @@ class Processes(Case):
         rows = self.read("rows")
         self.assertEqual({name: row["verdict"] for name, row in rows.items()}, {"site/a.ppm": "unique", "site/hard.ppm": "error", "site/z.ppm": "unique"})
         self.assertEqual(rows["site/hard.ppm"]["error"], "its process ended by signal 11")
+
+    def test_a_process_that_dies_at_a_grade(self):
+        self.put("hard.ppm", (ROOT / "measure" / "pictures" / "hard-20-k3-min.ppm").read_bytes())
+        process = self.start("site", "--jobs", "1", "--seconds", "300", "--jsonl", "rows", "--certify", "certs")
+        made = self.folder / "certs" / "hard.cert"
+        deadline = time.monotonic() + 120
+        while time.monotonic() < deadline and not made.exists():
+            time.sleep(0.05)
+        # Its grade takes much longer than this.
+        until = cpu_of(children(process.pid)[0]) + 1
+        self.hurt(process, signal.SIGKILL, 0, until)
+        said = process.communicate(timeout=120)[1]
+        self.assertEqual(process.returncode, 0, said)
+        row = self.read("rows")["site/hard.ppm"]
+        self.assertEqual((row["verdict"], row["note"]), ("unique", "its grade: its process ended by signal 9"))
+        self.assertEqual(row["lines"], made.read_bytes().count(b"\n"))
 
     def test_a_process_that_hangs(self):
         for at in range(12):

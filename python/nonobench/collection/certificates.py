@@ -6,7 +6,7 @@ import base64
 import contextlib
 import os
 import zlib
-from typing import TYPE_CHECKING, Optional
+from typing import TYPE_CHECKING, Iterable, Optional, Union
 
 from .judging import Desk
 from .kinds import KINDS, Kind
@@ -67,7 +67,10 @@ def write(path: str, certificate: str) -> str:
     One that is there already stays until the new one is whole. A new file is written in its place: its row comes later, so that
     `--resume` does it again where a run ends in between.
     """
-    data = certificate.encode("ascii")
+    return _put(path, certificate.encode("ascii"))
+
+
+def _put(path: str, data: bytes) -> str:
     try:
         try:
             _write_new(path, data)
@@ -82,10 +85,42 @@ def write(path: str, certificate: str) -> str:
     return ""
 
 
-def remove(path: str) -> None:
-    """Removes a proof that is not wanted any more."""
-    with contextlib.suppress(OSError):
-        os.unlink(path)
+class Early:
+    """A proof that is written before the certificate is made. Where that is short, the proof is not wanted, and is taken back.
+
+    One of an earlier run goes with it, but not one that lies beside the puzzle, which was read: that is there again.
+    """
+
+    def __init__(self, path: str, beside: Iterable[Union[str, bytes]]) -> None:
+        self._path = path
+        self._beside = beside
+        self._before: Optional[bytes] = None
+        self._is_there = False
+        self.note = ""  # why it could not be written
+
+    def write(self, proof: str) -> None:
+        """Writes it."""
+        with contextlib.suppress(OSError):
+            if any(os.path.samefile(self._path, file) for file in self._beside if isinstance(file, str)):
+                self._before = _read(self._path)
+        self.note = write(self._path, proof)
+        self._is_there = not self.note
+
+    def take_back(self) -> None:
+        """Leaves what there was before it was written."""
+        self.note = ""
+        if not self._is_there:
+            return
+        if self._before is not None:
+            self.note = _put(self._path, self._before)
+        else:
+            with contextlib.suppress(OSError):
+                os.unlink(self._path)
+
+
+def _read(path: str) -> bytes:
+    with open(path, "rb") as file:
+        return file.read()
 
 
 def _write_new(path: str, data: bytes) -> None:

@@ -119,8 +119,9 @@ class Answers:
         """Puts a line of a kind.
 
         `more` and `last` are rows of a file; `same` and `none` say that its rows are as they were, or that there are no more.
-        `known` is a row before its certificate is made, `at` the puzzle that is begun where a file has several, `bye` that the
-        process ends and has begun no other task, `ready` that it begins.
+        `known` is a row before its certificate or its grade is made: instead of a certificate it has the kind of the row to come, and
+        what follows is the certificate that goes back. `at` is the puzzle that is begun where a file has several, `bye` says that
+        the process ends and has begun no other task, `ready` that it begins.
         """
         self._lines.append(f"{number}\t{kind}\t{verdict}\t{text}\t{certificate}\n")
         if not self._some.is_set():
@@ -229,7 +230,7 @@ class Judging:
             self._spare = b""
             row = {"verdict": "error", "error": self._too_much()}
         self._put(task, about, row, about.kind, made)
-        if row.get("error") == self._too_much():
+        if not self._spare:
             self._leave(task)
 
     def _put(self, task: Task, about: About, row: Row, kind: str, certificate: str = "") -> None:
@@ -245,7 +246,7 @@ class Judging:
         settings, desk = self._settings, self._desk
         number = about.front.get("puzzle", 1)
         name = task.to if number == 1 else f"{task.to}.{number}"
-        notes: list[str] = []
+        early = certificates.Early(f"{name}.proof", [file for _, _, file in task.beside])
         told: Row = {}
 
         def tell(known: Judged) -> None:
@@ -253,29 +254,44 @@ class Judging:
             if beside and not told:
                 told.update(certificates.told(desk, puzzle, beside))
             if known.proof:
-                notes.append(certificates.write(f"{name}.proof", known.proof))
+                early.write(known.proof)
             if known.proof or time.perf_counter() - about.begun > LONG:
                 self._put(task, about, {**judged_row(puzzle, known), **told}, "known", about.kind)
                 self._answers.flush()
 
         allowance = FEW_SPLITS if task.mode == GLANCE else settings.allowance
         judged = judge(desk, puzzle, allowance, tell, task.mode == FULL, settings.most)
-        if notes and not judged.proof:
-            certificates.remove(f"{name}.proof")
+        if not judged.proof:
+            early.take_back()
         row = judged_row(puzzle, judged)
         if task.mode == GLANCE and judged.verdict == "unique":
             row["note"] = f"no certificate within {settings.limit}"
-        if judged.certificate:
-            row["lines"] = judged.certificate.count("\n")
-            if settings.has_grades:
-                row.update(_grade(puzzle, row, judged))
-        row.update(told or certificates.told(desk, puzzle, beside))
-        if task.to is None or not judged.certificate:
-            return row, ""
-        if settings.is_inline:
-            return row, certificates.packed(judged.certificate)
-        note = certificates.write(f"{name}.cert", judged.certificate) or "".join(notes if judged.proof else [])
-        return ({**row, "note": note} if note else row), ""
+        told = told or certificates.told(desk, puzzle, beside)
+        if not judged.certificate:
+            return {**row, **told}, ""
+        row["lines"] = judged.certificate.count("\n")
+        made, note = "", ""
+        if task.to is not None and settings.is_inline:
+            made = certificates.packed(judged.certificate)
+        elif task.to is not None:
+            note = certificates.write(f"{name}.cert", judged.certificate) or early.note
+        end = {**told, "note": note} if note else told
+        if settings.has_grades:
+            self._put(task, about, {**row, **end}, "known", f"{about.kind} {made}")
+            row.update(self._grade(puzzle, row, judged))
+        return {**row, **end}, made
+
+    def _grade(self, puzzle: Puzzle, row: Row, judged: Judged) -> Row:
+        """The grade of a puzzle with one solution. Where the plain solver ends elsewhere than the proved map, there is none."""
+        settled = map_of(judged.report, row["rows"], row["columns"])
+        try:
+            grade = grade_of(row["picture"].split("/"), puzzle.givens, judged.certificate, settled, judged.verdict)
+        except NoGrade as error:
+            return {"note": one_line(str(error))}
+        except MemoryError:
+            self._spare = b""
+            return {"note": f"its grade: {self._too_much()}"}
+        return {"grade": grade.word, "figures": {name: getattr(grade, name) for name in FIGURES}}
 
 
 def unread(name: str, error: Unreadable, has_times: bool) -> str:
@@ -330,13 +346,3 @@ def _content(files: Files) -> str:
     parts += [(f"{of}.{ending}", held) for of, ending, held in files.beside]
     front = ",".join(f"{name} {len(held)}" for name, held in parts).encode("ascii")
     return hashlib.blake2b(b":".join((front, *(held for _, held in parts))), digest_size=16).hexdigest()
-
-
-def _grade(puzzle: Puzzle, row: Row, judged: Judged) -> Row:
-    """The grade of a puzzle with one solution. Where the plain solver ends elsewhere than the proved map, there is none."""
-    settled = map_of(judged.report, row["rows"], row["columns"])
-    try:
-        grade = grade_of(row["picture"].split("/"), puzzle.givens, judged.certificate, settled, judged.verdict)
-    except NoGrade as error:
-        return {"note": one_line(str(error))}
-    return {"grade": grade.word, "figures": {name: getattr(grade, name) for name in FIGURES}}

@@ -21,6 +21,7 @@ class Tally:
         self._flaws: Counter[str] = Counter()
         self._missing: Counter[str] = Counter()
         self._unwritten = 0
+        self._bare = 0  # unique, without a certificate
 
     def put(self, verdict: str, text: str) -> None:
         """Counts a row."""
@@ -31,6 +32,8 @@ class Tally:
             self._flaws.update(flaws_of(row_of(text)))
         if f'"note":"{UNWRITTEN}' in text:
             self._unwritten += 1
+        if verdict == "unique" and '"lines":' not in text:
+            self._bare += 1
         at = text.find('"grade":"')
         if at >= 0:
             self._grades[text[at + 9 : text.index('"', at + 9)]] += 1
@@ -64,6 +67,8 @@ class Tally:
         lines = [f"{count} not read, since {name} is not installed" for name, count in sorted(self._missing.items())]
         if self._unwritten:
             lines.append(f"certificates not written: {self._unwritten}")
+        if self._bare and options.certify is not None:
+            lines.append(f"unique, but no certificate made in time or memory: {self._bare}")
         if not self.total and is_whole:
             lines.append(f"no puzzles in {', '.join(options.paths)}")
         if is_stopped:

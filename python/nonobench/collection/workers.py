@@ -63,7 +63,7 @@ class Hand:
         self.since = time.monotonic()  # the last sign of life
         self.cost = PACK_SECONDS  # seconds of a file, about
         self.reached = 0  # the puzzle of the first task's file that is being judged, where the file has several
-        self.known: Optional[list[str]] = None  # the row of the puzzle whose certificate is being made
+        self.known: Optional[list[str]] = None  # the row of the puzzle whose certificate or grade is being made
         self.send(tuple(settings))
 
     def send(self, value: Any) -> None:
@@ -257,11 +257,13 @@ class Pool:
     def _blame(self, hand: Hand, task: Task, why: str, is_late: bool) -> Iterator[Answer]:
         """What becomes of a puzzle whose process was ended, or ended: it is told, or tried once more."""
         if hand.known is not None:
-            _, _, verdict, text, kind = hand.known
-            row: Row = {**json.loads(text), "note": f"its certificate: {why}"}
+            _, _, _, text, rest = hand.known
+            kind, _, certificate = rest.partition(" ")
+            row: Row = json.loads(text)
+            row.setdefault("note", f"its {'grade' if 'lines' in row else 'certificate'}: {why}")
             if is_late and "seconds" in row:
                 row["seconds"] = self._seconds
-            yield from self._give_up(task, row, kind == "more")
+            yield from self._give_up(task, row, kind == "more", certificate)
         elif is_late and task.mode == FULL:
             self._again.appendleft(task._replace(mode=GLANCE, spent=self._seconds))
         elif not is_late and (task.number, task.start) not in self._died:
@@ -277,8 +279,8 @@ class Pool:
             row.update(verdict="undecided", error=why, limit=self._settings.limit) if is_late else row.update(verdict="error", error=why)
             yield from self._give_up(task, row, has_more)
 
-    def _give_up(self, task: Task, row: Row, has_more: bool) -> Iterator[Answer]:
+    def _give_up(self, task: Task, row: Row, has_more: bool, certificate: str = "") -> Iterator[Answer]:
         """Tells the row of a puzzle whose process is gone. The puzzles after it are still to come."""
-        yield Answer(task.number, not has_more, row["verdict"], text_of(row))
+        yield Answer(task.number, not has_more, row["verdict"], text_of(row), certificate)
         if has_more:
             self._again.appendleft(task._replace(start=row["puzzle"] + 1, mode=FULL, spent=0.0))
