@@ -3,8 +3,9 @@
 
 For each claim it takes the clauses and laws by name. From the names in them, through the imports of each file, it collects all
 definitions in specs/ that they need, in reading order. docs/BASE.md lists these with file, line and the comment's first sentence. It
-must be what this script makes, no claim may need more lines than MOST says, no name may mean two things in the base of a claim, and
-docs/PROOF.md must quote the whole base of QUOTED. README.md must name the lines of FIGURES. And no line of an .antt file may have more columns than WIDTHS says.
+must be what this script makes, no claim may need more lines than MOST says, no name may mean two things in the base of a claim but
+those of SHARED, and docs/PROOF.md must quote the whole base of QUOTED. README.md must name the lines of FIGURES. And no line of an
+.antt file may have more columns than WIDTHS says.
 
 Usage: .ci/base.py [--write | --counts]: --write writes docs/BASE.md, and --counts prints only the counts.
 """
@@ -26,7 +27,13 @@ CLAIMS = {
     'A refused edit changes nothing': [('live_audit/src/bench.rt', call, 'refused') for call in ('apply', 'undo', 'redo')],
     'It stays true': [('live_audit/src/laws.rt', 'lists_stay_audited', '')],
     "A session's answers are right": [('session/src/session.rt', 'run_session', 'truth')],
-    'Published pairs are accepted': [('published/src/laws.rt', 'published_pairs_are_accepted', name) for name in ('accepted', 'made')],
+    'Published pairs are accepted': [
+        *(('published/src/laws.rt', 'published_pairs_are_accepted', name) for name in ('accepted', 'made')),
+        *(('published/src/laws.rt', law, '') for law in ('unique_pictures_are_published', 'plain_lines_are_one_solution')),
+    ],
+    'A proof by lemmas proves uniqueness': [('answers/src/verify.rt', 'run_verify', 'unique')],
+    'Printed proofs are accepted': [('published/src/laws.rt', 'proofs_are_verified', '')],
+    'The program does what its arguments ask for': [('program/src/running.rt', 'run', '')],
 }
 # The most lines that a claim may need: a larger number needs its reason in docs/DECISIONS.md.
 MOST = {
@@ -36,8 +43,13 @@ MOST = {
     'A refused edit changes nothing': 143,
     'It stays true': 1043,
     "A session's answers are right": 777,
-    'Published pairs are accepted': 1466,
+    'Published pairs are accepted': 1477,
+    'A proof by lemmas proves uniqueness': 304,
+    'Printed proofs are accepted': 573,
+    'The program does what its arguments ask for': 2455,
 }
+# The claims in whose base a name may mean two things: they span formats, each with words and lines of its own.
+SHARED = {'A proof by lemmas proves uniqueness', 'Printed proofs are accepted', 'The program does what its arguments ask for'}
 # The most columns of a line: definitions are read by whoever audits a claim, proofs by whoever mends them.
 WIDTHS = {'specs': 120, 'proofs': 200}
 # What README.md says of the lines that a claim needs.
@@ -49,7 +61,7 @@ FIGURES = {
 QUOTED = 'A certificate proves uniqueness'
 HEAD = '''# What the claims depend on
 
-This page is for those who want to read all that a claim of [README](../README.md#what-is-proved) means. It lists the definitions of each claim, in reading order. Proofs, code and the definitions of the toolchain are left out. A definition that an earlier claim has is counted again, but not listed again. `.ci/base.py --write` makes this page.
+This page is for those who want to read all that a claim of [README](../README.md#what-is-proved) means. For each clause that is named below, it lists the definitions on which the clause depends, in reading order. Proofs, code and the definitions of the toolchain are left out. A definition that is listed earlier is counted again, but not listed again. `.ci/base.py --write` makes this page.
 '''
 WORD = re.compile(r'[^\s(){},;λ→×⊎≡≢≤≥+*/∷∘\[\]↔=<>]+')
 
@@ -262,7 +274,7 @@ def faults(found):
     for title, base in found.items():
         if size(base) > MOST[title]:
             yield f'{title}: {size(base)} lines, and at most {MOST[title]} are allowed'
-        for name, files in doubles(base).items():
+        for name, files in doubles(base).items() if title not in SHARED else ():
             yield f'{title}: {name} means two things: {", ".join(files)}'
     quoted = {line.strip() for line in PROOF.read_text(encoding='utf-8').split('\n')}
     for definition in found[QUOTED]:
