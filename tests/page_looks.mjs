@@ -171,6 +171,6 @@ export async function pictures({ trial, page, folder }) {
     await page.shot(`${folder}/icon.png`);
     await trial.action('fix');
     await page.click('#fix-give');
-    await page.until(() => bench.state.verdict.word === 'unique', 30000 * SLACK);
+    await page.until(() => bench.state.verdict.word === 'unique' && document.getElementById('grade').textContent !== '–', 30000 * SLACK);
     await page.shot(`${folder}/given.png`);
 }
