@@ -6,9 +6,11 @@ import os
 import subprocess
 import sys
 import tempfile
+import time
 import unittest
 from pathlib import Path
 
+PATIENCE = 300  # seconds after which what is waited for counts as what does not come
 ROOT = Path(__file__).resolve().parent.parent.parent
 WHITE, BLACK, RED = (255, 255, 255), (0, 0, 0), (255, 0, 0)
 TRIPLES = {".": WHITE, "a": BLACK, "b": RED}
@@ -65,8 +67,9 @@ class Case(unittest.TestCase):
         return place
 
     def words(self, *words):
-        """The command line of a run, apart from the folder that it runs in."""
-        return [sys.executable, "-m", "nonobench.audit", *map(str, words)]
+        """The command line of a run, apart from the folder that it runs in. Where no bound is named, no puzzle is too slow for it."""
+        is_bounded = {"merge", "--seconds", "--allow"}.intersection(words)
+        return [sys.executable, "-m", "nonobench.audit", *map(str, words), *([] if is_bounded else ["--seconds", str(PATIENCE)])]
 
     def env(self, **more):
         return {**os.environ, "PYTHONPATH": str(ROOT / "python"), "PYTHONDONTWRITEBYTECODE": "1", **more}
@@ -74,7 +77,7 @@ class Case(unittest.TestCase):
     def run_audit(self, *words, status=None, **more):
         """A run: what it printed, what it said, and its status, which is looked at where it is given."""
         done = subprocess.run(
-            self.words(*words), cwd=self.folder, env=self.env(**more), capture_output=True, text=True, check=False, timeout=300
+            self.words(*words), cwd=self.folder, env=self.env(**more), capture_output=True, text=True, check=False, timeout=PATIENCE
         )
         if status is not None:
             self.assertEqual(done.returncode, status, done.stdout + done.stderr)
@@ -102,6 +105,16 @@ class Case(unittest.TestCase):
         self.addCleanup(process.stdout.close)
         self.addCleanup(process.stderr.close)
         return process
+
+
+def eventually(look):
+    """What a look answers, once that is true: on a slow machine this takes longer, and does not fail."""
+    until = time.monotonic() + PATIENCE
+    while not (found := look()):
+        if time.monotonic() > until:
+            raise AssertionError(f"not within {PATIENCE} seconds")
+        time.sleep(0.02)
+    return found
 
 
 def children(pid):

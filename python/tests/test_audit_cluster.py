@@ -3,17 +3,17 @@
 A scheduler and workers of this machine. tests/audit_machines.sh has several hosts, and cuts one off.
 """
 
+import contextlib
+import json
 import os
 import signal
-import socket
 import subprocess
 import sys
-import time
 import unittest
 from pathlib import Path
 
 sys.path.insert(0, str(Path(__file__).resolve().parent))
-from audit_parts import AMBIGUOUS, CERT, GIVEN_PROOF, PROOF, UNIQUE, Case, p3, webpbn  # noqa: E402
+from audit_parts import AMBIGUOUS, CERT, GIVEN_PROOF, PATIENCE, PROOF, UNIQUE, Case, eventually, p3, webpbn  # noqa: E402
 
 
 class Cluster(Case):
@@ -21,11 +21,10 @@ class Cluster(Case):
 
     def setUp(self):
         super().setUp()
-        with socket.socket() as free:
-            free.bind(("127.0.0.1", 0))
-            self.address = f"tcp://127.0.0.1:{free.getsockname()[1]}"
-        port = self.address.rpartition(":")[2]
-        self.begin("scheduler", "--host", "127.0.0.1", "--port", port, "--no-dashboard", "--no-show")
+        # It takes a port that is free, and writes which once it listens there.
+        told = self.folder / "scheduler"
+        self.begin("scheduler", "--host", "127.0.0.1", "--port", "0", "--no-dashboard", "--no-show", "--scheduler-file", str(told))
+        self.address = eventually(lambda: address_in(told))
 
     def begin(self, kind, *words):
         """A scheduler or a worker."""
@@ -33,7 +32,7 @@ class Cluster(Case):
         (self.folder / "dask").mkdir(exist_ok=True)
         process = subprocess.Popen(command, cwd=self.folder / "dask", env=self.env(), stdout=subprocess.DEVNULL, stderr=subprocess.DEVNULL)
         self.addCleanup(process.wait)
-        self.addCleanup(process.terminate)
+        self.addCleanup(process.kill)
         return process
 
     def worker(self):
@@ -57,12 +56,10 @@ class Cluster(Case):
         self.run_audit(*words, "certs", "--jsonl", "here", status=3)
         first = self.worker()
         run = self.start(*words, "more", "--jsonl", "there", "--scheduler", self.address)
-        deadline = time.monotonic() + 120
-        while time.monotonic() < deadline and not ((self.folder / "there").exists() and (self.folder / "there").stat().st_size):
-            time.sleep(0.1)
+        eventually(lambda: (self.folder / "there").exists() and (self.folder / "there").stat().st_size)
         self.worker()
         first.send_signal(signal.SIGKILL)
-        said = run.communicate(timeout=240)[1]
+        said = run.communicate(timeout=PATIENCE)[1]
         self.assertEqual(run.returncode, 3, said)
         self.assertEqual((self.folder / "there").read_bytes(), (self.folder / "here").read_bytes())
         rows = self.read("there")
@@ -79,6 +76,13 @@ class Cluster(Case):
         said = self.run_audit("site", "--scheduler", "tcp://127.0.0.1:1", status=3).stderr
         self.assertIn("nonobench-audit: no scheduler answers at tcp://127.0.0.1:1", said)
         self.assertIn("nonobench-audit: no scheduler", self.run_audit("site", "--scheduler", "nonsense://", status=3).stderr)
+
+
+def address_in(place):
+    """The address that a scheduler has written into a file; nothing until it stands there whole."""
+    with contextlib.suppress(OSError, ValueError):
+        return json.loads(place.read_text())["address"]
+    return None
 
 
 if __name__ == "__main__":

@@ -4,6 +4,7 @@ Files that are cut, huge, bombs or traps; names that are markup, formulas or way
 that die, hang or take too much. Each test names what must come out.
 """
 
+import contextlib
 import json
 import os
 import pty
@@ -12,13 +13,12 @@ import signal
 import struct
 import subprocess
 import sys
-import time
 import unittest
 import zlib
 from pathlib import Path
 
 sys.path.insert(0, str(Path(__file__).resolve().parent))
-from audit_parts import AMBIGUOUS, ROOT, UNIQUE, Case, chequered, children, p3, webpbn  # noqa: E402
+from audit_parts import AMBIGUOUS, PATIENCE, ROOT, UNIQUE, Case, chequered, children, eventually, p3, webpbn  # noqa: E402
 from test_audit import p3_of_letters  # noqa: E402
 
 from nonobench.collection.outputs import Failure, Output  # noqa: E402
@@ -184,7 +184,8 @@ class Names(Case):
             self.put(f"{name}.py", f"open({str(self.folder / 'owned')!r}, 'a').write('{name} ')\n")
         self.put("one.ppm", p3(UNIQUE))
         code = f"import sys; sys.path.insert(0, {str(ROOT / 'python')!r}); from nonobench.collection import main; sys.exit(main())"
-        done = subprocess.run([sys.executable, "-I", "-c", code, "."], cwd=self.site, capture_output=True, text=True, env=self.env())
+        words = [sys.executable, "-I", "-c", code, ".", "--seconds", str(PATIENCE)]
+        done = subprocess.run(words, cwd=self.site, capture_output=True, text=True, env=self.env())
         self.assertEqual(done.returncode, 0, done.stderr)
         self.assertFalse((self.folder / "owned").exists())
 
@@ -207,7 +208,9 @@ class Outputs(Case):
     def test_rows_on_standard_output_that_is_a_file(self):
         place = os.path.join(self.folder, "rows")
         with open(place, "wb") as rows:
-            done = subprocess.run(self.words("site", "--jsonl", "-"), cwd=self.folder, env=self.env(), stdout=rows, stderr=subprocess.PIPE, text=True)
+            done = subprocess.run(
+                self.words("site", "--jsonl", "-", "--quiet"), cwd=self.folder, env=self.env(), stdout=rows, stderr=subprocess.PIPE, text=True
+            )
         self.assertEqual((done.returncode, done.stderr), (1, ""))
         with open(place, encoding="utf-8") as rows:
             self.assertEqual([json.loads(line)["file"] for line in rows], ["site/one.ppm", "site/two.ppm"])
@@ -258,21 +261,25 @@ class Outputs(Case):
     def test_a_closed_pipe(self):
         for at in range(200):
             self.put(f"{at}.ppm", p3(UNIQUE))
-        for words in ([], ["--jsonl", "-"], ["--csv", "-"]):
-            process = self.start("site", *words)
-            process.stdout.close()
-            said = process.stderr.read()
+        # Without --quiet a run of more than ten seconds says how far it is, and with it there is no table.
+        for words in ([], ["--jsonl", "-", "--quiet"], ["--csv", "-", "--quiet"]):
+            # Nobody reads it from the start: closed only now, a pipe might have taken all before.
+            ours, theirs = os.pipe()
+            os.close(ours)
+            try:
+                done = subprocess.run(
+                    self.words("site", *words), cwd=self.folder, env=self.env(), stdout=theirs, stderr=subprocess.PIPE, text=True, timeout=PATIENCE
+                )
+            finally:
+                os.close(theirs)
             with self.subTest(words):
-                self.assertEqual((process.wait(60), said), (3, "nonobench-audit: standard output was closed\n"))
-            process.stdout = open(os.devnull)
+                self.assertEqual((done.returncode, done.stderr), (3, "nonobench-audit: standard output was closed\n"))
 
     def test_two_runs_on_one_output(self):
         self.put("zero.ppm", p3_of_letters(chequered(60, 4)))
         outputs = ["--jsonl", "rows", "--csv", "rows.csv", "--html", "report.html", "--certify", "certs"]
         first = self.start("site", "--seconds", "300", *outputs)
-        deadline = time.monotonic() + 60
-        while time.monotonic() < deadline and not ((self.folder / "rows").exists() and (self.folder / "rows").stat().st_size):
-            time.sleep(0.05)
+        eventually(lambda: (self.folder / "rows").exists() and (self.folder / "rows").stat().st_size)
         before = (self.folder / "rows").read_bytes()
         for option, name in zip(outputs[::2], outputs[1::2]):
             told = f"{name}.new" if option == "--html" else name
@@ -280,7 +287,7 @@ class Outputs(Case):
                 self.assertEqual(self.run_audit("site", option, name, status=3).stderr, f"nonobench-audit: {told}: another run writes to it\n")
         self.assertTrue((self.folder / "rows").read_bytes().startswith(before))
         first.send_signal(signal.SIGTERM)
-        first.communicate(timeout=60)
+        first.communicate(timeout=PATIENCE)
         # Parts of one collection share the folder of certificates.
         self.run_audit("site/one.ppm", "--shard", "1/2", "--certify", "certs", status=0)
 
@@ -295,22 +302,26 @@ class Processes(Case):
         self.put("z.ppm", p3(UNIQUE))
         return self.start("site", "--jobs", "1", "--seconds", "300", "--jsonl", "rows", "--no-grade")
 
-    def hurt(self, process, number, before, seconds=0.5):
-        """Sends a signal to the process that judges, once there is another one than before, and it has worked for some time."""
-        deadline = time.monotonic() + 60
-        while time.monotonic() < deadline:
-            found = [pid for pid in children(process.pid) if pid != before]
-            if found and cpu_of(found[0]) > seconds:
-                os.kill(found[0], number)
-                return found[0]
-            time.sleep(0.05)
-        self.fail("no process is at work")
+    def hurt(self, process, number, before):
+        """Sends a signal to the process that judges, once there is another one than before, and it is at the puzzle without an end."""
+        begun = {}
+
+        def at_work():
+            for pid in children(process.pid):
+                # It begins with its second thread, which sends; how long it takes until then depends on the machine.
+                if pid != before and threads_of(pid) > 1 and cpu_of(pid) - begun.setdefault(pid, cpu_of(pid)) > 0.5:
+                    return pid
+            return None
+
+        pid = eventually(at_work)
+        os.kill(pid, number)
+        return pid
 
     def test_a_process_that_dies(self):
         process = self.begin()
         first = self.hurt(process, signal.SIGKILL, 0)
         self.hurt(process, signal.SIGSEGV, first)
-        said = process.communicate(timeout=120)[1]
+        said = process.communicate(timeout=PATIENCE)[1]
         self.assertEqual(process.returncode, 3, said)
         rows = self.read("rows")
         self.assertEqual({name: row["verdict"] for name, row in rows.items()}, {"site/a.ppm": "unique", "site/hard.ppm": "error", "site/z.ppm": "unique"})
@@ -320,12 +331,8 @@ class Processes(Case):
         self.put("hard.ppm", (ROOT / "measure" / "pictures" / "hard-20-k3-min.ppm").read_bytes())
         process = self.start("site", "--jobs", "1", "--seconds", "300", "--jsonl", "rows", "--certify", "certs")
         made = self.folder / "certs" / "hard.cert"
-        deadline = time.monotonic() + 120
-        while time.monotonic() < deadline and not made.exists():
-            time.sleep(0.05)
-        # Its grade takes much longer than this.
-        until = cpu_of(children(process.pid)[0]) + 1
-        self.hurt(process, signal.SIGKILL, 0, until)
+        eventually(made.exists)
+        self.hurt(process, signal.SIGKILL, 0)  # its grade takes much longer
         said = process.communicate(timeout=120)[1]
         self.assertEqual(process.returncode, 0, said)
         row = self.read("rows")["site/hard.ppm"]
@@ -335,17 +342,28 @@ class Processes(Case):
     def test_a_process_that_hangs(self):
         for at in range(12):
             self.put(f"{at:02}.ppm", p3(UNIQUE))
-        process = self.start("site", "--jobs", "1", "--seconds", "1.5", "--jsonl", "rows", "--no-grade")
-        deadline = time.monotonic() + 60
-        # Until it runs its program, who started it waits for it.
-        serving = []
-        while time.monotonic() < deadline and not serving:
-            time.sleep(0.01)
-            serving = [pid for pid in children(process.pid) if b"serving" in cmdline_of(pid)]
-        os.kill(serving[0], signal.SIGSTOP)
-        said = process.communicate(timeout=120)[1]
-        self.assertIn(process.returncode, (0, 1), said)
-        self.assertEqual(len(self.read("rows")), 12)
+        # The first process stops before it begins, and is replaced after a minute.
+        stops = "mkdir hung 2>/dev/null && kill -STOP $$"
+        done = self.by_script([stops], "site", "--jobs", "1", "--seconds", str(PATIENCE), "--jsonl", "rows", "--no-grade")
+        self.assertEqual(done.returncode, 0, done.stderr)
+        self.assertTrue((self.folder / "hung").exists())
+        self.assertEqual([row["verdict"] for row in self.read("rows").values()], ["unique"] * 12)
+
+    def by_script(self, lines, *words, flags=()):
+        """A run whose processes are begun by a script of these lines, and which itself has these flags of Python, as they have."""
+        script = self.folder / "python"
+        script.write_text("\n".join(["#!/bin/sh", *lines, f'exec {sys.executable} {" ".join(flags)} "$@"', ""]))
+        script.chmod(0o755)
+        code = f"import sys; sys.executable = {str(script)!r}; sys.argv = ['nonobench-audit', *sys.argv[1:]]; from nonobench.collection import main; sys.exit(main())"
+        words = [sys.executable, *flags, "-c", code, *words]
+        pipes = {"stdout": subprocess.PIPE, "stderr": subprocess.PIPE, "text": True}
+        with subprocess.Popen(words, cwd=self.folder, env=self.env(), start_new_session=True, **pipes) as process:
+            try:
+                said = process.communicate(timeout=PATIENCE)
+            except subprocess.TimeoutExpired:
+                os.killpg(process.pid, signal.SIGKILL)  # also what has stopped
+                raise
+        return subprocess.CompletedProcess(words, process.returncode, *said)
 
     def test_too_much_memory(self):
         self.put("a.ppm", p3(UNIQUE))
@@ -375,14 +393,7 @@ class Processes(Case):
         self.put("image.png", png(1, 1, zlib.compress(bytes(4))))
         self.put("set.xml", webpbn(UNIQUE))
         # Without Debian's and the user's packages there are no libraries but Python's own.
-        words = [sys.executable, "-S", "-m", "nonobench.audit", "site", "--jsonl", "rows"]
-        bare = self.folder / "bare"
-        (bare / "bin").mkdir(parents=True)
-        script = bare / "bin" / "python"
-        script.write_text(f'#!/bin/sh\nexec {sys.executable} -S "$@"\n')
-        script.chmod(0o755)
-        code = f"import sys; sys.executable = {str(script)!r}; sys.argv = ['nonobench-audit', *sys.argv[1:]]; from nonobench.collection import main; sys.exit(main())"
-        done = subprocess.run([*words[:2], "-c", code, "site", "--jsonl", "rows"], cwd=self.folder, env=self.env(), capture_output=True, text=True)
+        done = self.by_script([], "site", "--jsonl", "rows", flags=["-S"])
         self.assertEqual(done.returncode, 3, done.stderr)
         self.assertIn("nonobench-audit: 1 not read, since Pillow is not installed\n", done.stderr)
         self.assertIn("nonobench-audit: 1 not read, since defusedxml is not installed\n", done.stderr)
@@ -392,8 +403,7 @@ class Processes(Case):
         kept = {name: (self.folder / name) for name in ("rows", "sheet")}
         kept["sheet"].write_text("as before\n")
         before = {name: path.read_bytes() for name, path in kept.items()}
-        asked = ["site", "--jsonl", "rows", "--csv", "sheet", "--html", "x"]
-        done = subprocess.run([*words[:2], "-c", code, *asked], cwd=self.folder, env=self.env(), capture_output=True, text=True)
+        done = self.by_script([], "site", "--jsonl", "rows", "--csv", "sheet", "--html", "x", flags=["-S"])
         self.assertEqual((done.returncode, done.stderr), (3, "nonobench-audit: jinja2, which makes the report, is not installed (pip install jinja2)\n"))
         self.assertEqual({name: path.read_bytes() for name, path in kept.items()}, before, "nothing was written, and yet a file is not as before")
 
@@ -408,25 +418,24 @@ class Terminal(Case):
             self.skipTest("no tqdm")
         self.put("one.ppm", p3(UNIQUE))
         ours, theirs = pty.openpty()
-        done = subprocess.run(self.words("site"), cwd=self.folder, env=self.env(), stdout=subprocess.PIPE, stderr=theirs, text=True)
+        process = subprocess.Popen(self.words("site"), cwd=self.folder, env=self.env(), stdout=subprocess.DEVNULL, stderr=theirs)
         os.close(theirs)
         shown = b""
-        try:
+        # It is read as it comes: a terminal that nobody reads has room for some thousand bytes.
+        with contextlib.suppress(OSError):
             while more := os.read(ours, 65536):
                 shown += more
-        except OSError:
-            pass
         os.close(ours)
-        self.assertEqual(done.returncode, 0)
+        self.assertEqual(process.wait(PATIENCE), 0)
         self.assertRegex(shown.decode(), r"1/1 .* files/s, unique 1|1/1 .*unique 1")
 
 
-def cmdline_of(pid):
-    """The command line of a process, empty once it is gone."""
+def threads_of(pid):
+    """How many threads a process has, none once it is gone."""
     try:
-        return Path(f"/proc/{pid}/cmdline").read_bytes()
+        return len(os.listdir(f"/proc/{pid}/task"))
     except OSError:
-        return b""
+        return 0
 
 
 def cpu_of(pid):
