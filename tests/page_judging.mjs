@@ -12,19 +12,22 @@ const UNIQUE = docOf(['aaa', '.a.', 'aaa']);
 const PAIR = docOf(['a.', '.a']);
 const GUESS = docOf(['a.', '.b'], { colours: [[255, 255, 255], [0, 0, 0], [200, 0, 0]] }); // the rows and columns tell where each colour is
 
-// What is told of documents that are asked for one behind the other; `until` says of what is told last.
-async function told(docs, { seconds = 5, made = [], pause = 0 } = {}) {
+// What is told of documents that are asked for one behind the other; with `isBusy`, each once one before it is worked on.
+async function told(docs, { seconds = 300, isBusy = false } = {}) {
     const heard = [];
+    const made = [];
     const start = () => new Client(workers({ made })());
+    let asked = 0;
     let done = null;
     const end = new Promise((go) => { done = go; });
     const judging = new Judging((found) => {
         heard.push(found);
-        if (!['works'].includes(found.word) && (found.word !== 'unique' || found.grade)) done();
+        if (asked === docs.length && found.word !== 'works' && (found.word !== 'unique' || found.grade)) done();
     }, { start, seconds, rest: 5 });
     for (const doc of docs) {
+        asked++;
         judging.ask(doc);
-        if (pause) await new Promise((go) => setTimeout(go, pause));
+        while (isBusy && made.length === 0) await new Promise((go) => setImmediate(go));
     }
     await end;
     await new Promise((go) => setTimeout(go, 50));
@@ -42,10 +45,8 @@ test('unique with its grade, and not unique', needsModule, async () => {
 test('the newest wins, and what it replaces is never told', needsModule, async () => {
     const quick = await told([PAIR, PAIR, UNIQUE]);
     assert.deepEqual(quick.map(({ word }) => word), ['works', 'works', 'works', 'unique', 'unique']);
-    const made = [];
-    const slow = await told([PAIR, UNIQUE], { made, pause: 8 }); // the second comes while the first is worked on
-    assert.ok(!slow.slice(slow.findLastIndex(({ word }) => word === 'works')).some(({ word }) => word === 'ambiguous'), JSON.stringify(slow));
-    assert.equal(slow.at(-1).word, 'unique');
+    const slow = await told([PAIR, UNIQUE], { isBusy: true }); // the second comes while the first is worked on
+    assert.deepEqual(slow.map(({ word }) => word), ['works', 'works', 'unique', 'unique']);
 });
 
 test('a search that does not end is given up', needsModule, async () => {

@@ -44,6 +44,7 @@ function searchesOf(texts, seconds = 60) {
     return { searches, log, seen };
 }
 const pause = (ms) => new Promise((go) => setTimeout(go, ms));
+const until = async (holds) => { while (!holds()) await pause(5); };
 
 test('a verdict has no allowance: the time alone ends it', async () => {
     const { searches, log, seen } = searchesOf(['ok\nambiguous\nba\nac\n']);
@@ -99,7 +100,7 @@ test('an undecided verdict is searched for once no stroke comes', async () => {
     const { searches, log, seen } = searchesOf(['ok\nunique\n']);
     searches.shown(stateOf(['ab', 'ca']));
     searches.shown(stateOf(['ab', 'ca']));
-    await pause(300);
+    await until(() => seen.judged.length > 0);
     assert.equal(log.filter((line) => line === 'open').length, 1);
     assert.deepEqual(seen.judged.map((verdict) => verdict.word), ['unique']);
     searches.shown({ ...stateOf(['ab', 'ca']), verdict: { word: 'unique' } });

@@ -2,13 +2,14 @@
 // Run: CLANG=the toolchain's clang node --test web/narrow_test.mjs. It links as web/build does.
 import assert from 'node:assert/strict';
 import { execFileSync, spawnSync } from 'node:child_process';
-import { mkdtempSync, readFileSync, symlinkSync, writeFileSync } from 'node:fs';
+import { mkdtempSync, readFileSync, rmSync, symlinkSync, writeFileSync } from 'node:fs';
 import { tmpdir } from 'node:os';
 import { dirname, join } from 'node:path';
-import { test } from 'node:test';
+import { after, test } from 'node:test';
 import { fileURLToPath } from 'node:url';
 
 const CLANG = process.env.CLANG, HERE = dirname(fileURLToPath(import.meta.url)), folder = mkdtempSync(join(tmpdir(), 'narrow-'));
+after(() => rmSync(folder, { recursive: true, force: true }));
 const at = (name) => join(folder, name), run = (...words) => execFileSync(CLANG, words, { stdio: 'pipe' });
 const TARGET = ['--target=wasm32-unknown-unknown', '--no-default-config'];
 const HEAD = `target datalayout = "e-m:e-p270:32:32-p271:32:32-p272:64:64-i64:64-i128:128-f80:128-n8:16:32:64-S128"

@@ -15,6 +15,7 @@ const native = resolve(process.env.NONOBENCH);
 const program = join(folder, 'program.mjs');
 const { readWords } = await import(pathToFileURL(join(folder, 'words.mjs')));
 const help = JSON.parse(readFileSync(join(folder, 'help.json'), 'utf8'));
+const PATIENCE = 300000; // milliseconds after which a test counts as one that does not end
 const example = (name) => join(root, 'examples', name);
 
 // A folder of a test's own, which goes when the test ends.
@@ -84,7 +85,7 @@ function started(t, args, front = []) {
   return child;
 }
 
-test('each line is answered before the next one comes', { timeout: 60000 }, async (t) => {
+test('each line is answered before the next one comes', { timeout: PATIENCE }, async (t) => {
   const child = started(t, ['work', example('diagonal.ppm')]);
   child.stdin.write('verdict\npai');
   await child.printed('unique\n');
@@ -94,7 +95,7 @@ test('each line is answered before the next one comes', { timeout: 60000 }, asyn
   assert.deepEqual(await child.ended, { status: 0, signal: null, out: 'unique\nok\nok\n', err: '' });
 });
 
-test('a stream that does not wait is waited for', { timeout: 60000 }, async (t) => {
+test('a stream that does not wait is waited for', { timeout: PATIENCE }, async (t) => {
   if (spawnSync('python3', ['--version']).status !== 0) return t.skip('no python3');
   const front = ['python3', '-c', 'import os, sys; os.set_blocking(0, False); os.execvp(sys.argv[1], sys.argv[1:])'];
   const child = started(t, ['work', example('diagonal.ppm')], front);
@@ -112,7 +113,7 @@ function chequered() {
   return `P3 60 60 1\n${cells.join('\n')}\n`;
 }
 
-test('Ctrl-C ends a search', { timeout: 60000 }, async (t) => {
+test('Ctrl-C ends a search', { timeout: PATIENCE }, async (t) => {
   const picture = join(ownFolder(t), 'board.ppm');
   writeFileSync(picture, chequered());
   const child = started(t, ['work', picture]);
@@ -123,7 +124,7 @@ test('Ctrl-C ends a search', { timeout: 60000 }, async (t) => {
   assert.deepEqual(await child.ended, { status: null, signal: 'SIGINT', out: 'refused: UndoEmpty\n', err: '' });
 });
 
-test('a line without an end takes no memory', { timeout: 120000 }, async (t) => {
+test('a line without an end takes no memory', { timeout: PATIENCE }, async (t) => {
   const child = started(t, ['work', example('diagonal.ppm')]);
   const piece = Buffer.alloc(1 << 20, 'x');
   for (let time = 0; time < 200; time += 1) {
