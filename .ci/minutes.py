@@ -22,12 +22,11 @@ def processes():
     """The number, parent, start and processor seconds so far of each process, with its words."""
     for folder in pathlib.Path('/proc').glob('[0-9]*'):
         try:
-            name, fields = (folder / 'stat').read_text().rsplit(')', 1)
-            fields = fields.split()
+            fields = (folder / 'stat').read_text(errors='replace').rpartition(')')[2].split()
             words = (folder / 'cmdline').read_bytes().split(b'\0')
-        except OSError:
+            seconds = (int(fields[11]) + int(fields[12])) / TICKS
+        except (OSError, IndexError):  # it has ended
             continue
-        seconds = (int(fields[11]) + int(fields[12])) / TICKS
         yield int(folder.name), int(fields[1]), fields[19], seconds, [word.decode(errors='replace') for word in words]
 
 

@@ -24,7 +24,7 @@ from reference.search import pictures_with  # noqa: E402
 from reference.selftest import ppm_of  # noqa: E402
 from reference.sessions import Disagreement, agree  # noqa: E402
 
-PATIENCE = 60  # seconds after which a run counts as one that does not end
+PATIENCE = 600  # seconds after which a run counts as one that does not end
 MOST_MEMORY = 256 << 20  # of the check of the longest texts
 LONG = 'aa.../...a./a...a/ab..a/...a.'
 LONG_CERT = '''nonocert 2|given 4 2|line r 1|line r 2|line r 3|line r 4|line r 5|line c 2|line c 3|split 5 1|line c 1|line r 1

@@ -17,7 +17,7 @@ from reference import runs, selftest
 from reference.search import TooMuch
 from reference.sessions import Disagreement
 
-PATIENCE = 120  # seconds after which a run counts as one that does not end
+PATIENCE = 600  # seconds after which a run counts as one that does not end
 
 
 class Case:
@@ -156,7 +156,7 @@ def main(program, folder, amount, seed, *words):
     began = time.monotonic()
     done = 0
     signal.signal(signal.SIGTERM, signal.default_int_handler)
-    with tempfile.TemporaryDirectory(dir='/dev/shm' if os.path.isdir('/dev/shm') else None) as work:
+    with tempfile.TemporaryDirectory(dir='/dev/shm' if os.access('/dev/shm', os.W_OK | os.X_OK) else None) as work:
         try:
             while done < int(amount) if seconds is None else time.monotonic() - began < seconds:
                 fuzzer.one(kinds[done % len(kinds)], first + done // len(kinds), work)

@@ -11,6 +11,8 @@ import random
 import re
 import sys
 
+# The module's folder is copied by other checks meanwhile.
+sys.dont_write_bytecode = True
 ROOT = pathlib.Path(__file__).resolve().parent.parent
 FORM = re.compile(r"(\S+)(?: given ([\d, ]+?))?(?: verdict (\w+))?(?: map (\S+))?(?: cert (.*))?")
 

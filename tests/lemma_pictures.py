@@ -20,7 +20,7 @@ from small_pictures import Listing  # noqa: E402
 
 SIZES = ((1, 1, 2), (1, 5, 3), (5, 1, 3), (2, 2, 3), (2, 3, 3), (3, 3, 2), (3, 4, 2))  # height, width, colours
 TRIPLES = ('255 255 255', '0 0 0', '255 0 0')
-PATIENCE = 300  # seconds after which a run counts as one that does not end
+PATIENCE = 1800  # seconds after which a run counts as one that does not end
 HEAD = 'nonolemma 1'
 
 

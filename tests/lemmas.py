@@ -23,7 +23,7 @@ from reference.search import pictures_with  # noqa: E402
 from reference.selftest import ppm_of, rows_of  # noqa: E402
 from reference.sessions import Disagreement, agree  # noqa: E402
 
-PATIENCE = 120  # seconds after which a run counts as one that does not end
+PATIENCE = 1800  # seconds after which a run counts as one that does not end
 MOST_MEMORY = 512 << 20
 PICTURES = ('a./.b', 'a./.a', 'aa/a.', 'a.a/.b./aab', 'aa.../...a./a...a/ab..a/...a.', 'ab.b/b.ba/.ba./aab.')
 

@@ -2,6 +2,7 @@
 
 Usage: refuse_streams.py PROGRAM
 """
+import contextlib
 import fcntl
 import os
 import resource
@@ -14,7 +15,7 @@ import tty
 from pathlib import Path
 
 EXAMPLES = Path(__file__).resolve().parent.parent / 'examples'
-PATIENCE = 60  # seconds after which a run counts as one that does not end
+PATIENCE = 600  # seconds after which a run counts as one that does not end
 MOST_READS = 1_048_576  # of a session
 MOST_MEMORY = 256 << 20  # of a run on an input without end: it keeps 16 MiB of it at the most
 READ = (3, b'nonobench: read failed\n')
@@ -86,7 +87,8 @@ class Streams:
     def in_pieces(self, words, pieces):
         """Runs where each read gives one of the pieces: a pipe of packets keeps them apart. How it ended, and what it wrote."""
         given, source = os.pipe2(os.O_DIRECT)
-        fcntl.fcntl(source, fcntl.F_SETPIPE_SZ, 1 << 20)
+        with contextlib.suppress(OSError):  # only for speed, and a user may have so much room in pipes, and no more
+            fcntl.fcntl(source, fcntl.F_SETPIPE_SZ, 1 << 20)
         with subprocess.Popen([self.program, *words], cwd=self.folder, stdin=given, stdout=subprocess.PIPE,
                               stderr=subprocess.PIPE) as process:
             os.close(given)
@@ -189,7 +191,7 @@ def dialogue(streams):
             os.write(process.stdin.fileno(), line)
             got = b''
             until = time.monotonic() + PATIENCE
-            while len(got) < len(answer) and select.select([process.stdout], [], [], until - time.monotonic())[0]:
+            while len(got) < len(answer) and select.select([process.stdout], [], [], max(0, until - time.monotonic()))[0]:
                 got += os.read(process.stdout.fileno(), 4096) or b'.' * len(answer)
             if got != answer:
                 process.kill()

@@ -22,7 +22,7 @@ from reference.faults import Fault  # noqa: E402
 from reference.lines import clues_of  # noqa: E402
 from reference.sessions import Disagreement, agree  # noqa: E402
 
-PATIENCE = 300  # seconds after which a run counts as one that does not end
+PATIENCE = 1800  # seconds after which a run counts as one that does not end
 SAMPLES = ((3, 3, 2, 1), (2, 4, 2, 1), (3, 3, 3, 41))  # height, width, colours, and each so manieth picture is tried
 # Splits of the fixed order, and when it is begun anew, splits in a window, conflicts of a search with lemmas, evaluations of a tree at
 # first. Those of the program; windows first; lemmas first; trees alone, with a bound that each keeps; one that grows; one that cannot

@@ -22,7 +22,7 @@ from reference.lines import clues_of, map_rows, settled  # noqa: E402
 from reference.runs import Run, work_run  # noqa: E402
 from reference.sessions import Disagreement, Output, agree, clue_lines, picture_rows  # noqa: E402
 
-PATIENCE = 300  # seconds after which a run counts as one that does not end
+PATIENCE = 1800  # seconds after which a run counts as one that does not end
 STROKES = ((1, 1, 2), (1, 4, 2), (4, 1, 2), (2, 2, 3), (2, 3, 2), (3, 2, 2), (3, 3, 2))  # height, width, colours
 GIVENS = ((1, 3, 2), (2, 2, 2), (2, 3, 2), (2, 2, 3))
 PUZZLES = ((1, 1, 1), (1, 3, 1), (3, 1, 1), (2, 2, 1), (2, 3, 7), (3, 3, 211))  # height, width, and each so manieth is tried
