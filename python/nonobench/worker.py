@@ -166,7 +166,7 @@ class _Process:
             self._stream.recv(1, socket.MSG_PEEK)
         except BlockingIOError:
             return True
-        except OSError:
+        except ConnectionError:  # and no other error of the system: a signal's handler may raise one of its own here
             pass
         return False
 

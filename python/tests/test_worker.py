@@ -13,6 +13,7 @@ import tempfile
 import textwrap
 import threading
 import time
+import types
 import unittest
 from pathlib import Path
 
@@ -257,6 +258,18 @@ class Interrupts(unittest.TestCase):
             signal.setitimer(signal.ITIMER_REAL, 0.2)
             with self.assertRaisesRegex(TimeoutError, "^the handler's own$"):
                 worker.clues(DIAGONAL)
+
+    def test_what_a_handler_raises_while_the_process_is_looked_at_is_raised(self):
+        def late(*_):
+            raise TimeoutError("the handler's own")
+
+        with nonobench.Worker(seconds=300) as worker:
+            worker.clues(DIAGONAL)
+            # As where the signal comes just then.
+            worker._process._stream = types.SimpleNamespace(settimeout=lambda _: None, recv=late)
+            with self.assertRaisesRegex(TimeoutError, "^the handler's own$"):
+                worker.clues(DIAGONAL)
+            self.assertEqual(worker.clues(DIAGONAL), nonobench.clues(DIAGONAL))
 
     def test_an_answer_that_lies_there_is_not_taken(self):
         with nonobench.Worker(seconds=300) as worker:
