@@ -83,7 +83,7 @@ uint32_t nonobench_check(nonobench_desk **desk, const uint8_t *picture, size_t p
 uint32_t nonobench_verify(nonobench_desk **desk, const uint8_t *picture, size_t picture_size, const uint8_t *proof,
                           size_t proof_size, const uint8_t *background, size_t background_size);
 
-/* Makes a proof by lemmas of a P3 picture, which gives no cell: the text. If another picture with the clues was found, the text is
+/* Makes a proof by lemmas of a P3 picture, without givens: the text. If another picture with the clues was found, the text is
  * `ambiguous` with a line feed; if neither was found within the bounds of the search, `undecided`. It may take minutes. */
 uint32_t nonobench_prove(nonobench_desk **desk, const uint8_t *picture, size_t picture_size, const uint8_t *background,
                          size_t background_size);
@@ -113,17 +113,17 @@ typedef struct nonobench_options {
     const char *background;           /* such as 255,0,0, or null for white */
     const nonobench_place *published; /* the cells that you publish with their colours, in any order */
     size_t published_count;
-    bool any_given; /* accept whatever cells are given: for whoever then publishes these (nonobench_givens) */
+    bool any_given; /* accept any givens: for whoever then publishes these (nonobench_givens) */
 } nonobench_options;
 
-/* Checks a certificate of a P3 picture: DONE if it is accepted. A puzzle is unique WITH the cells that its certificate gives,
- * and these may be all cells. So one that gives a cell which is not published is REFUSED, with the text
+/* Checks a certificate of a P3 picture: DONE if it is accepted. A puzzle is unique WITH the givens that its certificate names,
+ * and these may be all cells. So one that names a given which is not published is REFUSED, with the text
  * `certificate UnpublishedGiven at line N`, which the program does not have. `options` and `text` may be null, and then no cell
  * is published. The text is the line that the program prints, or why picture or certificate is refused. */
 uint32_t nonobench_check_pair(const void *picture, size_t picture_size, const void *certificate, size_t certificate_size,
                               const nonobench_options *options, nonobench_text *text);
 
-/* The same for a proof by lemmas. One that gives a cell which is not published has the same text as a certificate that does. */
+/* The same for a proof by lemmas. One that names a given which is not published has the same text as a certificate that does. */
 uint32_t nonobench_verify_pair(const void *picture, size_t picture_size, const void *proof, size_t proof_size,
                                const nonobench_options *options, nonobench_text *text);
 
@@ -147,13 +147,13 @@ typedef struct nonobench_audited {
     size_t certificate_size; /* without the NUL */
 } nonobench_audited;
 
-/* A certificate of a P3 picture, which gives no cell. It has no bound, so it may take very long. If another picture has the
+/* A certificate of a P3 picture, without givens. It has no bound, so it may take very long. If another picture has the
  * clues, the ruling is AMBIGUOUS and there is no certificate. The text is `unique` or `ambiguous` with a line feed, or why the
  * picture is refused; `text` may be null. */
 uint32_t nonobench_certify(const void *picture, size_t size, const char *background, nonobench_audited *found,
                            nonobench_text *text);
 
-/* A proof by lemmas of a P3 picture, which gives no cell: for a puzzle whose certificate is too long or cannot be made. The
+/* A proof by lemmas of a P3 picture, without givens: for a puzzle whose certificate is too long or cannot be made. The
  * search has bounds, and may take minutes; if it reaches a bound, the ruling is UNDECIDED. The text is `unique`, `ambiguous` or
  * `undecided` with a line feed, or why the picture is refused; `text` may be null. */
 uint32_t nonobench_prove_picture(const void *picture, size_t size, const char *background, nonobench_audited *found,

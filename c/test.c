@@ -25,7 +25,7 @@ static void expect(bool holds, const char *what, const char *got) {
 static const char DIAGONAL[] = "P3 2 2 255 0 0 0 255 255 255 255 255 255 0 0 0\n";
 static const char GIVEN[] = "nonocert 2\ngiven 1 1\nline r 1\nline c 1\nline r 2\ndone\n";
 
-/* The options of a caller who publishes what a certificate gives, and of one who publishes the given. */
+/* The options of a caller who publishes whatever givens a certificate names, and of one who publishes the given. */
 static const nonobench_place FIRST = {1, 1};
 static const nonobench_options ANY = {NULL, NULL, 0, true}, ONE = {NULL, &FIRST, 1, false};
 
@@ -101,7 +101,7 @@ static void run_picture(char *line, const char *answer) {
     expect(is_answer(answer, status, said), line, said);
 }
 
-/* A picture and a certificate or a proof by lemmas, `PICTURE TEXT`, under options; what it gives is put where there is room. */
+/* A picture and a certificate or a proof by lemmas, `PICTURE TEXT`, under options. */
 static void run_check(bool by_lemmas, char *rows, char *proof, const char *answer, const nonobench_options *options) {
     char picture[MOST], certificate[MOST], said[MOST];
     nonobench_text text = {said, sizeof said, 0};

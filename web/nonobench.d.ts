@@ -25,7 +25,7 @@ export type Place = readonly [row: number, column: number];
 export interface CheckOptions {
   /** The colour of the background, 'r,g,b'; by default white. */
   background?: string | null;
-  /** The cells whose colours are published; by default none. 'any' accepts all that the certificate or proof gives. */
+  /** The cells whose colours are published; by default none. 'any' accepts all givens that the certificate or proof names. */
   givens?: readonly Place[] | 'any' | null;
 }
 
@@ -42,13 +42,13 @@ export interface Checked {
   status: number;
   /** What the program says; or `certificate UnpublishedGiven at line N`, if a given is not published. */
   text: string;
-  /** The cells that are given, if the proof is right, even if one of them is not published. */
+  /** The givens that it names, if it is right, even if one of them is not published. */
   givens: Place[];
 }
 
 /** What the search for a proof by lemmas found. */
 export type Proved =
-  /** The proof, which gives no cell. */
+  /** The proof, which has no givens. */
   | { ruling: 'unique'; proof: string }
   /** Another picture has the clues; or neither such a picture nor a proof was found within the bounds of the search. */
   | { ruling: 'ambiguous' | 'undecided'; proof: null };

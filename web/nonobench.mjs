@@ -64,7 +64,7 @@ function publishedOf(givens) {
   return new Set(givens.map(([row, column]) => `${row} ${column}`));
 }
 
-// The cells that an accepted certificate or proof gives: their lines stand directly below its first one.
+// The givens that an accepted certificate or proof names: their lines stand directly below its first one.
 function givensOf(certificate) {
   const from = certificate.indexOf(0x0a) + 1;
   if (certificate[from] !== 0x67) return []; // 'g'
@@ -113,9 +113,9 @@ class Engine {
 
   /**
    * Checks a certificate of a picture, and answers the program's text and status: 0 if it is accepted. `givens` are the cells that
-   * are published, [row, column] each; by default none. A certificate that gives another cell is refused with the text
-   * `certificate UnpublishedGiven at line N`, which the program does not have. The answer has the cells that the certificate
-   * gives, if its proof is right. 'any' accepts whatever it gives, for a site that then publishes these cells.
+   * are published, [row, column] each; by default none. A certificate that names another given is refused with the text
+   * `certificate UnpublishedGiven at line N`, which the program does not have. The answer has the givens that the certificate
+   * names, if its proof is right. 'any' accepts whatever it names, for a site that then publishes these cells.
    */
   check(picture, certificate, options = {}) {
     return this.#checked('certificate', picture, certificate, options, (file, cert, word) =>
@@ -129,7 +129,7 @@ class Engine {
   }
 
   /**
-   * Makes a proof by lemmas of a picture: {ruling, proof}. The ruling is 'unique' with the proof, which gives no cell, or 'ambiguous'
+   * Makes a proof by lemmas of a picture: {ruling, proof}. The ruling is 'unique' with the proof, which has no givens, or 'ambiguous'
    * or 'undecided' with null. Throws a Fault where the picture is refused.
    */
   prove(picture, options = {}) {

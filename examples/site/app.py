@@ -236,7 +236,7 @@ class Site:
                 self.workers.get_nowait().close()
 
     def proved(self, file, certificate):
-        """A picture whose certificate or proof is accepted, and what is published of it: with the cells that this gives."""
+        """A picture whose certificate or proof is accepted, and what is published of it: with the givens that this names."""
         word = word_of(certificate)
         try:
             with self.worker() as worker:

@@ -19,7 +19,7 @@ DIAGONAL = (EXAMPLES / "diagonal.ppm").read_bytes()
 DIAGONAL_CERT = (EXAMPLES / "diagonal.cert").read_bytes()
 GIVEN = (EXAMPLES / "given.ppm").read_bytes()
 GIVEN_CERT = (EXAMPLES / "given.cert").read_bytes()
-# Two solutions: black on one diagonal or on the other. The certificates give the cell at the top right, which stays empty, and all.
+# Two solutions: black on one diagonal or on the other. The givens of the certificates are the cell at the top right, which stays empty, and all.
 CROSS = b"P3 2 2 1 0 0 0 1 1 1 1 1 1 0 0 0\n"
 EMPTY_CERT = b"nonocert 2\ngiven 1 2\nline r 1\nline c 1\nline r 2\ndone\n"
 ALL_CERT = b"nonocert 2\ngiven 1 1\ngiven 1 2\ngiven 2 1\ngiven 2 2\ndone\n"
@@ -119,7 +119,7 @@ class Site(Case):
         ):
             with self.subTest(reason):
                 self.assert_refused(self.bring(DIAGONAL, proof), reason, 413 if len(proof) > 2 << 20 else 422)
-        # One of another picture, and one that gives every cell of a picture with two solutions.
+        # One of another picture, and one whose givens are all cells of a picture with two solutions.
         self.assert_refused(self.bring(CROSS, DIAGONAL_PROOF), "The proof says that a line cannot be filled")
         self.assert_refused(self.bring(CROSS, ALL_PROOF), "The proof gives every cell, so there is nothing left to solve.")
 
@@ -142,7 +142,7 @@ class Site(Case):
 
     def test_a_puzzle_is_stored_once(self):
         self.bring(DIAGONAL, DIAGONAL_CERT)
-        # The same with a comment, with finer samples that are shown as these, and with certificates that give cells.
+        # The same with a comment, with finer samples that are shown as these, and with certificates that have givens.
         finer = b"P3 2 2 65535 0 0 0 65535 65535 65535 65535 65535 65535 65500 0 0\n"
         one = b"nonocert 2\ngiven 1 1\nline r 1\nline c 1\nline r 2\nline c 2\ndone\n"
         two = b"nonocert 2\ngiven 1 2\ngiven 2 2\nline r 1\nline r 2\nline c 1\nline c 2\ndone\n"

@@ -126,7 +126,7 @@ export class Searches {
     }, true);
   }
 
-  /** A proof by lemmas, which gives no cell: its text, or null. It tells the verdict too, but not another picture. */
+  /** A proof by lemmas, which has no givens: its text, or null. It tells the verdict too, but not another picture. */
   async prove(seconds = this.hooks.seconds()) {
     const { version } = this;
     return this.job(phrase('engine.searchingCertificate'), seconds, async (copy, run) => {

@@ -192,7 +192,7 @@ function showOther(other) {
   sheet.redraw();
 }
 
-// Whether a proof by lemmas may do better than a tree, or than none: it gives no cell, and line logic alone needs neither.
+// Whether a proof by lemmas may do better than a tree, or than none: it has no givens, and line logic alone needs neither.
 const mayProve = (state) => state && state.open > 0 && !state.givens.size && state.verdict.word !== 'ambiguous' && [null, 'time'].includes(verdictView.ended);
 
 /** A certificate of the present picture as a text, or a proof by lemmas if that is shorter, or null; what is found is told as the verdict. */

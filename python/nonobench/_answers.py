@@ -40,8 +40,8 @@ class CertificateFault(Fault):
 
 
 class UnpublishedGiven(CertificateFault):
-    """The certificate or proof gives a cell that is not published, at a line that is counted from 1. It proves the puzzle with that
-    cell. `givens` has all cells that it gives. The program has no such error.
+    """The certificate or proof names a given that is not published, at a line that is counted from 1. It proves the puzzle with that
+    given. `givens` has all givens that it names. The program has no such error.
     """
 
     def __init__(self, line: int, givens: tuple[Given, ...]) -> None:

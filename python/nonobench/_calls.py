@@ -39,7 +39,7 @@ class AnyGiven:
         return "nonobench.ANY_GIVEN"
 
 
-# Published are the cells that a certificate gives, whichever they are.
+# Published are the givens that a certificate names, whichever they are.
 ANY_GIVEN = AnyGiven()
 Published = Union[Iterable[tuple[int, int]], AnyGiven]
 
@@ -54,10 +54,10 @@ class Questions:
     ) -> Result:
         """Checks a certificate of a picture, a P3 text. Raises CertificateFault if it is not accepted.
 
-        A puzzle has one solution with the cells that its certificate gives, and these may be all cells. So a certificate is
-        accepted only if each cell that it gives is among `published`: the cells whose colours you publish, as pairs of row and
-        column counted from 1; by default none. Otherwise it raises UnpublishedGiven, whose `givens` are the cells that the
-        certificate gives. `published=ANY_GIVEN` accepts all of them, for a site that then publishes exactly these.
+        A puzzle has one solution with the givens that its certificate names, and these may be all cells. So a certificate is
+        accepted only if each of its givens is among `published`: the cells whose colours you publish, as pairs of row and
+        column counted from 1; by default none. Otherwise it raises UnpublishedGiven, whose `givens` are those that the
+        certificate names. `published=ANY_GIVEN` accepts all of them, for a site that then publishes exactly these.
         """
         return self._checked(CHECK, "certificate", picture, certificate, background, published)
 
@@ -66,7 +66,7 @@ class Questions:
         return self._checked(VERIFY, "proof", picture, proof, background, published)
 
     def prove(self, picture: Bytes, background: Optional[Colour] = None) -> Proved:
-        """A proof by lemmas of a picture, which gives no cell, or why there is none.
+        """A proof by lemmas of a picture, without givens, or why there is none.
 
         It is for puzzles whose certificate is too long, or cannot be made. The search has bounds, and if it reaches one, the ruling
         is UNDECIDED. Until then it may take minutes; `Worker` limits the time.
@@ -99,7 +99,7 @@ class Questions:
         return verdict_of(self._say(picture, background, _allow(allowance) + b"verdict\n")[-1])
 
     def certify(self, picture: Bytes, background: Optional[Colour] = None) -> Optional[bytes]:
-        """A certificate of a picture, which gives no cell, or None if another picture has its clues. It may take very long."""
+        """A certificate of a picture, without givens, or None if another picture has its clues. It may take very long."""
         text = self._say(picture, background, b"certify\n")[-1]
         return None if text == b"ambiguous\n" else text
 

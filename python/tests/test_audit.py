@@ -280,7 +280,7 @@ class Running(Case):
         rows = self.rows("site", "--certify", "certs", "--prove", "9999999", status=0)
         self.assertEqual(sorted(place.name for place in made.iterdir()), ["given.cert", "learnt.cert", "one.cert"])
         self.assertFalse(any("proof" in row for row in rows.values()))
-        # The certificate of `one.ppm` is short, and a proof gives no cell.
+        # The certificate of `one.ppm` is short, and a proof has no givens.
         rows = self.rows("site", "--certify", "certs", "--prove", "1000", status=0)
         self.assertEqual(sorted(place.name for place in made.iterdir()), ["given.cert", "learnt.cert", "learnt.proof", "one.cert"])
         proof = (made / "learnt.proof").read_bytes()
@@ -337,7 +337,7 @@ class Running(Case):
         rows = self.rows("site", status=1)
         self.assertEqual(rows["site/one.ppm"]["certificate"], {"accepted": False, "why": "certificate Ended at line 3"})
         self.assertEqual(rows["site/two.ppm"]["certificate"], {"accepted": True, "givens": [[1, 1]], "unpublished": [[1, 1]]})
-        # With its given the puzzle has one solution, and its certificate gives what is published.
+        # With its given the puzzle has one solution, and its certificate names what is published.
         self.assertEqual(rows["site/three.ppm"]["verdict"], "unique")
         self.assertEqual(rows["site/three.ppm"]["givens"], [[1, 1]])
         self.assertEqual(rows["site/three.ppm"]["certificate"], {"accepted": True, "givens": [[1, 1]]})

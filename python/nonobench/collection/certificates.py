@@ -51,7 +51,7 @@ def _told(desk: Desk, kind: Kind, puzzle: Puzzle, held: bytes) -> Row:
 
 
 def givens_of(held: bytes) -> list[tuple[int, int]]:
-    """The cells that an accepted certificate or proof gives, rows and columns from 1."""
+    """The givens that an accepted certificate or proof names, rows and columns from 1."""
     givens = []
     for line in held.split(b"\n")[1:]:
         words = line.split(b" ")

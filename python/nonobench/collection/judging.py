@@ -89,7 +89,7 @@ def judge(
 ) -> Judged:
     """Judges a puzzle, and makes a certificate of it where it is unique. `tell` gets the verdict before the certificate is made.
 
-    Where certificates may have `most` bytes, it gets a proof by lemmas before that too, which gives no cell. A proof is not kept beside
+    Where certificates may have `most` bytes, it gets a proof by lemmas before that too, which has no givens. A proof is not kept beside
     a certificate that has no more.
     """
     desk.open(puzzle)
