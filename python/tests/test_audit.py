@@ -301,7 +301,7 @@ class Running(Case):
         for certify, wanted in (("certs", "nonobench-audit: unique, but no certificate made in time or memory: 1\n"), (None, "")):
             said = io.StringIO()
             with contextlib.redirect_stderr(said):
-                counts.warn(arguments.Options(["site"], certify=certify), True, False)
+                counts.warn(arguments.Options(["site"], certify=certify), False)
             self.assertEqual(said.getvalue(), wanted)
 
     def test_a_proof_beside_a_puzzle_stays(self):
@@ -736,6 +736,31 @@ class Again(Case):
         # The set of three comes last, so it is in the third part.
         self.assertEqual([len((self.folder / f"part{part}").read_text().splitlines()) for part in (1, 2, 3)], [8, 8, 10])
         self.run_audit("merge", "part1", "--jsonl", "part1", status=2)
+
+    def test_a_share_without_files(self):
+        self.put("one.ppm", p3(UNIQUE))
+        self.put("two.ppm", p3(AMBIGUOUS))
+        words = ["site", "--allow", "9"]
+        self.run_audit(*words, "--jsonl", "whole", "--csv", "whole.csv", "--html", "whole.html", status=1)
+        (self.folder / "part3").write_text("of an earlier run\n")
+        for more in ([], ["--resume"]):
+            outputs = ["--jsonl", "part3", "--csv", "part3.csv", "--html", "part3.html", "--certify", "certs", *more]
+            done = self.run_audit(*words, "--shard", "3/3", *outputs, status=0)
+            self.assertEqual((done.stdout, done.stderr), ("0 puzzles\n", ""))
+            self.assertEqual((self.folder / "part3").read_bytes(), b"")
+            self.assertEqual((self.folder / "part3.csv").read_bytes(), (self.folder / "whole.csv").read_bytes().splitlines(keepends=True)[0])
+            self.assertEqual(records_of((self.folder / "part3.html").read_text()), [])
+        self.assertEqual(self.run_audit(*words, "--shard", "9/9").stdout.splitlines()[1:], ["", "0 puzzles"])
+        for part in (1, 2):
+            self.run_audit(*words, "--shard", f"{part}/3", "--jsonl", f"part{part}")
+        self.run_audit("merge", "part3", "part1", "part2", "--jsonl", "merged", "--html", "merged.html", "--csv", "merged.csv", status=1)
+        for end in ("", ".html", ".csv"):
+            self.assertEqual((self.folder / f"merged{end}").read_bytes(), (self.folder / f"whole{end}").read_bytes())
+        # Where nothing has a puzzle, that is wrong, in a share too.
+        (self.folder / "empty").mkdir()
+        for shard in ("1/1", "3/3"):
+            self.assertEqual(self.run_audit("empty", "--shard", shard, status=3).stderr, "nonobench-audit: no puzzles in empty\n")
+        self.assertEqual(self.run_audit("merge", "part3", status=3).stderr, "nonobench-audit: no puzzles in part3\n")
 
     def test_the_same_bytes_however_many_work(self):
         self.fill(40)

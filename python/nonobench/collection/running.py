@@ -95,6 +95,7 @@ class Run:
         self._size = 0
         self._next = 0
         self._beside = 0  # how many certificates and proofs lie beside the puzzles
+        self._is_elsewhere = False  # whether other shares have files
 
     def audit(self) -> int:
         """Audits a collection."""
@@ -190,6 +191,7 @@ class Run:
         number = -1
         for at, found in enumerate(find(options.paths, options.certificates)):
             if at % parts != part - 1:
+                self._is_elsewhere = True
                 continue
             number += 1
             self._beside += len(found.beside)
@@ -220,6 +222,8 @@ class Run:
                 self._release(number)
         if is_whole and options.certificates is not None and options.shard == (1, 1) and not self._beside:
             failures.append(Failure(f"{options.certificates}: no certificate or proof in it is of one of these puzzles"))
+        if is_whole and not self._tally.total and not self._is_elsewhere:
+            failures.append(Failure(f"no puzzles in {', '.join(options.paths)}"))
         failures += self._close(is_whole)
         self._progress.close()
         for words in dict.fromkeys(map(str, failures)):
@@ -298,7 +302,7 @@ class Run:
 
     def _summary(self, is_whole: bool, is_stopped: bool) -> None:
         options, summary = self._options, self._tally.summary()
-        self._tally.warn(options, is_whole, is_stopped)
+        self._tally.warn(options, is_stopped)
         if options.is_quiet or "-" in (options.jsonl, options.csv):
             return
         table = next((sink for sink in self._sinks if isinstance(sink, Table)), None)

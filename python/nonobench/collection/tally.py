@@ -49,28 +49,26 @@ class Tally:
 
     def status(self) -> int:
         """The status of a run that came to its end."""
-        if self._verdicts["error"] or self._unwritten or not self.total:
+        if self._verdicts["error"] or self._unwritten:
             return ERRORS
         return ALL_UNIQUE if self.total == self._verdicts["unique"] and not self._flaws else SOME_NOT
 
     def summary(self) -> str:
         """The lines that end a run."""
-        lines = [f"{self.total} {'puzzle' if self.total == 1 else 'puzzles'}: {self.verdicts()}"]
+        lines = [f"{self.total} {'puzzle' if self.total == 1 else 'puzzles'}{f': {self.verdicts()}' if self.total else ''}"]
         if self._grades:
             lines.append(f"grades (not proved): {_counted(self._grades, GRADES)}")
         if self._flaws:
             lines.append(f"besides: {_counted(self._flaws, sorted(self._flaws))}")
         return "\n".join(lines)
 
-    def warn(self, options: Options, is_whole: bool, is_stopped: bool) -> None:
+    def warn(self, options: Options, is_stopped: bool) -> None:
         """Says on standard error what kept the run from judging all."""
         lines = [f"{count} not read, since {name} is not installed" for name, count in sorted(self._missing.items())]
         if self._unwritten:
             lines.append(f"certificates not written: {self._unwritten}")
         if self._bare and options.certify is not None:
             lines.append(f"unique, but no certificate made in time or memory: {self._bare}")
-        if not self.total and is_whole:
-            lines.append(f"no puzzles in {', '.join(options.paths)}")
         if is_stopped:
             again = " (--resume goes on)" if options.jsonl not in (None, "-") else ""
             lines.append(f"stopped after {self.total} puzzles{again}")
