@@ -558,6 +558,14 @@ class Running(Case):
             ("unique", None), ("error", "the XML has a puzzle that is not directly in its set"),
         ])
 
+    def test_clues_that_no_picture_has(self):
+        # Two black cells in the row, and one in its two columns together.
+        self.put("one.non", "width 2\nheight 1\nrows\n2\ncolumns\n1\n0\n")
+        counts = {"columns": "<line><count>1</count></line><line/>", "rows": "<line><count>2</count></line>"}
+        self.put("two.xml", "<puzzle>" + "".join(f'<clues type="{axis}">{lines}</clues>' for axis, lines in counts.items()) + "</puzzle>")
+        rows = self.rows("site", status=3)
+        self.assertEqual([(row["verdict"], row["error"]) for row in rows.values()], [("error", "no picture has these clues")] * 2)
+
     def test_order_of_names(self):
         for name in ("b.ppm", "a/b.ppm", "a-b.ppm", "a.ppm", "a/a/c.ppm"):
             self.put(name, p3(UNIQUE))
