@@ -10,24 +10,7 @@ import re
 import sys
 from pathlib import Path
 
-from .certificates import check_cert, read_cert
-from .faults import Fault
-from .lemmas import check_proof, read_proof
-from .pictures import read_ppm
-
-
-def answer(picture, text, background=None):
-    """What is printed, and the exit status."""
-    is_proof = text.startswith(b'nonolemma')
-    kind, unit = 'ppm', 'byte'
-    try:
-        rows = read_ppm(picture, background).rows
-        kind, unit = 'certificate', 'line'
-        givens = check_proof(rows, read_proof(text)) if is_proof else check_cert(rows, read_cert(text))
-    except Fault as fault:
-        return f'{kind} {fault.name} at {unit} {fault.place}', 1
-    named = f', givens {givens}' if givens else ''
-    return f'{"proof" if is_proof else "certificate"} accepted{named}', 0
+from .checks import answer
 
 
 def main():
@@ -41,7 +24,7 @@ def main():
     except OSError as error:
         print(error, file=sys.stderr)
         return 3
-    line, status = answer(picture, text, background)
+    line, status = answer(picture, text, background, is_proof=text.startswith(b'nonolemma'))
     print(line, file=sys.stderr if status else sys.stdout)
     return status
 

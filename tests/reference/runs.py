@@ -1,5 +1,6 @@
 """What a run of the program must write, say and answer."""
-from .certificates import check_cert, read_cert
+from .certificates import read_cert
+from .checks import answer
 from .faults import Fault
 from .lines import clues_of
 from .non import read_non
@@ -30,7 +31,7 @@ def cut(run):
 
 def fault_line(kind, fault):
     """The line on standard error for a text that is refused."""
-    place = '' if fault.place is None else f' at {"line" if kind == "certificate" else "byte"} {fault.place}'
+    place = '' if fault.place is None else f' at byte {fault.place}'
     return f'nonobench: {kind} {fault.name}{place}\n'.encode()
 
 
@@ -48,23 +49,19 @@ def clues_run(run, text):
 
 def check_run(run, text, cert, background):
     """The check of a certificate; where it is accepted and the picture is small, a listing says so too."""
-    try:
-        kind = 'ppm'
-        document = read_ppm(text, background)
-        kind = 'certificate'
-        read = read_cert(cert)
-        givens = check_cert(document.rows, read)
-    except Fault as fault:
-        run.must(1, b'', fault_line(kind, fault))
-        return fault.name
-    run.must(0, b'certificate accepted%s\n' % (b', givens %d' % givens if givens else b''), b'')
-    height, width = len(document.rows), len(document.rows[0])
+    line, status = answer(text, cert, background, is_proof=False)
+    if status:
+        run.must(status, b'', f'nonobench: {line}\n'.encode())
+        return line.split()[1]
+    run.must(status, f'{line}\n'.encode(), b'')
+    rows = read_ppm(text, background).rows
+    height, width = len(rows), len(rows[0])
     if height * width <= 20:
         base = [[0xFFFF] * width for _ in range(height)]
-        for row, col in read[1]:
-            base[row - 1][col - 1] = 1 << document.rows[row - 1][col - 1]
-        found = pictures_with(clues_of(document.rows), height, width, base, 2)
-        agree(found == [document.rows], f'accepted, but the pictures are {[picture_rows(one) for one in found]}')
+        for row, col in read_cert(cert)[1]:
+            base[row - 1][col - 1] = 1 << rows[row - 1][col - 1]
+        found = pictures_with(clues_of(rows), height, width, base, 2)
+        agree(found == [rows], f'accepted, but the pictures are {[picture_rows(one) for one in found]}')
     return 'accepted'
 
 

@@ -1,8 +1,8 @@
 """The reference on rows worked by hand, and its two readings of a line against each other. Run before a fuzzing."""
 import random
 
-from .__main__ import answer
 from .certificates import check_cert, read_cert
+from .checks import answer
 from .faults import Fault
 from .lines import clue_of, fillings, map_rows, narrow_by_listing, narrow_by_places, settled
 from .non import read_non, write_non
@@ -117,7 +117,7 @@ def test_sessions():
         work_run(run, ppm_of(picture), commands.replace('|', '\n').encode())
 
 
-# Pictures, files with `|` for line feeds, and what is printed of them.
+# Pictures, certificates or proofs with `|` for line feeds, and what is printed of them.
 ANSWERS = (
     ('a', 'nonocert 1|line r 1|done', ('certificate accepted', 0)),
     ('a./.a', 'nonocert 2|given 1 1|line r 1|line c 1|line r 2|done', ('certificate accepted, givens 1', 0)),
@@ -128,10 +128,12 @@ ANSWERS = (
 
 
 def test_answers():
-    """The command, and a picture that is none."""
+    """Both checks, a picture that is none, and a proof that is no certificate."""
     for picture, text, wanted in ANSWERS:
-        agree(answer(ppm_of(picture), text.replace('|', '\n').encode()) == wanted, f'{picture} with {text}')
-    agree(answer(b'P6\n', b'nonocert 1\n') == ('ppm NotP3 at byte 0', 1), 'a picture that is none')
+        said = answer(ppm_of(picture), text.replace('|', '\n').encode(), None, text.startswith('nonolemma'))
+        agree(said == wanted, f'{picture} with {text}')
+    agree(answer(b'P6\n', b'nonocert 1\n', None, False) == ('ppm NotP3 at byte 0', 1), 'a picture that is none')
+    agree(answer(ppm_of('a'), b'nonolemma 1\n', None, False) == ('certificate NotCert at line 1', 1), 'a proof as a certificate')
 
 
 def test():
