@@ -49,11 +49,14 @@ function bundled(file, ...words) {
   return stdout.trimEnd();
 }
 
-// The names of texts are short in what is built: each stands there once for each language, and where it is asked for.
+// The names of texts are short in what is built: each stands there once for each language, and where it is asked for. As a key of a
+// table it needs no quotes; between ? and : it is a value.
 function withShortNames(code) {
   const names = [...read('page', 'texts', 'en.js').matchAll(/^ {2}'([a-z]+\.\w+)': /gm)].map(([, name]) => name);
   const short = new Map(names.map((name, at) => [name, `t${at.toString(36)}`]));
-  return code.replace(/"([a-z]+\.\w+)"/g, (whole, name) => (short.has(name) ? `"${short.get(name)}"` : whole));
+  const shortened = (whole, name, quote) => (short.has(name) ? quote + short.get(name) + quote : whole);
+  return code.replace(/(?<=[{,])"([a-z]+\.\w+)"(?=:)/g, (whole, name) => shortened(whole, name, ''))
+    .replace(/"([a-z]+\.\w+)"/g, (whole, name) => shortened(whole, name, '"'));
 }
 
 const script = (file) => bundled(file, '--format=iife', `--define:LIMITS=${JSON.stringify(limitsOf(root))}`);
