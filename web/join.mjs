@@ -49,11 +49,14 @@ function bundled(file, ...words) {
   return stdout.trimEnd();
 }
 
+const FIRST = '$ABCDEFGHIJKLMNOPQRSTUVWXYZ_abcdefghijklmnopqrstuvwxyz'; // what names begin with
+const shortName = (at) => (at < FIRST.length ? FIRST[at] : shortName(Math.floor(at / FIRST.length) - 1) + FIRST[at % FIRST.length]);
+
 // The names of texts are short in what is built: each stands there once for each language, and where it is asked for. As a key of a
 // table it needs no quotes; between ? and : it is a value.
 function withShortNames(code) {
   const names = [...read('page', 'texts', 'en.js').matchAll(/^ {2}'([a-z]+\.\w+)': /gm)].map(([, name]) => name);
-  const short = new Map(names.map((name, at) => [name, `t${at.toString(36)}`]));
+  const short = new Map(names.map((name, at) => [name, shortName(at)]));
   const shortened = (whole, name, quote) => (short.has(name) ? quote + short.get(name) + quote : whole);
   return code.replace(/(?<=[{,])"([a-z]+\.\w+)"(?=:)/g, (whole, name) => shortened(whole, name, ''))
     .replace(/"([a-z]+\.\w+)"/g, (whole, name) => shortened(whole, name, '"'));
