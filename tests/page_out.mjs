@@ -131,6 +131,10 @@ export async function exportsAndPrint({ browser, url, folder }) {
     const night = (...words) => execFileSync('unzip', [...words], { cwd: own, encoding: 'utf8' });
     assert.equal(night('-Z1', 'night-site.zip'), 'night.ppm\nnight.cert\nnight.background\n');
     assert.equal(night('-p', 'night-site.zip', 'night.background'), '0,0,40\n');
+    for (const zip of ['night-site.zip', 'key-site.zip']) { // dropped again, they are these pictures, and all of them is read
+        await drop(page, own, zip, readFileSync(join(own, zip)));
+        await page.until((text) => document.getElementById('said').textContent === text, 3000 * SLACK, `\u201c${zip}\u201d: 0 pictures added to the library; 1 picture there already.`).catch(async () => { throw new Error(await said(page)); });
+    }
     await page.close();
 }
 

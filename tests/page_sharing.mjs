@@ -1,7 +1,7 @@
 // Trials of what leaves the page by a link and of what comes as several files, in Chromium: links to edit, to play, in a frame; a
 // table of a folder; a served page without its server. Each is a test of the runner tests/page_test.mjs.
 import assert from 'node:assert/strict';
-import { mkdirSync, readFileSync, writeFileSync } from 'node:fs';
+import { mkdirSync, readFileSync, rmSync, writeFileSync } from 'node:fs';
 import { createServer } from 'node:http';
 import { extname, join } from 'node:path';
 import { DUCK, clean, downloaded, examples, fresh, isKept, isOpen, menu, said } from './page_hands.mjs';
@@ -136,21 +136,48 @@ async function takeAll(hands, paths) {
 
 const closedDialog = (page) => page.until(() => !document.querySelector('dialog[open]'), 5000 * SLACK);
 
-/** Several files become a table with verdicts and grades; a row opens its picture, all go to the library, or out as one zip. */
+// A PNG of rows of letters, so many pixels a side each.
+async function pngOf(page, rows, by) {
+    const data = await page.run((lines, side) => {
+        const canvas = Object.assign(document.createElement('canvas'), { width: lines[0].length * side, height: lines.length * side });
+        const pen = canvas.getContext('2d');
+        lines.forEach((line, row) => [...line].forEach((letter, col) => {
+            pen.fillStyle = { '.': '#fff', a: '#000', b: '#c82828' }[letter];
+            pen.fillRect(col * side, row * side, side, side);
+        }));
+        return canvas.toDataURL().split(',')[1];
+    }, rows, by);
+    return Buffer.from(data, 'base64');
+}
+
+const rowsShown = (page) => page.run(() => [...document.querySelectorAll('#several tbody tr')].map((row) => [...row.children].map((cell) => cell.textContent)));
+
+/**
+ * Several files become a table with verdicts and grades, each picture with what lies beside it; a row opens its picture, all go to the
+ * library, or out as one zip.
+ */
 export async function severalPoint(hands, { page, trial, own }) {
-    const paths = filesIn(own, [['little.ppm', ppmOf(ONE_WAY)], ['two.ppm', ppmOf(TWO_WAYS)], ['heart.ppm', readFileSync(new URL('heart.ppm', examples))], ['notes.txt', 'nothing to read\n']]);
+    const paths = filesIn(own, [
+        ['little.ppm', ppmOf(ONE_WAY)], ['two.ppm', ppmOf(TWO_WAYS)], ['heart.ppm', readFileSync(new URL('heart.ppm', examples))], ['notes.txt', 'nothing to read\n'],
+        ['spot.ppm', ppmOf(TWO_WAYS)], ['spot.givens', 'given 1 2\r\n'], ['spot.cert', 'nonocert 1\n'], ['night.ppm', ppmOf(TWO_WAYS)], ['night.background', '0,0,0\n'],
+        ['art.png', await pngOf(page, ONE_WAY, 61)], ['odd.ppm', ppmOf(TWO_WAYS)], ['odd.givens', 'given 3 1\n'], ['lost.background', 'white\n'],
+    ]);
     await takeAll(hands, paths);
-    await page.until(() => /^3 pictures of 3/.test(document.getElementById('several-count').textContent), 20000 * SLACK);
-    const rows = await page.run(() => [...document.querySelectorAll('#several tbody tr')].map((row) => [...row.children].map((cell) => cell.textContent)));
+    await page.until(() => /^6 pictures of 6/.test(document.getElementById('several-count').textContent), 20000 * SLACK);
+    const rows = await rowsShown(page);
     assert.deepEqual(rows.map(([name, size, colours, verdict]) => [name, size, colours, verdict]).slice(0, 3), [['little', '2 by 3', '3', 'unique'], ['two', '2 by 2', '2', 'ambiguous'], ['heart', rows[2][1], rows[2][2], 'unique']]);
+    assert.deepEqual(rows.slice(4, 7).map((row) => row.slice(0, 4)), [['spot', '2 by 2, 1 cell given', '2', 'unique'], ['night', '2 by 2, background: black', '2', 'ambiguous'], ['art', '2 by 3', '3', 'unique']]);
+    assert.deepEqual(rows.slice(7), [['odd', '\u201codd.givens\u201d could not be read: row 3, column 1 is outside the picture.'], ['lost.background', 'no picture here goes with it']]);
+    assert.match(await trial.text('dialog[open]'), /Certificates and proofs are not checked here/);
     assert.match(rows[0][4], /^(easy|medium|hard|very hard|expert)$/);
     assert.equal(rows[1][4], '–');
     assert.deepEqual([rows[3].length, rows[3][0]], [2, 'notes']);
     await hands.press('dialog[open] .buttons button:nth-of-type(2)'); // all as a zip
     const { content } = await downloaded(page, own, '.zip');
     const text = content.toString('latin1');
-    for (const name of ['report.csv', 'little.xml', 'two.xml', 'heart.xml']) assert.ok(text.includes(name), name);
+    for (const name of ['report.csv', 'little.xml', 'two.xml', 'heart.xml', 'spot.xml', 'art.xml']) assert.ok(text.includes(name), name);
     assert.ok(text.includes('"two","2 by 2","2","ambiguous"'));
+    assert.ok(text.includes('"spot","2 by 2, 1 cell given","2","unique"'));
     await closedDialog(page);
     await clean(page);
     await takeAll(hands, paths.slice(0, 2));
@@ -172,6 +199,26 @@ export async function folderUnread({ browser, url, folder }) {
     for (const type of ['dragEnter', 'dragOver', 'drop']) await page.send('Input.dispatchDragEvent', { type, x: 400, y: 300, data });
     await page.until(() => /does not read folders/.test(document.getElementById('said').textContent), 5000 * SLACK);
     assert.deepEqual(await trial.picture(), ONE_WAY);
+    await page.close();
+}
+
+/** A folder of a served page: a picture has what lies in its own folder, not what lies in another one under the same name. */
+export async function foldersApart({ browser, folder }) {
+    const { url, end } = await serve(folder);
+    const page = await browser.page(SIZES.small);
+    const trial = new Trial(page, url, folder);
+    await trial.load();
+    const set = join(folder, 'set');
+    rmSync(set, { recursive: true, force: true });
+    for (const [part, files] of Object.entries({ one: { 'spot.ppm': ppmOf(TWO_WAYS) }, two: { 'spot.ppm': ppmOf(TWO_WAYS), 'spot.givens': 'given 1 2\n' }, three: { 'spot.background': '0,0,0' } })) {
+        mkdirSync(join(set, part), { recursive: true });
+        for (const [name, text] of Object.entries(files)) writeFileSync(join(set, part, name), text);
+    }
+    const data = { items: [], files: [set], dragOperationsMask: 1 };
+    for (const type of ['dragEnter', 'dragOver', 'drop']) await page.send('Input.dispatchDragEvent', { type, x: 400, y: 300, data });
+    await page.until(() => /^2 pictures of 2/.test(document.getElementById('several-count')?.textContent), 20000 * SLACK);
+    assert.deepEqual((await rowsShown(page)).map((row) => row.slice(0, 4)), [['spot', '2 by 2', '2', 'ambiguous'], ['spot.background', 'no picture here goes with it'], ['spot', '2 by 2, 1 cell given', '2', 'unique']]);
+    await end();
     await page.close();
 }
 

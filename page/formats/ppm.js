@@ -49,7 +49,7 @@ function boundSides(width, height) {
   }
 }
 
-/** An image `{ width, height, data }` of 8-bit red, green, blue and alpha, from the bytes of a P3 or P6 picture. */
+/** An image `{ width, height, data }` of 8-bit red, green, blue and alpha, from the bytes of a P3 or P6 picture, with its `maxval`. */
 export function readPpm(bytes) {
   const raw = bytes[1] === 54; // P6
   const tokens = new PpmTokens(bytes);
@@ -71,7 +71,7 @@ export function readPpm(bytes) {
   }
   tokens.skip();
   if (!raw && tokens.at < bytes.length) throw new FileFault(phrase('formats.thereMoreBehindLast'));
-  return { width, height, data };
+  return { width, height, data, maxval };
 }
 
 // One white space stands behind the maxval of a raw picture, and then come its samples, of two bytes where maxval is above 255.

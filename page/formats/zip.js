@@ -48,7 +48,7 @@ export function writeZip(files) {
 
 const damaged = () => new FileFault(phrase('formats.archiveDamaged'));
 
-/** The files of a zip as `{name, bytes}`, where `bytes` is null for what is not read: folders, what is encrypted or too large. */
+/** The files of a zip as `{name, bytes}`, where `bytes` is null for what is not read: what is encrypted or too large. */
 export async function readZip(bytes) {
   const view = new DataView(bytes.buffer, bytes.byteOffset, bytes.byteLength);
   let end = bytes.length - 22;
@@ -70,7 +70,8 @@ export async function readZip(bytes) {
 async function unpackedEntry(bytes, view, at) {
   const [flags, method] = [view.getUint16(at + 8, true), view.getUint16(at + 10, true)];
   const [crc, size, length, local] = [16, 20, 24, 42].map((place) => view.getUint32(at + place, true));
-  if (flags & 1 || ![0, 8].includes(method) || length > MOST_ENTRY || !length) return null;
+  if (flags & 1 || ![0, 8].includes(method) || length > MOST_ENTRY) return null;
+  if (!length) return new Uint8Array();
   if (local + 30 > bytes.length || view.getUint32(local, true) !== LOCAL) throw damaged();
   const from = local + 30 + view.getUint16(local + 26, true) + view.getUint16(local + 28, true);
   if (from + size > bytes.length) throw damaged();

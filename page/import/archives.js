@@ -5,12 +5,11 @@ import { bareName, cleanName } from '../base/words.js';
 import { webpbnText } from '../formats/webpbn.js';
 import { readZip, writeZip } from '../formats/zip.js';
 import { keep } from '../library/keep.js';
-import { withClues } from '../library/open.js';
+import { faultText, withClues } from '../library/open.js';
 import { recordOfDoc } from '../library/records.js';
 import { SAVE_TYPES, download } from '../library/saving.js';
 import { phrase } from '../texts/phrase.js';
-import { kindOfFile } from './images.js';
-import { aboutNon, docOfNon, isNonText, readPpmFile, readXmlFile } from './reading.js';
+import { docsOfUnit, grouped } from './beside.js';
 
 // A name that no other file of the archive has.
 function freeName(name, taken) {
@@ -49,33 +48,39 @@ export async function exportAll() {
   return saveArchive(sound, { file: 'nonobench library.zip', text: phrase('import.picturesSavedNonobenchLibrary', { pictures: sound.length, count: ones ? phrase('import.onesLeftOut', { ones }) : '' }), kind: ones ? 'alarm' : '' });
 }
 
-/** The documents that a file of puzzles holds; none where it has no picture that opens by itself. */
-export async function docsOfBytes(bytes) {
-  const kind = kindOfFile(bytes);
-  if (kind === 'ppm') return [readPpmFile(bytes).doc].filter(Boolean);
-  const text = new TextDecoder().decode(bytes);
-  if (kind === 'xml') return (await Promise.all(readXmlFile(text).map(({ doc, non, page }) => (non ? docOfNon(non, page) : doc)))).filter(Boolean);
-  return kind === 'non' && isNonText(text) ? [await docOfNon(text, { about: aboutNon(text) })] : [];
+// The files of an archive by their folders, as grouped() takes them.
+async function foldersOf(bytes) {
+  const folders = new Map();
+  for (const { name: path, bytes: content } of await readZip(bytes)) {
+    if (path.endsWith('/')) continue;
+    const at = path.lastIndexOf('/') + 1;
+    const file = { path, name: path.slice(at), size: content?.length ?? Infinity, arrayBuffer: async () => content };
+    if (!folders.has(path.slice(0, at))) folders.set(path.slice(0, at), []);
+    folders.get(path.slice(0, at)).push(file);
+  }
+  return [...folders.values()];
 }
 
-/** The documents of an archive as `{ docs: [{ name, doc }], unread: [name] }`. */
+/** The documents of an archive as `{ docs: [{ name, doc }], unread: [name], why }`, where `why` is what is wrong with the first unread. */
 export async function readArchive(bytes) {
-  const [docs, unread] = [[], []];
-  for (const { name, bytes: content } of await readZip(bytes)) {
-    if (name.endsWith('/')) continue;
-    const found = content ? await docsOfBytes(content).catch(() => []) : [];
-    if (!found.length) unread.push(name);
-    const own = bareName(name.split('/').at(-1));
+  const [docs, unread, faults] = [[], [], []];
+  for (const unit of (await foldersOf(bytes)).flatMap(grouped)) {
+    const { docs: found, left } = await docsOfUnit(unit).catch((fault) => {
+      faults.push(faultText(fault));
+      return { docs: [], left: [] };
+    });
+    for (const { path } of found.length ? left : [unit.file]) unread.push(path);
+    const own = bareName(unit.file.name);
     found.forEach((doc, at) => docs.push({ name: at ? `${own} ${at + 1}` : own, doc }));
   }
-  return { docs, unread };
+  return { docs, unread, why: faults[0] ?? '' };
 }
 
 const sameText = (one, other) => webpbnText(one) === webpbnText(other);
 
 /** Adds the pictures of an archive to the library, but for those that are there. Answers how many of it are there then. */
 export async function takeArchive(bytes, name) {
-  const { docs, unread } = await readArchive(bytes);
+  const { docs, unread, why } = await readArchive(bytes);
   const keeper = await keep.ready();
   const before = new Set(await keeper.cards()); // each of them is one picture of the archive at most
   let [added, known] = [0, 0];
@@ -87,7 +92,7 @@ export async function takeArchive(bytes, name) {
     else break;
   }
   const there = added + known;
-  const left = [known ? phrase('import.picturesThereAlready', { pictures: known }) : '', unread.length ? phrase('import.filesNotRead', { files: unread.length }) : '', there < docs.length ? phrase('import.picturesNotTaken', { pictures: docs.length - there }) : ''].filter(Boolean).join(', ');
+  const left = [known ? phrase('import.picturesThereAlready', { pictures: known }) : '', unread.length ? phrase('import.filesNotRead', { files: unread.length }) + (why && `: ${why.replace(/\.$/, '')}`) : '', there < docs.length ? phrase('import.picturesNotTaken', { pictures: docs.length - there }) : ''].filter(Boolean).join(', ');
   if (there === docs.length) say(phrase('import.picturesFromArchive', { name, pictures: added, left: left ? `; ${left}` : '' }), unread.length ? 'alarm' : '');
   return there;
 }

@@ -139,8 +139,8 @@ export const isTransparent = (data, at) => data[at + 3] < 128;
 
 /**
  * An image as a document, pixel by pixel, or null where it has too many pixels or colours for that. The background is
- * what is transparent, shown white, else `background`, else white. Null too where the image has none of it, and where it
- * has what is transparent and white besides: then the background is the user's choice.
+ * what is transparent, shown white, and `background`, else white. Null too where none is told and the image has none of it, and
+ * where it has what is transparent and white besides: then the background is the user's choice.
  */
 export function docOfImage({ width, height, data }, background = null) {
   if (width > MOST_CELLS || height > MOST_CELLS) return null;
@@ -158,7 +158,7 @@ export function docOfImage({ width, height, data }, background = null) {
       continue;
     }
     const key = (data[at] << 16) | (data[at + 1] << 8) | data[at + 2];
-    if (key === groundKey && clear) return null;
+    if (key === groundKey && clear && !background) return null;
     if (key === groundKey) met = true;
     if (!numbers.has(key)) {
       if (colours.length === MOST_COLOURS) return null;

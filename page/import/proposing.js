@@ -1,9 +1,11 @@
-// What the dialog for pictures proposes of an image: its size in cells, how many colours, and the part without a margin.
+// What the dialog for pictures proposes of an image: its size in cells, how many colours, and the part without a margin; and what is
+// made of it without the dialog.
 
 import { MOST_CELLS, MOST_COLOURS } from '../document/limits.js';
 import { countFlat } from './flat.js';
-import { dotSize, isTransparent, scaledTo } from './images.js';
+import { docOfImage, dotSize, isTransparent, scaledTo } from './images.js';
 import { MOST_POINTS } from './making.js';
+import { docOfCells } from './quantise.js';
 import { hasClear, hasFewColours, spotsOf } from './spots.js';
 
 const SMALL = 0.003; // of the area: a beak, a nose, a star
@@ -23,15 +25,37 @@ function coloursFor(image, { isExact, some }) {
   return own && own <= most ? Math.max(2, own + clear) : some;
 }
 
-/** What the dialog proposes for an image: one cell a dot of a pixel picture, else 40 cells on the longer side. */
-export function proposalFor(image) {
+const sampled = (image, wide, high) => scaledTo(image, { x: 0, y: 0, ...image }, wide, high, true);
+
+// What is proposed for pixel art: one cell a dot; null where it has too many dots for that, or one alone.
+function dotsOf(image) {
   const dot = dotSize(image);
   const [columns, rows] = [image.width / dot, image.height / dot];
-  const sampled = (wide, high) => scaledTo(image, { x: 0, y: 0, ...image }, wide, high, true);
-  if (columns <= MOST_CELLS && rows <= MOST_CELLS && columns * rows > 1) return { columns, rows, dot, sharp: true, colours: coloursFor(sampled(columns, rows), { isExact: true, some: MOST_COLOURS }) };
+  if (columns > MOST_CELLS || rows > MOST_CELLS || columns * rows === 1) return null;
+  const cells = sampled(image, columns, rows);
+  return { columns, rows, dot, sharp: true, cells, colours: coloursFor(cells, { isExact: true, some: MOST_COLOURS }) };
+}
+
+/** What the dialog proposes for an image: one cell a dot of a pixel picture, else 40 cells on the longer side. */
+export function proposalFor(image) {
+  const dots = dotsOf(image);
+  if (dots) return dots;
   const scale = 40 / Math.max(image.width, image.height);
-  const colours = coloursFor(sampled(Math.min(MOST_POINTS, image.width), Math.min(MOST_POINTS, image.height)), { isExact: false, some: 6 });
+  const colours = coloursFor(sampled(image, Math.min(MOST_POINTS, image.width), Math.min(MOST_POINTS, image.height)), { isExact: false, some: 6 });
   return { columns: Math.max(1, Math.round(image.width * scale)), rows: Math.max(1, Math.round(image.height * scale)), dot: null, sharp: false, colours };
+}
+
+/**
+ * The document of an image without the dialog: pixel by pixel, else dot by dot where it is enlarged pixel art. Where that has neither
+ * the `background` nor few colours, it is what the dialog proposes, with `all`, how many colours the image has. Null for other images.
+ */
+export function docByItself(image, background = null) {
+  const doc = docOfImage(image, background);
+  const dots = doc ? null : dotsOf(image);
+  if (!dots || dots.dot === 1) return doc;
+  const exact = docOfImage(dots.cells, background);
+  if (exact || background) return exact;
+  return { ...docOfCells(dots.cells, dots), all: spotsOf(dots.cells).length + Number(hasClear(dots.cells)) };
 }
 
 /** The part of an image without the lines at its edges that are transparent, or of the colour of its corner, all along. */

@@ -1,7 +1,8 @@
 // Files of puzzles as documents: what is read without asking anything of the user.
 
+import { eightBits } from '../document/colours.js';
 import { docOf, pageOf } from '../document/document.js';
-import { FileFault } from '../document/limits.js';
+import { FileFault, LETTERS } from '../document/limits.js';
 import { answersTo } from '../engine/answers.js';
 import { startEngine } from '../engine/client.js';
 import { stateOf } from '../engine/opening.js';
@@ -9,7 +10,8 @@ import { readPpm } from '../formats/ppm.js';
 import { docOfNotes } from '../formats/ppm_notes.js';
 import { readWebpbn } from '../formats/webpbn_reading.js';
 import { phrase } from '../texts/phrase.js';
-import { docOfImage } from './images.js';
+import { docOfImage, kindOfFile } from './images.js';
+import { docByItself } from './proposing.js';
 
 export const NOT_READ = phrase('import.noPictureNoPuzzle');
 
@@ -56,4 +58,35 @@ export async function docOfNon(text, page = {}, engine = startEngine()) {
   } finally {
     engine.end();
   }
+}
+
+// The document of a PPM picture without the dialog; null where it has none. `ground` holds in place of the background in its notes.
+async function docOfPpm(bytes, ground) {
+  const { image, isText, doc } = readPpmFile(bytes);
+  const background = ground && (await ground(image, isText ? image.maxval : 255));
+  if (doc && (!background || doc.colours[0].join() === background.join())) return doc;
+  const own = docByItself(image, background);
+  return own && doc ? { ...own, ...pageOf(doc), inks: [], givens: doc.givens } : own;
+}
+
+// A text that tells its background has its clues for that one: another beside it is an error.
+async function checkGround({ colours, picture, maxval }, ground) {
+  const first = eightBits(colours[LETTERS.indexOf(picture[0][0])], maxval);
+  const background = await ground({ data: Uint8ClampedArray.of(...first, 255) }, 255);
+  if (background.join() !== eightBits(colours[0], maxval).join()) throw new FileFault(phrase('import.otherBackground'));
+}
+
+/**
+ * The documents that a file of puzzles holds; none where it has no picture that opens by itself. `ground(image, maxval)` gives the
+ * background that is told beside the file.
+ */
+export async function docsOfBytes(bytes, ground = null) {
+  const kind = kindOfFile(bytes);
+  if (kind === 'ppm') return [await docOfPpm(bytes, ground)].filter(Boolean);
+  const text = new TextDecoder().decode(bytes);
+  const docs = kind === 'xml' ? await Promise.all(readXmlFile(text).map(({ doc, non, page }) => (non ? docOfNon(non, page) : doc)))
+    : kind === 'non' && isNonText(text) ? [await docOfNon(text, { about: aboutNon(text) })] : [];
+  const read = docs.filter(Boolean);
+  if (ground && read.length === 1) await checkGround(read[0], ground);
+  return read;
 }

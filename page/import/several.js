@@ -3,6 +3,8 @@
 import { make, say } from '../base/elements.js';
 import { tell } from '../base/events.js';
 import { bareName, sizeText } from '../base/words.js';
+import { nameOf } from '../document/colours.js';
+import { FileFault } from '../document/limits.js';
 import { Judge } from '../engine/judging.js';
 import { gradeName, verdictName } from '../grade/names.js';
 import { keep } from '../library/keep.js';
@@ -11,11 +13,22 @@ import { recordOfDoc } from '../library/records.js';
 import { phrase } from '../texts/phrase.js';
 import { openDialog } from '../view/dialogs.js';
 import { secondsChosen } from '../view/verdict.js';
-import { docsOfBytes, saveArchive } from './archives.js';
+import { saveArchive } from './archives.js';
+import { docsOfUnit, hasProof } from './beside.js';
 
 const MOST_SECONDS = 30; // for a picture
-const MOST_BYTES = 16 * 1024 * 1024; // of a file
 const HEADS = [phrase('view.name'), phrase('import.size'), phrase('view.colours'), phrase('import.verdict'), phrase('import.grade')];
+
+// Under what a verdict holds: the size of a document, how many cells are given, and a background that is not white.
+function factsOf(doc) {
+  const [ground] = doc.colours;
+  const given = doc.givens.size ? phrase('import.given', { cells: doc.givens.size }) : '';
+  const isWhite = ground.every((sample) => sample === doc.maxval);
+  return [sizeText(doc), given, isWhite ? '' : phrase('export.background', { names: nameOf(ground, doc.maxval) })].filter(Boolean).join(', ');
+}
+
+// How many colours a document has, of more where the image had more.
+const countOf = ({ colours: { length }, all = 0 }) => (all > length ? phrase('import.ofAll', { count: length, all }) : String(length));
 
 /** A picture out of a file, with what is known about it so far. */
 class Row {
@@ -33,7 +46,7 @@ class Row {
   /** The texts of the table's columns, as a report has them too. */
   get texts() {
     const { doc, word, grade } = this;
-    return doc ? [this.name, sizeText(doc), String(doc.colours.length), verdictName(word), grade ? gradeName(grade.word) : '–'] : [this.name, this.fault, '', '', ''];
+    return doc ? [this.name, factsOf(doc), countOf(doc), verdictName(word), grade ? gradeName(grade.word) : '–'] : [this.name, this.fault, '', '', ''];
   }
 
   show() {
@@ -55,19 +68,18 @@ class Row {
   }
 }
 
-/** The rows of files: one for each picture, and one for each file that none is read from. */
-async function rowsOf(files, imageDocs) {
+/** The rows of units: one for each picture, and one for each file that none is read from. */
+async function rowsOf(units, imageDocs) {
   const rows = [];
-  for (const file of files) {
-    const own = bareName(file.name);
+  for (const unit of units) {
+    const own = bareName(unit.file.name);
     try {
-      if (file.size > MOST_BYTES) throw new Error(phrase('import.more16Mib'));
-      const bytes = new Uint8Array(await file.arrayBuffer());
-      const docs = await imageDocs(file, bytes) ?? await docsOfBytes(bytes);
-      if (!docs.length) throw new Error(phrase('import.notPuzzleImageScaled'));
+      const { docs, left } = await docsOfUnit(unit, imageDocs);
+      if (!docs.length) throw new FileFault(phrase('import.notPuzzleImageScaled'));
       docs.forEach((doc, at) => rows.push(new Row(at ? `${own} ${at + 1}` : own, doc)));
+      for (const { name } of left) rows.push(new Row(name, null, phrase('import.noPictureGoes')));
     } catch (fault) {
-      rows.push(new Row(own, null, faultText(fault)));
+      rows.push(new Row(unit.fault ? unit.file.name : own, null, faultText(fault)));
     }
   }
   return rows;
@@ -106,13 +118,10 @@ function hearRow(row, dialogOf) {
   });
 }
 
-/**
- * Shows several files in a table. `imageDocs(file, bytes)` gives the documents of an image file, or null where it is none. Judging
- * goes on while the table is open.
- */
-export async function takeSeveral(files, imageDocs) {
-  say(`${phrase('import.files', { files: files.length })} …`);
-  const rows = await rowsOf(files, imageDocs);
+/** Shows the units of several files in a table; `imageDocs` is as for docsOfUnit. Judging goes on while the table is open. */
+export async function takeSeveral(units, imageDocs) {
+  say(`${phrase('import.files', { files: units.length })} …`);
+  const rows = await rowsOf(units, imageDocs);
   say('');
   const puzzles = rows.filter((row) => row.doc);
   const table = make('table', { id: 'several' }, make('thead', {}, make('tr', {}, ...HEADS.map((head) => make('th', { scope: 'col' }, head)))), make('tbody', {}, ...rows.map((row) => row.element)));
@@ -120,9 +129,10 @@ export async function takeSeveral(files, imageDocs) {
   const count = make('p', { id: 'several-count', role: 'status' });
   const told = (at) => { count.textContent = phrase('import.picturesJudgedRowOpens', { pictures: at, count: puzzles.length }); };
   told(0);
+  const notes = units.some(hasProof) ? [make('p', { class: 'faint' }, phrase('import.proofsNotChecked'))] : [];
   const judge = new Judge({ seconds: Math.min(MOST_SECONDS, secondsChosen()) });
   const chosen = openDialog({
-    title: phrase('import.puzzles', { puzzles: rows.length }), wide: true, content: make('div', {}, count, make('div', { class: 'scrolls' }, table)),
+    title: phrase('import.puzzles', { puzzles: rows.length }), wide: true, content: make('div', {}, count, ...notes, make('div', { class: 'scrolls' }, table)),
     buttons: [{ name: phrase('view.close'), value: null }, ...(puzzles.length ? [{ name: phrase('import.saveAllZip'), value: 'zip' }, { name: phrase('import.addLibrary'), value: 'library', main: true }] : [])],
   });
   const judged = (async () => {

@@ -15,16 +15,18 @@ import { phrase } from '../texts/phrase.js';
 import { isTyping } from '../view/actions.js';
 import { openDialog, openDialogs } from '../view/dialogs.js';
 import { takeArchive } from './archives.js';
+import { grouped } from './beside.js';
 import { takeCertificate } from './certificates.js';
 import { HEAD, IMAGES, MOST_IMAGE, imageOfFile } from './decoding.js';
-import { filesIn } from './folders.js';
-import { docOfImage, kindOfFile, sizeOfImage } from './images.js';
+import { unitsIn } from './folders.js';
+import { kindOfFile } from './images.js';
 import { importImage, takesPalette } from './importing.js';
 import { takePalette } from './palettes.js';
+import { docByItself } from './proposing.js';
 import { NOT_READ, aboutNon, docOfNon, isNonText, readPpmFile, readXmlFile } from './reading.js';
 import { takeSeveral } from './several.js';
 
-const TAKEN_KINDS = '.ppm,.pnm,.non,.xml,.cert,.proof,.zip,.gpl,.pal,.hex,.png,.jpg,.jpeg,.gif,.webp,image/png,image/jpeg,image/gif,image/webp';
+const TAKEN_KINDS = '.ppm,.pnm,.non,.xml,.givens,.background,.cert,.proof,.zip,.gpl,.pal,.hex,.png,.jpg,.jpeg,.gif,.webp,image/png,image/jpeg,image/gif,image/webp';
 const MOST_ARCHIVE = 1 << 30; // bytes
 
 /** Takes a file (or a blob that was pasted); `handle` is the browser's own for writing it again. */
@@ -124,7 +126,7 @@ export async function chooseFile() {
 }
 
 // One file is opened, several come as a table.
-const takeAll = (files, handle = null) => (files.length > 1 ? takeSeveral(files, imageDocs) : files.length === 1 && takeFile(files[0], handle));
+const takeAll = (files, handle = null) => (files.length > 1 ? takeSeveral(grouped(files), imageDocs) : files.length === 1 && takeFile(files[0], handle));
 
 // A dialog that is open gives way to a file: it is left as by Cancel.
 async function closeDialogs() {
@@ -141,11 +143,12 @@ async function takeDropped(files, handle) {
   return takeAll(files, handle);
 }
 
-// The document of an image file that is a pixel a cell; null for a file that is no image.
-async function imageDocs(file, bytes) {
+// The document of an image file that opens by itself; null for a file that is no image.
+async function imageDocs(file, bytes, ground) {
   const kind = kindOfFile(bytes);
-  if (!['png', 'jpeg', 'gif', 'webp'].includes(kind)) return null;
-  const doc = docOfImage(await imageOfFile(file, bytes, kind));
+  if (!IMAGES.has(kind)) return null;
+  const image = await imageOfFile(file, bytes, kind);
+  const doc = docByItself(image, ground && (await ground(image, 255)));
   return doc ? [doc] : [];
 }
 
@@ -167,8 +170,8 @@ export function hearFiles() {
     const folders = items.map((item) => item.webkitGetAsEntry?.() ?? null);
     const files = items.map((item) => item.getAsFile());
     if (folders.some((entry) => entry?.isDirectory)) {
-      const held = await filesIn(folders, files).catch(() => null);
-      return held ? takeSeveral(held, imageDocs) : say(phrase('import.folderNotRead'), 'alarm');
+      const units = await unitsIn(folders, files).catch(() => null);
+      return units ? takeSeveral(units, imageDocs) : say(phrase('import.folderNotRead'), 'alarm');
     }
     const late = new Promise((go) => setTimeout(go, 1000, null)); // the file itself is at hand already
     const handle = await Promise.race([late, items[0].getAsFileSystemHandle?.().catch(() => null)]);

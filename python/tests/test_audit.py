@@ -39,6 +39,27 @@ def one(data, suffix="", ground=NONE):
     return puzzles[0]
 
 
+def beside_words(text):
+    """The cells of a file of givens of a picture of 3 rows and 4 columns, as tests/cases/beside.txt has them."""
+    try:
+        puzzles = list(readers.puzzles_of(p3(["...."] * 3), ".ppm", NONE, text))
+        judging.judge(judging.Desk(), puzzles[0], None, print, False)
+    except Unreadable as error:
+        return "outside" if "outside" in str(error) else "refused"
+    return " ".join("%d,%d" % place for place in puzzles[0].givens) or "none"
+
+
+def ground_words(text):
+    """The background of a file, likewise. An empty one is not looked at."""
+    try:
+        ground = readers.ground_of(text.decode("ascii", "replace").strip()) if text else None
+    except ValueError:
+        return "refused"
+    if ground is None or ground.triple is None:
+        return "none" if ground is None else "corner" if ground.is_corner else "white"
+    return "%d,%d,%d" % ground.triple
+
+
 def image(kind, mode="RGB", pixels=None, **more):
     """An image of 2 by 2 pixels that Pillow writes."""
     from PIL import Image
@@ -97,6 +118,20 @@ class Reading(unittest.TestCase):
         for word in ("black", "1,2", "1,2,3,4", "-1,0,0", "0,0,65536", ""):
             with self.subTest(word), self.assertRaises(ValueError):
                 readers.ground_of(word)
+
+    def test_what_lies_beside(self):
+        """The texts that the page reads too, in tests/page_several.mjs."""
+        count = 0
+        for line in (ROOT / "tests" / "cases" / "beside.txt").read_text(encoding="utf-8").splitlines():
+            if not line or line.startswith("#"):
+                continue
+            kind, rest = line.split(" ", 1)
+            quoted, wanted = rest.rsplit('" ', 1)
+            text = json.loads(quoted + '"').encode()
+            with self.subTest(line):
+                self.assertEqual(beside_words(text) if kind == "givens" else ground_words(text), wanted)
+            count += 1
+        self.assertGreater(count, 40)
 
     def test_colours_and_sizes(self):
         from PIL import Image

@@ -1,0 +1,79 @@
+// What lies beside a picture and goes with it, by the names that nonobench-audit knows: NAME.givens and NAME.background. NAME.cert and
+// NAME.proof go with it too, and are not checked here.
+
+import { FileFault } from '../document/limits.js';
+import { MOST_BYTES_READ } from '../formats/ppm.js';
+import { readGivens, readGround } from '../formats/published.js';
+import { faultText } from '../library/open.js';
+import { phrase } from '../texts/phrase.js';
+import { docsOfBytes } from './reading.js';
+
+const PICTURE = /\.(p[pgbn]m|png|gif|bmp|webp|jpe?g|non|xml)$/i;
+const BESIDE = /\.(givens|background|cert|proof|GIVENS|BACKGROUND|CERT|PROOF)$/;
+const NUMBERED = /\.[1-9][0-9]{0,5}\.(cert|proof)$/i; // of a puzzle in a set
+
+const isPicture = (file) => !file.isDirectory && PICTURE.test(file.name);
+const isBeside = (file) => !file.isDirectory && BESIDE.test(file.name);
+
+// The files that go with a picture and have an ending: those of NAME.png.givens come before those of NAME.givens.
+function filesFor(named, name, ending) {
+  const fronts = [name, name.replace(/\.[^.]*$/, '')];
+  return fronts.flatMap((front) => [ending, ending.toUpperCase()].flatMap((end) => named.get(`${front}.${end}`) ?? []));
+}
+
+// A picture with what goes with it. Where several files have one name, it is not known which of them go together.
+function unitOf(file, named) {
+  const [givens, background, ...proofs] = ['givens', 'background', 'cert', 'proof'].map((ending) => filesFor(named, file.name, ending));
+  const beside = [...givens.slice(0, 1), ...background.slice(0, 1), ...proofs.flat()];
+  const isClear = !beside.length || [file, ...beside].every(({ name }) => named.get(name).length === 1);
+  return { file, givens: givens[0], background: background[0], beside, fault: isClear ? '' : phrase('import.severalOfName') };
+}
+
+/**
+ * The files of one folder as units `{ file, givens, background, beside, fault }`: each with those that go with it, and with what is
+ * wrong with their names.
+ */
+export function grouped(files) {
+  const named = new Map();
+  for (const file of files) named.set(file.name, [...(named.get(file.name) ?? []), file]);
+  const isOfSet = ({ name }) => NUMBERED.test(name) && ['', '.xml', '.XML'].some((ending) => named.has(name.replace(NUMBERED, ending)));
+  const units = files.filter((file) => !isBeside(file)).map((file) => (isPicture(file) ? unitOf(file, named) : { file, beside: [] }));
+  const used = new Set(units.flatMap(({ beside }) => beside));
+  const alone = files.filter((file) => isBeside(file) && !used.has(file) && !isOfSet(file));
+  return [...units, ...alone.map((file) => ({ file, beside: [], fault: phrase('import.noPictureGoes') }))];
+}
+
+/** Whether a certificate or a proof goes with the file of a unit. */
+export const hasProof = ({ beside }) => beside.some(({ name }) => /\.(cert|proof)$/i.test(name));
+
+async function bytesOf(file) {
+  if (file.size > MOST_BYTES_READ) throw new FileFault(phrase('import.more16Mib'));
+  return new Uint8Array(await file.arrayBuffer());
+}
+
+const textOf = async (file) => new TextDecoder('latin1').decode(await bytesOf(file));
+
+// What comes of a file beside a picture; what is wrong names the file.
+async function naming(file, work) {
+  try {
+    return await work();
+  } catch (fault) {
+    throw new FileFault(phrase('import.fileNotRead', { name: file.name, fault: faultText(fault).replace(/\.$/, '') }));
+  }
+}
+
+/**
+ * The documents of a unit as `{ docs, left }`. What lies beside the file holds in place of what the file itself tells. Of several puzzles
+ * in a file each tells it itself: then that is `left`. `imageDocs(file, bytes, ground)` gives the documents of an image, or null where
+ * the file is none.
+ */
+export async function docsOfUnit({ file, fault, givens, background }, imageDocs = async (...image) => null) {
+  if (fault) throw new FileFault(fault);
+  const read = background && (await naming(background, async () => readGround(await textOf(background))));
+  const ground = read ? (image, maxval) => naming(background, () => read(image, maxval)) : null;
+  const bytes = await bytesOf(file);
+  const docs = (await imageDocs(file, bytes, ground)) ?? (await docsOfBytes(bytes, ground));
+  if (docs.length > 1) return { docs, left: [givens, background].filter(Boolean) };
+  if (docs.length && givens) docs[0] = { ...docs[0], givens: await naming(givens, async () => readGivens(await textOf(givens), docs[0])) };
+  return { docs, left: [] };
+}
