@@ -7,6 +7,7 @@ import '../page/test/limits.mjs';
 
 const { entryOf, legendOf, namesOf, SHEET_TEXTS } = await import('../page/export/entries.js');
 const { PAPERS, linesOf, partsOf, sheetsOf } = await import('../page/export/sheets.js');
+const { tintOf } = await import('../page/document/colours.js');
 
 const docOf = (picture, colours, more = {}) => ({ rows: picture.length, columns: picture[0].length, maxval: 255, colours, picture, givens: new Set(), about: {}, inks: [], locks: new Set(), extras: null, ...more });
 const BLACK = [[255, 255, 255], [0, 0, 0]];
@@ -58,19 +59,43 @@ test('each fifth line and the border are clearly heavier', () => {
     for (const at of [1, 2, 3, 4, 6, 7, 8, 9]) assert.equal(down[at].fill, '#555');
 });
 
-test('several colours: digits are black, on a pale box or in a dark frame', () => {
+test('several colours: each block is a frame of its colour around a light tint, and its digits are black', () => {
     const doc = docOf(['ab'], [[255, 255, 255], [255, 220, 0], [0, 0, 120]]);
     const [sheet] = sheets([doc]);
     for (const { text, fill } of textsOf(sheet)) if (/^\d$/.test(text)) assert.equal(fill, '#000');
-    const boxes = rectsOf(sheet).filter(({ stroke, width, fill }) => stroke !== undefined && width > 3 && fill !== undefined);
-    assert.deepEqual(boxes.map(({ fill }) => fill), ['#fff', '#ffdc00', '#ffdc00', '#fff'], 'the row from its cells outward, then the columns');
-    assert.equal(boxes[0].stroke, '#000078');
+    // In Oklab, the lightness of this blue is 0.259, and that of the yellow 0.897, so the colour's share is 0.2 + 0.45 * 0.259 ** 4 = 0.202,
+    // and 0.2 + 0.45 * 0.897 ** 4 = 0.491. 255 - 255 * 0.202 = 203 (cb), 255 - 135 * 0.202 = 228 (e4); 255 - 35 * 0.491 = 238 (ee),
+    // 255 - 255 * 0.491 = 130 (82). The yellow is pale: it has an edge around its frame.
+    const blue = [['#cbcbe4', '#000078']];
+    const yellow = [['#ffdc00', '#8a8a8a'], ['#ffee82', '#ffdc00']];
+    const boxes = rectsOf(sheet).filter(({ stroke, width }) => stroke !== undefined && width > 3);
+    assert.deepEqual(boxes.map(({ fill, stroke }) => [fill, stroke]), [...blue, ...yellow, ...yellow, ...blue], 'the row from its cells outward, then the columns');
+    // Cells have 10 mm, blocks 8.8, frames 0.13 of that, 1.144, and edges 0.25; a line lies within its box, so the rectangle is smaller by it.
+    assert.deepEqual(boxes.slice(0, 3).map(({ width, height, 'stroke-width': weight }) => [width, height, weight]), [[7.66, 7.66, 1.14], [8.55, 8.55, 0.25], [7.16, 7.16, 1.14]]);
+    // The yellow is one cell to the left of the blue. The middle of a frame is 0.572 from the side of its box, that of an edge 0.125, and
+    // of the frame within it 0.25 + 0.572.
+    const [one, outer, inner] = boxes.map(({ x }) => x);
+    assert.ok(Math.abs(outer + 10 - one - (0.125 - 0.572)) < 0.02 && Math.abs(inner + 10 - one - 0.25) < 0.02, `${one}, ${outer}, ${inner}`);
+    // The legend has the colours themselves.
+    assert.deepEqual(rectsOf(sheet).filter(({ stroke }) => stroke === '#555').map(({ fill }) => fill), ['#ffdc00', '#000078']);
+});
+
+test('a tint on paper: black is read on it at 7 to 1 whatever the colour is, and it is told from its frame', () => {
+    const light = (triple) => triple.map((sample) => (sample / 255 <= 0.03928 ? sample / 255 / 12.92 : ((sample / 255 + 0.055) / 1.055) ** 2.4)).reduce((sum, part, at) => sum + part * [0.2126, 0.7152, 0.0722][at], 0);
+    const samples = Array.from({ length: 16 }, (_, at) => at * 17);
+    let least = 21;
+    for (const triple of samples.flatMap((red) => samples.flatMap((green) => samples.map((blue) => [red, green, blue])))) {
+        const tint = tintOf(triple);
+        least = Math.min(least, (light(tint) + 0.05) / 0.05);
+        tint.forEach((sample, at) => assert.ok(sample >= triple[at] && (sample > triple[at] || sample === 255), triple.join()));
+    }
+    assert.ok(least >= 7, `${least}`);
 });
 
 test('however small the cells are, each block of several colours has its colour', () => {
     const doc = docOf(Array(60).fill('ab'.repeat(30)), [[255, 255, 255], [0, 0, 120], [200, 0, 0]]);
     const [sheet] = sheets([doc], { paper: 'a5', perSheet: 6 });
-    const frames = rectsOf(sheet).filter(({ stroke, fill }) => fill === '#fff' && ['#000078', '#c80000'].includes(stroke));
+    const frames = rectsOf(sheet).filter(({ stroke, fill }) => ['#000078', '#c80000'].includes(stroke) && fill !== '#fff' && fill !== stroke);
     assert.equal(frames.length, 60 * 60 + 60, 'of each row 60, of each column one');
     for (const { width, height, 'stroke-width': weight } of frames.slice(0, 5)) assert.ok(width > 0 && height > 0 && weight > 0.05);
 });

@@ -69,3 +69,9 @@ export function contrastOf(one, other) {
  * @param {ArrayLike<number>} triple
  */
 export const lightness = (triple) => 255 * oklabOf(triple[0], triple[1], triple[2])[0];
+
+/** A light tint of a triple of eight bits, on which black is read easily: the darker the triple, the more white is in it. */
+export function tintOf(triple) {
+  const share = 0.2 + 0.45 * (lightness(triple) / 255) ** 4;
+  return triple.map((sample) => Math.round(255 - (255 - sample) * share));
+}

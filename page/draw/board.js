@@ -4,8 +4,9 @@
 // A frame: {x, y} of the first cell, its side `cell`, `rows`, `columns`, and the part that is drawn, {top, left, bottom, right}.
 // A look: `fills` and `inks` of the colours, `signs` (a sign a colour, or null: colours alone), `family` of the text; `thin`, `wide` and
 // `border`, the weights of lines; `isWhole`, whether they lie on whole pixels; `under`, whether cells lie below them, or between;
-// `light`, `heavy`, `ink` and `faint`, the inks of lines and texts; `style` of clues ('chip', 'box', 'frame' or 'plain'); `edge`
-// around a chip, `hair` wide, its `radius`; `font`, its text's size at most, and `least`, at least; the `weight` of texts.
+// `light`, `heavy`, `ink` and `faint`, the inks of lines and texts; `style` of clues: 'plain', 'chip' with its `radius` and the `edge`
+// around it, or 'box' with `tints` of the colours and `edges` around the pale ones; edges are `hair` wide; `font`, the size of a clue's
+// text at most, and `least`, at least; the `weight` of texts.
 
 import { cssOf, hexOf, inkOn } from '../document/colours.js';
 import { LETTERS } from '../document/limits.js';
@@ -70,21 +71,29 @@ export const drawDot = (surface, look, x, y, side) => surface.disc(x + side / 2,
 const signOf = (look, letter) => (look.signs ? look.signs[LETTERS.indexOf(letter)] : '');
 export const blockText = (look, block) => `${block.length}${signOf(look, block.letter)}`;
 
-// How a block shows its colour: a dark one is a frame on paper, so that digits there are always black on white.
-function boxOf(look, at) {
-  if (look.style === 'plain') return null;
-  if (look.style === 'box' && look.inks[at] !== '#000') return { fill: '#fff', edge: look.fills[at], share: 0.13, ink: look.ink };
-  return { fill: look.fills[at] ?? '#888', edge: look.edge, share: 0, ink: look.inks[at] };
+const FRAME = 0.13; // of a box's side
+
+// A chip of a colour. A very small one has no edge.
+function drawChip(surface, look, at, { x, y, width, height }) {
+  surface.chip(x, y, width, height, { fill: look.fills[at] ?? '#888', edge: look.isWhole && height <= 4 ? null : look.edge, weight: look.hair, radius: Math.min(look.radius, height / 4) });
+}
+
+// A box on paper: a frame of a colour around a tint of it, on which digits are black. A pale frame has an edge of its own.
+function drawBox(surface, look, at, { x, y, width, height }) {
+  const hair = look.edges[at] ? look.hair : 0;
+  if (hair) surface.chip(x, y, width, height, { fill: look.fills[at], edge: look.edges[at], weight: hair });
+  surface.chip(x + hair, y + hair, width - 2 * hair, height - 2 * hair, { fill: look.tints[at], edge: look.fills[at], weight: FRAME * Math.min(width, height) });
 }
 
 /** One block of a clue in its box. */
 export function drawBlock(surface, look, block, { x, y, width, height }) {
-  const box = boxOf(look, LETTERS.indexOf(block.letter));
-  if (box) surface.chip(x, y, width, height, { fill: box.fill, edge: look.isWhole && height <= 4 ? null : box.edge, weight: box.share * Math.min(width, height) || look.hair, radius: Math.min(look.radius, height / 4) });
+  const at = LETTERS.indexOf(block.letter);
+  if (look.style === 'box') drawBox(surface, look, at, { x, y, width, height });
+  else if (look.style === 'chip') drawChip(surface, look, at, { x, y, width, height });
   const text = blockText(look, block);
-  const size = Math.min(look.font, height, (width * (1 - 2 * (box?.share ?? 0))) / (text.length * DIGIT));
+  const size = Math.min(look.font, height, (width * (look.style === 'box' ? 1 - 2 * FRAME : 1)) / (text.length * DIGIT));
   const [middle, high] = look.isWhole ? [height / 2 + 0.5, Math.floor(size)] : [height / 2, size];
-  if (size >= look.least) surface.text(text, x + width / 2, y + middle, { size: high, ink: box ? box.ink : look.ink, family: look.family, weight: look.weight });
+  if (size >= look.least) surface.text(text, x + width / 2, y + middle, { size: high, ink: look.style === 'chip' ? look.inks[at] : look.ink, family: look.family, weight: look.weight });
 }
 
 /** The clue of a line without a block. */

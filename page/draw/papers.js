@@ -1,6 +1,6 @@
 // A puzzle, its solution, or a part of either, on a white surface: for print and for images. Lengths are in the surface's units.
 
-import { lightness } from '../document/colours.js';
+import { hexOf, lightness, tintOf } from '../document/colours.js';
 import { columnOf, eightBitDoc, rowOf } from '../document/document.js';
 import { LETTERS } from '../document/limits.js';
 import { coloursOf, drawClue, drawGiven, drawRules, drawSign, wholeFrame } from './board.js';
@@ -27,7 +27,8 @@ function paperLook(surface, doc, cell, show) {
     fills, inks, signs: show === 'letters' ? LETTERS : show === 'signs' ? signsOf(doc) : null, family: PAPER_FAMILY,
     thin: weight(1 / 50, 1), wide: weight(1 / 12, 2), border: weight(1 / 10, 2), isWhole, under: !isWhole, light: '#555', heavy: PAPER_INK,
     ink: '#000', faint: PAPER_FAINT, style: show !== 'colours' || hasOneInk(doc) ? 'plain' : 'box',
-    edge: doc.colours.some((triple) => lightness(triple) > PALE) ? PAPER_FAINT : null, hair: cell / 40, radius: 0, font: cell * 0.66, least: isWhole ? 5 : 0, weight: 400,
+    tints: doc.colours.map((triple) => hexOf(tintOf(triple), 255)), edges: doc.colours.map((triple) => (lightness(triple) > PALE ? PAPER_FAINT : null)),
+    hair: cell / 40, font: cell * 0.66, least: isWhole ? 5 : 0, weight: 400,
   };
 }
 
