@@ -1,8 +1,9 @@
-// What the trials of the page's ways in and out have in common: files that are dropped, tabs of their own, downloads, menus.
+// What the trials of the page have in common: files that are dropped, tabs of their own, downloads, menus, a server, a hard picture.
 import assert from 'node:assert/strict';
 import { mkdirSync, readFileSync, readdirSync, rmSync, writeFileSync } from 'node:fs';
-import { join } from 'node:path';
-import { SIZES, SLACK, Trial } from './page_trial.mjs';
+import { createServer } from 'node:http';
+import { extname, join } from 'node:path';
+import { SIZES, SLACK, Trial, ppmOf } from './page_trial.mjs';
 
 export const examples = new URL('../examples/', import.meta.url);
 export const DUCK = ['...aa.....', '..aaaa....', 'bbaacaa...', '..aaaa....', '...aa....a', '..aaaaaaaa', '.aaaaaaaa.', '.aaaaaaa..', '..aaaaa...', '....b.b...'];
@@ -83,4 +84,36 @@ export async function coloursAt(page, points) {
         pen.drawImage(image, 0, 0);
         return all.map(([x, y]) => [...pen.getImageData(Math.floor(x * image.width), Math.floor(y * image.height), 1, 1).data].slice(0, 3).join());
     }, data, points);
+}
+
+/** A chequered picture on which neither verdict nor certificate came in a minute and a half. */
+export const hard = () => ppmOf(Array.from({ length: 60 }, (_, row) => Array.from({ length: 60 }, (_, col) => '.abc'[((row >> 1) + (col >> 1)) % 4]).join('')));
+
+const TYPES = { '.html': 'text/html', '.js': 'text/javascript', '.svg': 'image/svg+xml', '.webmanifest': 'application/manifest+json' };
+
+/** Serves the site's folder, and a page with a frame: its address, what was asked for, and an end. */
+export async function serve(folder) {
+    const site = join(folder, 'hooked', 'site');
+    const asked = [];
+    const answer = (request, response) => {
+        const path = new URL(request.url, 'http://here').pathname;
+        asked.push(path);
+        if (path === '/frame') return response.end('<!doctype html><p id="told"></p><script>addEventListener("message", (e) => { told.textContent += JSON.stringify(e.data); })</script>');
+        try {
+            const file = path === '/' ? 'index.html' : path.slice(1);
+            const content = readFileSync(join(site, file));
+            response.setHeader('Content-Type', TYPES[extname(file)] ?? 'application/octet-stream');
+            return response.end(content);
+        } catch {
+            response.statusCode = 404;
+            return response.end();
+        }
+    };
+    const server = createServer(answer);
+    await new Promise((go) => server.listen(0, '127.0.0.1', go));
+    const end = () => {
+        server.closeAllConnections();
+        return new Promise((go) => server.close(go));
+    };
+    return { url: `http://127.0.0.1:${server.address().port}/`, asked, end };
 }

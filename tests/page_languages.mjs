@@ -1,8 +1,7 @@
 // Tests in the browser of the page's languages: a walk in German by mouse, keys and fingers, another language with all that was done, and
 // what is written from right to left.
 import assert from 'node:assert/strict';
-import { clean, fresh } from './page_hands.mjs';
-import { serve } from './page_sharing.mjs';
+import { clean, fresh, serve } from './page_hands.mjs';
 import { SLACK, Trial, ppmOf } from './page_trial.mjs';
 
 const KEPT = 'nonobench-language';

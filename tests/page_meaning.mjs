@@ -3,14 +3,12 @@ import assert from 'node:assert/strict';
 import { spawnSync } from 'node:child_process';
 import { writeFileSync } from 'node:fs';
 import { join } from 'node:path';
+import { hard } from './page_hands.mjs';
 import { SIZES, SLACK, Trial, noise, ppmOf } from './page_trial.mjs';
 import { pause } from './page_browser.mjs';
 
 // Two cells that may change places, in a corner: another picture has its clues.
 const AMBIGUOUS = ['a.....', '.a....', '......', '...aaa', '...aaa', '...aaa'];
-
-// A chequered picture on which neither verdict nor certificate came in a minute and a half.
-export const hard = () => ppmOf(Array.from({ length: 60 }, (_, row) => Array.from({ length: 60 }, (_, col) => '.abc'[((row >> 1) + (col >> 1)) % 4]).join('')));
 
 export async function drawing({ trial, page }) {
     await trial.open(ppmOf(noise(8, 9, '.')), 'blank');

@@ -3,11 +3,10 @@
 import assert from 'node:assert/strict';
 import { readFileSync } from 'node:fs';
 import { fileURLToPath } from 'node:url';
-import { clean, downloaded, examples, fresh, isKept, isOpen } from './page_hands.mjs';
+import { clean, downloaded, examples, fresh, hard, isKept, isOpen } from './page_hands.mjs';
 import { Hands } from './page_inputs.mjs';
 import { choosingPoint, palettesPoint, slidingPoint, visionPoint } from './page_coming.mjs';
 import { germanPoint, mirroredPoint } from './page_languages.mjs';
-import { hard } from './page_meaning.mjs';
 import { mendingPoint, walkingPoint } from './page_mending.mjs';
 import { printPoint } from './page_out.mjs';
 import { outlinePoint, pensPoint, tracingPoint, wandPoint } from './page_pens.mjs';

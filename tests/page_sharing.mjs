@@ -2,9 +2,8 @@
 // table of a folder; a served page without its server. Each is a test of the runner tests/page_test.mjs.
 import assert from 'node:assert/strict';
 import { mkdirSync, readFileSync, rmSync, writeFileSync } from 'node:fs';
-import { createServer } from 'node:http';
-import { extname, join } from 'node:path';
-import { DUCK, clean, downloaded, examples, fresh, isKept, isOpen, menu, said } from './page_hands.mjs';
+import { join } from 'node:path';
+import { DUCK, clean, downloaded, examples, fresh, isKept, isOpen, menu, said, serve } from './page_hands.mjs';
 import { SIZES, SLACK, Trial, eightColours, ppmOf } from './page_trial.mjs';
 
 const TWO_WAYS = ['.a', 'a.']; // its mirror has the same clues
@@ -220,35 +219,6 @@ export async function foldersApart({ browser, folder }) {
     assert.deepEqual((await rowsShown(page)).map((row) => row.slice(0, 4)), [['spot', '2 by 2', '2', 'ambiguous'], ['spot.background', 'no picture here goes with it'], ['spot', '2 by 2, 1 cell given', '2', 'unique']]);
     await end();
     await page.close();
-}
-
-const TYPES = { '.html': 'text/html', '.js': 'text/javascript', '.svg': 'image/svg+xml', '.webmanifest': 'application/manifest+json' };
-
-/** Serves the site's folder, and a page with a frame: its address, what was asked for, and an end. */
-export async function serve(folder) {
-    const site = join(folder, 'hooked', 'site');
-    const asked = [];
-    const answer = (request, response) => {
-        const path = new URL(request.url, 'http://here').pathname;
-        asked.push(path);
-        if (path === '/frame') return response.end('<!doctype html><p id="told"></p><script>addEventListener("message", (e) => { told.textContent += JSON.stringify(e.data); })</script>');
-        try {
-            const file = path === '/' ? 'index.html' : path.slice(1);
-            const content = readFileSync(join(site, file));
-            response.setHeader('Content-Type', TYPES[extname(file)] ?? 'application/octet-stream');
-            return response.end(content);
-        } catch {
-            response.statusCode = 404;
-            return response.end();
-        }
-    };
-    const server = createServer(answer);
-    await new Promise((go) => server.listen(0, '127.0.0.1', go));
-    const end = () => {
-        server.closeAllConnections();
-        return new Promise((go) => server.close(go));
-    };
-    return { url: `http://127.0.0.1:${server.address().port}/`, asked, end };
 }
 
 const isKeptOffline = (page) => page.until(() => navigator.serviceWorker.controller !== null, 8000 * SLACK);

@@ -25,7 +25,7 @@ const [folder, ...only] = [resolve(process.argv[2]), ...process.argv.slice(3)];
 const url = hookedPage(process.env.PAGE, folder);
 const isWanted = (name) => !only.length || only.some((one) => name === one || (one.endsWith(':') && name.startsWith(one)));
 const tests = Object.entries({ ...drawing, ...languages, ...lasting, ...loss, ...marks, ...meaning, ...mending, ...repairs, ...ways, ...stored, ...out, ...looks, ...pens, ...phone, ...sharing, ...coming, ...points.tests })
-    .filter(([name, test]) => typeof test === 'function' && !['hard', 'serve'].includes(name) && !name.endsWith('Point') && isWanted(name));
+    .filter(([name, test]) => typeof test === 'function' && !name.endsWith('Point') && isWanted(name));
 const browser = new Browser();
 const passed = new Set();
 let failed = 0;
