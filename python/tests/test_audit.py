@@ -133,6 +133,11 @@ class Reading(unittest.TestCase):
             count += 1
         self.assertGreater(count, 40)
 
+    def test_a_jpeg_is_named(self):
+        for suffix in (".jpg", ".ppm", ""):
+            with self.subTest(suffix), self.assertRaisesRegex(Unreadable, "JPEG: its colours are not exact"):
+                one(image("JPEG"), suffix)
+
     def test_colours_and_sizes(self):
         from PIL import Image
 

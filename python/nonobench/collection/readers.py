@@ -67,6 +67,8 @@ def puzzles_of(data: bytes, suffix: str, ground: Ground, givens: bytes = b"") ->
         return
     elif suffix == ".non":
         puzzle = Puzzle(data, is_non=True)
+    elif data.startswith(b"\xff\xd8\xff"):
+        raise Unreadable("JPEG: its colours are not exact; the page makes puzzles of such images")
     elif suffix not in NAMED:
         puzzle = Puzzle(data)
     else:
