@@ -1,6 +1,5 @@
 """What the tests of nonobench-audit share: small puzzles worked by hand, a folder of their own, and runs of the program."""
 
-import contextlib
 import json
 import os
 import subprocess
@@ -114,13 +113,4 @@ def eventually(look):
         if time.monotonic() > until:
             raise AssertionError(f"not within {PATIENCE} seconds")
         time.sleep(0.02)
-    return found
-
-
-def children(pid):
-    """The processes that a process started, so far as they can be read: its threads may end meanwhile."""
-    found = []
-    for task in Path(f"/proc/{pid}/task").iterdir():
-        with contextlib.suppress(OSError):
-            found += [int(word) for word in (task / "children").read_text().split()]
     return found

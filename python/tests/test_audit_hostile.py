@@ -18,7 +18,8 @@ import zlib
 from pathlib import Path
 
 sys.path.insert(0, str(Path(__file__).resolve().parent))
-from audit_parts import AMBIGUOUS, PATIENCE, ROOT, UNIQUE, Case, chequered, children, eventually, p3, webpbn  # noqa: E402
+from audit_parts import AMBIGUOUS, PATIENCE, ROOT, UNIQUE, Case, chequered, eventually, p3, webpbn  # noqa: E402
+from processes import children, seen  # noqa: E402
 from test_audit import p3_of_letters  # noqa: E402
 
 from nonobench.collection.outputs import Failure, Output  # noqa: E402
@@ -308,8 +309,9 @@ class Processes(Case):
 
         def at_work():
             for pid in children(process.pid):
+                now = seen(pid)
                 # It begins with its second thread, which sends; how long it takes until then depends on the machine.
-                if pid != before and threads_of(pid) > 1 and cpu_of(pid) - begun.setdefault(pid, cpu_of(pid)) > 0.5:
+                if pid != before and now.threads > 1 and now.cpu - begun.setdefault(pid, now.cpu) > 0.5:
                     return pid
             return None
 
@@ -428,23 +430,6 @@ class Terminal(Case):
         os.close(ours)
         self.assertEqual(process.wait(PATIENCE), 0)
         self.assertRegex(shown.decode(), r"1/1 .* files/s, unique 1|1/1 .*unique 1")
-
-
-def threads_of(pid):
-    """How many threads a process has, none once it is gone."""
-    try:
-        return len(os.listdir(f"/proc/{pid}/task"))
-    except OSError:
-        return 0
-
-
-def cpu_of(pid):
-    """The seconds that a process has been at work."""
-    try:
-        words = Path(f"/proc/{pid}/stat").read_text().rpartition(")")[2].split()
-    except OSError:
-        return 0.0
-    return (int(words[11]) + int(words[12])) / os.sysconf("SC_CLK_TCK")
 
 
 if __name__ == "__main__":

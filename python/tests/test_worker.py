@@ -17,8 +17,11 @@ import types
 import unittest
 from pathlib import Path
 
-import nonobench
-from nonobench import CertificateFault, Given, LengthFault, PictureFault, UnpublishedGiven
+sys.path.insert(0, str(Path(__file__).resolve().parent))
+from processes import children, is_running  # noqa: E402
+
+import nonobench  # noqa: E402
+from nonobench import CertificateFault, Given, LengthFault, PictureFault, UnpublishedGiven  # noqa: E402
 
 PACKAGE = Path(nonobench.__file__).resolve().parent.parent
 # Two rows, black and white, white and black: another picture has the clues, and a given decides it.
@@ -26,25 +29,6 @@ DIAGONAL = b"P3 2 2 255 0 0 0 255 255 255 255 255 255 0 0 0\n"
 GIVEN = b"nonocert 2\ngiven 1 1\nline r 1\nline c 1\nline r 2\ndone\n"
 GIVEN_PROOF = b"nonolemma 1\ngiven 1 1\nline r 1\nline c 1\nline r 2\ndone\n"
 TILE = b"P3 1 1 1 0 0 0"
-
-
-def stat_of(pid):
-    """The state and the parent of a process; nothing once it is gone."""
-    try:
-        words = Path(f"/proc/{pid}/stat").read_text(errors="replace").rpartition(")")[2].split()
-    except OSError:
-        return "", 0
-    return words[0], int(words[1])
-
-
-def children():
-    """The processes of this one, those too that have ended and were not waited for."""
-    return [pid for pid in map(int, filter(str.isdigit, os.listdir("/proc"))) if stat_of(pid)[1] == os.getpid()]
-
-
-def is_alive(pid):
-    """Whether a process runs: not one that has ended, and that whoever started it has not waited for."""
-    return stat_of(pid)[0] not in ("", "Z", "X")
 
 
 class Workers(unittest.TestCase):
@@ -229,10 +213,10 @@ class Interrupts(unittest.TestCase):
         self.assertGreater(compared, most / 3)
         print(f"{struck} calls interrupted, {compared} answers compared")
         until = time.monotonic() + 300
-        while children() and time.monotonic() < until:
+        while children(os.getpid()) and time.monotonic() < until:
             gc.collect()
             time.sleep(0.1)
-        self.assertEqual(children(), [])
+        self.assertEqual(children(os.getpid()), [])
 
     def test_an_answer_with_another_number_is_refused(self):
         for number in (1, 77):  # of the question before, and of none that there was
@@ -291,7 +275,7 @@ class Interrupts(unittest.TestCase):
             signal.setitimer(signal.ITIMER_REAL, 0.2)
             with self.assertRaises(Interrupt):
                 worker.clues(DIAGONAL)
-            self.assertFalse(is_alive(pid))
+            self.assertFalse(is_running(pid))
             self.assertEqual(worker.clues(DIAGONAL), nonobench.clues(DIAGONAL))
 
     def test_a_child_that_is_forked_asks_a_process_of_its_own(self):
@@ -334,9 +318,9 @@ class Ends(unittest.TestCase):
     def assert_ends(self, pid):
         """Waits until a process is gone."""
         until = time.monotonic() + 300
-        while is_alive(pid) and time.monotonic() < until:
+        while is_running(pid) and time.monotonic() < until:
             time.sleep(0.05)
-        self.assertFalse(is_alive(pid))
+        self.assertFalse(is_running(pid))
 
     def test_a_program_that_ends(self):
         program = f"""
