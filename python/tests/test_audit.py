@@ -133,6 +133,16 @@ class Reading(unittest.TestCase):
             count += 1
         self.assertGreater(count, 40)
 
+    def test_a_background_beside_a_puzzle_with_its_own(self):
+        for puzzle in (one(webpbn(UNIQUE).encode()), one(b"width 1\nheight 1\nrows\n1\ncolumns\n1\n", ".non")):
+            for word, is_read in (("white", True), ("255,255,255", True), ("corner", True), ("0,0,0", False)):
+                with self.subTest(word):
+                    (found,) = readers.grounded(iter([puzzle]), readers.ground_of(word))
+                    self.assertEqual(found is puzzle, is_read)
+                    self.assertEqual(isinstance(found, Unreadable), not is_read)
+        dark = one(p3(UNIQUE), ground=readers.ground_of("0,0,0"))
+        self.assertEqual(list(readers.grounded(iter([dark]), readers.ground_of("0,0,0"))), [dark])
+
     def test_a_jpeg_is_named(self):
         for suffix in (".jpg", ".ppm", ""):
             with self.subTest(suffix), self.assertRaisesRegex(Unreadable, "JPEG: its colours are not exact"):
@@ -176,6 +186,12 @@ class Reading(unittest.TestCase):
         saved = '<solution type="saved" id="{}"><image>|X?||?{}|</image></solution>'
         self.assertEqual(one(webpbn(AMBIGUOUS, more=saved.format("givens", "?")).encode()).givens, ((1, 1),))
         self.assertEqual(one(webpbn(AMBIGUOUS, more=saved.format("mine", "?")).encode()).givens, ())
+        # A file of givens beside it takes their place, also an empty one; of a set it is not known which puzzle it is for.
+        with_one = webpbn(AMBIGUOUS, more=saved.format("givens", "?")).encode()
+        for text, givens in ((b"given 2 2\n", ((2, 2),)), (b"", ())):
+            self.assertEqual([puzzle.givens for puzzle in readers.puzzles_of(with_one, ".xml", NONE, text)], [givens])
+        with self.assertRaisesRegex(Unreadable, "beside several puzzles"):
+            list(readers.puzzles_of(f"<puzzleset>{webpbn(UNIQUE)}{webpbn(AMBIGUOUS)}</puzzleset>".encode(), ".xml", NONE, b"given 1 1\n"))
         refused = one(webpbn(AMBIGUOUS, more=saved.format("givens", ".")).encode())
         self.assertEqual(str(refused), "a given has another colour than the solution")
 

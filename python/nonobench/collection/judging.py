@@ -118,10 +118,10 @@ def judge(
 
 
 def _without(text: str, count: int) -> str:
-    """A text without its first lines, which must say `ok`: a given outside the picture does not, nor one that is repeated."""
+    """A text without its first lines, which must say `ok`: a given outside the picture does not."""
     lines = text.split("\n", count)
     for line in lines[:count]:
-        if line == "refused: Place":
+        if line in ("refused: Place", "refused: BadNumber"):
             raise Unreadable("a given lies outside the picture")
         if line == "refused: Memory":
             raise MemoryError

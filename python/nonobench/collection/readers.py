@@ -8,7 +8,7 @@ import stat
 from typing import Iterator, NamedTuple, Optional, Union
 
 from . import images, webpbn
-from .puzzles import MOST_BYTES, Puzzle, Triple, Unreadable, one_line
+from .puzzles import MOST_BYTES, WHITE, Puzzle, Triple, Unreadable, one_line
 
 NAMED = {".png": "PNG", ".gif": "GIF", ".bmp": "BMP", ".webp": "WebP", ".xml": "XML"}
 
@@ -53,18 +53,23 @@ def bytes_of(path: Union[str, bytes], most: int = MOST_BYTES) -> bytes:
     return data
 
 
-def puzzles_of(data: bytes, suffix: str, ground: Ground, givens: bytes = b"") -> Iterator[Union[Puzzle, Unreadable]]:
+def puzzles_of(
+    data: bytes, suffix: str, ground: Ground, givens: Optional[bytes] = None
+) -> Iterator[Union[Puzzle, Unreadable]]:
     """Each puzzle of a file, or why it is none. What is wrong with the whole file is raised.
 
-    The first bytes tell what a file is. Its suffix counts where they do not.
+    The first bytes tell what a file is. Its suffix counts where they do not. A file of givens takes the place of those in XML.
     """
     if data.startswith(b"P3") and suffix != ".non":
         puzzle = Puzzle(data, background=first_triple(data) if ground.is_corner else ground.triple)
     elif (kind := images.format_of(data)) is not None:
         puzzle = images.puzzle_of_image(data, kind, ground.triple, ground.is_corner)
     elif _is_xml(data):
-        yield from webpbn.puzzles_of_xml(data)
-        return
+        puzzles = webpbn.puzzles_of_xml(data)
+        if givens is None:
+            yield from puzzles
+            return
+        puzzle = _only(puzzles)
     elif suffix == ".non":
         puzzle = Puzzle(data, is_non=True)
     elif data.startswith(b"\xff\xd8\xff"):
@@ -73,9 +78,27 @@ def puzzles_of(data: bytes, suffix: str, ground: Ground, givens: bytes = b"") ->
         puzzle = Puzzle(data)
     else:
         raise Unreadable(f"this does not begin as {NAMED[suffix]} does")
-    if givens:
+    if givens is not None:
         puzzle = Puzzle(puzzle.text, puzzle.is_non, puzzle.background, givens_of(givens), puzzle.title)
     yield puzzle
+
+
+def _only(puzzles: Iterator[Union[Puzzle, Unreadable]]) -> Puzzle:
+    """The puzzle of a file that has one. Where it has several, nothing says which of them a file of givens is for."""
+    puzzle = next(puzzles, Unreadable("no puzzle"))
+    if next(puzzles, None) is not None:
+        raise Unreadable("a file of givens lies beside several puzzles")
+    if isinstance(puzzle, Unreadable):
+        raise puzzle
+    return puzzle
+
+
+def grounded(puzzles: Iterator[Union[Puzzle, Unreadable]], ground: Ground) -> Iterator[Union[Puzzle, Unreadable]]:
+    """The puzzles, where the file beside them names their background: XML and .non have one of their own."""
+    for puzzle in puzzles:
+        if isinstance(puzzle, Puzzle) and not ground.is_corner and (puzzle.background or WHITE) != (ground.triple or WHITE):
+            puzzle = Unreadable("the file of its background names another colour than the puzzle has")
+        yield puzzle
 
 
 def _is_xml(data: bytes) -> bool:
@@ -95,6 +118,8 @@ def first_triple(data: bytes) -> Optional[Triple]:
 
 def givens_of(text: bytes) -> tuple[tuple[int, int], ...]:
     """The cells of a file of givens, a line `given R C` each."""
+    if not text:
+        return ()
     found = re.findall(rb"given ([0-9]{1,3}) ([0-9]{1,3})", text)
     if b"".join(b"given %s %s\n" % pair for pair in found) != text.rstrip(b"\n") + b"\n":
         raise Unreadable("the file of givens has a line that is not `given R C`")

@@ -213,7 +213,8 @@ class Judging:
                 ground = readers.ground_of(files.background.decode("ascii", "replace").strip())
             except ValueError as error:
                 raise Unreadable(f"the file of its background {error}") from error
-        return readers.puzzles_of(files.file, os.path.splitext(name)[1].lower(), ground, files.givens)
+        puzzles = readers.puzzles_of(files.file, os.path.splitext(name)[1].lower(), ground, files.givens)
+        return readers.grounded(puzzles, ground) if files.background else puzzles
 
     def _judge(self, task: Task, about: About, puzzle: Union[Puzzle, Unreadable], beside: certificates.Files) -> None:
         """Puts the row of one puzzle."""
@@ -320,14 +321,15 @@ class Files(NamedTuple):
 
     file: bytes
     beside: tuple[tuple[int, str, bytes], ...]
-    givens: bytes
+    givens: Optional[bytes]
     background: bytes
 
 
 def files_of(task: Task) -> Files:
     """The bytes of a task's files. Raises Unreadable, which names what lies beside the file where that is not read."""
     beside = tuple((of, ending, _bytes(held, f"its {BY_ENDING[ending].word}: ")) for of, ending, held in task.beside)
-    return Files(_bytes(task.file), beside, _bytes(task.givens, "its givens: "), _bytes(task.background, "its background: "))
+    givens = None if task.givens is None else _bytes(task.givens, "its givens: ")
+    return Files(_bytes(task.file), beside, givens, _bytes(task.background, "its background: "))
 
 
 def _bytes(file: Optional[File], whose: str = "") -> bytes:
@@ -342,7 +344,8 @@ def _bytes(file: Optional[File], whose: str = "") -> bytes:
 
 def _content(files: Files) -> str:
     """A digest of a file and of what lies beside it: also of which puzzle each certificate or proof is for, and which it is."""
-    parts = [("", files.file), ("givens", files.givens), ("background", files.background)]
+    parts = [("", files.file), ("background", files.background)]
+    parts += [] if files.givens is None else [("givens", files.givens)]
     parts += [(f"{of}.{ending}", held) for of, ending, held in files.beside]
     front = ",".join(f"{name} {len(held)}" for name, held in parts).encode("ascii")
     return hashlib.blake2b(b":".join((front, *(held for _, held in parts))), digest_size=16).hexdigest()
