@@ -43,7 +43,7 @@ test('no room that writes files or sheets works out clues: those are the engine\
         for (const other of importsOf(file)) assert.ok(!working.includes(fileOf(file, other)), `${file} imports ${other}`);
     }
     const given = [...read('formats/webpbn_reading.js').matchAll(/^export (?:async )?(?:function|const|class) (\w+)/gm)].map(([, name]) => name);
-    assert.deepEqual(given, ['readWebpbn'], 'what compares a file\'s clues with its picture stays there');
+    assert.deepEqual(given, ['readWebpbnSet', 'readWebpbn'], 'what compares a file\'s clues with its picture stays there');
 });
 
 test('each module is reached from main or the worker', () => {

@@ -14,6 +14,7 @@ import { writeZip } from '../page/formats/zip.js';
 import { readArchive } from '../page/import/archives.js';
 import { docsOfUnit, grouped, hasProof } from '../page/import/beside.js';
 import { unitsIn } from '../page/import/folders.js';
+import { docOfNon } from '../page/import/reading.js';
 import { docByItself, proposalFor } from '../page/import/proposing.js';
 
 const read = (path) => readFileSync(new URL(`../${path}`, import.meta.url));
@@ -152,6 +153,30 @@ test('givens beside XML hold in place of its own; another background is an error
     assert.deepEqual([docs.map(givensOf), left.map(({ name }) => name)], [[[3], [3]], ['a.givens', 'a.background']]);
 });
 
+// Puzzles of Web Paint-by-Number, by the rows of their solutions. The first cells of a damaged one have a sign of no colour.
+const setOf = (...puzzles) => `<puzzleset>${puzzles.map((rows) => `<puzzle><solution type="goal"><image>${rows.map((row) => `|${row}|`).join('')}</image></solution></puzzle>`).join('')}</puzzleset>`;
+const [SOUND, OTHER, DAMAGED] = [['X.', '.X'], ['XX', 'X.'], ['Y.', '.X']];
+
+test('of a set, a damaged puzzle is told in its place, and the others are read', async () => {
+    const shown = ({ docs }) => docs.map(({ picture, fault }) => (fault ? /'Y'/.test(fault.message) : picture.join('/')));
+    for (const [puzzles, wanted] of [[[SOUND, DAMAGED, OTHER], ['a./.a', true, 'aa/a.']], [[DAMAGED, SOUND], [true, 'a./.a']], [[SOUND, DAMAGED], ['a./.a', true]]]) {
+        assert.deepEqual(shown(await docsOfUnit(unitOf({ 'a.xml': setOf(...puzzles) }))), wanted);
+    }
+    // That a puzzle is damaged does not tell for which one the givens are.
+    const { docs, left } = await docsOfUnit(unitOf({ 'a.xml': setOf(SOUND, DAMAGED), 'a.givens': 'given 1 1\n' }));
+    assert.deepEqual([givensOf(docs[0]), left.map(({ name }) => name)], [[], ['a.givens']]);
+    await refused({ 'a.xml': setOf(DAMAGED) }, /'Y'/);
+    const { docs: kept, unread, why } = await readArchive(writeZip([{ name: 'x/set.xml', bytes: bytesOf(setOf(DAMAGED, SOUND, OTHER)) }, { name: 'x/set.givens', bytes: bytesOf('given 1 1\n') }]));
+    assert.deepEqual([kept.map(({ name, doc }) => [name, doc.picture.join('/'), givensOf(doc)]), unread], [[['set 2', 'a./.a', []], ['set 3', 'aa/a.', []]], ['x/set.givens', 'x/set.xml']]);
+    assert.match(why, /'Y'/);
+});
+
+test('a search for the picture of clues ends after its time, and its engine with it', async () => {
+    let stop;
+    const engine = { open: () => new Promise((resolve, reject) => { stop = reject; }), end: (text) => stop({ text }) };
+    await assert.rejects(docOfNon('width 1', {}, engine, 1), { text: 'stopped' });
+});
+
 test('the examples, as they are published', needsModule, async () => {
     const judge = new Judge({ seconds: 20, start: () => new Client(workers()()) });
     const verdict = async (...names) => (await judge.judge(await docOf(Object.fromEntries(names.map((name) => [name, read(`examples/${name}`)]))))).word;
@@ -172,6 +197,11 @@ test('folders: the files of one do not go with those of another', async () => {
     const units = await unitsIn([entryOf('one', tree), null, entryOf('one', { 'a.ppm': TWO_WAYS, 'a.givens': 'given 1 2\n' }), null], [null, fileOf('a.ppm', TWO_WAYS), null, fileOf('.no.ppm')]);
     const shown = await Promise.all(units.map(async (unit) => [unit.file.name, unit.fault ? 'alone' : givensOf((await docsOfUnit(unit)).docs[0])]));
     assert.deepEqual(shown, [['a.ppm', []], ['a.ppm', [0]], ['a.ppm', []], ['a.givens', 'alone'], ['b.cert', 'alone'], ['z.ppm', []], ['a.ppm', [1]]]);
+});
+
+test('a folder that is called as a file beside a picture is a folder', async () => {
+    const units = await unitsIn([entryOf('one', { 'a.givens': { 'b.ppm': TWO_WAYS }, 'a.ppm': TWO_WAYS, 'b.ppm': { 'c.ppm': TWO_WAYS }, 'b.cert': '' })], [null]);
+    assert.deepEqual(units.map(({ file, fault }) => [file.name, Boolean(fault)]), [['b.ppm', false], ['a.ppm', false], ['c.ppm', false], ['b.cert', true]]);
 });
 
 test('folders of many files: none is cut off from its picture', async () => {

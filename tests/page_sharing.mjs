@@ -149,6 +149,9 @@ async function pngOf(page, rows, by) {
     return Buffer.from(data, 'base64');
 }
 
+// A set of puzzles of two rows and columns by clues alone: those of the rows, which each have one block. Those of the columns are 1.
+const setOf = (...puzzles) => `<puzzleset>${puzzles.map((rows) => `<puzzle>${Object.entries({ rows, columns: [1, 1] }).map(([type, lines]) => `<clues type="${type}">${lines.map((length) => `<line><count>${length}</count></line>`).join('')}</clues>`).join('')}</puzzle>`).join('')}</puzzleset>`;
+
 const rowsShown = (page) => page.run(() => [...document.querySelectorAll('#several tbody tr')].map((row) => [...row.children].map((cell) => cell.textContent)));
 
 /**
@@ -160,13 +163,15 @@ export async function severalPoint(hands, { page, trial, own }) {
         ['little.ppm', ppmOf(ONE_WAY)], ['two.ppm', ppmOf(TWO_WAYS)], ['heart.ppm', readFileSync(new URL('heart.ppm', examples))], ['notes.txt', 'nothing to read\n'],
         ['spot.ppm', ppmOf(TWO_WAYS)], ['spot.givens', 'given 1 2\r\n'], ['spot.cert', 'nonocert 1\n'], ['night.ppm', ppmOf(TWO_WAYS)], ['night.background', '0,0,0\n'],
         ['art.png', await pngOf(page, ONE_WAY, 61)], ['odd.ppm', ppmOf(TWO_WAYS)], ['odd.givens', 'given 3 1\n'], ['lost.background', 'white\n'],
+        ['=1+1.ppm', ppmOf(TWO_WAYS)], ['set.xml', setOf([1, 1], [2, 2], [1, 1])],
     ]);
     await takeAll(hands, paths);
-    await page.until(() => /^6 pictures of 6/.test(document.getElementById('several-count').textContent), 20000 * SLACK);
+    await page.until(() => /^9 pictures of 9/.test(document.getElementById('several-count').textContent), 20000 * SLACK);
     const rows = await rowsShown(page);
     assert.deepEqual(rows.map(([name, size, colours, verdict]) => [name, size, colours, verdict]).slice(0, 3), [['little', '2 by 3', '3', 'unique'], ['two', '2 by 2', '2', 'ambiguous'], ['heart', rows[2][1], rows[2][2], 'unique']]);
     assert.deepEqual(rows.slice(4, 7).map((row) => row.slice(0, 4)), [['spot', '2 by 2, 1 cell given', '2', 'unique'], ['night', '2 by 2, background: black', '2', 'ambiguous'], ['art', '2 by 3', '3', 'unique']]);
-    assert.deepEqual(rows.slice(7), [['odd', '\u201codd.givens\u201d could not be read: row 3, column 1 is outside the picture.'], ['lost.background', 'no picture here goes with it']]);
+    assert.deepEqual(rows.slice(8, 12).map((row) => [row[0], row[3] ?? row[1]]), [['=1+1', 'ambiguous'], ['set', 'ambiguous'], ['set 2', 'no picture has these clues'], ['set 3', 'ambiguous']]);
+    assert.deepEqual([rows[7], rows[12]], [['odd', '\u201codd.givens\u201d could not be read: row 3, column 1 is outside the picture.'], ['lost.background', 'no picture here goes with it']]);
     assert.match(await trial.text('dialog[open]'), /Certificates and proofs are not checked here/);
     assert.match(rows[0][4], /^(easy|medium|hard|very hard|expert)$/);
     assert.equal(rows[1][4], '–');
@@ -176,6 +181,7 @@ export async function severalPoint(hands, { page, trial, own }) {
     const text = content.toString('latin1');
     for (const name of ['report.csv', 'little.xml', 'two.xml', 'heart.xml', 'spot.xml', 'art.xml']) assert.ok(text.includes(name), name);
     assert.ok(text.includes('"two","2 by 2","2","ambiguous"'));
+    assert.ok(text.includes(`"'=1+1","2 by 2"`), 'no formula');
     assert.ok(text.includes('"spot","2 by 2, 1 cell given","2","unique"'));
     await closedDialog(page);
     await clean(page);
@@ -217,6 +223,10 @@ export async function foldersApart({ browser, folder }) {
     for (const type of ['dragEnter', 'dragOver', 'drop']) await page.send('Input.dispatchDragEvent', { type, x: 400, y: 300, data });
     await page.until(() => /^2 pictures of 2/.test(document.getElementById('several-count')?.textContent), 20000 * SLACK);
     assert.deepEqual((await rowsShown(page)).map((row) => row.slice(0, 4)), [['spot', '2 by 2', '2', 'ambiguous'], ['spot.background', 'no picture here goes with it'], ['spot', '2 by 2, 1 cell given', '2', 'unique']]);
+    // A table that is open gives way to that of another folder.
+    for (const type of ['dragEnter', 'dragOver', 'drop']) await page.send('Input.dispatchDragEvent', { type, x: 400, y: 300, data: { ...data, files: [join(set, 'one')] } });
+    await page.until(() => /^1 picture of 1/.test(document.getElementById('several-count')?.textContent), 20000 * SLACK);
+    assert.equal(await page.run(() => document.querySelectorAll('dialog[open]').length), 1);
     await end();
     await page.close();
 }

@@ -69,16 +69,22 @@ function extrasOf(set, puzzle, goal, others) {
   return Object.keys(extras).length ? extras : null;
 }
 
-/**
- * A puzzle of rows and columns of an XML text, the first one for 0: `{ doc, count }`, or `{ non, page, count }` with the text of a
- * two-colour puzzle that has clues and no solution. `count` is how many there are. Throws a FileFault for what no bench would open.
- */
-export function readWebpbn(text, at = 0) {
+/** An XML text as elements `{ set, puzzles }`: those of rows and columns, at least one. */
+export function readWebpbnSet(text) {
   const set = readXml(text);
   const all = set.name === 'puzzleset' ? childrenOf(set, 'puzzle') : set.name === 'puzzle' ? [set] : [];
   const puzzles = all.filter((element) => typeOf(element, 'grid') === 'grid');
+  if (!puzzles.length) throw new FileFault(phrase('formats.xmlNoPuzzleRows'));
+  return { set, puzzles };
+}
+
+/**
+ * A puzzle of an XML text, or of what readWebpbnSet gives, the first one for 0: `{ doc, count }`, or `{ non, page, count }` with the text
+ * of a two-colour puzzle that has clues and no solution. `count` is how many there are. Throws a FileFault for what no bench would open.
+ */
+export function readWebpbn(text, at = 0) {
+  const { set, puzzles } = typeof text === 'string' ? readWebpbnSet(text) : text;
   const puzzle = puzzles[at];
-  if (!puzzle) throw new FileFault(phrase('formats.xmlNoPuzzleRows'));
   const count = puzzles.length;
   const solutions = childrenOf(puzzle, 'solution');
   const goal = solutions.find((one) => typeOf(one, 'goal') === 'goal') ?? solutions.find((one) => typeOf(one, 'goal') === 'solution');

@@ -69,9 +69,13 @@ export async function readArchive(bytes) {
       faults.push(faultText(fault));
       return { docs: [], left: [] };
     });
-    for (const { path } of found.length ? left : [unit.file]) unread.push(path);
+    const damaged = found.filter((one) => one.fault);
+    faults.push(...damaged.map(({ fault }) => faultText(fault)));
+    for (const { path } of [...left, ...(damaged.length || !found.length ? [unit.file] : [])]) unread.push(path);
     const own = bareName(unit.file.name);
-    found.forEach((doc, at) => docs.push({ name: at ? `${own} ${at + 1}` : own, doc }));
+    found.forEach((doc, at) => {
+      if (!doc.fault) docs.push({ name: at ? `${own} ${at + 1}` : own, doc });
+    });
   }
   return { docs, unread, why: faults[0] ?? '' };
 }

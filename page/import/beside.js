@@ -35,7 +35,7 @@ function unitOf(file, named) {
  */
 export function grouped(files) {
   const named = new Map();
-  for (const file of files) named.set(file.name, [...(named.get(file.name) ?? []), file]);
+  for (const file of files) if (!file.isDirectory) named.set(file.name, [...(named.get(file.name) ?? []), file]);
   const isOfSet = ({ name }) => NUMBERED.test(name) && ['', '.xml', '.XML'].some((ending) => named.has(name.replace(NUMBERED, ending)));
   const units = files.filter((file) => !isBeside(file)).map((file) => (isPicture(file) ? unitOf(file, named) : { file, beside: [] }));
   const used = new Set(units.flatMap(({ beside }) => beside));
@@ -64,7 +64,7 @@ async function naming(file, work) {
 
 /**
  * The documents of a unit as `{ docs, left }`. What lies beside the file holds in place of what the file itself tells. Of several puzzles
- * in a file each tells it itself: then that is `left`. `imageDocs(file, bytes, ground)` gives the documents of an image, or null where
+ * in a file each tells it itself: then that is `left`. Such a puzzle that is not read stands as `{ fault }`. `imageDocs(file, bytes, ground)` gives the documents of an image, or null where
  * the file is none.
  */
 export async function docsOfUnit({ file, fault, givens, background }, imageDocs = async (...image) => null) {

@@ -8,10 +8,12 @@ import { startEngine } from '../engine/client.js';
 import { stateOf } from '../engine/opening.js';
 import { readPpm } from '../formats/ppm.js';
 import { docOfNotes } from '../formats/ppm_notes.js';
-import { readWebpbn } from '../formats/webpbn_reading.js';
+import { readWebpbn, readWebpbnSet } from '../formats/webpbn_reading.js';
 import { phrase } from '../texts/phrase.js';
 import { docOfImage, kindOfFile } from './images.js';
 import { docByItself } from './proposing.js';
+
+const MOST_SEARCH = 10000; // milliseconds, for the picture of clues that stand alone among several files
 
 export const NOT_READ = phrase('import.noPictureNoPuzzle');
 
@@ -24,19 +26,18 @@ export function readPpmFile(bytes) {
 }
 
 /**
- * The puzzles of an XML text, each as readWebpbn gives it; one that is damaged, but for the first, as `{ fault }`.
+ * The puzzles of an XML text, each as readWebpbn gives it; one that is damaged as `{ fault }`.
  * @returns {any[]}
  */
 export function readXmlFile(text) {
-  const first = readWebpbn(text);
-  const others = Array.from({ length: first.count - 1 }, (_, at) => {
+  const all = readWebpbnSet(text);
+  return all.puzzles.map((_, at) => {
     try {
-      return readWebpbn(text, at + 1);
+      return readWebpbn(all, at);
     } catch (fault) {
       return { fault };
     }
   });
-  return [first, ...others];
 }
 
 /** The texts about a .non puzzle, by its keyword lines. */
@@ -47,8 +48,12 @@ export function aboutNon(text) {
 
 export const isNonText = (text) => /^[ \t]*(width|height|rows|columns)\b/m.test(text);
 
-/** The document of a .non text, in an engine of its own: of clues without a goal a picture is searched for. `page` is what stands beside it. */
-export async function docOfNon(text, page = {}, engine = startEngine()) {
+/**
+ * The document of a .non text, in an engine of its own: of clues without a goal a picture is searched for, for `most` milliseconds where
+ * that is not 0. `page` is what stands beside it.
+ */
+export async function docOfNon(text, page = {}, engine = startEngine(), most = 0) {
+  const late = most ? setTimeout(() => engine.end('stopped'), most) : undefined;
   try {
     await engine.open(text, { history: 1, background: null });
     const lines = ['allow 0', 'report'];
@@ -56,6 +61,7 @@ export async function docOfNon(text, page = {}, engine = startEngine()) {
     if (report.kind !== 'report') throw new FileFault(phrase('library.thereNotEnoughMemory'));
     return docOf(stateOf(report, null, null, pageOf(page)));
   } finally {
+    clearTimeout(late);
     engine.end();
   }
 }
@@ -76,17 +82,22 @@ async function checkGround({ colours, picture, maxval }, ground) {
   if (background.join() !== eightBits(colours[0], maxval).join()) throw new FileFault(phrase('import.otherBackground'));
 }
 
+// The document of a puzzle that a text tells; `{ fault }` where there is none.
+const docOfPuzzle = async (one) => (one.non ? docOfNon(one.non, one.page, startEngine(), MOST_SEARCH).catch((fault) => ({ fault })) : one.doc ?? one);
+
 /**
- * The documents that a file of puzzles holds; none where it has no picture that opens by itself. `ground(image, maxval)` gives the
- * background that is told beside the file.
+ * The documents that a file of puzzles holds; none where it has no picture that opens by itself. Of several puzzles one that is not read
+ * stands as `{ fault }`. `ground(image, maxval)` gives the background that is told beside the file.
  */
 export async function docsOfBytes(bytes, ground = null) {
   const kind = kindOfFile(bytes);
   if (kind === 'ppm') return [await docOfPpm(bytes, ground)].filter(Boolean);
   const text = new TextDecoder().decode(bytes);
-  const docs = kind === 'xml' ? await Promise.all(readXmlFile(text).map(({ doc, non, page }) => (non ? docOfNon(non, page) : doc)))
-    : kind === 'non' && isNonText(text) ? [await docOfNon(text, { about: aboutNon(text) })] : [];
-  const read = docs.filter(Boolean);
-  if (ground && read.length === 1) await checkGround(read[0], ground);
-  return read;
+  const puzzles = kind === 'xml' ? readXmlFile(text) : kind === 'non' && isNonText(text) ? [{ non: text, page: { about: aboutNon(text) } }] : [];
+  const docs = [];
+  for (const one of puzzles) docs.push(await docOfPuzzle(one));
+  if (docs.length !== 1) return docs;
+  if (docs[0].fault) throw docs[0].fault;
+  if (ground) await checkGround(docs[0], ground);
+  return docs;
 }

@@ -68,7 +68,7 @@ class Row {
   }
 }
 
-/** The rows of units: one for each picture, and one for each file that none is read from. */
+/** The rows of units: one for each picture, read or not, and one for each file that none is read from. */
 async function rowsOf(units, imageDocs) {
   const rows = [];
   for (const unit of units) {
@@ -76,7 +76,10 @@ async function rowsOf(units, imageDocs) {
     try {
       const { docs, left } = await docsOfUnit(unit, imageDocs);
       if (!docs.length) throw new FileFault(phrase('import.notPuzzleImageScaled'));
-      docs.forEach((doc, at) => rows.push(new Row(at ? `${own} ${at + 1}` : own, doc)));
+      docs.forEach((doc, at) => {
+        const name = at ? `${own} ${at + 1}` : own;
+        rows.push(doc.fault ? new Row(name, null, faultText(doc.fault)) : new Row(name, doc));
+      });
       for (const { name } of left) rows.push(new Row(name, null, phrase('import.noPictureGoes')));
     } catch (fault) {
       rows.push(new Row(unit.fault ? unit.file.name : own, null, faultText(fault)));
@@ -85,8 +88,9 @@ async function rowsOf(units, imageDocs) {
   return rows;
 }
 
-// A table of comma-separated values, as spreadsheets read it.
-const valuesText = (rows) => [HEADS, ...rows.map((row) => row.texts)].map((texts) => texts.map((text) => `"${text.replaceAll('"', '""')}"`).join(',')).join('\r\n');
+// A table of comma-separated values, as spreadsheets read it. A text that one would take for a formula begins with an apostrophe.
+const valueText = (text) => `"${text.replace(/^[=+\-@]/, "'$&").replaceAll('"', '""')}"`;
+const valuesText = (rows) => [HEADS, ...rows.map((row) => row.texts)].map((texts) => texts.map(valueText).join(',')).join('\r\n');
 
 async function keepAll(rows) {
   const keeper = await keep.ready();

@@ -70,6 +70,7 @@ async function takePpm(bytes, name, handle) {
 // A set of several puzzles: the first is opened, the others go to the library.
 async function takeXml(text, name, handle) {
   const [first, ...others] = readXmlFile(text);
+  if (first.fault) throw first.fault;
   const isOpen = first.non ? await openNon(first.non, name, first.page) : await openDoc(first.doc, { name, handle: others.length ? null : handle, form: 'xml' });
   if (!isOpen || !others.length) return isOpen;
   const keeper = await keep.ready();
@@ -171,7 +172,9 @@ export function hearFiles() {
     const files = items.map((item) => item.getAsFile());
     if (folders.some((entry) => entry?.isDirectory)) {
       const units = await unitsIn(folders, files).catch(() => null);
-      return units ? takeSeveral(units, imageDocs) : say(phrase('import.folderNotRead'), 'alarm');
+      if (!units) return say(phrase('import.folderNotRead'), 'alarm');
+      await closeDialogs();
+      return takeSeveral(units, imageDocs);
     }
     const late = new Promise((go) => setTimeout(go, 1000, null)); // the file itself is at hand already
     const handle = await Promise.race([late, items[0].getAsFileSystemHandle?.().catch(() => null)]);
