@@ -112,6 +112,20 @@ test('letters and signs for colours, in clues, solution and legend', () => {
     assert.deepEqual(textsOf(signs).slice(-6).map(({ text }) => text), ['■', 'red', '●', 'blue', '▲', 'green']);
 });
 
+test('blocks with letters or signs stand apart, with one digit or three', () => {
+    const colours = Array.from({ length: 16 }, (_, at) => [255 - at, 255, 255]);
+    const doc = docOf(['abcdefghijklmno'], colours);
+    const clues = { rows: [[...'abcdefghijklmno'].flatMap((letter) => [1, 12, 120].map((length) => ({ length, letter })))], columns: Array(15).fill([]) };
+    // How wide they are in DejaVu Sans, by the size of the text: a digit, m, another letter at most, and a sign at most.
+    const wide = (text) => [...text].reduce((sum, sign) => sum + (/\d/.test(sign) ? 0.636 : sign === 'm' ? 0.974 : sign <= 'z' ? 0.635 : 0.945), 0);
+    for (const show of ['letters', 'signs']) {
+        const [sheet] = sheetsWith([{ doc, clues }], { show });
+        const blocks = textsOf(sheet).filter(({ text }) => /^\d+[^\d ]$/u.test(text));
+        assert.equal(blocks.length, 45);
+        for (const { text, 'font-size': size } of blocks) assert.ok(wide(text) * size < 0.97 * sheet.cell, `${text} has a size of ${size} in a cell of ${sheet.cell}`);
+    }
+});
+
 test('names of colours in the legend differ', () => {
     const two = docOf(['abc'], [[255, 255, 255], [0, 0, 200], [40, 40, 220], [200, 0, 0]]);
     assert.deepEqual(namesOf(two), ['white', 'darker blue', 'lighter blue', 'red']);

@@ -70,6 +70,7 @@ export const drawDot = (surface, look, x, y, side) => surface.disc(x + side / 2,
 
 const signOf = (look, letter) => (look.signs ? look.signs[LETTERS.indexOf(letter)] : '');
 export const blockText = (look, block) => `${block.length}${signOf(look, block.letter)}`;
+const widthOf = (text) => [...text].reduce((sum, sign) => sum + (sign > 'z' || sign === 'm' ? 1.1 : DIGIT), 0); // by its size
 
 const FRAME = 0.13; // of a box's side
 
@@ -91,7 +92,7 @@ export function drawBlock(surface, look, block, { x, y, width, height }) {
   if (look.style === 'box') drawBox(surface, look, at, { x, y, width, height });
   else if (look.style === 'chip') drawChip(surface, look, at, { x, y, width, height });
   const text = blockText(look, block);
-  const size = Math.min(look.font, height, (width * (look.style === 'box' ? 1 - 2 * FRAME : 1)) / (text.length * DIGIT));
+  const size = Math.min(look.font, height, (width * (look.style === 'box' ? 1 - 2 * FRAME : 1)) / widthOf(text));
   const [middle, high] = look.isWhole ? [height / 2 + 0.5, Math.floor(size)] : [height / 2, size];
   if (size >= look.least) surface.text(text, x + width / 2, y + middle, { size: high, ink: look.style === 'chip' ? look.inks[at] : look.ink, family: look.family, weight: look.weight });
 }
