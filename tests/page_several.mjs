@@ -10,13 +10,14 @@ import { Judge } from '../page/engine/judging.js';
 import { ppmTextOf } from '../page/formats/ppm_notes.js';
 import { readGivens, readGround } from '../page/formats/published.js';
 import { webpbnText } from '../page/formats/webpbn.js';
-import { writeZip } from '../page/formats/zip.js';
+import { readZip, writeZip } from '../page/formats/zip.js';
 import { readArchive } from '../page/import/archives.js';
 import { docsOfUnit, grouped, hasProof } from '../page/import/beside.js';
 import { unitsIn } from '../page/import/folders.js';
 import { docOfNon } from '../page/import/reading.js';
 import { docByItself, proposalFor } from '../page/import/proposing.js';
 
+const bytesFrom = (base64) => new Uint8Array(Buffer.from(base64, 'base64'));
 const read = (path) => readFileSync(new URL(`../${path}`, import.meta.url));
 const bytesOf = (text) => new TextEncoder().encode(text);
 const fileOf = (name, text = '') => Object.assign(new Blob([text]), { name });
@@ -70,6 +71,7 @@ test('a background is in the samples of its picture', () => {
     const white = { data: Uint8ClampedArray.of(9, 8, 7, 0) };
     assert.deepEqual(readGround('1,2,15')(white, 15), [17, 34, 255]); // 255 / 15 = 17
     assert.deepEqual(readGround('corner')(white, 255), [255, 255, 255]); // what is transparent has no colour
+    assert.deepEqual([127, 128].map((opacity) => readGround('corner')({ data: Uint8ClampedArray.of(9, 8, 7, opacity) }, 255).join()), ['255,255,255', '9,8,7']);
     assert.throws(() => readGround('0,0,16')(white, 15), /above 15/);
 });
 
@@ -83,6 +85,7 @@ test('what goes with a picture, by its name', () => {
     ]);
     // Those of another name, or of a file that is no picture, are alone.
     assert.deepEqual(names(['a.txt', 'a.givens', 'A.background', 'b.cert']), [['a.txt', undefined, undefined, [], false], ...['a.givens', 'A.background', 'b.cert'].map((name) => [name, undefined, undefined, [], true])]);
+    assert.deepEqual(names(['Ä 1.PNG', 'Ä 1.GIVENS']), [['Ä 1.PNG', 'Ä 1.GIVENS', undefined, ['Ä 1.GIVENS'], false]]);
     assert.deepEqual(names(['a.png', 'a.Givens']), [['a.png', undefined, undefined, [], false], ['a.Givens', undefined, undefined, [], false]]);
     // The puzzles of a set have certificates of their own.
     assert.deepEqual(names(['set.xml', 'set.2.cert', 'set.xml.3.proof', 'set.givens', 'no.2.cert']), [['set.xml', 'set.givens', undefined, ['set.givens'], false], ['no.2.cert', undefined, undefined, [], true]]);
@@ -122,6 +125,9 @@ test('givens and a background beside a picture', async () => {
     await refused({ 'a.ppm': TWO_WAYS, 'a.background': '0,0,256' }, /“a\.background” could not be read: a number is above 255/);
     const unit = { file: fileOf('a.ppm', TWO_WAYS), givens: { name: 'a.givens', size: 16777217 } };
     await assert.rejects(docsOfUnit(unit), /“a\.givens” could not be read: it has more than 16 MiB/);
+    const most = { file: fileOf('a.ppm', TWO_WAYS), givens: { name: 'a.givens', size: 16777216, arrayBuffer: async () => bytesOf('given 1 2') } };
+    assert.deepEqual((await docsOfUnit(most)).docs.map(givensOf), [[1]]);
+    await refused({ 'a.ppm': TWO_WAYS, 'a.givens': '\ufeffgiven 1 1\n' }, /line 1 is not/); // as for nonobench-audit
 });
 
 test('what lies beside a picture of the page holds in place of its notes', async () => {
@@ -199,6 +205,12 @@ test('folders: the files of one do not go with those of another', async () => {
     assert.deepEqual(shown, [['a.ppm', []], ['a.ppm', [0]], ['a.ppm', []], ['a.givens', 'alone'], ['b.cert', 'alone'], ['z.ppm', []], ['a.ppm', [1]]]);
 });
 
+test('folders: their files in the order of names, each with the background beside it', async () => {
+    const units = await unitsIn([entryOf('one', { 'b.ppm': TWO_WAYS, 'a.background': '0,0,0', 'c.ppm': TWO_WAYS, 'a.ppm': TWO_WAYS })], [null]);
+    const shown = await Promise.all(units.map(async (unit) => [unit.file.name, (await docsOfUnit(unit)).docs[0].colours[0].join()]));
+    assert.deepEqual(shown, [['a.ppm', '0,0,0'], ['b.ppm', '255,255,255'], ['c.ppm', '255,255,255']]);
+});
+
 test('a folder that is called as a file beside a picture is a folder', async () => {
     const units = await unitsIn([entryOf('one', { 'a.givens': { 'b.ppm': TWO_WAYS }, 'a.ppm': TWO_WAYS, 'b.ppm': { 'c.ppm': TWO_WAYS }, 'b.cert': '' })], [null]);
     assert.deepEqual(units.map(({ file, fault }) => [file.name, Boolean(fault)]), [['b.ppm', false], ['a.ppm', false], ['c.ppm', false], ['b.cert', true]]);
@@ -224,6 +236,27 @@ test('the zip for a puzzle site, dropped again', async () => {
     const [docs, unread, why] = await zipped(...pair, entry('x/a.givens', 'given 9 9\n'));
     assert.deepEqual([docs, unread], [[], ['x/a.ppm']]);
     assert.match(why, /“a\.givens” could not be read: row 9, column 9 is outside/);
+});
+
+test('in an archive, what lies in another folder does not go with a picture', async () => {
+    const entry = (name, text) => ({ name, bytes: bytesOf(text) });
+    const { docs, unread } = await readArchive(writeZip([entry('x/y/a.ppm', TWO_WAYS), entry('x/z/a.givens', 'given 1 1\n'), entry('x/z/b.ppm', TWO_WAYS)]));
+    assert.deepEqual([docs.map(({ name, doc }) => [name, givensOf(doc)]), unread], [[['a', []], ['b', []]], ['x/z/a.givens']]);
+});
+
+test('a zip by another program: extra fields, flags, and what is not read', async () => {
+    // By Info-ZIP 3.0: ä.ppm, deflated. Its extra field has 28 bytes before the content, and 24 in the directory.
+    const other = 'UEsDBBQAAAAIANghfF15yLgBGgAAAC8AAAAGABwAw6QucHBtVVQJAAM4VQprOFUKa3V4CwABBAAAAAAEAAAAAAsw5jJSMOIyMjXlMlAAQSALhrmQ2GA5Ay4AUEsBAh4DFAAAAAgA2CF8XXnIuAEaAAAALwAAAAYAGAAAAAAAAQAAAKSBAAAAAMOkLnBwbVVUBQADOFUKa3V4CwABBAAAAAAEAAAAAFBLBQYAAAAAAQABAEwAAABaAAAAAAA=';
+    assert.deepEqual((await readArchive(bytesFrom(other))).docs.map(({ name, doc }) => [name, doc.picture.join('/')]), [['ä', 'a./.a']]);
+    const own = writeZip([{ name: 'ä.ppm', bytes: bytesOf(TWO_WAYS) }]);
+    const directory = Buffer.from(own).indexOf('PK\u0001\u0002');
+    assert.deepEqual([own[6] | own[7] << 8, own[directory + 8] | own[directory + 9] << 8], [0x800, 0x800], 'names are UTF-8');
+    // What is encrypted, packed in another way, or above 16 MiB is there, but not read.
+    for (const [at, value] of [[8, 1], [10, 12], [27, 1]]) {
+        const changed = own.slice();
+        changed[directory + at] = value;
+        assert.deepEqual((await readZip(changed)).map(({ name, bytes }) => [name, bytes]), [['ä.ppm', null]], `${at}`);
+    }
 });
 
 // An image of rows of signs, each `by` pixels a side; '-' is transparent.

@@ -3,7 +3,7 @@
 import assert from 'node:assert/strict';
 import { mkdirSync, readFileSync, rmSync, writeFileSync } from 'node:fs';
 import { join } from 'node:path';
-import { DUCK, clean, downloaded, examples, fresh, isKept, isOpen, menu, said, serve } from './page_hands.mjs';
+import { DUCK, clean, downloaded, examples, frames, fresh, hard, isKept, isOpen, menu, said, serve } from './page_hands.mjs';
 import { SIZES, SLACK, Trial, eightColours, ppmOf } from './page_trial.mjs';
 
 const TWO_WAYS = ['.a', 'a.']; // its mirror has the same clues
@@ -141,7 +141,8 @@ async function pngOf(page, rows, by) {
         const canvas = Object.assign(document.createElement('canvas'), { width: lines[0].length * side, height: lines.length * side });
         const pen = canvas.getContext('2d');
         lines.forEach((line, row) => [...line].forEach((letter, col) => {
-            pen.fillStyle = { '.': '#fff', a: '#000', b: '#c82828' }[letter];
+            const step = 15 * (letter.charCodeAt(0) - 65); // from A
+            pen.fillStyle = { '.': '#fff', a: '#000', b: '#c82828' }[letter] ?? `rgb(${step}, ${255 - step}, 100)`;
             pen.fillRect(col * side, row * side, side, side);
         }));
         return canvas.toDataURL().split(',')[1];
@@ -163,15 +164,16 @@ export async function severalPoint(hands, { page, trial, own }) {
         ['little.ppm', ppmOf(ONE_WAY)], ['two.ppm', ppmOf(TWO_WAYS)], ['heart.ppm', readFileSync(new URL('heart.ppm', examples))], ['notes.txt', 'nothing to read\n'],
         ['spot.ppm', ppmOf(TWO_WAYS)], ['spot.givens', 'given 1 2\r\n'], ['spot.cert', 'nonocert 1\n'], ['night.ppm', ppmOf(TWO_WAYS)], ['night.background', '0,0,0\n'],
         ['art.png', await pngOf(page, ONE_WAY, 61)], ['odd.ppm', ppmOf(TWO_WAYS)], ['odd.givens', 'given 3 1\n'], ['lost.background', 'white\n'],
-        ['=1+1.ppm', ppmOf(TWO_WAYS)], ['set.xml', setOf([1, 1], [2, 2], [1, 1])],
+        ['=1+1.ppm', ppmOf(TWO_WAYS)], ['art17.png', await pngOf(page, ['ABCDEF', 'GHIJKL', 'MNOPQA'], 25)], ['"q".givens', ''], ['set.xml', setOf([1, 1], [2, 2], [1, 1])],
     ]);
     await takeAll(hands, paths);
-    await page.until(() => /^9 pictures of 9/.test(document.getElementById('several-count').textContent), 20000 * SLACK);
+    await page.until(() => /^10 pictures of 10/.test(document.getElementById('several-count').textContent), 20000 * SLACK);
     const rows = await rowsShown(page);
     assert.deepEqual(rows.map(([name, size, colours, verdict]) => [name, size, colours, verdict]).slice(0, 3), [['little', '2 by 3', '3', 'unique'], ['two', '2 by 2', '2', 'ambiguous'], ['heart', rows[2][1], rows[2][2], 'unique']]);
     assert.deepEqual(rows.slice(4, 7).map((row) => row.slice(0, 4)), [['spot', '2 by 2, 1 cell given', '2', 'unique'], ['night', '2 by 2, background: black', '2', 'ambiguous'], ['art', '2 by 3', '3', 'unique']]);
-    assert.deepEqual(rows.slice(8, 12).map((row) => [row[0], row[3] ?? row[1]]), [['=1+1', 'ambiguous'], ['set', 'ambiguous'], ['set 2', 'no picture has these clues'], ['set 3', 'ambiguous']]);
-    assert.deepEqual([rows[7], rows[12]], [['odd', '\u201codd.givens\u201d could not be read: row 3, column 1 is outside the picture.'], ['lost.background', 'no picture here goes with it']]);
+    assert.deepEqual(rows.slice(8, 13).map((row) => [row[0], row[3] ?? row[1]]), [['=1+1', 'ambiguous'], ['art17', rows[9][3]], ['set', 'ambiguous'], ['set 2', 'no picture has these clues'], ['set 3', 'ambiguous']]);
+    assert.match(rows[9][2], /^(\d|1[0-6]) of 17$/);
+    assert.deepEqual([rows[7], rows[13]], [['odd', '\u201codd.givens\u201d could not be read: row 3, column 1 is outside the picture.'], ['lost.background', 'no picture here goes with it']]);
     assert.match(await trial.text('dialog[open]'), /Certificates and proofs are not checked here/);
     assert.match(rows[0][4], /^(easy|medium|hard|very hard|expert)$/);
     assert.equal(rows[1][4], '–');
@@ -182,6 +184,7 @@ export async function severalPoint(hands, { page, trial, own }) {
     for (const name of ['report.csv', 'little.xml', 'two.xml', 'heart.xml', 'spot.xml', 'art.xml']) assert.ok(text.includes(name), name);
     assert.ok(text.includes('"two","2 by 2","2","ambiguous"'));
     assert.ok(text.includes(`"'=1+1","2 by 2"`), 'no formula');
+    assert.ok(text.includes('\n"""q"".givens","no picture'), 'quotes');
     assert.ok(text.includes('"spot","2 by 2, 1 cell given","2","unique"'));
     await closedDialog(page);
     await clean(page);
@@ -193,6 +196,29 @@ export async function severalPoint(hands, { page, trial, own }) {
     await hands.press('#several [data-name="two"]');
     await isOpen(page);
     assert.deepEqual(await trial.picture(), TWO_WAYS);
+}
+
+/** An undecided picture is kept as such; pictures for which there is no room are not told as added. */
+export async function severalUndecided({ browser, url, folder }) {
+    const { page } = await fresh(browser, url, folder, 'undecided');
+    const paths = filesIn(folder, [['hard.ppm', hard()], ['two.ppm', ppmOf(TWO_WAYS)]]);
+    const add = async () => {
+        await takeAll({ page, input: 'mouse' }, paths);
+        await page.until(() => /^2 pictures of 2/.test(document.getElementById('several-count').textContent), 20000 * SLACK);
+        await page.click('dialog[open] button.main');
+        await closedDialog(page);
+    };
+    await page.run(async () => { (await keep.ready()).put = async () => { window.asked = (window.asked ?? 0) + 1; return null; }; });
+    await add();
+    await page.until(() => window.asked, 5000 * SLACK);
+    await frames(page);
+    assert.doesNotMatch(await said(page), /added to the library/);
+    await page.run(() => { delete keep.keeper.put; });
+    await add();
+    await page.until(() => /^2 pictures added to the library/.test(document.getElementById('said').textContent), 5000 * SLACK);
+    const cards = await page.run(async () => (await keep.keeper.cards()).map(({ name, verdict }) => `${name} ${verdict}`));
+    assert.deepEqual(cards.sort(), ['hard undecided', 'two ambiguous']);
+    await page.close();
 }
 
 /** A folder that the browser does not read, as Chromium for a page from a file, is said; the picture stays. */
