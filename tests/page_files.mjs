@@ -166,6 +166,13 @@ test('clues without a solution: two colours alone', () => {
     refused(() => readWebpbn(bare.replace(/<clues type="rows">[^]*<\/clues>/, '')), /neither a solution/);
 });
 
+test('two declared colours of one sign: which is meant is not known', () => {
+    const text = '<puzzle><color name="red" char="r">f00</color><color name="rose" char="r">f08</color><solution><image>|X.|</image></solution></puzzle>';
+    assert.deepEqual(readWebpbn(text).doc.picture[0].length, 2, 'no cell has it');
+    refused(() => readWebpbn(text.replace('|X.|', '|r.|')), /a sign of the puzzle is declared twice/);
+    assert.equal(readWebpbn('<puzzle><color name="red" char="X">f00</color><solution><image>|X.|</image></solution></puzzle>').doc.colours[1].join(), '255,0,0', 'black is not declared');
+});
+
 test('signs in a solution: sets, backslashes, colours that are not declared', () => {
     const text = '<puzzle backgroundcolor="sky"><color name="sky" char="|">9cf</color><color name="x" char="[">123456</color><solution><image>|\\|\\[X| |[X]\\|.|</image></solution></puzzle>';
     const { doc } = readWebpbn(text);

@@ -116,7 +116,11 @@ function orderOf(signs, colours, ground) {
   if (!background) throw new FileFault(phrase('formats.backgroundPuzzleColourDoes'));
   const used = new Set(signs.flat());
   const bySign = new Map();
-  for (const colour of colours.values()) if (colour.sign && (!bySign.has(colour.sign) || colour.declared)) bySign.set(colour.sign, colour);
+  for (const colour of colours.values()) {
+    const before = bySign.get(colour.sign);
+    if (before?.declared && colour.declared && used.has(colour.sign)) throw new FileFault(phrase('formats.colourPuzzleDeclaredTwice'));
+    if (colour.sign && (!before || colour.declared)) bySign.set(colour.sign, colour);
+  }
   for (const sign of used) if (!bySign.has(sign)) throw new FileFault(phrase('formats.solutionCellNoColour', { value: sign.slice(0, 2) }));
   const order = [background, ...[...colours.values()].filter((one) => one !== background && (one.declared || (used.has(one.sign) && bySign.get(one.sign) === one)))];
   return { bySign, order: order.length > MOST_COLOURS ? order.filter((one) => one === background || used.has(one.sign)) : order };

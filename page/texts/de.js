@@ -51,7 +51,7 @@ export const DE = /** @type {const} */ ({
   'formats.solutionLarger': 'Die Lösung ist größer als {most} × {most}.',
   'formats.solutionNoPicture': 'Die Lösung ist kein Bild.',
   'formats.colourPuzzleNotThree': 'Eine Farbe des Rätsels besteht nicht aus drei oder sechs Hexadezimalziffern.',
-  'formats.colourPuzzleDeclaredTwice': 'Eine Farbe des Rätsels ist doppelt vereinbart.',
+  'formats.colourPuzzleDeclaredTwice': 'Eine Farbe oder ein Zeichen des Rätsels ist doppelt vereinbart.',
   'formats.cluePuzzleNoNumber': 'Ein Hinweis des Rätsels ist keine Zahl.',
   'formats.xmlNoPuzzleRows': 'Die XML-Datei enthält kein Rätsel aus Zeilen und Spalten.',
   'formats.givenCellAnotherColour': 'Ein vorgegebenes Feld hat eine andere Farbe als in der Lösung.',

@@ -51,7 +51,7 @@ export const EN = /** @type {const} */ ({
   'formats.solutionLarger': 'The solution is larger than {most} by {most}.',
   'formats.solutionNoPicture': 'The solution is not a picture.',
   'formats.colourPuzzleNotThree': 'A colour of the puzzle is not three or six hexadecimal digits.',
-  'formats.colourPuzzleDeclaredTwice': 'A colour of the puzzle is declared twice.',
+  'formats.colourPuzzleDeclaredTwice': 'A colour or a sign of the puzzle is declared twice.',
   'formats.cluePuzzleNoNumber': 'A clue of the puzzle is not a number.',
   'formats.xmlNoPuzzleRows': 'The XML has no puzzle of rows and columns.',
   'formats.givenCellAnotherColour': 'A given cell has another colour than the solution.',
