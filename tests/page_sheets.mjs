@@ -212,3 +212,24 @@ test('given cells are marked, and the empty puzzle is white on any background', 
     const big = (one) => rectsOf(one).filter(({ fill, width, stroke }) => fill === '#000028' && width > 4 && !stroke).length;
     assert.deepEqual([big(sheet), big(solved) > 0], [0, true]);
 });
+
+test('given cells have their letter or sign where clues have, and stand on the part that has them', () => {
+    const doc = docOf(['ab', 'ba'], [[255, 255, 255], [200, 0, 0], [0, 0, 200]], { givens: new Set([1, 2]) });
+    for (const [show, wanted] of [['letters', 'bb'], ['signs', '●●']]) {
+        const [sheet] = sheets([doc], { show });
+        assert.equal(textsOf(sheet).filter(({ text, 'font-size': size }) => wanted.includes(text) && size > 0.6 * sheet.cell).map(({ text }) => text).join(''), wanted);
+        assert.equal(rectsOf(sheet).filter(({ width, fill, stroke }) => width > 0.9 * sheet.cell && fill === '#0000c8' && !stroke).length, 0, 'no fill');
+    }
+    const large = docOf(Array.from({ length: 2 }, () => 'a'.repeat(70)), BLACK, { givens: new Set([0, 69, 139]) });
+    assert.deepEqual(sheets([large]).map(({ svg }) => svg.match(/<polygon/g).length), [1, 2]);
+});
+
+test('digits stay within the frames of their blocks', () => {
+    const doc = docOf(['ab'.repeat(3)], [[255, 255, 255], [200, 0, 0], [0, 0, 200]]);
+    const clues = { rows: [[1, 12, 120].map((length) => ({ length, letter: 'a' }))], columns: Array(6).fill([]) };
+    const [sheet] = sheetsWith([{ doc, clues }]);
+    const blocks = textsOf(sheet).filter(({ text }) => /^\d+$/.test(text) && text !== '0');
+    assert.deepEqual(blocks.map(({ text }) => text), ['120', '12', '1']);
+    // Within a box of 0.88 of a cell, the frames leave 0.88 * (1 - 2 * 0.13) = 0.6512. A digit of Liberation Sans is 0.556 of its size wide.
+    for (const { text, 'font-size': size } of blocks) assert.ok(text.length * 0.556 * size < 0.6512 * sheet.cell, `${text} has a size of ${size}`);
+});
