@@ -208,6 +208,7 @@ export async function severalUndecided({ browser, url, folder }) {
         await page.click('dialog[open] button.main');
         await closedDialog(page);
     };
+    await clean(page);
     await page.run(async () => { (await keep.ready()).put = async () => { window.asked = (window.asked ?? 0) + 1; return null; }; });
     await add();
     await page.until(() => window.asked, 5000 * SLACK);
