@@ -11,7 +11,9 @@ import os
 import re
 import signal
 import sys
+import types
 import unittest
+from collections import deque
 from pathlib import Path
 
 sys.path.insert(0, str(Path(__file__).resolve().parent))
@@ -20,7 +22,7 @@ from audit_parts import (  # noqa: E402
 )
 
 import nonobench  # noqa: E402
-from nonobench.collection import arguments, judging, readers, serving, tally  # noqa: E402
+from nonobench.collection import arguments, judging, readers, running, serving, tally, workers  # noqa: E402
 from nonobench.collection.puzzles import Unreadable  # noqa: E402
 
 # One solution, whose certificate says much twice: it is three times as long as a proof by lemmas.
@@ -381,6 +383,19 @@ class Running(Case):
         with self.assertRaises(TimeoutError):
             judging.judge(Slow(), one(p3(LEARNT)), None, known.append, most=1000)
         self.assertEqual([judged.proof[:12] for judged in known], ["", "nonolemma 1\n"])
+
+    def test_an_output_is_no_input(self):
+        kept = {self.put(name, data): data for name, data in (("one.ppm", p3(UNIQUE)), ("one.cert", CERT.encode()), ("two.ppm", p3(UNIQUE)), ("odd.txt", p3(UNIQUE)))}
+        for option in ("--jsonl", "--csv", "--html"):
+            for words in ((option, "site/one.ppm", "site/two.ppm"), ("site", option, "site/one.cert"), ("site/odd.txt", option, "site/odd.txt")):
+                with self.subTest(words):
+                    self.run_audit(*words, status=2)
+        self.rows("site", "--allow", "9", status=0)
+        before = (self.folder / "rows.jsonl").read_bytes()
+        for option in ("--jsonl", "--csv", "--html"):
+            self.assertIn("is both an input and an output", self.run_audit("merge", "rows.jsonl", option, "rows.jsonl", status=2).stderr)
+        self.assertEqual((self.folder / "rows.jsonl").read_bytes(), before)
+        self.assertEqual({place: place.read_bytes() for place in kept}, kept)
 
     def test_certificates_beside(self):
         self.put("one.ppm", p3(UNIQUE))

@@ -8,8 +8,11 @@ import re
 from dataclasses import dataclass
 from typing import Optional
 
-from .finding import unreached
+from .finding import SUFFIXES, unreached
+from .kinds import KINDS
 from .readers import ground_of
+
+_ENDINGS = frozenset((*SUFFIXES, ".givens", ".background", *(f".{kind.ending}" for kind in KINDS)))
 
 ABOUT = """Says which puzzles of a collection have exactly one solution.
 
@@ -71,6 +74,7 @@ def options_of(words: list[str]) -> Options:
     for path in told.paths:
         if not os.path.lexists(path):
             parser.error(f"no such file or folder: {path!r}" + (" (a folder of that name is ./merge)" if path == "merge" else ""))
+    _refuse_inputs(parser, told)
     nested = unreached(told.paths)
     if nested is not None:
         parser.error(f"{nested[0]!r} lies in {nested[1]!r}, whose search leaves it out: name it in a run of its own")
@@ -137,9 +141,24 @@ def _merge_options(words: list[str]) -> Options:
     for path in told.paths:
         if not os.path.exists(path):
             parser.error(f"no such file: {path!r}")
-        if told.jsonl is not None and os.path.exists(told.jsonl) and os.path.samefile(path, told.jsonl):
-            parser.error(f"{path!r} is both an input and an output")
+    _refuse_inputs(parser, told)
     return Options(told.paths, told.jsonl, told.csv, told.html, told.title, told.quiet, is_merge=True)
+
+
+def _refuse_inputs(parser: argparse.ArgumentParser, told: argparse.Namespace) -> None:
+    """An output must not take the place of an input: of a puzzle, of what lies beside one, or of rows to be joined."""
+    for name in (told.jsonl, told.csv, told.html):
+        if name in (None, "-"):
+            continue
+        if os.path.splitext(name)[1].lower() in _ENDINGS:
+            parser.error(f"{name!r} is no name for an output: its ending is that of a puzzle, or of what lies beside one")
+        if any(_are_same(path, name) for path in told.paths):
+            parser.error(f"{name!r} is both an input and an output")
+
+
+def _are_same(one: str, other: str) -> bool:
+    """Whether two names are of the same file."""
+    return os.path.exists(one) and os.path.exists(other) and os.path.samefile(one, other)
 
 
 def _refuse_twins(parser: argparse.ArgumentParser, paths: list[str]) -> None:
