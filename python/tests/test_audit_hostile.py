@@ -224,6 +224,11 @@ class Outputs(Case):
         with self.assertRaisesRegex(Failure, "rows.csv: "):
             output.close()
 
+    def test_a_device_has_several_runs(self):
+        outputs = [Output("/dev/null"), Output("/dev/null")]
+        for output in outputs:
+            output.close()
+
     def limited(self, *words):
         """A run whose files may have so few bytes."""
         bound = lambda: resource.setrlimit(resource.RLIMIT_FSIZE, (40, 40))  # noqa: E731

@@ -73,8 +73,9 @@ class Output:
                 self.file: BinaryIO = os.fdopen(os.dup(1), "wb", buffering=0)
                 return
             self.file = os.fdopen(os.open(name, os.O_RDWR | os.O_CREAT | os.O_APPEND | os.O_CLOEXEC, 0o666), "r+b", buffering=0)
-            locked(name, self.file)
-            self._is_old = is_regular(self.file) and not keeps
+            if is_regular(self.file):  # a device such as /dev/null may have several runs
+                locked(name, self.file)
+                self._is_old = not keeps
         except OSError as error:
             raise failure(name, error) from error
 
