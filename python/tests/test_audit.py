@@ -384,6 +384,24 @@ class Running(Case):
             judging.judge(Slow(), one(p3(LEARNT)), None, known.append, most=1000)
         self.assertEqual([judged.proof[:12] for judged in known], ["", "nonolemma 1\n"])
 
+    def test_no_two_certificates_have_one_name(self):
+        several = "<puzzleset>" + webpbn(UNIQUE) + webpbn(LEARNT) + "</puzzleset>"
+        for name, data in (("set.xml", several), ("set.2.ppm", p3(UNIQUE)), ("a.ppm", p3(UNIQUE)), ("a.pgm", p3(LEARNT)), ("a.ppm.ppm", p3(LEARNT)),
+                           ("b.xml", several), ("b.ppm", p3(UNIQUE)), ("b.xml.2.ppm", p3(LEARNT[::-1])), ("c.xml", several), ("c.2.txt", "")):
+            self.put(name, data)
+        self.rows("site", "--certify", "certs", status=0)
+        self.assertEqual(sorted(place.name for place in (self.folder / "certs").iterdir()), [
+            "a.pgm.cert", "a.ppm.cert", "a.ppm.ppm.cert", "b.ppm.cert", "b.xml.2.cert", "b.xml.2.ppm.cert", "b.xml.cert", "c.2.cert", "c.cert",
+            "set.2.cert", "set.xml.2.cert", "set.xml.cert",
+        ])
+        rows = self.rows("site", "--certificates", "certs", status=0)
+        self.assertEqual([row["certificate"] for row in rows.values()], [{"accepted": True}] * 12)
+        # What has the name alone is still read, if it is nobody else's.
+        os.rename(self.folder / "certs" / "set.xml.cert", self.folder / "certs" / "set.cert")
+        os.remove(self.folder / "certs" / "set.xml.2.cert")
+        rows = self.rows("site", "--certificates", "certs", status=0)
+        self.assertEqual([("certificate" in rows[f"site/set.xml#{number}"]) for number in (1, 2)], [True, False])
+
     def test_an_output_is_no_input(self):
         kept = {self.put(name, data): data for name, data in (("one.ppm", p3(UNIQUE)), ("one.cert", CERT.encode()), ("two.ppm", p3(UNIQUE)), ("odd.txt", p3(UNIQUE)))}
         for option in ("--jsonl", "--csv", "--html"):

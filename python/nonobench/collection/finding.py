@@ -14,6 +14,7 @@ SUFFIXES = frozenset((".ppm", ".pgm", ".pbm", ".pnm", ".png", ".gif", ".bmp", ".
 Names = frozenset[str]
 NONE: Names = frozenset()
 Beside = tuple[int, str, str]  # a certificate or a proof: the puzzle of the file that it is for, from 1; how its name ends; its path
+_NUMBER = re.compile(r"(.+)\.[1-9][0-9]{0,5}", re.DOTALL)
 _NUMBERED = re.compile(rf"(.+)\.([1-9][0-9]{{0,5}})\.({'|'.join(kind.ending for kind in KINDS)})", re.DOTALL | re.IGNORECASE)
 
 
@@ -35,6 +36,7 @@ class Folder(NamedTuple):
     front: str  # the same below its PATH
     names: Names
     stems: Counter[str]  # how many puzzles have a name, without its suffix
+    numbers: Names  # the names that such names have before a number
     held: Names  # the names in the folder where certificates and proofs lie
     held_in: str
     numbered: dict[str, list[Beside]]  # those of files with several puzzles
@@ -153,14 +155,15 @@ def _folder(prefix: str, front: str, names: Optional[Names], certificates: Optio
             if parts:
                 numbered.setdefault(parts[1], []).append((int(parts[2]), parts[3].lower(), held_in + name))
     stems = Counter(stem for stem, suffix in [os.path.splitext(name) for name in names or ()] if suffix.lower() in SUFFIXES)
+    numbers = frozenset(parts[1] for parts in map(_NUMBER.fullmatch, stems) if parts)
     whole = tuple((1, kind.ending, place) for kind in KINDS for place in unlisted)
-    return Folder(prefix, front, names or NONE, stems, held or NONE, held_in, numbered, whole)
+    return Folder(prefix, front, names or NONE, stems, numbers, held or NONE, held_in, numbered, whole)
 
 
 def _found(folder: Folder, name: str) -> Found:
     stem, suffix = os.path.splitext(name)
     path = folder.prefix + name
-    is_only = folder.stems[stem] == (suffix.lower() in SUFFIXES)
+    is_only = _is_only(folder, stem, suffix.lower())
     called = stem if is_only else name
     beside = list(folder.unlisted)
     for ending in (kind.ending for kind in KINDS):
@@ -168,9 +171,27 @@ def _found(folder: Folder, name: str) -> Found:
         places = _named(name, stem, f".{ending}", folder.held, folder.held_in)
         beside += [(1, ending, place) for place in places[: None if is_only else 1]]
     if suffix.lower() == ".xml":
-        beside += sorted(folder.numbered.get(called, ()))
+        own = folder.numbered.get(name, [])
+        # What is numbered after the name alone may belong to another puzzle, or to another file of several.
+        others = folder.numbered.get(stem, []) if folder.stems[stem] == 1 else []
+        beside += sorted([*own, *(other for other in others if f"{stem}.{other[0]}" not in folder.stems)] if not is_only else others)
     givens, background = (next(iter(_named(name, stem, end, folder.names, folder.prefix)), None) for end in (".givens", ".background"))
     return Found(path, shown(path), folder.front + called, tuple(beside), givens, background)
+
+
+def _is_only(folder: Folder, stem: str, suffix: str) -> bool:
+    """Whether no other puzzle's certificate could have the name that a puzzle's has, if it is called after its stem."""
+    if folder.stems[stem] != (suffix in SUFFIXES):
+        return False
+    if suffix == ".xml" and stem in folder.numbers:
+        return False
+    of = _NUMBER.fullmatch(stem)
+    return not any(_is_puzzle(folder, whole) for whole in (stem, of[1] if of else ""))
+
+
+def _is_puzzle(folder: Folder, name: str) -> bool:
+    """Whether a name is that of a puzzle's file in a folder."""
+    return name in folder.names and os.path.splitext(name)[1].lower() in SUFFIXES
 
 
 def _named(name: str, stem: str, end: str, names: Names, prefix: str) -> list[str]:
