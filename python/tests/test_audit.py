@@ -415,6 +415,10 @@ class Running(Case):
         self.assertEqual((self.folder / "rows.jsonl").read_bytes(), before)
         self.assertEqual({place: place.read_bytes() for place in kept}, kept)
 
+    def test_rows_name_both_bounds(self):
+        for words, limit in ((["--allow", "9"], "9 splits"), (["--seconds", "2"], "2 s"), (["--allow", "9", "--seconds", "2"], "9 splits, 2 s"), ([], "10 s")):
+            self.assertEqual(running.settings_of(arguments.options_of([str(self.site), *words])).limit, limit)
+
     def test_certificates_beside(self):
         self.put("one.ppm", p3(UNIQUE))
         self.put("one.cert", "nonocert 1\nline r 1\n")

@@ -69,7 +69,8 @@ def _stop(number: int, _frame: Any) -> None:
 
 def settings_of(options: Options) -> Settings:
     """What holds for all puzzles of a run, as its rows tell it too."""
-    limit = f"{options.seconds:g} s" if options.allowance is None else f"{options.allowance} splits"
+    bounds = [] if options.allowance is None else [f"{options.allowance} splits"]
+    limit = ", ".join(bounds if options.seconds is None else [*bounds, f"{options.seconds:g} s"])
     made = f"{version()} {options.ground}{'' if options.has_grades else ' no-grade'}{'' if options.allowance is None else ' no-times'}"
     made += "" if options.prove is None else f" prove {options.prove}"
     return Settings(
