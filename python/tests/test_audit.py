@@ -384,6 +384,74 @@ class Running(Case):
             judging.judge(Slow(), one(p3(LEARNT)), None, known.append, most=1000)
         self.assertEqual([judged.proof[:12] for judged in known], ["", "nonolemma 1\n"])
 
+    def test_a_proof_in_the_collection_stays_wherever_proofs_are_read(self):
+        self.put("learnt.ppm", p3(LEARNT))
+        self.put("learnt.proof", "of a designer\n")
+        read = self.folder / "read"
+        read.mkdir()
+        (read / "learnt.proof").write_bytes(nonobench.prove(p3(LEARNT)).proof)
+        self.rows("site", "--certificates", "read", "--certify", "site", "--prove", "9999999", status=0)
+        self.assertEqual((self.site / "learnt.proof").read_text(), "of a designer\n")
+
+    def test_a_proof_that_cannot_be_written(self):
+        self.put("learnt.ppm", p3(LEARNT))
+        place = self.folder / "certs" / "learnt.proof"
+        place.mkdir(parents=True)
+        words = ["site", "--certify", "certs", "--prove", "1000", "--jsonl", "rows"]
+        self.assertIn("nonobench-audit: proofs not written: 1\n", self.run_audit(*words, status=3).stderr)
+        row = self.read("rows")["site/learnt.ppm"]
+        self.assertEqual((row["verdict"], row["note"]), ("unique", "its proof was not written: Is a directory"))
+        self.assertNotIn("proof", row)
+        # What is written on the way goes too.
+        self.assertEqual(sorted(os.listdir(self.folder / "certs")), ["learnt.cert", "learnt.proof"])
+        place.rmdir()
+        self.run_audit(*words, "--resume", status=0)
+        self.assertEqual(self.read("rows")["site/learnt.ppm"]["proof"], place.read_bytes().count(b"\n"))
+
+    def test_a_verdict_stays_where_memory_is_out_at_the_certificate(self):
+        class Short(judging.Desk):
+            def say(self, lines):
+                if lines == b"certify\n":
+                    raise MemoryError
+                return super().say(lines)
+
+        class Answers(list):
+            def put(self, *words):
+                self.append(words)
+
+        answers, left = Answers(), []
+        judge = serving.Judging(serving.Settings("", "", 1024, None, "white", True, True, False, None), answers)
+        judge._desk, judge._leave = Short(), left.append
+        place = self.put("one.ppm", p3(UNIQUE))
+        beside = (1, "cert", str(self.put("one.cert", CERT)))
+        task = serving.Task(0, "one.ppm", str(place), (beside,), None, None, None, "", 1, serving.FULL)
+        judge.answer(task)
+        row = json.loads(answers[-1][3])
+        self.assertEqual((answers[-1][1], row["verdict"], row["certificate"]), ("last", "unique", {"accepted": True}))
+        self.assertEqual(row["note"], "its certificate: out of memory: more than 1024 MiB")
+        self.assertEqual(left, [task])
+
+    def test_what_is_known_of_a_puzzle_gives_it_no_more_time(self):
+        ours, theirs = os.pipe()
+        task = serving.Task(0, "one.ppm", "one.ppm", (), None, None, None, "", 1, serving.FULL)
+        with open(ours, "rb", buffering=0) as answers, open(theirs, "wb", buffering=0) as file:
+            hand = types.SimpleNamespace(answers=answers, torn=b"", tasks=deque([task]), cost=1.0, since=5.0, is_left=False, known=None, reached=0)
+            pool = workers.Pool(None, 0, 10.0)
+            for line, is_further in ((b"0\tknown\tunique\t{}\tlast\n", False), (b"0\tlast\tunique\t{}\t\n", True)):
+                file.write(line)
+                self.assertEqual(len(list(pool._read(hand))), is_further)
+                self.assertEqual(hand.since > 5.0, is_further)
+
+    def test_a_grade_that_does_not_come_takes_neither_note_nor_certificate(self):
+        said = '{"file":"one.ppm","verdict":"unique","lines":7,"note":"its proof was not written: x","seconds":1.5}'
+        task = serving.Task(0, "one.ppm", "one.ppm", (), None, None, None, "", 1, serving.FULL)
+        for why, is_late, seconds in (("no answer within 9 seconds", True, 9.0), ("its process ended by signal 9", False, 1.5)):
+            hand = types.SimpleNamespace(known=["0", "known", "unique", said, "last CERT"])
+            (answer,) = workers.Pool(None, 0, 9.0)._blame(hand, task, why, is_late)
+            row = json.loads(answer.text)
+            self.assertEqual((answer.is_last, answer.verdict, answer.certificate), (True, "unique", "CERT"))
+            self.assertEqual((row["note"], row["seconds"]), (f"its proof was not written: x; its grade: {why}", seconds))
+
     def test_no_two_certificates_have_one_name(self):
         several = "<puzzleset>" + webpbn(UNIQUE) + webpbn(LEARNT) + "</puzzleset>"
         for name, data in (("set.xml", several), ("set.2.ppm", p3(UNIQUE)), ("a.ppm", p3(UNIQUE)), ("a.pgm", p3(LEARNT)), ("a.ppm.ppm", p3(LEARNT)),

@@ -169,6 +169,14 @@ class Names(Case):
         self.assertIn("site/new\\nline.ppm\n", table)
         self.assertNotIn("\x1b", table)
 
+    def test_the_longest_names(self):
+        # A name has at most 255 bytes, and a second run finds certificates of that length.
+        name = "n" * 250
+        self.put(f"{name}.ppm", p3(UNIQUE))
+        for _ in range(2):
+            self.run_audit("site", "--certify", "certs", status=0)
+            self.assertEqual(os.listdir(self.folder / "certs"), [f"{name}.cert"])
+
     def test_paths_lead_nowhere_else(self):
         self.put("in/one.ppm", p3(UNIQUE))
         self.put("other/one.ppm", p3(UNIQUE))

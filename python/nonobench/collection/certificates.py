@@ -9,9 +9,9 @@ import zlib
 from typing import TYPE_CHECKING, Iterable, Optional, Union
 
 from .judging import Desk
-from .kinds import KINDS, Kind
+from .kinds import CERTIFICATE, KINDS, PROOF, Kind
 from .puzzles import Puzzle, one_line
-from .rows import UNWRITTEN, Row, row_of, text_of
+from .rows import Row, noted, row_of, text_of
 
 if TYPE_CHECKING:
     from .workers import Answer
@@ -61,16 +61,16 @@ def givens_of(held: bytes) -> list[tuple[int, int]]:
     return givens
 
 
-def write(path: str, certificate: str) -> str:
-    """Writes a certificate or a proof. Answers why it could not be written, and then nothing is left of it; empty where it was.
+def write(kind: Kind, name: str, text: str) -> str:
+    """Writes a certificate or a proof. Answers a note why it could not be written, and then nothing is left of it; empty where it was.
 
     One that is there already stays until the new one is whole. A new file is written in its place: its row comes later, so that
     `--resume` does it again where a run ends in between.
     """
-    return _put(path, certificate.encode("ascii"))
+    return _put(kind, f"{name}.{kind.ending}", text.encode("ascii"))
 
 
-def _put(path: str, data: bytes) -> str:
+def _put(kind: Kind, path: str, data: bytes) -> str:
     try:
         try:
             _write_new(path, data)
@@ -78,21 +78,35 @@ def _put(path: str, data: bytes) -> str:
             os.makedirs(os.path.dirname(path), exist_ok=True)
             _write_new(path, data)
         except FileExistsError:
-            _write_new(f"{path}.{os.getpid()}.new", data)
-            os.replace(f"{path}.{os.getpid()}.new", path)
+            _replace(path, data)
     except (OSError, ValueError) as error:
-        return f"{UNWRITTEN}: {one_line(getattr(error, 'strerror', None) or str(error))}"
+        return f"{kind.unwritten}: {one_line(getattr(error, 'strerror', None) or str(error))}"
     return ""
+
+
+def _replace(path: str, data: bytes) -> None:
+    """Puts a file in the place of another one. Until then it has a name of its own, which is short however long the other's is."""
+    new = os.path.join(os.path.dirname(path), f".{os.getpid()}.new")
+    with contextlib.suppress(FileNotFoundError):
+        os.unlink(new)  # of a process of this number that was ended
+    _write_new(new, data)
+    try:
+        os.replace(new, path)
+    except OSError:
+        os.unlink(new)
+        raise
 
 
 class Early:
     """A proof that is written before the certificate is made. Where that is short, the proof is not wanted, and is taken back.
 
-    One of an earlier run goes with it, but not one that lies beside the puzzle, which was read: that is there again.
+    One of an earlier run goes with it, but not one that lies beside the puzzle, or is read with it: that is there again.
     """
 
-    def __init__(self, path: str, beside: Iterable[Union[str, bytes]]) -> None:
-        self._path = path
+    def __init__(self, name: str, puzzle: Union[str, bytes], beside: Iterable[Union[str, bytes]]) -> None:
+        self._name = name
+        self._path = f"{name}.{PROOF.ending}"
+        self._puzzle = puzzle
         self._beside = beside
         self._before: Optional[bytes] = None
         self._is_there = False
@@ -101,10 +115,16 @@ class Early:
     def write(self, proof: str) -> None:
         """Writes it."""
         with contextlib.suppress(OSError):
-            if any(os.path.samefile(self._path, file) for file in self._beside if isinstance(file, str)):
+            if self._lies_beside():
                 self._before = _read(self._path)
-        self.note = write(self._path, proof)
+        self.note = write(PROOF, self._name, proof)
         self._is_there = not self.note
+
+    def _lies_beside(self) -> bool:
+        """Whether the file that is there is one of the puzzle's: in its folder, or where such files are read."""
+        if isinstance(self._puzzle, str) and os.path.samefile(os.path.dirname(self._path) or ".", os.path.dirname(self._puzzle) or "."):
+            return True
+        return any(os.path.samefile(self._path, file) for file in self._beside if isinstance(file, str))
 
     def take_back(self) -> None:
         """Leaves what there was before it was written."""
@@ -112,7 +132,7 @@ class Early:
         if not self._is_there:
             return
         if self._before is not None:
-            self.note = _put(self._path, self._before)
+            self.note = _put(PROOF, self._path, self._before)
         else:
             with contextlib.suppress(OSError):
                 os.unlink(self._path)
@@ -141,8 +161,8 @@ def delivered(answer: Answer, to: Optional[str]) -> str:
     """Writes the certificate that came with a row from another machine, and answers the row."""
     row = row_of(answer.text)
     number = row.get("puzzle", 1)
-    note = write(f"{to if number == 1 else f'{to}.{number}'}.cert", unpacked(answer.certificate))
-    return text_of({**row, "note": note}) if note else answer.text
+    note = write(CERTIFICATE, f"{to if number == 1 else f'{to}.{number}'}", unpacked(answer.certificate))
+    return text_of(noted(row, note)) if note else answer.text
 
 
 def packed(certificate: str) -> str:

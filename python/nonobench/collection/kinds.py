@@ -14,9 +14,15 @@ class Kind(NamedTuple):
     lines: str  # the field of a row with the number of lines of the one that was made
     word: str
 
+    @property
+    def unwritten(self) -> str:
+        """What a note says of one that was made, and that could not be written."""
+        return f"its {self.word} was not written"
+
 
 KINDS = (
     Kind("cert", "nonobench_check", "certificate", "lines", "certificate"),
     Kind("proof", "nonobench_verify", "lemmas", "proof", "proof"),
 )
+CERTIFICATE, PROOF = KINDS
 BY_ENDING = {kind.ending: kind for kind in KINDS}

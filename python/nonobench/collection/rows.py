@@ -15,7 +15,6 @@ from .puzzles import Puzzle, Triple
 
 VERDICTS = ("unique", "ambiguous", "undecided", "error")
 GRADES = ("easy", "medium", "hard", "very hard", "expert")
-UNWRITTEN = "its certificate was not written"
 FIGURES = ("rounds", "evaluations", "wait", "splits", "depth")
 COLUMNS = (
     "file", "puzzle", "title", "rows", "columns", "colours", "verdict", "open", "grade", *(f"grade_{name}" for name in FIGURES),
@@ -72,6 +71,13 @@ def map_of(report: str, rows: int, columns: int) -> list[str]:
     """The rows of a report's map."""
     at = report.rindex("\nmap\n") + 5
     return report[at : at + rows * (columns + 1) - 1].split("\n")
+
+
+def noted(row: Row, note: str) -> Row:
+    """A row with a note behind the one that it may have; the row itself where the note is empty."""
+    if not note:
+        return row
+    return {**row, "note": f"{row['note']}; {note}" if "note" in row else note}
 
 
 def name_of(row: Row) -> str:

@@ -21,9 +21,9 @@ from typing import Any, BinaryIO, Iterator, NamedTuple, Optional, Union
 from .._grade import NoGrade, grade_of
 from . import certificates, readers
 from .judging import Desk, Judged, judge
-from .kinds import BY_ENDING
+from .kinds import BY_ENDING, CERTIFICATE
 from .puzzles import Missing, Puzzle, Unreadable, one_line
-from .rows import FIGURES, Row, judged_row, map_of, text_of
+from .rows import FIGURES, Row, judged_row, map_of, noted, text_of
 
 HEAD = struct.Struct("!I")
 MOMENT = 0.03  # seconds until a line goes out
@@ -246,40 +246,55 @@ class Judging:
         """The row of a puzzle, and its certificate where that goes back."""
         settings, desk = self._settings, self._desk
         number = about.front.get("puzzle", 1)
-        name = task.to if number == 1 else f"{task.to}.{number}"
-        early = certificates.Early(f"{name}.proof", [file for _, _, file in task.beside])
+        name = f"{task.to}" if number == 1 else f"{task.to}.{number}"
+        early = certificates.Early(name, task.file, [file for _, _, file in task.beside])
         told: Row = {}
+        last: Optional[Judged] = None  # what is known of a puzzle with one solution
 
         def tell(known: Judged) -> None:
             # What lies beside is checked before a certificate is made: it is wanted most where none comes in time.
+            nonlocal last
             if beside and not told:
                 told.update(certificates.told(desk, puzzle, beside))
+            last = known
             if known.proof:
                 early.write(known.proof)
+                last = known if not early.note else known._replace(proof="")
             if known.proof or time.perf_counter() - about.begun > LONG:
-                self._put(task, about, {**judged_row(puzzle, known), **told}, "known", about.kind)
+                self._put(task, about, noted({**judged_row(puzzle, last), **told}, early.note), "known", about.kind)
                 self._answers.flush()
 
         allowance = FEW_SPLITS if task.mode == GLANCE else settings.allowance
-        judged = judge(desk, puzzle, allowance, tell, task.mode == FULL, settings.most)
+        note = ""
+        try:
+            judged = judge(desk, puzzle, allowance, tell, task.mode == FULL, settings.most)
+        except MemoryError:
+            if last is None:
+                raise
+            self._spare = b""
+            judged, note = last, f"its certificate: {self._too_much()}"
         if not judged.proof:
             early.take_back()
+        elif early.note:
+            judged = judged._replace(proof="")
         row = judged_row(puzzle, judged)
         if task.mode == GLANCE and judged.verdict == "unique":
-            row["note"] = f"no certificate within {settings.limit}"
+            note = f"no certificate within {settings.limit}"
         told = told or certificates.told(desk, puzzle, beside)
         if not judged.certificate:
-            return {**row, **told}, ""
+            return noted(noted({**row, **told}, early.note), note), ""
         row["lines"] = judged.certificate.count("\n")
-        made, note = "", ""
+        made = ""
         if task.to is not None and settings.is_inline:
             made = certificates.packed(judged.certificate)
         elif task.to is not None:
-            note = certificates.write(f"{name}.cert", judged.certificate) or early.note
-        end = {**told, "note": note} if note else told
+            note = certificates.write(CERTIFICATE, name, judged.certificate)
+        end = noted(noted(told, note), early.note)
         if settings.has_grades:
             self._put(task, about, {**row, **end}, "known", f"{about.kind} {made}")
-            row.update(self._grade(puzzle, row, judged))
+            grade = self._grade(puzzle, row, judged)
+            end = noted(end, grade.pop("note", ""))
+            row.update(grade)
         return {**row, **end}, made
 
     def _grade(self, puzzle: Puzzle, row: Row, judged: Judged) -> Row:

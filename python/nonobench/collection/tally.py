@@ -7,7 +7,8 @@ from collections import Counter
 from typing import Iterable
 
 from .arguments import Options
-from .rows import FLAW_MARKS, GRADES, UNWRITTEN, VERDICTS, flaws_of, row_of
+from .kinds import KINDS
+from .rows import FLAW_MARKS, GRADES, VERDICTS, flaws_of, row_of
 
 ALL_UNIQUE, SOME_NOT, ERRORS = 0, 1, 3
 
@@ -20,7 +21,7 @@ class Tally:
         self._grades: Counter[str] = Counter()
         self._flaws: Counter[str] = Counter()
         self._missing: Counter[str] = Counter()
-        self._unwritten = 0
+        self._unwritten: Counter[str] = Counter()  # by what was not written
         self._bare = 0  # unique, without a certificate
 
     def put(self, verdict: str, text: str) -> None:
@@ -30,8 +31,9 @@ class Tally:
             self._missing.update(name for name in [row_of(text).get("missing")] if name)
         elif any(mark in text for mark in FLAW_MARKS):
             self._flaws.update(flaws_of(row_of(text)))
-        if f'"note":"{UNWRITTEN}' in text:
-            self._unwritten += 1
+        if '"note":"' in text:
+            note = row_of(text)["note"]
+            self._unwritten.update(kind.word for kind in KINDS if kind.unwritten in note)
         if verdict == "unique" and '"lines":' not in text:
             self._bare += 1
         at = text.find('"grade":"')
@@ -65,8 +67,7 @@ class Tally:
     def warn(self, options: Options, is_stopped: bool) -> None:
         """Says on standard error what kept the run from judging all."""
         lines = [f"{count} not read, since {name} is not installed" for name, count in sorted(self._missing.items())]
-        if self._unwritten:
-            lines.append(f"certificates not written: {self._unwritten}")
+        lines += [f"{word}s not written: {count}" for word, count in sorted(self._unwritten.items())]
         if self._bare and options.certify is not None:
             lines.append(f"unique, but no certificate made in time or memory: {self._bare}")
         if is_stopped:

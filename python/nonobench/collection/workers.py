@@ -14,7 +14,7 @@ from collections import deque
 from pathlib import Path
 from typing import Any, Callable, Iterator, NamedTuple, Optional
 
-from .rows import Row, text_of
+from .rows import Row, noted, text_of
 from .serving import FULL, GLANCE, HEAD, Settings, Task
 
 # Run apart from the current folder, whose files are not trusted.
@@ -179,11 +179,15 @@ class Pool:
         now = time.monotonic()
         *lines, hand.torn = (hand.torn + data).split(b"\n")
         before = len(hand.tasks)
+        is_further = False
         for line in lines:
-            yield from self._hear(hand, line.decode("ascii").split("\t"))
+            words = line.decode("ascii").split("\t")
+            # What is known of a puzzle before all is made gives it no more time.
+            is_further = is_further or words[1] != "known"
+            yield from self._hear(hand, words)
         if lines and before > len(hand.tasks):
             hand.cost = 0.5 * hand.cost + 0.5 * (now - hand.since) / (before - len(hand.tasks))
-        if lines:
+        if is_further:
             hand.since = now
         if hand.is_left and not hand.tasks:
             self._replace(hand)
@@ -260,7 +264,7 @@ class Pool:
             _, _, _, text, rest = hand.known
             kind, _, certificate = rest.partition(" ")
             row: Row = json.loads(text)
-            row.setdefault("note", f"its {'grade' if 'lines' in row else 'certificate'}: {why}")
+            row = noted(row, f"its {'grade' if 'lines' in row else 'certificate'}: {why}")
             if is_late and "seconds" in row:
                 row["seconds"] = self._seconds
             yield from self._give_up(task, row, kind == "more", certificate)
