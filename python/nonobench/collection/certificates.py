@@ -85,10 +85,8 @@ def _put(kind: Kind, path: str, data: bytes) -> str:
 
 
 def _replace(path: str, data: bytes) -> None:
-    """Puts a file in the place of another one. Until then it has a name of its own, which is short however long the other's is."""
-    new = os.path.join(os.path.dirname(path), f".{os.getpid()}.new")
-    with contextlib.suppress(FileNotFoundError):
-        os.unlink(new)  # of a process of this number that was ended
+    """Puts a file in the place of another one. Until then it has a short name that no other process has, on whichever machine."""
+    new = os.path.join(os.path.dirname(path), f".{os.urandom(12).hex()}.new")
     _write_new(new, data)
     try:
         os.replace(new, path)

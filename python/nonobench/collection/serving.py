@@ -132,8 +132,11 @@ class Answers:
         with self._lock:
             lines, self._lines = self._lines, []
             data = memoryview("".join(lines).encode("ascii"))
-            while data:
-                data = data[os.write(self._handle, data) :]
+            try:
+                while data:
+                    data = data[os.write(self._handle, data) :]
+            except BrokenPipeError:  # nobody asks any more
+                os._exit(1)
 
     def _run(self) -> None:
         while True:
