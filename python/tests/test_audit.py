@@ -22,7 +22,7 @@ from audit_parts import (  # noqa: E402
 )
 
 import nonobench  # noqa: E402
-from nonobench.collection import arguments, judging, readers, running, serving, tally, workers  # noqa: E402
+from nonobench.collection import arguments, certificates, judging, readers, running, serving, tally, workers  # noqa: E402
 from nonobench.collection.puzzles import Unreadable  # noqa: E402
 
 # One solution, whose certificate says much twice: it is three times as long as a proof by lemmas.
@@ -146,7 +146,7 @@ class Reading(unittest.TestCase):
         self.assertEqual(list(readers.grounded(iter([dark]), readers.ground_of("0,0,0"))), [dark])
 
     def test_a_jpeg_is_named(self):
-        for suffix in (".jpg", ".ppm", ""):
+        for suffix in (".jpg", ".ppm", ".png", ""):
             with self.subTest(suffix), self.assertRaisesRegex(Unreadable, "JPEG: its colours are not exact"):
                 one(image("JPEG"), suffix)
 
@@ -192,8 +192,9 @@ class Reading(unittest.TestCase):
         with_one = webpbn(AMBIGUOUS, more=saved.format("givens", "?")).encode()
         for text, givens in ((b"given 2 2\n", ((2, 2),)), (b"", ())):
             self.assertEqual([puzzle.givens for puzzle in readers.puzzles_of(with_one, ".xml", NONE, text)], [givens])
-        with self.assertRaisesRegex(Unreadable, "beside several puzzles"):
-            list(readers.puzzles_of(f"<puzzleset>{webpbn(UNIQUE)}{webpbn(AMBIGUOUS)}</puzzleset>".encode(), ".xml", NONE, b"given 1 1\n"))
+        for other in (webpbn(AMBIGUOUS), "<puzzle/>"):
+            with self.subTest(other), self.assertRaisesRegex(Unreadable, "beside several puzzles"):
+                list(readers.puzzles_of(f"<puzzleset>{webpbn(UNIQUE)}{other}</puzzleset>".encode(), ".xml", NONE, b"given 1 1\n"))
         refused = one(webpbn(AMBIGUOUS, more=saved.format("givens", ".")).encode())
         self.assertEqual(str(refused), "a given has another colour than the solution")
 
@@ -344,7 +345,11 @@ class Running(Case):
         proof = (made / "learnt.proof").read_bytes()
         self.assertEqual(rows["site/learnt.ppm"]["proof"], proof.count(b"\n"))
         self.assertEqual(nonobench.verify(p3(LEARNT), proof).givens, ())
-        self.assertLess(len(proof), len((made / "learnt.cert").read_bytes()))
+        size = len((made / "learnt.cert").read_bytes())
+        self.assertLess(len(proof), size)
+        for most, is_written in ((size, False), (size - 1, True)):
+            row = self.rows("site/learnt.ppm", "--certify", "more", "--prove", most, status=0)["site/learnt.ppm"]
+            self.assertEqual(("proof" in row, (self.folder / "more" / "learnt.proof").exists()), (is_written, is_written))
         # One that is missing is made again, and one that is no longer wanted goes.
         (made / "learnt.proof").unlink()
         self.rows("site", "--certify", "certs", "--prove", "1000", "--resume", status=0)
@@ -404,6 +409,9 @@ class Running(Case):
         self.assertNotIn("proof", row)
         # What is written on the way goes too.
         self.assertEqual(sorted(os.listdir(self.folder / "certs")), ["learnt.cert", "learnt.proof"])
+        # One that is not wanted need not be written.
+        self.run_audit("site", "--certify", "certs", "--prove", "9999999", "--jsonl", "other", status=0)
+        self.assertNotIn("note", self.read("other")["site/learnt.ppm"])
         place.rmdir()
         self.run_audit(*words, "--resume", status=0)
         self.assertEqual(self.read("rows")["site/learnt.ppm"]["proof"], place.read_bytes().count(b"\n"))
@@ -430,6 +438,21 @@ class Running(Case):
         self.assertEqual((answers[-1][1], row["verdict"], row["certificate"]), ("last", "unique", {"accepted": True}))
         self.assertEqual(row["note"], "its certificate: out of memory: more than 1024 MiB")
         self.assertEqual(left, [task])
+
+    def test_a_certificate_goes_back_before_the_grade(self):
+        # Over a scheduler, what is known of a puzzle has its certificate, should its grade not come.
+        class Answers(list):
+            def put(self, *words):
+                self.append(words)
+
+        answers = Answers()
+        judge = serving.Judging(serving.Settings("", "", 1024, 9, "white", True, False, True, None), answers)
+        place = self.put("one.ppm", p3(UNIQUE))
+        judge.answer(serving.Task(0, "one.ppm", str(place), (), None, None, "one", "", 1, serving.FULL))
+        known, last = answers
+        self.assertEqual((known[1], last[1], known[4]), ("known", "last", f"last {last[4]}"))
+        self.assertEqual(nonobench.check(p3(UNIQUE), certificates.unpacked(last[4]).encode()).givens, ())
+        self.assertEqual({**json.loads(known[3]), **json.loads(last[3])}, json.loads(last[3]))
 
     def test_what_is_known_of_a_puzzle_gives_it_no_more_time(self):
         ours, theirs = os.pipe()
@@ -809,6 +832,13 @@ class Again(Case):
         rows = self.rows("site", "--resume", status=1)
         told = [row.get(field, {}).get("accepted") for row in rows.values() for field in ("certificate", "lemmas")]
         self.assertEqual(told, [None, False, None, None, False, None])
+
+    def test_resume_minds_an_empty_file_of_givens(self):
+        # It takes away the given of the XML, without which there are two solutions.
+        self.put("set.xml", webpbn(AMBIGUOUS, more='<solution type="saved" id="givens"><image>|X?||??|</image></solution>'))
+        self.rows("site", "--allow", "9", status=0)
+        self.put("set.givens", "")
+        self.rows("site", "--allow", "9", "--resume", status=1)
 
     def test_resume_after_a_run_that_was_stopped_within_a_file(self):
         self.put("set.xml", "<puzzleset>" + webpbn(UNIQUE) * 2 + "</puzzleset>")

@@ -73,7 +73,10 @@ def serve() -> None:
     questions = sys.stdin.buffer
     answers = Answers(os.dup(1))
     os.dup2(2, 1)  # what prints must not stand between the answers
-    settings = Settings(*_receive(questions))
+    told = _receive(questions)
+    if told is None:  # the run was stopped before it said so much
+        return
+    settings = Settings(*told)
     resource.setrlimit(resource.RLIMIT_AS, (settings.memory << 20, settings.memory << 20))
     resource.setrlimit(resource.RLIMIT_CORE, (0, 0))
     gc.set_threshold(20_000)
