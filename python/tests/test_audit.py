@@ -454,6 +454,27 @@ class Running(Case):
         self.assertEqual(nonobench.check(p3(UNIQUE), certificates.unpacked(last[4]).encode()).givens, ())
         self.assertEqual({**json.loads(known[3]), **json.loads(last[3])}, json.loads(last[3]))
 
+    def test_a_note_that_a_certificate_was_not_written_goes_before_the_grade(self):
+        class Answers(list):
+            def put(self, *words):
+                self.append(words)
+
+        answers = Answers()
+        judge = serving.Judging(serving.Settings("", "", 1024, 9, "white", True, False, False, None), answers)
+        place = self.put("one.ppm", p3(UNIQUE))
+        (self.folder / "one.cert").mkdir()
+        judge.answer(serving.Task(0, "one.ppm", str(place), (), None, None, str(self.folder / "one"), "", 1, serving.FULL))
+        self.assertEqual([words[1] for words in answers], ["known", "last"])
+        self.assertEqual({json.loads(words[3])["note"] for words in answers}, {"its certificate was not written: Is a directory"})
+
+    def test_a_certificate_that_came_back_is_written_without_a_grade(self):
+        to = str(self.folder / "certs" / "one")
+        run = running.Run(arguments.Options(["site"], certify="certs", is_quiet=True))
+        run._kept[0] = running.Kept((), to)
+        text = '{"file":"one.ppm","verdict":"unique","lines":9,"note":"its grade: no answer within 9 seconds"}'
+        run._deliver_answer(workers.Answer(0, True, "unique", text, certificates.packed(CERT)))
+        self.assertEqual(Path(f"{to}.cert").read_text(), CERT)
+
     def test_what_is_known_of_a_puzzle_gives_it_no_more_time(self):
         ours, theirs = os.pipe()
         task = serving.Task(0, "one.ppm", "one.ppm", (), None, None, None, "", 1, serving.FULL)
