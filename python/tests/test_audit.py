@@ -491,10 +491,15 @@ class Running(Case):
         task = serving.Task(0, "one.ppm", "one.ppm", (), None, None, None, "", 1, serving.FULL)
         for why, is_late, seconds in (("no answer within 9 seconds", True, 9.0), ("its process ended by signal 9", False, 1.5)):
             hand = types.SimpleNamespace(known=["0", "known", "unique", said, "last CERT"])
-            (answer,) = workers.Pool(None, 0, 9.0)._blame(hand, task, why, is_late)
+            pool = workers.Pool(None, 0, 9.0)
+            (answer,) = pool._blame(hand, task, why, is_late)
             row = json.loads(answer.text)
             self.assertEqual((answer.is_last, answer.verdict, answer.certificate), (True, "unique", "CERT"))
             self.assertEqual((row["note"], row["seconds"]), (f"its proof was not written: x; its grade: {why}", seconds))
+            # It is known of this puzzle alone.
+            hand.tasks = deque([task])
+            self.assertEqual(list(pool._take(hand, task, answer)), [answer])
+            self.assertIsNone(hand.known)
 
     def test_no_two_certificates_have_one_name(self):
         several = "<puzzleset>" + webpbn(UNIQUE) + webpbn(LEARNT) + "</puzzleset>"
@@ -622,7 +627,7 @@ class Running(Case):
         self.put("twin.ppm", p3(UNIQUE))
         self.put("twin.png", image("PNG"))
         self.put("set.xml", "<puzzleset>" + webpbn(UNIQUE) + webpbn(AMBIGUOUS) + webpbn(UNIQUE) + "</puzzleset>")
-        for name, text in (("small/one", PROOF), ("twin.ppm", PROOF), ("twin.png", CERT), ("set", PROOF), ("set.2", PROOF), ("set.3", PROOF)):
+        for name, text in (("small/one", PROOF), ("twin.ppm", PROOF), ("twin.png", CERT), ("set", PROOF), ("set.2", PROOF), ("set.3", PROOF), ("set.4", "x")):
             place = self.folder / "proofs" / f"{name}.proof"
             place.parent.mkdir(parents=True, exist_ok=True)
             place.write_text(text)
