@@ -416,7 +416,7 @@ class Running(Case):
         self.run_audit(*words, "--resume", status=0)
         self.assertEqual(self.read("rows")["site/learnt.ppm"]["proof"], place.read_bytes().count(b"\n"))
 
-    def test_a_verdict_stays_where_memory_is_out_at_the_certificate(self):
+    def test_a_verdict_stays_where_memory_is_out(self):
         class Short(judging.Desk):
             def say(self, lines):
                 if lines == b"certify\n":
@@ -425,19 +425,24 @@ class Running(Case):
 
         class Answers(list):
             def put(self, *words):
+                if words[1] == "known":
+                    raise MemoryError
                 self.append(words)
 
-        answers, left = Answers(), []
-        judge = serving.Judging(serving.Settings("", "", 1024, None, "white", True, True, False, None), answers)
-        judge._desk, judge._leave = Short(), left.append
         place = self.put("one.ppm", p3(UNIQUE))
         beside = (1, "cert", str(self.put("one.cert", CERT)))
-        task = serving.Task(0, "one.ppm", str(place), (beside,), None, None, None, "", 1, serving.FULL)
-        judge.answer(task)
-        row = json.loads(answers[-1][3])
-        self.assertEqual((answers[-1][1], row["verdict"], row["certificate"]), ("last", "unique", {"accepted": True}))
-        self.assertEqual(row["note"], "its certificate: out of memory: more than 1024 MiB")
-        self.assertEqual(left, [task])
+        to = str(self.folder / "made")
+        task = serving.Task(0, "one.ppm", str(place), (beside,), None, None, to, "", 1, serving.FULL)
+        for desk, missing, lines in ((Short, "certificate", None), (judging.Desk, "grade", 6)):
+            answers, left = Answers(), []
+            judge = serving.Judging(serving.Settings("", "", 1024, None, "white", True, True, False, None), answers)
+            judge._desk, judge._leave = desk(), left.append
+            judge.answer(task)
+            row = json.loads(answers[-1][3])
+            with self.subTest(missing):
+                self.assertEqual((answers[-1][1], row["verdict"], row["certificate"], row.get("lines")), ("last", "unique", {"accepted": True}, lines))
+                self.assertEqual(row["note"], f"its {missing}: out of memory: more than 1024 MiB")
+                self.assertEqual((left, os.path.exists(f"{to}.cert")), ([task], lines is not None))
 
     def test_a_certificate_goes_back_before_the_grade(self):
         # Over a scheduler, what is known of a puzzle has its certificate, should its grade not come.

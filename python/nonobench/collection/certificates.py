@@ -8,7 +8,7 @@ import os
 import zlib
 from typing import TYPE_CHECKING, Iterable, Optional, Union
 
-from .judging import Desk
+from .judging import Desk, Judged
 from .kinds import CERTIFICATE, KINDS, PROOF, Kind
 from .puzzles import Puzzle, one_line
 from .rows import Row, noted, row_of, text_of
@@ -123,6 +123,10 @@ class Early:
         if isinstance(self._puzzle, str) and os.path.samefile(os.path.dirname(self._path) or ".", os.path.dirname(self._puzzle) or "."):
             return True
         return any(os.path.samefile(self._path, file) for file in self._beside if isinstance(file, str))
+
+    def of(self, judged: Judged) -> Judged:
+        """What is told of a puzzle: of a proof only where it could be written."""
+        return judged._replace(proof="") if self.note else judged
 
     def take_back(self) -> None:
         """Leaves what there was before it was written."""

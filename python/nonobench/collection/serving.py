@@ -16,7 +16,7 @@ import struct
 import sys
 import threading
 import time
-from typing import Any, BinaryIO, Iterator, NamedTuple, Optional, Union
+from typing import Any, BinaryIO, Callable, Iterator, NamedTuple, Optional, Union
 
 from .._grade import NoGrade, grade_of
 from . import certificates, readers
@@ -157,6 +157,7 @@ class Judging:
         self._answers = answers
         self._ground = readers.ground_of(settings.ground)
         self._desk = Desk()
+        self._known: Optional[Callable[[], tuple[Row, str]]] = None  # the row of a puzzle before all is made, and its certificate
         self._spare = bytes(SPARE)  # let go where memory is out, so that this can be told
 
     def answer(self, task: Task) -> None:
@@ -225,6 +226,7 @@ class Judging:
     def _judge(self, task: Task, about: About, puzzle: Union[Puzzle, Unreadable], beside: certificates.Files) -> None:
         """Puts the row of one puzzle."""
         made = ""
+        self._known = None
         try:
             if isinstance(puzzle, Unreadable):
                 raise puzzle
@@ -235,10 +237,17 @@ class Judging:
                 row["missing"] = error.library
         except MemoryError:
             self._spare = b""
-            row = {"verdict": "error", "error": self._too_much()}
+            row, made = self._short()
         self._put(task, about, row, about.kind, made)
         if not self._spare:
             self._leave(task)
+
+    def _short(self) -> tuple[Row, str]:
+        """The row of a puzzle for which memory is out, with its certificate: what is known of it, and what is missing."""
+        if self._known is None:
+            return {"verdict": "error", "error": self._too_much()}, ""
+        row, made = self._known()
+        return noted(row, f"its {'grade' if 'lines' in row else 'certificate'}: {self._too_much()}"), made
 
     def _put(self, task: Task, about: About, row: Row, kind: str, certificate: str = "") -> None:
         if self._settings.has_times:
@@ -255,47 +264,37 @@ class Judging:
         name = f"{task.to}" if number == 1 else f"{task.to}.{number}"
         early = certificates.Early(name, task.file, [file for _, _, file in task.beside])
         told: Row = {}
-        last: Optional[Judged] = None  # what is known of a puzzle with one solution
 
         def tell(known: Judged) -> None:
             # What lies beside is checked before a certificate is made: it is wanted most where none comes in time.
-            nonlocal last
             if beside and not told:
                 told.update(certificates.told(desk, puzzle, beside))
-            last = known
             if known.proof:
                 early.write(known.proof)
-                last = known if not early.note else known._replace(proof="")
+            row = lambda: noted({**judged_row(puzzle, early.of(known)), **told}, early.note)  # noqa: E731
+            self._known = lambda: (row(), "")
             if known.proof or time.perf_counter() - about.begun > LONG:
-                self._put(task, about, noted({**judged_row(puzzle, last), **told}, early.note), "known", about.kind)
+                self._put(task, about, row(), "known", about.kind)
                 self._answers.flush()
 
         allowance = FEW_SPLITS if task.mode == GLANCE else settings.allowance
-        note = ""
-        try:
-            judged = judge(desk, puzzle, allowance, tell, task.mode == FULL, settings.most)
-        except MemoryError:
-            if last is None:
-                raise
-            self._spare = b""
-            judged, note = last, f"its certificate: {self._too_much()}"
+        judged = judge(desk, puzzle, allowance, tell, task.mode == FULL, settings.most)
         if not judged.proof:
             early.take_back()
-        elif early.note:
-            judged = judged._replace(proof="")
-        row = judged_row(puzzle, judged)
+        row = judged_row(puzzle, early.of(judged))
         if task.mode == GLANCE and judged.verdict == "unique":
-            note = f"no certificate within {settings.limit}"
+            row["note"] = f"no certificate within {settings.limit}"
         told = told or certificates.told(desk, puzzle, beside)
         if not judged.certificate:
-            return noted(noted({**row, **told}, early.note), note), ""
+            return {**row, **told}, ""
         row["lines"] = judged.certificate.count("\n")
-        made = ""
+        made, note = "", ""
         if task.to is not None and settings.is_inline:
             made = certificates.packed(judged.certificate)
         elif task.to is not None:
             note = certificates.write(CERTIFICATE, name, judged.certificate)
         end = noted(noted(told, note), early.note)
+        self._known = lambda: ({**row, **end}, made)
         if settings.has_grades:
             self._put(task, about, {**row, **end}, "known", f"{about.kind} {made}")
             grade = self._grade(puzzle, row, judged)
