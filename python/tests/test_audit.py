@@ -525,7 +525,8 @@ class Running(Case):
         self.assertEqual([("certificate" in rows[f"site/set.xml#{number}"]) for number in (1, 2)], [True, False])
 
     def test_an_output_is_no_input(self):
-        kept = {self.put(name, data): data for name, data in (("one.ppm", p3(UNIQUE)), ("one.cert", CERT.encode()), ("two.ppm", p3(UNIQUE)), ("odd.txt", p3(UNIQUE)))}
+        files = {"one.ppm": p3(UNIQUE), "one.cert": CERT.encode(), "two.ppm": p3(UNIQUE), "odd.txt": p3(UNIQUE)}
+        kept = {self.put(name, data): data for name, data in files.items()}
         for option in ("--jsonl", "--csv", "--html"):
             for words in ((option, "site/one.ppm", "site/two.ppm"), ("site", option, "site/one.cert"), ("site/odd.txt", option, "site/odd.txt")):
                 with self.subTest(words):

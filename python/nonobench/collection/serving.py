@@ -271,10 +271,9 @@ class Judging:
                 told.update(certificates.told(desk, puzzle, beside))
             if known.proof:
                 early.write(known.proof)
-            row = lambda: noted({**judged_row(puzzle, early.of(known)), **told}, early.note)  # noqa: E731
-            self._known = lambda: (row(), "")
+            self._known = lambda: (noted({**judged_row(puzzle, early.of(known)), **told}, early.note), "")
             if known.proof or time.perf_counter() - about.begun > LONG:
-                self._put(task, about, row(), "known", about.kind)
+                self._put(task, about, self._known()[0], "known", about.kind)
                 self._answers.flush()
 
         allowance = FEW_SPLITS if task.mode == GLANCE else settings.allowance
