@@ -271,9 +271,13 @@ class Judging:
                 told.update(certificates.told(desk, puzzle, beside))
             if known.proof:
                 early.write(known.proof)
-            self._known = lambda: (noted({**judged_row(puzzle, early.of(known)), **told}, early.note), "")
+
+            def row_so_far() -> Row:
+                return noted({**judged_row(puzzle, early.of(known)), **told}, early.note)
+
+            self._known = lambda: (row_so_far(), "")
             if known.proof or time.perf_counter() - about.begun > LONG:
-                self._put(task, about, self._known()[0], "known", about.kind)
+                self._put(task, about, row_so_far(), "known", about.kind)
                 self._answers.flush()
 
         allowance = FEW_SPLITS if task.mode == GLANCE else settings.allowance
