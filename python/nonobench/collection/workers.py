@@ -269,7 +269,7 @@ class Pool:
                 row["seconds"] = self._seconds
             yield from self._give_up(task, row, kind == "more", certificate)
         elif is_late and task.mode == FULL:
-            self._again.appendleft(task._replace(mode=GLANCE, spent=self._seconds))
+            self._again.appendleft(task._replace(mode=GLANCE, spent=self._seconds or 0.0))
         elif not is_late and (task.number, task.start) not in self._died:
             self._died.add((task.number, task.start))
             self._again.appendleft(task)
