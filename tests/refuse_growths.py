@@ -321,7 +321,7 @@ def main(program, library, folder, *wanted):
         print(wrong, file=sys.stderr)
         return 1
     print(f'{all_refused} growths refused, {all_idle} of them without a trace, in {time.monotonic() - began:.0f} seconds')
-    return 0
+    return 0 if all_refused else 1  # a program that is linked statically asks the library for nothing
 
 
 if __name__ == '__main__':
