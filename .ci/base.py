@@ -52,6 +52,8 @@ MOST = {
 SHARED = {'A proof by lemmas proves uniqueness', 'Printed proofs are accepted', 'The program does what its arguments ask for'}
 # The most columns of a line: definitions are read by whoever audits a claim, proofs by whoever mends them.
 WIDTHS = {'specs': 120, 'proofs': 200}
+# From this many words on, a comment's first sentence is shortened in docs/BASE.md.
+LONG = 35
 # What README.md says of the lines that a claim needs.
 FIGURES = {
     'The verdict is true': '{} lines for the verdict',
@@ -89,11 +91,13 @@ class Definition:
         return lines
 
     def sentence(self):
-        """The first sentence of the comment, or what the definition is of."""
+        """The first sentence of the comment, a long one up to its first semicolon, or what the definition is of."""
         text = ' '.join(line.lstrip('- ').strip() for line in self.comment if not line.startswith('-- ----'))
         if not text:
             return f'`{self.lines[0].strip()}`'
         first = re.split(r'(?<=[.:]) (?=[A-Z])', text)[0].rstrip('.:')
+        if len(first.split()) > LONG and ';' in first:
+            return f'{first[0].upper()}{first[1:].split(";")[0]}, and more.'
         return first[0].upper() + first[1:] + '.'
 
 
