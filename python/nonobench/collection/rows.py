@@ -80,6 +80,11 @@ def noted(row: Row, note: str) -> Row:
     return {**row, "note": f"{row['note']}; {note}" if "note" in row else note}
 
 
+def unfinished(row: Row, why: str) -> Row:
+    """The row of a puzzle with a verdict, with a note why its certificate is missing, or its grade where it has a certificate."""
+    return noted(row, f"its {'grade' if 'lines' in row else 'certificate'}: {why}")
+
+
 def name_of(row: Row) -> str:
     """What a puzzle is called: its file, and its number where the file has several."""
     return f"{row['file']}#{row['puzzle']}" if "puzzle" in row else str(row["file"])

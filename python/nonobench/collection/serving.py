@@ -16,14 +16,14 @@ import struct
 import sys
 import threading
 import time
-from typing import Any, BinaryIO, Callable, Iterator, NamedTuple, Optional, Union
+from typing import Any, BinaryIO, Iterator, NamedTuple, Optional, Union
 
-from .._grade import NoGrade, grade_of
 from . import certificates, readers
 from .judging import Desk, Judged, judge
-from .kinds import BY_ENDING, CERTIFICATE
-from .puzzles import Missing, Puzzle, Unreadable, one_line
-from .rows import FIGURES, Row, judged_row, map_of, noted, text_of
+from .kinds import BY_ENDING
+from .making import Making
+from .puzzles import Missing, Puzzle, Unreadable
+from .rows import Row, text_of, unfinished
 
 HEAD = struct.Struct("!I")
 MOMENT = 0.03  # seconds until a line goes out
@@ -157,7 +157,7 @@ class Judging:
         self._answers = answers
         self._ground = readers.ground_of(settings.ground)
         self._desk = Desk()
-        self._known: Optional[Callable[[], tuple[Row, str]]] = None  # the row of a puzzle before all is made, and its certificate
+        self._making: Optional[Making] = None  # what is known of the puzzle at hand
         self._spare = bytes(SPARE)  # let go where memory is out, so that this can be told
 
     def answer(self, task: Task) -> None:
@@ -226,7 +226,7 @@ class Judging:
     def _judge(self, task: Task, about: About, puzzle: Union[Puzzle, Unreadable], beside: certificates.Files) -> None:
         """Puts the row of one puzzle."""
         made = ""
-        self._known = None
+        self._making = None
         try:
             if isinstance(puzzle, Unreadable):
                 raise puzzle
@@ -244,10 +244,9 @@ class Judging:
 
     def _short(self) -> tuple[Row, str]:
         """The row of a puzzle for which memory is out, with its certificate: what is known of it, and what is missing."""
-        if self._known is None:
+        if self._making is None or self._making.judged is None:
             return {"verdict": "error", "error": self._too_much()}, ""
-        row, made = self._known()
-        return noted(row, f"its {'grade' if 'lines' in row else 'certificate'}: {self._too_much()}"), made
+        return unfinished(self._making.row(), self._too_much()), self._making.back
 
     def _put(self, task: Task, about: About, row: Row, kind: str, certificate: str = "") -> None:
         if self._settings.has_times:
@@ -259,63 +258,27 @@ class Judging:
 
     def _row(self, task: Task, about: About, puzzle: Puzzle, beside: certificates.Files) -> tuple[Row, str]:
         """The row of a puzzle, and its certificate where that goes back."""
-        settings, desk = self._settings, self._desk
+        settings = self._settings
         number = about.front.get("puzzle", 1)
         name = f"{task.to}" if number == 1 else f"{task.to}.{number}"
         early = certificates.Early(name, task.file, [file for _, _, file in task.beside])
-        told: Row = {}
+        making = self._making = Making(self._desk, puzzle, beside, early)
 
         def tell(known: Judged) -> None:
-            # What lies beside is checked before a certificate is made: it is wanted most where none comes in time.
-            if beside and not told:
-                told.update(certificates.told(desk, puzzle, beside))
-            if known.proof:
-                early.write(known.proof)
-
-            def row_so_far() -> Row:
-                return noted({**judged_row(puzzle, early.of(known)), **told}, early.note)
-
-            self._known = lambda: (row_so_far(), "")
+            making.hear(known)
             if known.proof or time.perf_counter() - about.begun > LONG:
-                self._put(task, about, row_so_far(), "known", about.kind)
+                self._put(task, about, making.row(), "known", about.kind)
                 self._answers.flush()
 
         allowance = FEW_SPLITS if task.mode == GLANCE else settings.allowance
-        judged = judge(desk, puzzle, allowance, tell, task.mode == FULL, settings.most)
-        if not judged.proof:
-            early.take_back()
-        row = judged_row(puzzle, early.of(judged))
-        if task.mode == GLANCE and judged.verdict == "unique":
-            row["note"] = f"no certificate within {settings.limit}"
-        told = told or certificates.told(desk, puzzle, beside)
-        if not judged.certificate:
-            return {**row, **told}, ""
-        row["lines"] = judged.certificate.count("\n")
-        made, note = "", ""
-        if task.to is not None and settings.is_inline:
-            made = certificates.packed(judged.certificate)
-        elif task.to is not None:
-            note = certificates.write(CERTIFICATE, name, judged.certificate)
-        end = noted(noted(told, note), early.note)
-        self._known = lambda: ({**row, **end}, made)
-        if settings.has_grades:
-            self._put(task, about, {**row, **end}, "known", f"{about.kind} {made}")
-            grade = self._grade(puzzle, row, judged)
-            end = noted(end, grade.pop("note", ""))
-            row.update(grade)
-        return {**row, **end}, made
-
-    def _grade(self, puzzle: Puzzle, row: Row, judged: Judged) -> Row:
-        """The grade of a puzzle with one solution. Where the plain solver ends elsewhere than the proved map, there is none."""
-        settled = map_of(judged.report, row["rows"], row["columns"])
-        try:
-            grade = grade_of(row["picture"].split("/"), puzzle.givens, judged.certificate, settled, judged.verdict)
-        except NoGrade as error:
-            return {"note": one_line(str(error))}
-        except MemoryError:
-            self._spare = b""
-            return {"note": f"its grade: {self._too_much()}"}
-        return {"grade": grade.word, "figures": {name: getattr(grade, name) for name in FIGURES}}
+        judged = judge(self._desk, puzzle, allowance, tell, task.mode == FULL, settings.most)
+        making.end(judged, f"no certificate within {settings.limit}")
+        if task.to is not None:
+            making.keep(name, settings.is_inline)
+        if judged.certificate and settings.has_grades:
+            self._put(task, about, making.row(), "known", f"{about.kind} {making.back}")
+            making.grade()
+        return making.row(), making.back
 
 
 def unread(name: str, error: Unreadable, has_times: bool) -> str:

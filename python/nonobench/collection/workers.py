@@ -14,7 +14,7 @@ from collections import deque
 from pathlib import Path
 from typing import Any, Callable, Iterator, NamedTuple, Optional
 
-from .rows import Row, noted, text_of
+from .rows import Row, text_of, unfinished
 from .serving import FULL, GLANCE, HEAD, Settings, Task
 
 # Run apart from the current folder, whose files are not trusted.
@@ -263,8 +263,7 @@ class Pool:
         if hand.known is not None:
             _, _, _, text, rest = hand.known
             kind, _, certificate = rest.partition(" ")
-            row: Row = json.loads(text)
-            row = noted(row, f"its {'grade' if 'lines' in row else 'certificate'}: {why}")
+            row: Row = unfinished(json.loads(text), why)
             if is_late and "seconds" in row:
                 row["seconds"] = self._seconds
             yield from self._give_up(task, row, kind == "more", certificate)
