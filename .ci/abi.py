@@ -2,11 +2,11 @@
 """Compares what calls the proved crate web with the functions that it exports, and says where they differ.
 
 The exported functions are those of crates/web/src/calls.rt. Compared with them, by name, number, width and sign of
-arguments and result: the prototypes of c/nonobench.h and of web/guard.c, the table of python/nonobench/_library.py, and
+arguments and result: the prototypes of c/nonobench.h and of web/guard.c, the table of python/src/nonobench/_library.py, and
 LLVM's module of the crate where one is named, as text. Of the calls in web/nonobench.mjs the number of arguments is compared with what web/guard.c exports.
 
 The statuses are those of crates/web/src/status.rt, and what is refused has the one of crates/program_options/src/fault.rt.
-They are repeated in c/nonobench.h, web/guard.c, web/nonobench.mjs and python/nonobench/_library.py.
+They are repeated in c/nonobench.h, web/guard.c, web/nonobench.mjs and python/src/nonobench/_library.py.
 
 Then it plants differences, and fails if one is not found.
 
@@ -23,7 +23,7 @@ FAULT = "crates/program_options/src/fault.rt"
 HEADER = "c/nonobench.h"
 GUARD = "web/guard.c"
 SCRIPT = "web/nonobench.mjs"
-PYTHON = "python/nonobench/_library.py"
+PYTHON = "python/src/nonobench/_library.py"
 # What stands after it in the header is C, and not the crate's.
 OWN_C = "/* ---- one question each"
 # A pointer to bytes and a length are two arguments, what takes no bytes is none. `pointer TO` names what lies there.
@@ -191,8 +191,9 @@ PLANTED = [
     (GUARD, "nonobench_prove(void *, const byte *, u64, const byte *, u64);", "nonobench_prove(void *, const byte *, u64);"),
     (SCRIPT, "const MEMORY = 4;", "const MEMORY = 5;"),
     (SCRIPT, "nonobench_prove(this.#cell, file.at, file.size, word.at, word.size)", "nonobench_prove(this.#cell, file.at, file.size)"),
-    (PYTHON, '"verify": (number, [cell, *bytes_of, *bytes_of, *bytes_of]),', '"verify": (number, [cell, *bytes_of, *bytes_of]),'),
-    (SCRIPT, "nonobench_close(this.#cell, handle)", "nonobench_close(this.#cell)"),
+    (PYTHON, '"check_published": (number, [cell, *bytes_of, ', '"check_published": (number, [cell, '),
+    (GUARD, "u64 givens, u64 givens_size, ", "u64 givens, "),
+    (SCRIPT, "nonobench_say(cell, handle, text.at, text.size)", "nonobench_say(cell, handle, text.at)"),
     (PYTHON, "= 0, 1, 4, 5, 6", "= 0, 1, 4, 6, 5"),
     (PYTHON, '"close": (number, [cell, number]),', '"close": (number, [cell, ctypes.c_size_t]),'),
     (STATUS, "OPTIONS: u32 = 6", "OPTIONS: u32 = 7"),

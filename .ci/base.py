@@ -2,10 +2,11 @@
 """Follows the clauses of README's claims to every definition that they depend on, and keeps docs/BASE.md.
 
 For each claim it takes the clauses and laws by name. From the names in them, through the imports of each file, it collects all
-definitions in specs/ that they need, in reading order. docs/BASE.md lists these with file, line and the comment's first sentence. It
-must be what this script makes, no claim may need more lines than MOST says, no name may mean two things in the base of a claim but
-those of SHARED, and docs/PROOF.md must quote the whole base of QUOTED. README.md must name the lines of FIGURES. And no line of an
-.antt file may have more columns than WIDTHS says.
+definitions in specs/ that they need, in reading order. Then it adds those by which a clause sees its values: the views of their
+types (.ci/views.py). docs/BASE.md lists these with file, line and the comment's first sentence. It
+must be what this script makes, and quotes the definitions of QUOTED. No claim may need more lines than MOST says, and no name may
+mean two things in the base of a claim but those of SHARED. README.md must name the lines of FIGURES. And no line of an .antt file
+may have more columns than WIDTHS says.
 
 Usage: .ci/base.py [--write | --counts]: --write writes docs/BASE.md, and --counts prints only the counts.
 """
@@ -14,15 +15,18 @@ import re
 import sys
 from pathlib import Path
 
+sys.dont_write_bytecode = True
+from views import RustTypes, named_in, values_of, views_of  # noqa: E402
+
 ROOT = Path(__file__).resolve().parent.parent
 CRATES = ROOT / 'crates'
 PAGE = ROOT / 'docs' / 'BASE.md'
-PROOF = ROOT / 'docs' / 'PROOF.md'
 # The claims of README: a title, and the clauses that carry it, each as a file, a function and a clause ('' is the one without
 # a name).
 CLAIMS = {
     'The verdict is true': [('live_audit/src/bench.rt', 'verdict', 'headline')],
-    'A certificate proves uniqueness': [('answers/src/check.rt', 'run_check', 'unique')],
+    'A certificate proves uniqueness': [('answers/src/check.rt', 'run_check_published', 'unique')],
+    'So it does in its own givens': [('answers/src/check.rt', 'run_check', 'unique')],
     'A check answers exactly': [('cert_check/src/checking.rt', 'check_cert', name) for name in ('first', 'proof', 'only', 'unique')],
     'A refused edit changes nothing': [('live_audit/src/bench.rt', call, 'refused') for call in ('apply', 'undo', 'redo')],
     'It stays true': [('live_audit/src/laws.rt', 'lists_stay_audited', '')],
@@ -31,39 +35,46 @@ CLAIMS = {
         *(('published/src/laws.rt', 'published_pairs_are_accepted', name) for name in ('accepted', 'made')),
         *(('published/src/laws.rt', law, '') for law in ('unique_pictures_are_published', 'plain_lines_are_one_solution')),
     ],
-    'A proof by lemmas proves uniqueness': [('answers/src/verify.rt', 'run_verify', 'unique')],
-    'Printed proofs are accepted': [('published/src/laws.rt', 'proofs_are_verified', '')],
+    'What prove prints is accepted': [('published/src/laws.rt', 'proofs_are_verified', '')],
     'The program does what its arguments ask for': [('program/src/running.rt', 'run', '')],
 }
-# The most lines that a claim may need: a larger number needs its reason in docs/DECISIONS.md.
+# The most lines that a claim may need, by its clauses and with the views: a larger number needs its reason in docs/DECISIONS.md.
 MOST = {
-    'The verdict is true': 60,
-    'A certificate proves uniqueness': 265,
-    'A check answers exactly': 190,
-    'A refused edit changes nothing': 143,
-    'It stays true': 1043,
-    "A session's answers are right": 777,
-    'Published pairs are accepted': 1477,
-    'A proof by lemmas proves uniqueness': 304,
-    'Printed proofs are accepted': 573,
-    'The program does what its arguments ask for': 2455,
+    'The verdict is true': (60, 210),
+    'A certificate proves uniqueness': (238, 238),
+    'So it does in its own givens': (371, 371),
+    'A check answers exactly': (316, 321),
+    'A refused edit changes nothing': (143, 231),
+    'It stays true': (1203, 1203),
+    "A session's answers are right": (850, 944),
+    'Published pairs are accepted': (1788, 1788),
+    'What prove prints is accepted': (700, 700),
+    'The program does what its arguments ask for': (2722, 2722),
 }
 # The claims in whose base a name may mean two things: they span formats, each with words and lines of its own.
-SHARED = {'A proof by lemmas proves uniqueness', 'Printed proofs are accepted', 'The program does what its arguments ask for'}
+SHARED = {
+    'So it does in its own givens',
+    'A check answers exactly',
+    'It stays true',
+    "A session's answers are right",
+    'Published pairs are accepted',
+    'What prove prints is accepted',
+    'The program does what its arguments ask for',
+}
 # The most columns of a line: definitions are read by whoever audits a claim, proofs by whoever mends them.
 WIDTHS = {'specs': 120, 'proofs': 200}
 # From this many words on, a comment's first sentence is shortened in docs/BASE.md.
 LONG = 35
 # What README.md says of the lines that a claim needs.
 FIGURES = {
-    'The verdict is true': '{} lines for the verdict',
-    'A certificate proves uniqueness': '{} for an accepted certificate',
+    'The verdict is true': '{} lines for the verdict, or {} with the definitions by which its clause sees a bench',
+    'A certificate proves uniqueness': 'It is {} for a certificate with the givens that you publish',
 }
-# The claim whose base docs/PROOF.md quotes whole.
-QUOTED = 'A certificate proves uniqueness'
+# The claims whose definitions docs/BASE.md quotes, and does not only list.
+QUOTED = 'The verdict is true', 'A certificate proves uniqueness'
 HEAD = '''# What the claims depend on
 
-This page is for those who want to read all that a claim of [README](../README.md#what-is-proved) means. For each clause that is named below, it lists the definitions on which the clause depends, in reading order. Proofs, code and the definitions of the toolchain are left out. A definition that is listed earlier is counted again, but not listed again. `.ci/base.py --write` makes this page.
+This page is for those who want to read all that a claim of [README](../README.md#what-is-proved) means. For each clause that is named below, it lists the definitions on which the clause depends, in reading order. A clause names values of the code, such as `self.old.history.document`. What it sees of them are their types' *views*: definitions that make, say, a document and its history out of what a bench keeps. These are counted and listed after the others, where a clause names such values. (A law names none: it is about all values of its definitions.) Proofs, code and the definitions of the toolchain are left out. A definition that is listed earlier is counted again, but not listed again. The definitions of the first two claims are quoted, without their types. `.ci/base.py --write` makes this page.
 '''
 WORD = re.compile(r'[^\s(){},;λ→×⊎≡≢≤≥+*/∷∘\[\]↔=<>]+')
 
@@ -84,7 +95,7 @@ class Definition:
         return [line for line in self.lines if line.strip()]
 
     def said(self):
-        """The lines of code that a quotation must have: an abbreviation's without its type."""
+        """The lines of code that are quoted: an abbreviation's without its type."""
         lines = self.code()
         if lines[0].startswith(('abbrev', 'unfoldable')):
             return lines[next((n for n, line in enumerate(lines) if line.startswith(self.name)), 0):]
@@ -221,46 +232,98 @@ class House:
                 waiting.extend(reversed(list(self.needs(definition))))
         return list(order)
 
+    def named(self, text, words):
+        """The definitions that words of a Rust file name, by the file's imports."""
+        imports = {}
+        for brought in re.findall(r'^ *(ghost use [^;]*;)', text, re.M):
+            imports.update(imports_of(re.sub(r'\s+', ' ', brought).replace(', }', '}')))
+        found = [self.find(*imports[word]) for word in WORD.findall(words) if word in imports and imports[word][1]]
+        return [definition for definition in found if definition is not None]
+
     def roots(self, file, function, clause):
         """The definitions that a clause of a function names."""
-        text = (CRATES / file).read_text(encoding='utf-8')
-        imports = {}
-        for brought in re.findall(r'^ghost use [^;]*;', text, re.M):
-            imports.update(imports_of(re.sub(r'\s+', ' ', brought).replace(', }', '}')))
-        body = re.search(rf'\bfn {function}\b.*?^\s*{{', text, re.M | re.S)
-        found = body and re.search(rf'ensures\*? {clause + " " if clause else ""}{{(.*?)}}\n', body[0], re.S)
-        if not found:
-            sys.exit(f'crates/{file}: {function} has no clause {clause or "without a name"}')
-        named = [self.find(*imports[word]) for word in WORD.findall(found[1]) if word in imports and imports[word][1]]
-        if not any(named):
+        named = self.named((CRATES / file).read_text(encoding='utf-8'), clause_of(file, function, clause))
+        if not named:
             sys.exit(f'crates/{file}: the clause {clause or "without a name"} of {function} names no definition')
-        return [definition for definition in named if definition is not None]
+        return named
+
+    def view_roots(self, rust, file, function, clause):
+        """The definitions by which a clause of a function sees its values: those that the views of their types name."""
+        def equation(kind, head):
+            found = self.named(kind.text, head)
+            return found[0].said()[0] if found else None
+        path = CRATES / file
+        values = values_of(rust, path, path.read_text(encoding='utf-8'), function)
+        kinds = named_in(clause_of(file, function, clause), values)
+        return [definition for kind, words in views_of(rust, kinds, equation) for definition in self.named(kind.text, words)]
+
+
+def clause_of(file, function, clause):
+    """The text of a clause of a function, without its brackets."""
+    text = (CRATES / file).read_text(encoding='utf-8')
+    body = re.search(rf'\bfn {function}\b.*?^\s*{{', text, re.M | re.S)
+    found = body and re.search(rf'ensures\*? {clause + " " if clause else ""}{{(.*?)}}\n', body[0], re.S)
+    if not found:
+        sys.exit(f'crates/{file}: {function} has no clause {clause or "without a name"}')
+    return found[1]
+
+
+class Base:
+    """What a claim depends on: the definitions that its clauses need, and those that the views of their types add."""
+
+    def __init__(self, house, rust, clauses):
+        roots = [root for clause in clauses for root in house.roots(*clause)]
+        views = [root for clause in clauses for root in house.view_roots(rust, *clause)]
+        self.definitions = house.base(roots)
+        self.views = [definition for definition in house.base(roots + views) if definition not in set(self.definitions)]
+
+    def all(self):
+        return self.definitions + self.views
 
 
 def bases():
     """The base of each claim."""
-    house = House()
-    return {title: house.base([root for clause in clauses for root in house.roots(*clause)]) for title, clauses in CLAIMS.items()}
+    house, rust = House(), RustTypes(CRATES)
+    return {title: Base(house, rust, clauses) for title, clauses in CLAIMS.items()}
 
 
-def size(base):
-    """How many lines of code the definitions of a base have."""
-    return sum(len(definition.code()) for definition in base)
+def size(definitions):
+    """How many lines of code some definitions have."""
+    return sum(len(definition.code()) for definition in definitions)
+
+
+def counts(base):
+    """The counts of a base, in words."""
+    def of(definitions):
+        files = len({definition.module for definition in definitions})
+        return f'{len(definitions)} definitions, {size(definitions)} lines, {files} files'
+    return of(base.definitions) + (f'; with the views, {of(base.all())}' if base.views else '')
+
+
+def items(definitions, quoted):
+    """The list of some definitions, with the text of those that are quoted."""
+    for definition in definitions:
+        where = f'{definition.file.partition("/")[2]}:{definition.line}'
+        yield f'- [`{definition.name}`](../{definition.file}#L{definition.line}), {where}: {definition.sentence()}'
+        if definition in quoted:
+            yield from ['', '  ```', *(f'  {line}' for line in definition.said()), '  ```', '']
 
 
 def page(found):
     """The text of docs/BASE.md."""
     parts, known = [HEAD], set()
+    quoted = {definition for title in QUOTED for definition in found[title].all()}
     for title, base in found.items():
-        files = len({definition.module for definition in base})
         names = ', '.join(f'`{function}`{f" ({clause})" if clause else ""}' for _, function, clause in CLAIMS[title])
-        parts.append(f'## {title}\n\n{names}: {len(base)} definitions, {size(base)} lines, {files} files.\n')
-        fresh = [definition for definition in base if definition not in known]
-        known.update(fresh)
-        for definition in fresh:
-            parts.append(f'- [`{definition.name}`](../{definition.file}#L{definition.line}), {definition.file.partition("/")[2]}:{definition.line}: {definition.sentence()}')
+        parts.append(f'## {title}\n\n{names}: {counts(base)}.\n')
+        fresh = [definition for definition in base.definitions if definition not in known]
+        views = [definition for definition in base.views if definition not in known]
+        known.update(base.all())
+        parts.extend(items(fresh, quoted))
         parts.append('' if fresh else 'Nothing that is not above.\n')
-    return '\n'.join(parts).rstrip('\n') + '\n'
+        if views:
+            parts.extend(['With the views of the types of its values:\n', *items(views, quoted), ''])
+    return re.sub(r'\n{3,}', '\n\n', '\n'.join(parts)).rstrip('\n') + '\n'
 
 
 def doubles(base):
@@ -276,14 +339,11 @@ def faults(found):
     if not PAGE.exists() or PAGE.read_text(encoding='utf-8') != page(found):
         yield 'docs/BASE.md is not what .ci/base.py --write makes'
     for title, base in found.items():
-        if size(base) > MOST[title]:
-            yield f'{title}: {size(base)} lines, and at most {MOST[title]} are allowed'
-        for name, files in doubles(base).items() if title not in SHARED else ():
+        for definitions, most in zip((base.definitions, base.all()), MOST[title]):
+            if size(definitions) > most:
+                yield f'{title}: {size(definitions)} lines, and at most {most} are allowed'
+        for name, files in doubles(base.definitions).items() if title not in SHARED else ():
             yield f'{title}: {name} means two things: {", ".join(files)}'
-    quoted = {line.strip() for line in PROOF.read_text(encoding='utf-8').split('\n')}
-    for definition in found[QUOTED]:
-        if any(line.strip() not in quoted for line in definition.said()):
-            yield f'docs/PROOF.md does not quote {definition.name} of {definition.file}'
 
 
 def wide_lines():
@@ -299,7 +359,7 @@ def figures(found):
     """What README.md should say of the lines that claims need, and does not."""
     readme = (ROOT / 'README.md').read_text(encoding='utf-8')
     for title, text in FIGURES.items():
-        said = text.format(size(found[title]))
+        said = text.format(size(found[title].definitions), size(found[title].all()))
         if said not in readme:
             yield f'README.md does not say: {said}'
 
@@ -308,8 +368,7 @@ def main():
     found = bases()
     if '--counts' in sys.argv[1:]:
         for title, base in found.items():
-            print(f'{title}: {len(base)} definitions, {size(base)} lines, {len({d.module for d in base})} files; '
-                  f'{len(doubles(base))} names mean two things')
+            print(f'{title}: {counts(base)}; {len(doubles(base.definitions))} names mean two things')
         return 0
     if '--write' in sys.argv[1:]:
         PAGE.write_text(page(found), encoding='utf-8')

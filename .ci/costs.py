@@ -1,5 +1,5 @@
 #!/usr/bin/env python3
-"""Writes docs/COSTS.md: what a change in each crate costs, from what `bash .ci/run` printed when it proved everything.
+"""Writes in CONTRIBUTING.md what a change in each crate costs, from what `bash .ci/run` printed when it proved everything.
 
 Usage: .ci/costs.py LOG, where LOG is that output. Each crate has the processor minutes of its own proofs, tests and builds, of its
 must-fail edits, and of both together with all crates that depend on it.
@@ -11,9 +11,8 @@ import sys
 
 ROOT = pathlib.Path(__file__).resolve().parent.parent
 LINE = re.compile(r'^ {4}([a-z_]+): ((?:proofs|edits|tests|builds) .*)$')
-HEAD = """# What a change costs
-
-This page is for those who change the code. A changed crate and all crates that depend on it are proved again, and their must-fail edits are tried again. These are processor minutes of one run of `bash .ci/run` from nothing, on {date}, in the order of the last column. `.ci/costs.py` makes this page from the output of such a run; newer crates are missing.
+START = '<!-- .ci/costs.py makes the rest of this section -->\n'
+HEAD = """These are processor minutes of one run of `bash .ci/run` from nothing, on {date}, in the order of the last column.
 
 | crate | its proofs, tests and builds | its must-fail edits | with all crates above it |
 |---|---|---|---|
@@ -58,7 +57,10 @@ def main():
     whole = {crate: sum(own[one] + edits[one] for one in above(crate, lower)) for crate in lower}
     rows = [f'| `{crate}` | {own[crate]:.1f} | {edits[crate]:.1f} | {whole[crate]:.0f} |\n' for crate in sorted(minutes.keys() & lower.keys(), key=lambda one: (-whole[one], one))]
     date = datetime.date.fromtimestamp(log.stat().st_mtime)
-    (ROOT / 'docs' / 'COSTS.md').write_text(HEAD.format(date=f'{date.day} {date:%B %Y}') + ''.join(rows))
+    page = ROOT / 'CONTRIBUTING.md'
+    before, rest = page.read_text().split(START)
+    after = rest[rest.index('\n## '):]
+    page.write_text(before + START + HEAD.format(date=f'{date.day} {date:%B %Y}') + ''.join(rows) + after)
 
 
 if __name__ == '__main__':

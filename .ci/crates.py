@@ -15,17 +15,17 @@ LIST = ROOT / 'crates.txt'
 ARCHITECTURE = ROOT / 'docs' / 'ARCHITECTURE.md'
 # The rooms, in reading order: what stands there, and its crates.
 ROOMS = {
-    'Ground': ('pictures and their clues', 'picture clues clue_laws'),
+    'Ground': ('pictures and their clues', 'picture flaws clues clue_laws'),
     'Line': ('one line and its clue', 'line_facts line_settle'),
-    'Settling': ('all lines together, with a reason for each step', 'justify worklist fixpoint propagate retract'),
-    'Checking': ('certificates as texts, and their checker', 'trail cert_text lemma_text cert_check lemma_check'),
+    'Settling': ('all lines together, with a reason for each step', 'justify worklist fixpoint grade propagate retract'),
+    'Checking': ('certificates as texts, and their checker', 'trail cert_text cert_check givens_text'),
     'Search': ('other pictures, and certificates that there is none',
                'split_choice lemma_search lemma_proof second_search certificate'),
     'Bench': ('a picture kept up to date while it is edited', 'edits kept_audit live_audit'),
     'Outside': ('texts, sessions, the program and its hosts',
                 'ppm_text non_text command_text report_text session program_options command_line answers published program '
                 'claims web nonobench'),
-    'Tests': ('programs that only tests run', 'table_words tables search_tables lemma_tables refused'),
+    'Tests': ('programs that only tests run', 'table_words tables search_tables lemma_tables cert_tables refused'),
 }
 HEAD = '''# Crates
 

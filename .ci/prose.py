@@ -1,20 +1,21 @@
 #!/usr/bin/env python3
 """Reads the documents and says what a reader would stumble over.
 
-For each *.md of the repository, or those that are named: a sentence above 40 words, a stiff phrase, a link or a path that
+For each *.md of the repository, or those that are named: a sentence above 35 words, a stiff phrase, a link or a path that
 does not exist. Of some documents also:
 - README.md: a command that CI does not run, sentences that are too long on average;
-- docs/PROOF.md: a line of a clause that is in no source;
-- docs/PROMISES.md: a call or a clause that no source has;
-- docs/DEFINITIONS.md: a name that is not defined in the folders of its section;
-- docs/MUST_FAIL.md: an edit without its row, or a row without its edit;
+- CONTRIBUTING.md: a must-fail edit without its row, or a row without its edit;
+- docs/THEOREMS.md: a name that the file, which is named after it, does not have;
 - docs/TRUST.md: a file that has another number of lines than is written after its name.
+
+No run of TWICE words may be in two of the documents that people read (READ): each thing is said once, and linked. Code, tables and
+the sentences of ALLOWED are left out.
 
 A sentence's words are those that have a letter or a digit. And the file KIT must have a line with the logic that `rt version`
 prints, if there is an rt. It counts, and with --words lists, the words for which INSTEAD has a better one; each of these is an
 error, except in sentences that come from the heads of crates.
 
-A block of README.md that begins with ```sh is run by .ci/tutorial, so its commands pass. A block that begins with
+A block of README.md that begins with ```sh is run by tests/documents/test_commands.py, so its commands pass. A block that begins with
 ```sh build holds commands that only build or serve; each must begin as one of BUILDS. No other block may be named sh.
 
 Usage: .ci/prose.py [--short] [--words] [DOCUMENT ..]; --short prints the number of faults of each document alone.
@@ -27,7 +28,7 @@ import subprocess
 import sys
 
 ROOT = os.path.dirname(os.path.dirname(os.path.abspath(__file__)))
-MOST_WORDS = 40
+MOST_WORDS = 35
 README_MEAN = 16
 STIFF = ["want of memory", "for want of", "wanting", "is had", "are had", "was had", "be had", "in front of which",
          "behind which", "thereof", "therein", "whereof", "hereby", "wherein"]
@@ -80,7 +81,16 @@ INSTEAD = {
 # Documents whose sentences come from the heads of crates: their words count, and are no faults.
 OF_CRATES = {os.path.join("crates", "README.md")}
 # Documents that a script makes of the sources, which says itself whether they are in order.
-MADE = {os.path.join("docs", "BASE.md")}
+MADE = {os.path.join("docs", "BASE.md"), os.path.join("docs", "PROMISES.md")}
+# The documents that people read from top to bottom, how many words in a row are a repetition, and what may be said twice: the licence
+# in each package, and the claims that README.md takes from docs/THEOREMS.md.
+READ = ["README.md", "CONTRIBUTING.md", *(f"docs/{name}.md" for name in ("ARCHITECTURE", "COMPARISON", "FORMATS", "GLOSSARY", "RECIPES",
+                                                                        "THEOREMS", "TRUST", "TUTORIAL")),
+        "examples/README.md", "examples/site/README.md", "page/README.md", "packages/linux/README.md", "packages/npm/README.md",
+        "python/README.md"]
+TWICE = 10
+ALLOWED = ["No licence has been chosen for nonobench yet. NOTICES has the licences of the third-party code in it.",
+           "A certificate may name any cells as givens, even all of them"]
 # Folders in which a path that is named must exist, and commands that build, prove or serve rather than answer.
 FOLDERS = "docs|crates|measure|tests|examples|page|web|python|\\.ci"
 BUILDS = ["bash .ci/run", "(cd crates/nonobench && rt try ", "(cd crates/nonobench && rt run ", "install -D ",
@@ -170,36 +180,8 @@ def names_in(text):
             yield name
 
 
-def promise_faults(lines):
-    """The calls and clauses of docs/PROMISES.md that no source has."""
-    code = "\n".join(sources(".rt"))
-    known = set(re.findall(r"\b(?:fn|struct|enum|trait|const|type) (\w+)", code)) | {"Display"}
-    clauses = set(re.findall(r"\bensures\*? (\w+)", code)) | set(re.findall(r"\b[A-Z]\w+", code))
-    for number, line in enumerate(lines, 1):
-        cells = line.strip("|").split("|") if line.startswith("| ") else []
-        for at, held, what in (1, known, "call"), (2, clauses, "clause"):
-            for name in names_in(cells[at]) if len(cells) == 3 else ():
-                if name not in held:
-                    yield number, f"a {what} that stands in no source: {name}"
-
-
-def definition_faults(lines):
-    """The names in bold of docs/DEFINITIONS.md that are not defined in the folders specs/ of their section."""
-    held, folders = set(), ""
-    for number, line in enumerate(lines, 1):
-        if line.startswith("#"):
-            held, folders = set(), " or ".join(re.findall(r"crates/\w+/specs", line))
-            for folder in re.findall(r"crates/\w+/specs", line):
-                for name in os.listdir(os.path.join(ROOT, folder)):
-                    with open(os.path.join(ROOT, folder, name), encoding="utf-8") as file:
-                        held |= set(re.findall(r"^ *(?:pub )?(?:record |data |enum |type )*(\w+)", file.read(), re.M))
-        for name in names_in(" ".join(re.findall(r"\*\*(.+?)\*\*", line))):
-            if name not in held:
-                yield number, f"a definition that does not stand in {folders}: {name}"
-
-
 def edit_faults(lines):
-    """The rows of docs/MUST_FAIL.md without an edit, and the edits without a row: an item for each, `CRATE/EDIT`."""
+    """The rows of CONTRIBUTING.md without an edit, and the edits without a row: an item for each, `CRATE/EDIT`."""
     edits = {(os.path.basename(os.path.dirname(folder)), name[:-5])
              for folder, _, names in os.walk(os.path.join(ROOT, "crates")) if os.path.basename(folder) == "must-fail"
              for name in names if name.endswith(".edit")}
@@ -256,8 +238,26 @@ def exists(path, folder):
     return any(os.path.exists(os.path.join(base, place)) for base in (ROOT, folder) for place in places)
 
 
-OF_DOCUMENT = {os.path.join("docs", "PROMISES.md"): promise_faults, os.path.join("docs", "DEFINITIONS.md"): definition_faults,
-               os.path.join("docs", "MUST_FAIL.md"): edit_faults, os.path.join("docs", "TRUST.md"): length_faults}
+def citation_faults(lines):
+    """The names that docs/THEOREMS.md cites, before the file that should have them, and that are not in that file."""
+    for number, sentence in ((n, one) for n, line in enumerate(lines, 1) for one in re.split(r"(?<=[.:]) (?=[A-Z])", line)):
+        names, folder = [], ""
+        for code in re.findall(r"`([^`]*)`", sentence):
+            if not re.search(r"^crates/|\.rt$", code):
+                names.append(code.split("::")[-1])
+                continue
+            path = os.path.join(ROOT, code if code.startswith("crates/") else os.path.join(folder, code))
+            folder = os.path.dirname(path)
+            files = [path] if os.path.isfile(path) else [os.path.join(path, one) for one in sorted(os.listdir(path))]
+            text = "".join(open(file, encoding="utf-8").read() for file in files)
+            for name in names:
+                if not re.search(rf"(?<!\w){re.escape(name)}(?!\w)", text):
+                    yield number, f"{code} does not have {name}"
+            names = []
+
+
+OF_DOCUMENT = {"CONTRIBUTING.md": (edit_faults,), os.path.join("docs", "THEOREMS.md"): (citation_faults,),
+               os.path.join("docs", "TRUST.md"): (length_faults,)}
 
 
 def faults_of(name):
@@ -291,24 +291,44 @@ def faults_of(name):
         for match in re.findall(r"(?<![\w./])[A-Z_]{3,}\.md\b", plain):
             if not any(os.path.exists(os.path.join(base, match)) for base in (ROOT, folder, os.path.join(ROOT, "docs"))):
                 yield number, f"a path to nothing: {match}"
-    if name in OF_DOCUMENT:
-        yield from OF_DOCUMENT[name](lines)
+    for check in OF_DOCUMENT.get(name, ()):
+        yield from check(lines)
     if name not in OF_CRATES:
         yield from better_words(name)
-    if name == os.path.join("docs", "PROOF.md"):
-        known = sources()
-        for number, _, held in found:
-            for at, line in enumerate(held, number + 1):
-                if line.strip() and not any(line.strip() in text for text in known):
-                    yield at, f"a clause that stands in no source: {line.strip()[:60]}"
     if name == "README.md":
         for number, info, held in found:
             if info.split()[:2] == ["sh", "build"]:
                 for at, line in enumerate(held, number + 1):
                     if line.strip() and not any(line.startswith(start) for start in BUILDS):
                         yield at, f"a command that the gate does not run: {line.strip()}"
-            elif not (info == "text" or info == "sh" or info.startswith("sh needs ")):
-                yield number, f"a block that is not sh, sh needs TOOL, sh build or text: {info or 'no name'}"
+            elif not (info in ("text", "sh", "python") or info.startswith("sh needs ")):
+                yield number, f"a block that is not sh, sh needs TOOL, sh build, python or text: {info or 'no name'}"
+
+
+def runs_of(name):
+    """The runs of TWICE words of a document, each with its line. Code is one word that is left out where it is most of a run."""
+    with open(os.path.join(ROOT, name), encoding="utf-8") as file:
+        _, lines = blocks(file.read())
+    for number, unit in units(lines):
+        for allowed in ALLOWED:
+            unit = unit.replace(allowed, "")
+        text = re.sub(r"`[^`]*`", " code ", re.sub(r"\]\([^)]*\)", "]", unit))
+        words = re.findall(r"\w[\w'-]*", text.lower())
+        for at in range(len(words) - TWICE + 1):
+            run = tuple(words[at:at + TWICE])
+            if run.count("code") < TWICE // 2:
+                yield run, number
+
+
+def repetitions():
+    """What two of the documents that people read say alike: pairs of a place and what is repeated, each place once."""
+    seen, told = {}, set()
+    for name in READ:
+        for run, number in runs_of(name):
+            other, at = seen.setdefault(run, (name, number))
+            if other != name and (name, number) not in told:
+                told.add((name, number))
+                yield f"{name}:{number}", f"said at {other}:{at} too: {' '.join(run)} .."
 
 
 def kit_fault():
@@ -349,6 +369,9 @@ def main():
         if mean > README_MEAN:
             total += 1
             print(f"README may have {README_MEAN} words a sentence")
+        for place, fault in repetitions():
+            total += 1
+            print(f"{place}: {fault}")
         fault = kit_fault()
         if fault:
             total += 1

@@ -1,6 +1,5 @@
-/* Checks a picture with its certificate, given the cells that are published: example PICTURE CERTIFICATE [ROW,COLUMN ..], where
- * CERTIFICATE may be a proof by lemmas. Exits with status 0 if it is accepted, 1 if it is refused, 2 for bad arguments, and 3 if a
- * file cannot be read. */
+/* Checks a picture with its certificate, given the cells that are published: example PICTURE CERTIFICATE [ROW,COLUMN ..]. Exits with
+ * status 0 if it is accepted, 1 if it is refused, 2 for bad arguments, and 3 if a file cannot be read. */
 #include "nonobench.h"
 #include <errno.h>
 #include <inttypes.h>
@@ -33,12 +32,6 @@ static file read_file(const char *name) {
     return whole;
 }
 
-/* Whether a file is a proof by lemmas. */
-static bool is_proof(const file *whole) {
-    static const char FRONT[] = "nonolemma";
-    return whole->size >= sizeof FRONT - 1 && memcmp(whole->bytes, FRONT, sizeof FRONT - 1) == 0;
-}
-
 /* Reads cells from arguments; false if one is not a cell. */
 static bool read_places(char **words, size_t count, nonobench_place *places) {
     char end;
@@ -58,8 +51,7 @@ int main(int count, char **names) {
     }
     nonobench_options options = {NULL, published, (size_t)count - 3, false};
     file picture = read_file(names[1]), certificate = read_file(names[2]);
-    uint32_t status = (is_proof(&certificate) ? nonobench_verify_pair : nonobench_check_pair)(
-        picture.bytes, picture.size, certificate.bytes, certificate.size, &options, &text);
+    uint32_t status = nonobench_check_pair(picture.bytes, picture.size, certificate.bytes, certificate.size, &options, &text);
     printf(status == NONOBENCH_DONE ? "%s" : "refused: %s\n", said);
     free(picture.bytes);
     free(certificate.bytes);

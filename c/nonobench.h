@@ -1,12 +1,10 @@
-/* Checks certificates of nonograms and proofs by lemmas, and judges pictures, in a program of your own: over libnonobench, which is
- * proved.
+/* Checks certificates of nonograms, and judges pictures, in a program of your own: over libnonobench, which is proved.
  *
  * Link with libnonobench.a or libnonobench.so (c/build). There are two layers. The proved calls work on a desk. The functions at
  * the end of this file each make a desk, ask one question and end the desk; they suit most programs.
  *
  * Each call of the library is proved, from the bytes that it is passed to its status and text: docs/PROMISES.md has the clauses.
- * An accepted certificate proves that no other picture of that size has the clues and the colours in its givens. So does a proof by
- * lemmas, which is shorter where a certificate would say the same thing in many branches.
+ * An accepted certificate proves that no other picture of that size has the clues and the colours in its givens.
  * Nothing checks that the caller meets its obligations:
  *   - a pointer leads to as many bytes as the length that goes with it says. In a call of the library it is not null, even with
  *     the length 0; only nonobench_end accepts a null and does nothing. The functions at the end of this file accept a null with
@@ -30,15 +28,19 @@ extern "C" {
 #endif
 
 /* The version of this header. nonobench_version gives the version of the library. */
-#define NONOBENCH_VERSION "0.6.0"
+#define NONOBENCH_VERSION "0.7.0"
 
-/* How many bytes a picture, a certificate or a proof may have, as for the program. The library itself accepts any length. */
+/* How many bytes a picture, a certificate or a file of givens may have, as for the program. The library itself accepts any length. */
 #define NONOBENCH_MOST_BYTES ((size_t)16777216)
+
+/* How many bytes of stack a call needs at the most, whatever it is passed: measured, not proved. Half of that is too little for some
+ * calls, and then the system ends the process. Threads have more unless they ask for less. */
+#define NONOBENCH_STACK ((size_t)65536)
 
 /* What a call answers. */
 enum {
-    NONOBENCH_DONE = 0,    /* done; a certificate or proof is accepted */
-    NONOBENCH_REFUSED = 1, /* picture, puzzle, certificate or proof is refused; the text is what the program says after `nonobench: ` */
+    NONOBENCH_DONE = 0,    /* done; a certificate is accepted */
+    NONOBENCH_REFUSED = 1, /* picture, puzzle, givens or certificate is refused; the text is what the program says after `nonobench: ` */
     NONOBENCH_MEMORY = 4,  /* out of memory; of nonobench_say also: the lines have more than 4294963200 bytes */
     NONOBENCH_CLOSED = 5,  /* no bench has the handle */
     NONOBENCH_OPTIONS = 6  /* background, history or allowance is of another form; of the functions at the end of this file,
@@ -72,18 +74,22 @@ uint32_t nonobench_say(nonobench_desk **desk, uint32_t handle, const uint8_t *li
  * after the statuses MEMORY, CLOSED and OPTIONS; but after MEMORY from nonobench_say it is the answers that found room. */
 size_t nonobench_take(nonobench_desk **desk, uint8_t *out, size_t room);
 
-/* Ends a bench. */
+/* Ends a bench. That takes the longer, the more benches are open on the desk. Where there are thousands, give each a desk of its
+ * own, and end that. */
 uint32_t nonobench_close(nonobench_desk **desk, uint32_t handle);
 
-/* Checks a certificate of a P3 picture. */
+/* Checks a certificate of a P3 picture, in any of its forms. It may have any givens. */
 uint32_t nonobench_check(nonobench_desk **desk, const uint8_t *picture, size_t picture_size, const uint8_t *certificate,
                          size_t certificate_size, const uint8_t *background, size_t background_size);
 
-/* Checks a proof by lemmas of a P3 picture. One that is wrong is refused as a certificate is: `certificate NAME at line N`. */
-uint32_t nonobench_verify(nonobench_desk **desk, const uint8_t *picture, size_t picture_size, const uint8_t *proof,
-                          size_t proof_size, const uint8_t *background, size_t background_size);
+/* The same with a file of the givens that are published, a line `given R C` each. One that is accepted proves that no other picture
+ * has the clues and the colours in the published cells. If it names another cell, the text is `certificate UnpublishedGiven at line N`;
+ * if the file of givens is refused, `givens NAME at line N`. */
+uint32_t nonobench_check_published(nonobench_desk **desk, const uint8_t *picture, size_t picture_size, const uint8_t *certificate,
+                                   size_t certificate_size, const uint8_t *givens, size_t givens_size,
+                                   const uint8_t *background, size_t background_size);
 
-/* Makes a proof by lemmas of a P3 picture, without givens: the text. If another picture with the clues was found, the text is
+/* Makes a certificate with lemmas of a P3 picture, without givens: the text. If another picture with the clues was found, the text is
  * `ambiguous` with a line feed; if neither was found within the bounds of the search, `undecided`. It may take minutes. */
 uint32_t nonobench_prove(nonobench_desk **desk, const uint8_t *picture, size_t picture_size, const uint8_t *background,
                          size_t background_size);
@@ -108,26 +114,27 @@ typedef enum nonobench_ruling {
     NONOBENCH_AMBIGUOUS
 } nonobench_ruling;
 
-/* What goes with a picture and its certificate or proof. If all of it is zero, the background is white and no cell is published. */
+/* What goes with a picture and its certificate. If all of it is zero, the background is white and no cell is published. */
 typedef struct nonobench_options {
     const char *background;           /* such as 255,0,0, or null for white */
-    const nonobench_place *published; /* the cells that you publish with their colours, in any order */
+    const nonobench_place *published; /* the cells that you publish with their colours, in any order, none twice */
     size_t published_count;
     bool any_given; /* accept any givens: for whoever then publishes these (nonobench_givens) */
 } nonobench_options;
 
-/* Checks a certificate of a P3 picture: DONE if it is accepted. A puzzle is unique WITH the givens that its certificate names,
- * and these may be all cells. So one that names a given which is not published is REFUSED, with the text
- * `certificate UnpublishedGiven at line N`, which the program does not have. `options` and `text` may be null, and then no cell
- * is published. The text is the line that the program prints, or why picture or certificate is refused. */
+/* Checks a certificate of a P3 picture, in any of its forms: DONE if it is accepted. A puzzle is unique WITH the givens that its
+ * certificate names, and these may be all cells. So one that names a given which is not published is REFUSED, with the text
+ * `certificate UnpublishedGiven at line N`. If the published cells cannot be those of the picture, it is REFUSED with the text
+ * `givens NAME at line N`, where N counts them from 1. `options` and `text` may be null, and then no cell is published. The text is
+ * the line that the program prints, or why picture or certificate is refused. */
 uint32_t nonobench_check_pair(const void *picture, size_t picture_size, const void *certificate, size_t certificate_size,
                               const nonobench_options *options, nonobench_text *text);
 
-/* The same for a proof by lemmas. One that names a given which is not published has the same text as a certificate that does. */
-uint32_t nonobench_verify_pair(const void *picture, size_t picture_size, const void *proof, size_t proof_size,
+/* Deprecated: the old name of nonobench_check_pair. */
+uint32_t nonobench_verify_pair(const void *picture, size_t picture_size, const void *certificate, size_t certificate_size,
                                const nonobench_options *options, nonobench_text *text);
 
-/* Reads the places of the givens of a certificate or proof that was accepted, or refused for one of them, as many as there is room
+/* Reads the places of the givens of a certificate that was accepted, or refused for one of them, as many as there is room
  * for, and answers how many there are. For other bytes the answer has no meaning, but nothing outside them is read. */
 size_t nonobench_givens(const void *certificate, size_t size, nonobench_place *places, size_t room);
 
@@ -140,7 +147,7 @@ uint32_t nonobench_clues(const void *picture, size_t size, const char *backgroun
 uint32_t nonobench_verdict(const void *picture, size_t size, const char *background, int32_t allowance, nonobench_ruling *ruling,
                            nonobench_text *text);
 
-/* A ruling, and a certificate if it is UNIQUE; of nonobench_prove_picture a proof by lemmas. */
+/* A ruling, and a certificate if it is UNIQUE. */
 typedef struct nonobench_audited {
     nonobench_ruling ruling;
     char *certificate;       /* followed by a NUL, for free(); null if there is none */
@@ -153,7 +160,7 @@ typedef struct nonobench_audited {
 uint32_t nonobench_certify(const void *picture, size_t size, const char *background, nonobench_audited *found,
                            nonobench_text *text);
 
-/* A proof by lemmas of a P3 picture, without givens: for a puzzle whose certificate is too long or cannot be made. The
+/* A certificate with lemmas of a P3 picture, without givens: shorter, or where nonobench_certify takes too long. The
  * search has bounds, and may take minutes; if it reaches a bound, the ruling is UNDECIDED. The text is `unique`, `ambiguous` or
  * `undecided` with a line feed, or why the picture is refused; `text` may be null. */
 uint32_t nonobench_prove_picture(const void *picture, size_t size, const char *background, nonobench_audited *found,

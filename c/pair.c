@@ -2,12 +2,11 @@
  * what they do. They are C and tested, not proved. */
 #include "nonobench.h"
 
+#include <inttypes.h>
 #include <stdio.h>
 #include <stdlib.h>
 #include <string.h>
 
-/* A picture has at most so many rows and columns. */
-#define MOST_SIDE 120
 #define MOST_ALLOWANCE 99999
 
 /* Bytes as the library takes them: it takes no null. */
@@ -133,96 +132,57 @@ size_t nonobench_givens(const void *certificate, size_t size, nonobench_place *p
     return count;
 }
 
-/* Cells of a picture, a bit each. */
-typedef struct cells {
-    uint8_t bits[(MOST_SIDE * MOST_SIDE + 7) / 8];
-} cells;
+/* The bytes of a line `given R C` at the most. */
+#define MOST_GIVEN 28
 
-/* The number of a cell; past the last one where the place is outside of every picture. */
-static size_t cell_of(nonobench_place place) {
-    bool is_inside = place.row - 1 < MOST_SIDE && place.column - 1 < MOST_SIDE;
-    return is_inside ? (place.row - 1) * MOST_SIDE + place.column - 1 : MOST_SIDE * MOST_SIDE;
-}
-
-/* The line of the first given of an accepted certificate or proof that is not published, or 0. `count` becomes the number of givens. */
-static size_t unpublished_line(const void *certificate, size_t size, const nonobench_options *options, size_t *count) {
-    const uint8_t *end = bytes_of(certificate) + size, *at = behind_line(bytes_of(certificate), end);
-    cells published = {{0}};
-    nonobench_place place;
-    size_t line = 0;
-    for (size_t which = 0; options && which < options->published_count; which++) {
-        size_t cell = cell_of(options->published[which]);
-        if (cell < MOST_SIDE * MOST_SIDE) published.bits[cell / 8] |= (uint8_t)(1 << cell % 8);
+/* Puts the published cells into room of their own, as a file of givens has them: a line each, in their order. */
+static uint32_t write_givens(const nonobench_options *options, char **givens, size_t *size, nonobench_text *text) {
+    if (!options->published && options->published_count > 0) {
+        put(text, "a null beside a length");
+        return NONOBENCH_OPTIONS;
     }
-    for (*count = 0; next_given(&at, end, &place); *count += 1) {
-        size_t cell = cell_of(place);
-        bool is_published = cell < MOST_SIDE * MOST_SIDE && (published.bits[cell / 8] >> cell % 8 & 1);
-        if (!is_published && line == 0) line = *count + 2;
-    }
-    return options && options->any_given ? 0 : line;
-}
-
-/* What is checked beside a picture: the call, and what the library calls it where it accepts it. */
-typedef struct kind {
-    uint32_t (*check)(nonobench_desk **, const uint8_t *, size_t, const uint8_t *, size_t, const uint8_t *, size_t);
-    const char *name;
-} kind;
-
-/* The givens of what was accepted, against what the library says of their number, and against those published. */
-static uint32_t look_givens(const char *name, const void *certificate, size_t size, const char *accepted,
-                            const nonobench_options *options, nonobench_text *text) {
-    size_t count, line = unpublished_line(certificate, size, options, &count);
-    char said[64];
-    snprintf(said, sizeof said, "%s accepted\n", name);
-    if (count > 0) snprintf(said, sizeof said, "%s accepted, givens %zu\n", name, count);
-    if (strcmp(accepted, said) != 0) {
-        put(text, "the library names other givens");
+    if (options->published_count > NONOBENCH_MOST_BYTES / MOST_GIVEN) {
+        put(text, "input too long");
         return NONOBENCH_REFUSED;
     }
-    if (line == 0) return NONOBENCH_DONE;
-    snprintf(said, sizeof said, "certificate UnpublishedGiven at line %zu", line);
-    put(text, said);
-    return NONOBENCH_REFUSED;
-}
-
-/* Whether options can be read: the status and the text where they cannot. */
-static uint32_t look_options(const nonobench_options *options, nonobench_text *text) {
-    if (!options || options->published || options->published_count == 0) return NONOBENCH_DONE;
-    put(text, "a null beside a length");
-    return NONOBENCH_OPTIONS;
-}
-
-/* Checks a certificate or a proof of a picture. */
-static uint32_t check_pair(kind which, const void *picture, size_t picture_size, const void *certificate, size_t certificate_size,
-                           const nonobench_options *options, nonobench_text *text) {
-    const char *background = options ? options->background : NULL;
-    char line[64] = "";
-    nonobench_text own = {line, sizeof line, 0};
-    nonobench_desk *desk;
-    uint32_t status = look(picture, picture_size, text);
-    if (status == NONOBENCH_DONE) status = look(certificate, certificate_size, text);
-    if (status == NONOBENCH_DONE) status = look_options(options, text);
-    if (status == NONOBENCH_DONE) status = start(&desk, text);
-    if (status != NONOBENCH_DONE) return status;
-    status = which.check(&desk, bytes_of(picture), picture_size, bytes_of(certificate), certificate_size, bytes_of(background),
-                         length_of(background));
-    tell(&desk, status, text);
-    take(&desk, &own);
-    nonobench_end(desk);
-    if (status != NONOBENCH_DONE) return status;
-    return look_givens(which.name, certificate, certificate_size, line, options, text);
+    *givens = (char *)malloc(options->published_count * MOST_GIVEN + 1);
+    if (!*givens) {
+        put(text, "memory");
+        return NONOBENCH_MEMORY;
+    }
+    for (size_t at = 0; at < options->published_count; at++) {
+        nonobench_place place = options->published[at];
+        *size += (size_t)sprintf(*givens + *size, "given %" PRIu32 " %" PRIu32 "\n", place.row, place.column);
+    }
+    return NONOBENCH_DONE;
 }
 
 uint32_t nonobench_check_pair(const void *picture, size_t picture_size, const void *certificate, size_t certificate_size,
                               const nonobench_options *options, nonobench_text *text) {
-    kind which = {nonobench_check, "certificate"};
-    return check_pair(which, picture, picture_size, certificate, certificate_size, options, text);
+    static const nonobench_options NONE = {NULL, NULL, 0, false};
+    const nonobench_options *asked = options ? options : &NONE;
+    const uint8_t *file = bytes_of(picture), *cert = bytes_of(certificate), *word = bytes_of(asked->background);
+    size_t word_size = length_of(asked->background), size = 0;
+    char *givens = NULL;
+    nonobench_desk *desk;
+    uint32_t status = look(picture, picture_size, text);
+    if (status == NONOBENCH_DONE) status = look(certificate, certificate_size, text);
+    if (status == NONOBENCH_DONE) status = write_givens(asked, &givens, &size, text);
+    if (status == NONOBENCH_DONE) status = start(&desk, text);
+    if (status == NONOBENCH_DONE) {
+        status = asked->any_given ? nonobench_check(&desk, file, picture_size, cert, certificate_size, word, word_size)
+                                  : nonobench_check_published(&desk, file, picture_size, cert, certificate_size,
+                                                              bytes_of(givens), size, word, word_size);
+        tell(&desk, status, text);
+        nonobench_end(desk);
+    }
+    free(givens);
+    return status;
 }
 
-uint32_t nonobench_verify_pair(const void *picture, size_t picture_size, const void *proof, size_t proof_size,
+uint32_t nonobench_verify_pair(const void *picture, size_t picture_size, const void *certificate, size_t certificate_size,
                                const nonobench_options *options, nonobench_text *text) {
-    kind which = {nonobench_verify, "proof"};
-    return check_pair(which, picture, picture_size, proof, proof_size, options, text);
+    return nonobench_check_pair(picture, picture_size, certificate, certificate_size, options, text);
 }
 
 uint32_t nonobench_clues(const void *picture, size_t size, const char *background, nonobench_text *text) {
@@ -270,7 +230,7 @@ uint32_t nonobench_verdict(const void *picture, size_t size, const char *backgro
     return status;
 }
 
-/* Keeps the text of the last call: UNIQUE with the certificate or proof that it is, in room of its own, or the ruling that it tells. */
+/* Keeps the text of the last call: UNIQUE with the certificate that it is, in room of its own, or the ruling that it tells. */
 static uint32_t keep(nonobench_desk **desk, uint32_t status, nonobench_audited *found, nonobench_text *text) {
     char front[10] = "";
     nonobench_text own = {front, sizeof front, 0};

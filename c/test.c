@@ -1,4 +1,5 @@
-/* Tests of libnonobench: test FOLDER [TIMES], with the folder that has pictures.case, certificates.case, lemmas.case and published.case. TIMES is how often what could grow is done. Expected answers stand in those files, or follow from docs/FORMATS.md by hand. */
+/* Tests of libnonobench: test FOLDER [TIMES], with the folder that has pictures.case, certificates.case, lemmas.case and published.case.
+ * TIMES is how often what could grow is done. Expected answers stand in those files, or follow from docs/FORMATS.md by hand. */
 #include "nonobench.h"
 
 #include <malloc.h>
@@ -6,6 +7,12 @@
 #include <stdio.h>
 #include <stdlib.h>
 #include <string.h>
+#include <unistd.h>
+
+/* The version that the library must tell: that of the header, or of an older release that is tried. */
+#ifndef TRIED
+#define TRIED NONOBENCH_VERSION
+#endif
 
 #define MOST 4096
 #define THREADS 4
@@ -101,21 +108,21 @@ static void run_picture(char *line, const char *answer) {
     expect(is_answer(answer, status, said), line, said);
 }
 
-/* A picture and a certificate or a proof by lemmas, `PICTURE TEXT`, under options. */
-static void run_check(bool by_lemmas, char *rows, char *proof, const char *answer, const nonobench_options *options) {
+/* A picture and a certificate under options. */
+static void run_check(char *rows, char *lines, const char *answer, const nonobench_options *options) {
     char picture[MOST], certificate[MOST], said[MOST];
     nonobench_text text = {said, sizeof said, 0};
     picture_of(rows, strlen(rows), picture);
-    size_t size = unescape(proof, strlen(proof), certificate), picture_size = strlen(picture);
-    uint32_t status = by_lemmas ? nonobench_verify_pair(picture, picture_size, certificate, size, options, &text)
-                                : nonobench_check_pair(picture, picture_size, certificate, size, options, &text);
-    expect(is_answer(answer, status, said), proof, said);
+    size_t size = unescape(lines, strlen(lines), certificate);
+    uint32_t status = nonobench_check_pair(picture, strlen(picture), certificate, size, options, &text);
+    expect(is_answer(answer, status, said), lines, said);
 }
 
-static void run_proof(bool by_lemmas, char *line, const char *answer) {
-    char *proof = strchr(line, ' ');
-    *proof++ = 0;
-    run_check(by_lemmas, line, proof, answer, &ANY);
+/* `PICTURE TEXT => ANSWER` */
+static void run_certificate(char *line, const char *answer) {
+    char *lines = strchr(line, ' ');
+    *lines++ = 0;
+    run_check(line, lines, answer, &ANY);
 }
 
 /* The cells of a word of cases, which may be - for none. */
@@ -131,17 +138,17 @@ static size_t places_of(const char *word, nonobench_place *places) {
 
 /* `PICTURE PUBLISHED TEXT => GIVENS ANSWER` */
 static void run_published(char *line, char *answer) {
-    char *word = strchr(line, ' '), *proof = strchr(word + 1, ' '), *told = strchr(answer, ' '), certificate[MOST];
+    char *word = strchr(line, ' '), *lines = strchr(word + 1, ' '), *told = strchr(answer, ' '), certificate[MOST];
     nonobench_place published[9], wanted[9], givens[9];
-    *word++ = *proof++ = *told++ = 0;
+    *word++ = *lines++ = *told++ = 0;
     bool any = strcmp(word, "any") == 0;
     nonobench_options options = {NULL, published, any ? 0 : places_of(word, published), any};
-    run_check(strncmp(proof, "nonolemma", 9) == 0, line, proof, told, &options);
-    /* Of a proof that does not hold the givens mean nothing. */
-    size_t count = places_of(answer, wanted), size = unescape(proof, strlen(proof), certificate);
+    run_check(line, lines, told, &options);
+    /* Of a certificate that does not hold the givens mean nothing. */
+    size_t count = places_of(answer, wanted), size = unescape(lines, strlen(lines), certificate);
     if (strncmp(told, "! ", 2) == 0 && !strstr(told, "UnpublishedGiven")) return;
-    expect(nonobench_givens(certificate, size, givens, 9) == count, "how many givens", proof);
-    expect(memcmp(givens, wanted, count * sizeof *givens) == 0, "which givens", proof);
+    expect(nonobench_givens(certificate, size, givens, 9) == count, "how many givens", lines);
+    expect(memcmp(givens, wanted, count * sizeof *givens) == 0, "which givens", lines);
 }
 
 /* Runs one line of a file of cases. */
@@ -151,7 +158,7 @@ static void run_case(char *line, const char *name) {
     if (strcmp(name, "pictures") == 0) {
         run_picture(line, answer);
     } else if (strcmp(name, "published") != 0) {
-        run_proof(strcmp(name, "lemmas") == 0, line, answer);
+        run_certificate(line, answer);
     } else {
         run_published(line, answer);
     }
@@ -193,13 +200,12 @@ static void test_answers(void) {
     expect(nonobench_clues("P3 1 1 1 0 0 0", 14, "0,0,0", &text) == NONOBENCH_DONE, "a black background", said);
     expect(strcmp(said, "r 1: 0\nc 1: 0\n") == 0, "no clue", said);
     memset(said, '#', sizeof said);
-    expect(nonobench_version((uint8_t *)said, 3) == strlen(NONOBENCH_VERSION), "how long the version is", said);
-    expect(memcmp(said, NONOBENCH_VERSION, 3) == 0 && said[3] == '#', "the front of the version", said);
+    expect(nonobench_version((uint8_t *)said, 3) == strlen(TRIED), "how long the version is", said);
+    expect(memcmp(said, TRIED, 3) == 0 && said[3] == '#', "the front of the version", said);
     said[nonobench_version((uint8_t *)said, sizeof said)] = 0;
-    expect(strcmp(said, NONOBENCH_VERSION) == 0, "the version", said);
+    expect(strcmp(said, TRIED) == 0, "the version", said);
 }
 
-/* A black cell, the only picture with its clues. */
 /* Under an allowance of no split, the two pictures with the clues of the diagonal stay undecided: no ruling says more than is found. */
 static void test_undecided(void) {
     nonobench_ruling ruling = NONOBENCH_UNIQUE;
@@ -211,20 +217,31 @@ static void test_undecided(void) {
     expect(found.ruling == NONOBENCH_UNDECIDED && !found.certificate, "it is undecided, and has no certificate", "");
 }
 
-/* A place outside of every picture is no cell: row 1 and column 121 is not row 2 and column 1, nor is row 0 the row before. */
-static void test_places_outside(void) {
-    static const char second[] = "nonocert 2\ngiven 2 1\nline r 2\nline c 2\nline r 1\ndone\n";
-    static const nonobench_place outside[] = {{1, 121}, {0, 241}, {121, 1}, {2, 0}, {0, 0}, {1u << 31, 1}}, inside = {2, 1};
-    nonobench_options options = {NULL, outside, sizeof outside / sizeof *outside, false};
+/* A place outside of the picture, or one that is named twice, is told with its number; and the old name answers as the new one. */
+static void test_places(void) {
+    static const nonobench_place outside[] = {{1, 1}, {1, 121}}, twice[] = {{2, 2}, {1, 1}, {2, 2}}, high[] = {{UINT32_MAX, UINT32_MAX}};
+    static const struct { const nonobench_place *places; size_t count; const char *said; } asked[] = {
+        {outside, 1, "certificate accepted, givens 1\n"},
+        {outside, 2, "givens Place at line 2"},
+        {twice, 3, "givens Repeated at line 3"},
+        {high, 1, "givens BadLine at line 1"},
+        {high, 0, "certificate UnpublishedGiven at line 2"},
+        {twice, NONOBENCH_MOST_BYTES, "input too long"}, /* of which nothing is read */
+    };
     char said[64];
     nonobench_text text = {said, sizeof said, 0};
-    size_t size = strlen(DIAGONAL);
-    expect(nonobench_check_pair(DIAGONAL, size, second, strlen(second), &options, &text) == NONOBENCH_REFUSED, "places outside", said);
-    expect(strcmp(said, "certificate UnpublishedGiven at line 2") == 0, "they publish nothing", said);
-    options = (nonobench_options){NULL, &inside, 1, false};
-    expect(nonobench_check_pair(DIAGONAL, size, second, strlen(second), &options, &text) == NONOBENCH_DONE, "the place itself", said);
+    size_t size = strlen(DIAGONAL), cert = strlen(GIVEN);
+    for (size_t at = 0; at < sizeof asked / sizeof *asked; at++) {
+        nonobench_options options = {NULL, asked[at].places, asked[at].count, false};
+        uint32_t wanted = at == 0 ? NONOBENCH_DONE : NONOBENCH_REFUSED;
+        expect(nonobench_check_pair(DIAGONAL, size, GIVEN, cert, &options, &text) == wanted, asked[at].said, said);
+        expect(strcmp(said, asked[at].said) == 0, asked[at].said, said);
+        expect(nonobench_verify_pair(DIAGONAL, size, GIVEN, cert, &options, &text) == wanted, "the old name", said);
+        expect(strcmp(said, asked[at].said) == 0, "the old name", said);
+    }
 }
 
+/* A black cell, the only picture with its clues. */
 static const char TILE[] = "P3 1 1 1 0 0 0";
 
 /* Certificates that are made, and checked again. What both calls answer to pictures with and without another one. */
@@ -252,27 +269,27 @@ static void test_certificates(void) {
     expect(nonobench_audit(TILE, strlen(TILE), "0,0", 0, &found, &text) == NONOBENCH_OPTIONS, "no background", said);
 }
 
-/* Proofs by lemmas that are made, and checked again; and one of a picture with another one, which no line can prove. */
-static void test_proofs(void) {
+/* Certificates with lemmas that are made, and checked again; and one of a picture with another one, which no line can prove. */
+static void test_lemmas(void) {
     static const char wrong[] = "nonolemma 1\nline r 1\nline c 1\nline r 2\nline c 2\ndone\n";
     char said[MOST], rows[] = "a./.b", picture[MOST];
     nonobench_text text = {said, sizeof said, 0};
     nonobench_audited found;
     picture_of(rows, strlen(rows), picture);
     size_t size = strlen(picture);
-    expect(nonobench_prove_picture(picture, size, NULL, &found, &text) == NONOBENCH_DONE, "a proof", said);
+    expect(nonobench_prove_picture(picture, size, NULL, &found, &text) == NONOBENCH_DONE, "a certificate", said);
     expect(found.ruling == NONOBENCH_UNIQUE && strcmp(said, "unique\n") == 0, "it is told", said);
     expect(found.certificate && strlen(found.certificate) == found.certificate_size, "how long it is", said);
-    expect(nonobench_verify_pair(picture, size, found.certificate, found.certificate_size, NULL, &text) == NONOBENCH_DONE, "it holds", said);
-    expect(strcmp(said, "proof accepted\n") == 0, "it is told", said);
-    expect(nonobench_check_pair(picture, size, found.certificate, found.certificate_size, NULL, &text) == NONOBENCH_REFUSED, "no certificate", said);
-    expect(nonobench_verify_pair(DIAGONAL, strlen(DIAGONAL), found.certificate, found.certificate_size, NULL, &text) == NONOBENCH_REFUSED, "of another", said);
-    expect(nonobench_verify_pair(picture, size, found.certificate, found.certificate_size - 1, NULL, &text) == NONOBENCH_DONE, "no line feed", said);
-    expect(nonobench_verify_pair(picture, size, found.certificate, found.certificate_size - 2, NULL, &text) == NONOBENCH_REFUSED, "cut", said);
+    expect(nonobench_check_pair(picture, size, found.certificate, found.certificate_size, NULL, &text) == NONOBENCH_DONE, "it holds", said);
+    expect(strcmp(said, "certificate accepted\n") == 0, "it is told", said);
+    expect(strncmp(found.certificate, "nonolemma 2\n", 12) == 0, "its form", found.certificate);
+    expect(nonobench_check_pair(DIAGONAL, strlen(DIAGONAL), found.certificate, found.certificate_size, NULL, &text) == NONOBENCH_REFUSED, "of another", said);
+    expect(nonobench_check_pair(picture, size, found.certificate, found.certificate_size - 1, NULL, &text) == NONOBENCH_DONE, "no line feed", said);
+    expect(nonobench_check_pair(picture, size, found.certificate, found.certificate_size - 2, NULL, &text) == NONOBENCH_REFUSED, "cut", said);
     free(found.certificate);
-    expect(nonobench_prove_picture(DIAGONAL, strlen(DIAGONAL), NULL, &found, &text) == NONOBENCH_DONE, "no proof", said);
+    expect(nonobench_prove_picture(DIAGONAL, strlen(DIAGONAL), NULL, &found, &text) == NONOBENCH_DONE, "no certificate", said);
     expect(found.ruling == NONOBENCH_AMBIGUOUS && !found.certificate && strcmp(said, "ambiguous\n") == 0, "it is told", said);
-    expect(nonobench_verify_pair(DIAGONAL, strlen(DIAGONAL), wrong, sizeof wrong - 1, &ANY, &text) == NONOBENCH_REFUSED, "no proof", said);
+    expect(nonobench_check_pair(DIAGONAL, strlen(DIAGONAL), wrong, sizeof wrong - 1, &ANY, &text) == NONOBENCH_REFUSED, "no certificate", said);
     expect(strcmp(said, "certificate NotDone at line 6") == 0, "it is said", said);
     expect(nonobench_prove_picture("P4", 2, NULL, &found, &text) == NONOBENCH_REFUSED && !found.certificate, "no picture", said);
     expect(strcmp(said, "ppm NotP3 at byte 0") == 0, "it is said", said);
@@ -281,7 +298,7 @@ static void test_proofs(void) {
     picture_of("..a/.a.", 7, picture);
     size = strlen(picture);
     expect(nonobench_prove_picture(picture, size, "0,0,0", &found, NULL) == NONOBENCH_DONE && found.certificate, "a background", "");
-    expect(nonobench_verify_pair(picture, size, found.certificate, found.certificate_size, NULL, &text) == NONOBENCH_REFUSED, "white again", said);
+    expect(nonobench_check_pair(picture, size, found.certificate, found.certificate_size, NULL, &text) == NONOBENCH_REFUSED, "white again", said);
     free(found.certificate);
 }
 
@@ -322,8 +339,7 @@ static void test_nulls(void) {
     expect(nonobench_verdict(NULL, 1, NULL, 0, NULL, NULL) == NONOBENCH_OPTIONS, "a null for a verdict", "");
     expect(nonobench_audit(NULL, 1, NULL, 0, &found, NULL) == NONOBENCH_OPTIONS, "a null for an audit", "");
     expect(nonobench_certify(NULL, 1, NULL, &found, NULL) == NONOBENCH_OPTIONS, "a null for a certificate", "");
-    expect(nonobench_prove_picture(NULL, 1, NULL, &found, NULL) == NONOBENCH_OPTIONS, "a null for a proof", "");
-    expect(nonobench_verify_pair(DIAGONAL, strlen(DIAGONAL), NULL, 1, NULL, NULL) == NONOBENCH_OPTIONS, "a null proof", "");
+    expect(nonobench_prove_picture(NULL, 1, NULL, &found, NULL) == NONOBENCH_OPTIONS, "a null for one with lemmas", "");
     nonobench_end(NULL);
 }
 
@@ -342,7 +358,7 @@ static void test_no_text(void) {
                  : which == 1 ? nonobench_close(&desk, 1)
                  : which == 2 ? nonobench_open(&desk, picture, size, false, picture, 0, 0, &handle)
                  : which == 3 ? nonobench_check(&desk, picture, size, picture, size, picture, size)
-                 : which == 4 ? nonobench_verify(&desk, picture, size, picture, size, picture, size)
+                 : which == 4 ? nonobench_check_published(&desk, picture, size, picture, size, picture, 0, picture, size)
                               : nonobench_prove(&desk, picture, size, picture, size);
         expect(status == (which < 2 ? NONOBENCH_CLOSED : NONOBENCH_OPTIONS), "it is refused", "");
         expect(nonobench_take(&desk, &none, 0) == 0, "no text stands there", "");
@@ -384,7 +400,7 @@ static void answer_some(uint32_t seed, int times, char *out, size_t room) {
         if (next(&seed, 2)) cert[next(&seed, sizeof cert - 1)] = (char)(10 + next(&seed, 100));
         status[0] = nonobench_check_pair(picture, sizeof picture - 1, cert, sizeof cert - 1, &ANY, &text);
         status[1] = nonobench_check_pair(noise, size, noise, size, NULL, NULL);
-        status[2] = nonobench_verify_pair(DIAGONAL, sizeof DIAGONAL - 1, noise, size, NULL, NULL);
+        status[2] = nonobench_check_pair(DIAGONAL, sizeof DIAGONAL - 1, noise, size, NULL, NULL);
         status[3] = nonobench_verdict(noise, size, NULL, 100, NULL, NULL);
         used += (size_t)snprintf(out + used, room - used, "%u%u%u%u %s\n", status[0], status[1], status[2], status[3], said);
         if (used + MOST > room) return;
@@ -425,6 +441,69 @@ static void test_threads(int times) {
     free(alone);
 }
 
+/* A picture of the largest size with cells made by chance, and a text of so many lines behind a first one. */
+static char *largest(void) {
+    char *text = (char *)malloc(200000), *end = text;
+    uint32_t seed = 1;
+    if (!text) exit(2);
+    end += sprintf(end, "P3 120 120 1");
+    for (int cell = 0; cell < 14400; cell++) end += sprintf(end, next(&seed, 10) < 6 ? " 0 0 0" : " 1 1 1");
+    return text;
+}
+
+static char *lines_of(const char *first, const char *line, int count) {
+    char *text = (char *)malloc(strlen(first) + (strlen(line) + 8) * (size_t)count + 1), *end = text;
+    if (!text) exit(2);
+    end += sprintf(end, "%s", first);
+    for (int i = 0; i < count; i++) end += sprintf(end, line, i / 120 % 120 + 1, i % 120 + 1);
+    return text;
+}
+
+/* Every cell of the largest picture. */
+static const nonobench_place *every_place(void) {
+    static nonobench_place places[14400];
+    for (uint32_t cell = 0; cell < 14400; cell++) places[cell] = (nonobench_place){cell / 120 + 1, cell % 120 + 1};
+    return places;
+}
+
+/* Each call, in a thread with no more stack than the header names: on the largest picture, with deep trees, long lemmas and many givens. */
+static void *call_each(void *given) {
+    nonobench_audited found;
+    char *picture = largest(), *texts[] = {lines_of("nonocert 1\n", "split %d %d\n", 14400), lines_of("nonolemma 1\n", "part %d %d a\n", 14400),
+                                           lines_of("nonolemma 1\nlemma\n", "deny %d %d a\n", 1000)};
+    const nonobench_options many = {NULL, every_place(), 14400, false};
+    bool *holds = (bool *)given;
+    size_t size = strlen(picture);
+    *holds = nonobench_clues(picture, size, NULL, NULL) == NONOBENCH_DONE;
+    *holds = *holds && nonobench_verdict(picture, size, NULL, 20, NULL, NULL) == NONOBENCH_DONE;
+    for (int i = 0; i < 3; i++) {
+        *holds = *holds && nonobench_check_pair(picture, size, texts[i], strlen(texts[i]), &ANY, NULL) == NONOBENCH_REFUSED;
+        *holds = *holds && nonobench_check_pair(picture, size, texts[i], strlen(texts[i]), &many, NULL) == NONOBENCH_REFUSED;
+        free(texts[i]);
+    }
+    *holds = *holds && nonobench_audit(picture, size, NULL, 20, &found, NULL) == NONOBENCH_DONE;
+    free(found.certificate);
+    *holds = *holds && nonobench_certify(TILE, strlen(TILE), NULL, &found, NULL) == NONOBENCH_DONE && found.certificate;
+    free(found.certificate);
+    *holds = *holds && nonobench_prove_picture(TILE, strlen(TILE), NULL, &found, NULL) == NONOBENCH_DONE && found.certificate;
+    free(found.certificate);
+    free(picture);
+    return NULL;
+}
+
+static void test_stack(void) {
+    pthread_t thread;
+    pthread_attr_t words;
+    bool holds = false;
+    long least = sysconf(_SC_THREAD_STACK_MIN);
+    size_t size = least > (long)NONOBENCH_STACK ? (size_t)least : NONOBENCH_STACK;
+    if (pthread_attr_init(&words) != 0 || pthread_attr_setstacksize(&words, size) != 0) exit(2);
+    if (pthread_create(&thread, &words, call_each, &holds) != 0) exit(2);
+    pthread_join(thread, NULL);
+    pthread_attr_destroy(&words);
+    expect(holds, "each call with the stack that the header names", "");
+}
+
 #if defined(__GLIBC__) && (__GLIBC__ > 2 || __GLIBC_MINOR__ >= 33)
 static size_t held(void) { return mallinfo2().uordblks; }
 #else
@@ -452,7 +531,7 @@ static void test_growth(int times) {
         holds = holds && nonobench_audit(TILE, strlen(TILE), NULL, 9, &found, NULL) == NONOBENCH_DONE && found.certificate;
         free(found.certificate);
         holds = holds && nonobench_prove_picture(TILE, strlen(TILE), NULL, &found, NULL) == NONOBENCH_DONE && found.certificate;
-        holds = holds && nonobench_verify_pair(TILE, strlen(TILE), found.certificate, found.certificate_size, NULL, NULL) == NONOBENCH_DONE;
+        holds = holds && nonobench_check_pair(TILE, strlen(TILE), found.certificate, found.certificate_size, NULL, NULL) == NONOBENCH_DONE;
         free(found.certificate);
         holds = holds && nonobench_open(&desk, (const uint8_t *)DIAGONAL, strlen(DIAGONAL), false, (const uint8_t *)"", 0, 9, &handle) == 0;
         holds = holds && nonobench_say(&desk, handle, (const uint8_t *)"pin 1 1\nverdict\nundo\n", 21) == NONOBENCH_DONE;
@@ -473,14 +552,15 @@ int main(int count, char **words) {
     run_cases(words[1], "published");
     test_answers();
     test_undecided();
-    test_places_outside();
+    test_places();
     test_certificates();
-    test_proofs();
+    test_lemmas();
     test_bad_input();
     test_nulls();
     test_no_text();
     test_rooms();
     test_threads(times / 10 < 500 ? times / 10 : 500);
+    test_stack();
     test_growth(times);
     printf("C: %d passed, %d failed\n", passed, failed);
     return failed == 0 ? 0 : 1;

@@ -1,5 +1,5 @@
 # Completion of nonobench's words in bash: source this file, or install it as ./install does.
-# .ci/completions compares what it offers with the program's --help.
+# tests/program/test_completions.py compares what it offers with the program's --help.
 
 _nonobench() {
     local word=${COMP_WORDS[COMP_CWORD]} before=${COMP_WORDS[COMP_CWORD - 1]} command='' files=0 i
@@ -13,7 +13,14 @@ _nonobench() {
     done
     case $before in
         --format)
-            mapfile -t COMPREPLY < <(compgen -W 'ppm non' -- "$word")
+            local formats='ppm non'
+            [[ $command = prove ]] && formats='1 2'
+            mapfile -t COMPREPLY < <(compgen -W "$formats" -- "$word")
+            return
+            ;;
+        --givens)
+            compopt -o filenames 2>/dev/null
+            mapfile -t COMPREPLY < <(compgen -f -- "$word")
             return
             ;;
         --background | --history) return ;;
@@ -22,7 +29,8 @@ _nonobench() {
     case $command in
         '') offered='work check prove verify help --help --version' ;;
         work) offered='--format --background --history --help' files=1 ;;
-        check | prove | verify) offered='--background --help' files=1 ;;
+        check | verify) offered='--givens --background --help' files=1 ;;
+        prove) offered='--background --format --help' files=1 ;;
         help) offered='work check prove verify help' ;;
         *) return ;;
     esac

@@ -1,15 +1,19 @@
-// Checks an upload: node check_upload.mjs PICTURE CERTIFICATE [GIVENS [R,G,B]], where CERTIFICATE may be a proof by lemmas.
-// GIVENS has a line `given R C` for each cell that is published; without it, none is. R,G,B is the background, by default
-// white. A file of more than 4 MiB is refused. The check runs in a thread that is ended after ten seconds.
+#!/usr/bin/env node
+// Checks an upload: node check_upload.mjs PICTURE CERTIFICATE [GIVENS [R,G,B]]. GIVENS has a line `given R C` for each cell that is
+// published; without it, none is. R,G,B is the background, by default white. Only regular files are read, and none of more than 4 MiB.
+// The check runs in a thread, which is ended after ten seconds of processor time, or 60 by the clock.
 // It uses the npm package nonobench where that is installed, so a site can copy this file. Otherwise it uses what web/build
 // makes in the checkout; WASM is the path of nonobench.wasm if it is not in web/out.
 // Exits with status 0 if the pair is accepted, 1 if it is refused or takes too long, 2 for bad arguments, and 3 if a file
 // cannot be read.
-import { readFile } from 'node:fs/promises';
+import { constants } from 'node:fs';
+import { open, readFile } from 'node:fs/promises';
 import { Worker, isMainThread, parentPort, workerData } from 'node:worker_threads';
 
 const MOST_BYTES = 4 << 20;
-const MOST_MILLISECONDS = 10000;
+const MOST_PROCESSOR = 10; // seconds
+const MOST_CLOCK = 60; // seconds
+const LOOK = 100; // milliseconds between looks at the time
 
 // The package, where it is installed for this file; else null.
 const installed = await import('nonobench').catch((error) => {
@@ -17,19 +21,20 @@ const installed = await import('nonobench').catch((error) => {
   throw error;
 });
 
-// An engine of the installed package, or of the checkout's module in `bytes`.
-async function engineOf(bytes) {
-  const { load } = bytes ? await import('../web/nonobench.mjs') : installed;
-  return load(bytes);
-}
-
-// The places of lines `given R C`.
-function placesOf(text) {
-  return text.split(/\r?\n/).filter((line) => line !== '').map((line) => {
-    const found = /^given ([0-9]+) ([0-9]+)$/.exec(line);
-    if (!found) throw new Error(`no line of a given: ${line.slice(0, 40)}`);
-    return [Number(found[1]), Number(found[2])];
-  });
+// The bytes of a regular file, or null where they are too many. Nothing waits for a pipe, and of a device nothing is read.
+async function bytesOf(name) {
+  const file = await open(name, constants.O_RDONLY | (constants.O_NONBLOCK ?? 0));
+  try {
+    const found = await file.stat();
+    if (!found.isFile()) throw new Error(`not a regular file: ${name}`);
+    if (found.size > MOST_BYTES) return null;
+    const room = Buffer.alloc(found.size);
+    let size = 0;
+    for (let more = 1; more > 0 && size < room.length; size += more) more = (await file.read(room, size, room.length - size)).bytesRead;
+    return room.subarray(0, size);
+  } finally {
+    await file.close();
+  }
 }
 
 function leave(text, status) {
@@ -44,16 +49,30 @@ function ask(workerData) {
   const tell = (isAccepted, text) => {
     if (isTold) return;
     isTold = true;
-    clearTimeout(limit);
+    clearInterval(watch);
     process.exitCode = isAccepted ? 0 : 1;
     console.log(isAccepted ? text.trimEnd() : `refused: ${text.trimEnd()}`);
-  };
-  const limit = setTimeout(() => {
-    tell(false, 'took too long');
     worker.terminate();
-  }, MOST_MILLISECONDS);
+  };
+  const watch = setInterval(() => {
+    const { user, system } = process.cpuUsage();
+    if (user + system > MOST_PROCESSOR * 1e6 || process.uptime() > MOST_CLOCK) tell(false, 'took too long');
+  }, LOOK);
   worker.once('message', ({ accepted, text }) => tell(accepted, text));
   worker.once('error', (error) => tell(false, error.message));
+}
+
+// What the thread answers: the package's, or that of the checkout's module, whose bytes are then passed.
+async function answer({ module, picture, certificate, background, givens }) {
+  const { hintOf, load } = module ? await import('../web/nonobench.mjs') : installed;
+  const engine = await load(module ?? undefined);
+  try {
+    const { accepted, text } = engine.check(picture, certificate, { background, givens });
+    const hint = hintOf(text, certificate);
+    return { accepted, text: hint ? `${text.trimEnd()} (${hint})` : text };
+  } catch (fault) {
+    return { accepted: false, text: fault.text ?? fault.message };
+  }
 }
 
 if (isMainThread) {
@@ -64,18 +83,12 @@ if (isMainThread) {
     const module = installed ? null : await readFile(process.env.WASM ?? new URL('../web/out/nonobench.wasm', import.meta.url)).catch((error) => {
       throw new Error(`the package nonobench is not installed here, and ${error.message}`);
     });
-    const [picture, certificate, givens = ''] = await Promise.all(names.slice(0, 3).map((name) => readFile(name)));
-    if (Math.max(picture.length, certificate.length) > MOST_BYTES) leave(`a file has more than ${MOST_BYTES} bytes`, 1);
-    ask({ module, picture, certificate, background, givens: placesOf(givens.toString()) });
+    const [picture, certificate, givens = Buffer.alloc(0)] = await Promise.all(names.slice(0, 3).map(bytesOf));
+    if (!picture || !certificate || !givens) leave(`a file has more than ${MOST_BYTES} bytes`, 1);
+    ask({ module, picture, certificate, background, givens });
   } catch (error) {
     leave(error.message, 3);
   }
 } else {
-  const { module, picture, certificate, background, givens } = workerData, engine = await engineOf(module);
-  try {
-    const isProof = new TextDecoder().decode(certificate.subarray(0, 9)) === 'nonolemma';
-    parentPort.postMessage(engine[isProof ? 'verify' : 'check'](picture, certificate, { background, givens }));
-  } catch (fault) {
-    parentPort.postMessage({ accepted: false, text: fault.text ?? fault.message });
-  }
+  parentPort.postMessage(await answer(workerData));
 }

@@ -24,7 +24,7 @@ from pathlib import Path
 
 sys.dont_write_bytecode = True
 ROOT = Path(__file__).resolve().parent.parent
-sys.path[:0] = [str(ROOT / "measure"), str(ROOT / "python")]
+sys.path[:0] = [str(ROOT / "measure"), str(ROOT / "python" / "src")]
 from drawing import blobs  # noqa: E402
 
 import nonobench  # noqa: E402
@@ -65,7 +65,7 @@ def draw(folder, count=20_000, seed=1):
 
 
 def environment():
-    return {**os.environ, "PYTHONPATH": str(ROOT / "python"), "PYTHONDONTWRITEBYTECODE": "1"}
+    return {**os.environ, "PYTHONPATH": str(ROOT / "python" / "src"), "PYTHONDONTWRITEBYTECODE": "1"}
 
 
 def spent(words):

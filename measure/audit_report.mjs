@@ -4,7 +4,7 @@
 import { writeFileSync } from 'node:fs';
 import { join, resolve } from 'node:path';
 import { pathToFileURL } from 'node:url';
-import { Browser } from '../tests/page_browser.mjs';
+import { Browser } from '../tests/page/page_browser.mjs';
 
 const [report, turns = '5', folder] = process.argv.slice(2);
 const address = pathToFileURL(resolve(report)).href;

@@ -1,7 +1,8 @@
 // How many colours real icons keep that become puzzles: measure/flat_icons.mjs FOLDER [COUNT [SIDE [COLUMNS [ASKED]]]]. FOLDER has SVG
 // files (Debian's papirus-icon-theme or breeze-icon-theme, for one); each so-manieth of them is drawn by rsvg-convert (Debian's
 // librsvg2-bin) with SIDE pixels (200) and read by ImageMagick. COUNT icons (300) are looked at that have three to ASKED (6) colours
-// of at least 2 % of their area, what is transparent among them. ROOT is the checkout whose page is measured (this one).
+// of at least 2 % of their area, what is transparent among them. It also counts of how many the proposal of the dialog has colours that
+// look alike. ROOT is the checkout whose page is measured (this one).
 import { spawnSync } from 'node:child_process';
 import { readdirSync, statSync } from 'node:fs';
 import { join, resolve } from 'node:path';
@@ -15,6 +16,8 @@ await load('test/limits.mjs');
 const { scaledTo } = await load('import/images.js');
 const { docOfCells } = await load('import/quantise.js');
 const making = await load('import/making.js').catch(() => null);
+const { nearPairs } = await load('document/near.js');
+const { docProposed } = await load('import/proposing.js');
 const LEAST = 0.02;
 
 function imageOf(file) {
@@ -46,10 +49,12 @@ function docOf(image) {
 
 const files = readdirSync(folder, { recursive: true }).map((name) => join(folder, String(name))).filter((name) => name.endsWith('.svg') && statSync(name).isFile()).sort();
 const step = Math.max(1, Math.floor(files.length / (wanted * 3)));
-const sums = { icons: 0, whole: 0, colours: 0, kept: 0, dark: 0, ms: 0 };
+const sums = { icons: 0, proposed: 0, alike: 0, whole: 0, colours: 0, kept: 0, dark: 0, ms: 0 };
 for (let at = 0; at < files.length && sums.icons < wanted; at += step) {
   const image = imageOf(files[at]);
   if (!image) continue;
+  sums.proposed++;
+  sums.alike += Number(nearPairs(docProposed(image)).length > 0);
   const wide = [...sharesOf(image)].filter(([, share]) => share >= LEAST);
   if (wide.length < 3 || wide.length > asked) continue;
   const begun = performance.now();
@@ -69,4 +74,5 @@ for (let at = 0; at < files.length && sums.icons < wanted; at += step) {
 }
 console.log(`${sums.icons} icons of ${folder}, ${side} pixels, ${columns} columns, ${asked} colours asked`);
 console.log(`colours of at least 2 % kept, on at least half as many cells: ${sums.kept} of ${sums.colours}; all of them kept: ${sums.whole} icons`);
+console.log(`proposed with colours that look alike: ${sums.alike} of ${sums.proposed}`);
 console.log(`transparent, and a dark background: ${sums.dark}; ${(sums.ms / sums.icons).toFixed(1)} ms an icon`);

@@ -16,7 +16,7 @@ from pathlib import Path
 
 sys.dont_write_bytecode = True
 ROOT = Path(__file__).resolve().parent.parent
-sys.path.insert(0, str(ROOT / 'tests'))
+sys.path.insert(0, str(ROOT / 'tests/references'))
 import unseen  # noqa: E402
 from reference.non import write_non  # noqa: E402
 from reference.pictures import read_ppm  # noqa: E402

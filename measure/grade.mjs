@@ -1,6 +1,7 @@
-// Grades of pictures, as rows of the tables in docs/GRADE.md, and how long the grade takes beside the proved report.
+// Grades of pictures, as rows of the tables in measure/README.md, and how long the grade takes beside the proved report.
+// The background of NAME.ppm is that of NAME.background beside it, if there is one, and else white.
 // Usage: node measure/grade.mjs NONOBENCH.WASM PICTURE.ppm ..
-import { readFileSync } from 'node:fs';
+import { existsSync, readFileSync } from 'node:fs';
 import { basename } from 'node:path';
 import { load } from '../web/nonobench.mjs';
 import { gradeOf } from '../page/grade/grade.js';
@@ -9,7 +10,9 @@ const MOST_SPLITS = 20000; // of a verdict
 
 // What the proved session says of a picture: rows of letters, the map, the verdict's word, and where cells are open a certificate.
 function judged(engine, file) {
-    const bench = engine.open(readFileSync(file));
+    const beside = file.replace(/\.ppm$/, '.background');
+    const background = existsSync(beside) ? readFileSync(beside, 'utf8').trim() : undefined;
+    const bench = engine.open(readFileSync(file), { background });
     const lines = bench.say(`allow ${MOST_SPLITS}\nreport\n`).split('\n').slice(1);
     const rows = Number(lines[0].split(' ')[1]);
     const rowsBehind = (word) => lines.slice(lines.indexOf(word) + 1, lines.indexOf(word) + 1 + rows);

@@ -3,7 +3,7 @@
 
 NATIVE is a folder with P3 files in `pictures/` and `hard/`, and the sources `lemcert.cpp` and `lemcheck_min.cpp` of the trial in
 `lemmas/`. PROGRAM is `nonobench`, and BEFORE an earlier one. It needs g++ and valgrind. Of each picture it prints the bytes of its
-certificate and of its proof, and the instructions with which each proof is checked: ours by `verify`, the trial's by its checker. Then,
+certificate and of its proof, and the instructions with which each proof is checked: ours by `check`, the trial's by its checker. Then,
 with BEFORE, the instructions of `verdict` and of `certify` as a multiple of those of BEFORE. What a picture of one cell takes is
 subtracted. A picture that takes more than 10 seconds is left out, and counted.
 """
@@ -40,7 +40,7 @@ class Start:
         cell.write_text(native.CELL)
         proof.write_text(said([program, 'prove', cell]))
         said([maker, cell, '--nested', nested])
-        self.ours = native.collected([program, 'verify', cell, proof])[0]
+        self.ours = native.collected([program, 'check', cell, proof])[0]
         self.theirs = native.collected([checker, cell, nested])[0]
 
 
@@ -59,7 +59,7 @@ def proofs(pictures, work, program, maker, checker):
         proof.write_text(text)
         certificate = said([program, 'work', picture], 'certify\n')
         length = len(certificate) if answer(certificate) == 'nonocert' else None
-        ours = native.less(native.collected([program, 'verify', picture, proof])[0], start.ours)
+        ours = native.less(native.collected([program, 'check', picture, proof])[0], start.ours)
         nested.unlink(missing_ok=True)
         said([maker, picture, '--windows', '--limit', str(1000 * SECONDS), '--nested', nested])
         theirs = native.less(native.collected([checker, picture, nested])[0], start.theirs) if nested.exists() else None

@@ -26,7 +26,7 @@ from pathlib import Path
 
 sys.dont_write_bytecode = True
 ROOT = Path(__file__).resolve().parent.parent
-sys.path.insert(0, str(ROOT / 'tests'))
+sys.path.insert(0, str(ROOT / 'tests/references'))
 from reference.pictures import read_ppm  # noqa: E402
 
 OURS = ROOT / 'crates/nonobench/out/nonobench'

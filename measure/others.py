@@ -1,6 +1,6 @@
 #!/usr/bin/env python3
 """Measures who decides within a time whether a picture is the only one with its clues: measure/others.py PROGRAM FOLDER .. [--seconds N]
-[--only SOLVER] [--others CSV] [--class NAME=PATTERN,..] [--unnamed CLASS] [--csv FILE] [--svg FILE]
+[--only SOLVER] [--others CSV] [--class NAME=PATTERN,..] [--tuned FOLDER] [--csv FILE] [--svg FILE]
 
 Each P3 picture of the folders is given to nonobench (`verdict`) and to the solvers that are installed: minisat and cadical (clauses),
 gringo with clasp (an answer set program), gecode (`extensional` for each line, the cell of most failures for its colours first).
@@ -8,18 +8,24 @@ In Debian: apt-get install minisat cadical gringo clasp libgecode-dev g++.
 Each gets N seconds of one processor (by default 10) for the whole answer, including gringo's; writing the text that a solver reads
 is not counted. Answers are compared with each other, and each other picture that a solver finds is checked. If nonobench answers
 `unique`, its certificate is made, checked by `nonobench check` and measured, each step in a process of its own. If the program has
-the command `prove`, the same is done with proofs by lemmas and `nonobench verify`, also for pictures that the verdict left open.
+the command `prove`, the same is done with certificates with lemmas, also for pictures that the verdict left open.
 
 With `--others`, only nonobench is measured, and the rows of the other solvers are taken from the CSV of an earlier run over the same
 pictures and classes.
 
 It prints the tables of docs/COMPARISON.md, and writes its rows as CSV and its plot as SVG; others_plot.py makes tables and plot again
-from the CSV. A picture belongs to the first class with a pattern that its file's name matches, or else to `other`; the pictures of the
-class `--unnamed` are numbered in the rows.
+from the CSV. A picture belongs to the first class with a pattern that its file's name matches, or else to `other`. The pictures of the
+folders `--tuned` are those on which an earlier nonobench was improved; a further table leaves them out.
 
 A line is described by a deterministic automaton over its cells, the same for all: its state is how many of the clue's cells, and of
 the gaps that must be between blocks of one colour, have been read. A solver is asked for a picture that these automata accept and
 that differs from the known one in some cell.
+
+docs/COMPARISON.md was made so; the first folder has the pictures that nonobench was improved on:
+
+nice -n 5 measure/others.py PROGRAM FOLDER FOLDER --tuned FOLDER --csv docs/comparison.csv --svg docs/comparison.svg
+  --class 'icons=adwaita-*,flag-*,fvwm-*,gnome-*,njam-*,picmi-*,silk-*,tango-*,xbm-*'
+  --class 'random and hard=blob-*,hard-*,noise-*' --class 'patterns=*'
 """
 import argparse
 import fnmatch
@@ -34,7 +40,7 @@ from statistics import median
 
 sys.dont_write_bytecode = True
 ROOT = Path(__file__).resolve().parent.parent
-sys.path.insert(0, str(ROOT / 'tests'))
+sys.path.insert(0, str(ROOT / 'tests/references'))
 from others_plot import CERTIFY, CHECK, PROVE, VERIFY, by, of_solvers, print_tables, read_rows, write_plot, write_rows  # noqa: E402
 from reference.faults import Fault  # noqa: E402
 from reference.lines import clues_of, line_of, names  # noqa: E402
@@ -312,9 +318,9 @@ def lemma_proof(program, limit, picture):
     if printed in (None, 'undecided\n', 'ambiguous\n'):
         return [(PROVE, 'ambiguous' if printed == 'ambiguous\n' else 'open', took, None)]
     (limit.folder / 'proof').write_text(printed)
-    said, checking = limit.run([program, 'verify', str(picture), 'proof'])
-    if said != 'proof accepted\n':
-        raise SystemExit(f'{picture}: its proof by lemmas was not accepted')
+    said, checking = limit.run([program, 'check', str(picture), 'proof'])
+    if said != 'certificate accepted\n':
+        raise SystemExit(f'{picture}: its certificate with lemmas was not accepted')
     return [(PROVE, 'unique', took, len(printed.encode())), (VERIFY, 'accepted', checking, None)]
 
 
@@ -337,21 +343,16 @@ def answers(found, program, limit, picture):
 
 
 class Naming:
-    """The classes of pictures, and the names of pictures in the rows."""
+    """The classes of pictures, and on which of them nonobench was improved."""
 
-    def __init__(self, classes, unnamed):
+    def __init__(self, classes, tuned):
         self.classes = [(name, patterns.split(',')) for name, _, patterns in (one.partition('=') for one in classes)]
-        self.unnamed = unnamed
-        self.numbered = 0
+        self.tuned = {file.resolve() for one in tuned for file in Path(one).rglob('*.ppm')}
 
     def of(self, picture):
-        """The class of a picture, and its name."""
+        """What the rows say of a picture: its name, its class, and whether nonobench was improved on it."""
         fits = (name for name, patterns in self.classes if any(fnmatch.fnmatch(picture.stem, one) for one in patterns))
-        kind = next(fits, 'other')
-        if kind not in self.unnamed:
-            return kind, picture.stem
-        self.numbered += 1
-        return kind, f'{kind} {self.numbered}'
+        return {'picture': picture.stem, 'class': next(fits, 'other'), 'tuned': 'yes' if picture.resolve() in self.tuned else ''}
 
 
 def earlier_rows(path):
@@ -362,7 +363,7 @@ def earlier_rows(path):
 def kept_rows(earlier, own):
     """The earlier rows of a picture, whose row by nonobench is given. It is an error if they are missing, or if they disagree."""
     rows = earlier.get(own['picture'], [])
-    if not rows or any(str(row[key]) != str(own[key]) for row in rows for key in ('class', 'width', 'height', 'colours')):
+    if not rows or any(str(row[key]) != str(own[key]) for row in rows for key in ('class', 'tuned', 'width', 'height', 'colours')):
         raise SystemExit(f'{own["picture"]}: not in the earlier run')
     if len({row['answer'] for row in [own, *rows]} - {'open'}) > 1:
         raise SystemExit(f'{own["picture"]}: they disagree: {own["answer"]}, earlier {[row["answer"] for row in rows]}')
@@ -378,7 +379,7 @@ def arguments():
     parser.add_argument('--only', help='the name of one solver')
     parser.add_argument('--others', help='the CSV of an earlier run, for the rows of the other solvers')
     parser.add_argument('--class', dest='classes', action='append', default=[], help='NAME=PATTERN,..: pictures that are counted together')
-    parser.add_argument('--unnamed', action='append', default=[], help='a class whose pictures are numbered, not named')
+    parser.add_argument('--tuned', action='append', default=[], help='a folder of pictures on which nonobench was improved')
     parser.add_argument('--csv', help='a file for the rows')
     parser.add_argument('--svg', help='a file for the plot')
     return parser.parse_args()
@@ -387,7 +388,7 @@ def arguments():
 def main():
     """Each picture by each solver."""
     asked = arguments()
-    program, naming, rows = str(Path(asked.program).resolve()), Naming(asked.classes, asked.unnamed), []
+    program, naming, rows = str(Path(asked.program).resolve()), Naming(asked.classes, asked.tuned), []
     with tempfile.TemporaryDirectory() as folder:
         limit = Limit(folder, asked.seconds)
         print(f'a process that does nothing: {1000 * start(limit):.1f} ms', file=sys.stderr)
@@ -401,8 +402,7 @@ def main():
             except Fault as fault:
                 print(f'{picture.name}: left out, {fault.name}', file=sys.stderr)
                 continue
-            kind, name = naming.of(picture)
-            known = {'picture': name, 'class': kind, 'width': task.width, 'height': task.height, 'colours': len(task.colours)}
+            known = naming.of(picture) | {'width': task.width, 'height': task.height, 'colours': len(task.colours)}
             done = [known | dict(zip(('program', 'answer', 'seconds', 'bytes'), row)) for row in done]
             rows += done[:1] + (kept_rows(earlier, done[0]) if earlier else []) + done[1:]
     if asked.csv:

@@ -1,17 +1,23 @@
 #!/usr/bin/env python3
 """Prints the tables of docs/COMPARISON.md from the rows that others.py wrote, and draws its plot: measure/others_plot.py CSV [SVG]
 
+With --said DOCUMENT it prints nothing: each row of the tables must be in the document, whatever its first cell says, and the SVG must
+be the plot.
 The plot has a line for each program: how many pictures it decides if it gets so much processor time for each.
 """
 import csv
 import math
+import re
 import sys
+from pathlib import Path
 from statistics import median
 
-COLUMNS = ['picture', 'class', 'width', 'height', 'colours', 'program', 'answer', 'seconds', 'bytes']
+COLUMNS = ['picture', 'class', 'tuned', 'width', 'height', 'colours', 'program', 'answer', 'seconds', 'bytes']
 # The steps of a certificate and of a proof by lemmas, which are not answers of a solver.
 CERTIFY, CHECK = 'nonobench certify', 'nonobench check'
 PROVE, VERIFY = 'nonobench prove', 'nonobench verify'
+# The steps of a clausal proof, which clausal.py measures.
+CLAUSAL, HINTS, VERIFIED = 'cadical, DRAT', 'hints, LRAT', 'acl2, check'
 # Colours that the colour blind tell apart, a dash and a mark for each program, in the order of the rows.
 STYLES = [('#0072b2', '', 'circle'), ('#d55e00', '7 3', 'square'), ('#007a5e', '2 3', 'diamond'), ('#a8478a', '9 3 2 3', 'cross'),
           ('#5a5a5a', '4 2', 'triangle')]
@@ -48,7 +54,7 @@ def by(key, rows):
 
 def of_solvers(rows):
     """The rows that are answers, without the making and checking of certificates and proofs."""
-    return [row for row in rows if row['program'] not in (CERTIFY, CHECK, PROVE, VERIFY)]
+    return [row for row in rows if row['program'] not in (CERTIFY, CHECK, PROVE, VERIFY, CLAUSAL, HINTS, VERIFIED)]
 
 
 def answer_table(rows):
@@ -83,10 +89,22 @@ def size_table(rows, make, check, name):
     yield f'| class | {name} | median, bytes | largest, bytes | longest to make, ms | longest to check, ms |\n|---|---|---|---|---|---|'
     checked = {row['picture']: row['seconds'] for row in rows if row['program'] == check}
     for name, held in [*sorted(by('class', made).items()), ('all', made)]:
-        if held:
-            sizes = [row['bytes'] for row in held]
-            yield (f'| {name} | {len(held)} | {median(sizes):,.0f} | {max(sizes):,} | {1000 * max(row["seconds"] for row in held):.0f} | '
-                   f'{1000 * max(checked[row["picture"]] for row in held):.0f} |')
+        sizes = [row['bytes'] for row in held]
+        checks = [checked[row['picture']] for row in held]
+        yield (f'| {name} | {len(held)} | {median(sizes):,.0f} | {max(sizes):,} | {1000 * max(row["seconds"] for row in held):.0f} | '
+               f'{1000 * max(checks):.0f} |')
+
+
+def clausal_table(rows):
+    """How long clausal proofs are, without and with hints, and the longest times to make them, to add the hints and to check them."""
+    made, hints, checks = ([row for row in rows if row['program'] == name and row['answer'] != 'open'] for name in (CLAUSAL, HINTS, VERIFIED))
+    if not made:
+        return
+    yield '| | proofs | median, bytes | largest, bytes | longest, ms |\n|---|---|---|---|---|'
+    for name, held in ((CLAUSAL, made), (HINTS, hints), (VERIFIED, checks)):
+        sizes = [row['bytes'] for row in held if row['bytes'] is not None]
+        longest = 1000 * max(row['seconds'] for row in held)
+        yield f'| {name} | {len(held)} | ' + (f'{median(sizes):,.0f} | {max(sizes):,} |' if sizes else '| |') + f' {longest:.0f} |'
 
 
 def mark(shape, x, y, colour):
@@ -158,31 +176,57 @@ def plot(rows):
     yield '</svg>'
 
 
+def drawn(rows):
+    """The text of the plot."""
+    return '\n'.join(plot(rows)) + '\n'
+
+
 def write_plot(path, rows):
     """Writes the plot."""
-    with open(path, 'w', encoding='utf-8') as file:
-        file.write('\n'.join(plot(rows)) + '\n')
+    Path(path).write_text(drawn(rows), encoding='utf-8')
+
+
+def tables(rows):
+    """The lines of each table; the third leaves out the pictures on which nonobench was improved."""
+    others = [row for row in rows if not row['tuned']]
+    made = [answer_table(rows), class_table(rows), answer_table(others) if len(others) < len(rows) else [],
+            size_table(rows, CERTIFY, CHECK, 'certificates'), size_table(rows, PROVE, VERIFY, 'proofs by lemmas'), clausal_table(rows)]
+    return [lines for lines in map(list, made) if lines]
 
 
 def print_tables(rows):
     """Prints the tables."""
-    tables = [answer_table(rows), class_table(rows), size_table(rows, CERTIFY, CHECK, 'certificates'),
-              size_table(rows, PROVE, VERIFY, 'proofs by lemmas')]
-    for table in tables:
-        lines = list(table)
-        if lines:
-            print(*lines, sep='\n', end='\n\n')
+    for lines in tables(rows):
+        print(*lines, sep='\n', end='\n\n')
+
+
+def cells_of(line):
+    """The cells of a table's line without the first, and without the commas in numbers."""
+    return [re.sub(r'(?<=\d),(?=\d{3})', '', cell.strip()) for cell in line.strip().strip('|').split('|')][1:]
+
+
+def unsaid(rows, document):
+    """The rows of the tables that a document does not have."""
+    said = [cells_of(line) for line in document.splitlines() if line.startswith('|')]
+    return [line for lines in tables(rows) for line in lines[1:] if cells_of(line) not in said]
 
 
 def main():
-    """The tables, and the plot if it is asked for."""
-    if len(sys.argv) not in (2, 3):
+    """The tables, and the plot if it is asked for; or whether both are as they were written."""
+    words = [word for word in sys.argv[1:] if word != '--said']
+    if len(words) not in (1, 2, 3):
         sys.exit(__doc__.splitlines()[0])
-    rows = read_rows(sys.argv[1])
-    print_tables(rows)
-    if len(sys.argv) == 3:
-        write_plot(sys.argv[2], rows)
+    rows = read_rows(words[0])
+    if '--said' not in sys.argv:
+        print_tables(rows)
+        if len(words) == 2:
+            write_plot(words[1], rows)
+        return 0
+    faults = unsaid(rows, Path(words[2]).read_text(encoding='utf-8'))
+    faults += [] if Path(words[1]).read_text(encoding='utf-8') == drawn(rows) else [f'{words[1]} is another plot']
+    print(*faults, f'the comparison: {len(faults)} faults', sep='\n')
+    return 1 if faults else 0
 
 
 if __name__ == '__main__':
-    main()
+    sys.exit(main())

@@ -3,8 +3,8 @@
 import { mkdtempSync, rmSync } from 'node:fs';
 import { tmpdir } from 'node:os';
 import { join, resolve } from 'node:path';
-import { Browser } from '../tests/page_browser.mjs';
-import { Trial, hookedPage, noise, ppmOf } from '../tests/page_trial.mjs';
+import { Browser } from '../tests/page/page_browser.mjs';
+import { Trial, hookedPage, noise, ppmOf } from '../tests/page/page_trial.mjs';
 
 const LETTERS = '.abcdefghijklmno';
 const palette = Object.fromEntries([...LETTERS].map((letter, at) => [letter, at === 0 ? '255 255 255' : `${(at * 83) % 256} ${(at * 151) % 256} ${(at * 37) % 256}`]));

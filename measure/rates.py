@@ -19,7 +19,7 @@ import time
 from pathlib import Path
 
 ROOT = Path(__file__).resolve().parent.parent
-sys.path.insert(0, str(ROOT / "python"))
+sys.path.insert(0, str(ROOT / "python" / "src"))
 
 import nonobench  # noqa: E402
 from drawing import noise, text  # noqa: E402
@@ -79,6 +79,11 @@ def of_javascript(folder):
     return told(["node", str(ROOT / "measure" / "rates.mjs"), module, str(folder / "pairs"), str(ROUNDS)])
 
 
+def write(pairs, file):
+    """Writes pairs as the programs for C and JavaScript read them."""
+    file.write_bytes(b"".join(struct.pack("<II", *map(len, pair)) + b"".join(pair) for pair in pairs))
+
+
 def told(words):
     """The rates that a program prints."""
     return [float(word) for word in subprocess.run(words, check=True, capture_output=True, text=True).stdout.split()]
@@ -91,9 +96,7 @@ def main():
     print(f"{'':12}{'checks':>10}{'verdicts':>10}{'with certificates':>19}")
     with tempfile.TemporaryDirectory() as name:
         folder = Path(name)
-        with open(folder / "pairs", "wb") as file:
-            for pair in pairs:
-                file.write(struct.pack("<II", *map(len, pair)) + b"".join(pair))
+        write(pairs, folder / "pairs")
         for name, rates in (("C", of_c(folder)), ("Python", of_python(pairs)), ("JavaScript", of_javascript(folder))):
             if rates is None:
                 print(f"{name:12} left out, since a tool or the module is missing")
@@ -101,4 +104,5 @@ def main():
                 print(f"{name:12}" + "".join(f"{value:{width}.0f}" for value, width in zip(rates, (10, 10, 19))))
 
 
-main()
+if __name__ == "__main__":
+    main()

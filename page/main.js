@@ -1,6 +1,6 @@
 // Starts the page.
 
-import { $, say } from './base/elements.js';
+import { $, hush, say } from './base/elements.js';
 import { on } from './base/events.js';
 import { sheet, startSheet } from './draw/sheet.js';
 import { showExportPanel, startExporting } from './export/exporting.js';
@@ -17,6 +17,7 @@ import { showStart, startStart } from './start/start.js';
 import { DIRECTION, LANGUAGE, phrase } from './texts/phrase.js';
 import { actionButton, actions, hearKeys, keyText, makeMenus } from './view/actions.js';
 import { addEditActions, addKeys, addPictureActions, addViewActions } from './view/commands.js';
+import { startCut } from './view/cut.js';
 import { startFixing } from './view/fixing.js';
 import { startGrading } from './view/grading.js';
 import { cursor, gridCell, makeGrid } from './view/grid.js';
@@ -51,6 +52,7 @@ makeCellPanel();
 makeLinesPanel();
 makeGrid();
 makeMinimap();
+startCut();
 addEditActions();
 addPictureActions();
 startPalettes();
@@ -78,7 +80,7 @@ keepOffline();
 // Parts of the page, by their names for who hears it.
 function nameParts() {
   const names = {
-    menus: phrase('main.menus'), quick: phrase('main.historyView'), start: phrase('main.start'), work: phrase('main.picture'), tools: phrase('main.tools'), stage: phrase('main.pictureClues'), panels: phrase('main.whatBenchSays'),
+    menus: phrase('main.menus'), quick: phrase('main.historyView'), start: phrase('main.start'), work: phrase('main.picture'), tools: phrase('main.tools'), stage: phrase('main.pictureClues'), fix: phrase('view.fixTitle'), panels: phrase('main.whatBenchSays'),
     audit: phrase('import.verdict'), colours: phrase('view.colours'), out: phrase('export.saveExport'), cell: phrase('view.cell'), lines: phrase('view.rowsColumns'),
   };
   for (const [id, name] of Object.entries(names)) $(id).setAttribute('aria-label', name);
@@ -116,6 +118,7 @@ function hearBench() {
   on('shown', () => {
     for (const id of ['undo', 'redo']) $('quick').querySelector(`[data-action="${id}"]`).disabled = !actions.get(id).can();
   });
+  on('stroke', hush);
   on('busy', (is) => sheet.stage.setAttribute('aria-busy', is));
   on('recovered', () => say(phrase('main.engineRestartedNothingLost')));
   on('lost', (fault) => say(phrase('main.engineCouldNotStarted', { text: fault.text ?? fault.message }), 'alarm'));

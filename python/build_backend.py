@@ -13,6 +13,8 @@ HERE = Path(__file__).resolve().parent
 LIBRARY = "libnonobench.so"
 # What the package has: code, and the parts of the report that an audit makes.
 CARRIED = (".py", ".html", ".css", ".js")
+# What is put below the folder of an environment: the recipes and their examples, where they lie beside this file.
+SHARED = "share"
 TAGS = "Wheel-Version: 1.0\nGenerator: nonobench\nRoot-Is-Purelib: {}\nTag: {}\n"
 METADATA = "Metadata-Version: 2.1\nName: {name}\nVersion: {version}\nSummary: {description}\nRequires-Python: {python}\n"
 # The first day that an archive can name: what is packed has this one, or that of SOURCE_DATE_EPOCH, so that its bytes are the same each time.
@@ -31,6 +33,8 @@ def build_wheel(wheel_directory, config_settings=None, metadata_directory=None):
     more = "".join([*_lines_about(project), *_extra_lines(project["extras"])]) + "Description-Content-Type: text/markdown\n\n"
     files[f"{title}.dist-info/METADATA"] = f"{METADATA.format(**project)}{more}{readme}".encode()
     files[f"{title}.dist-info/entry_points.txt"] = f"[console_scripts]\n{project['scripts']}\n".encode()
+    shared = [file for file in sorted((HERE / SHARED).rglob("*")) if file.is_file()]
+    files.update({f"{title}.data/data/{file.relative_to(HERE).as_posix()}": file.read_bytes() for file in shared})
     if (HERE / "NOTICES").is_file():
         files[f"{title}.dist-info/NOTICES"] = (HERE / "NOTICES").read_bytes()
     files[f"{title}.dist-info/WHEEL"] = TAGS.format(str(is_pure).lower(), tag).encode()
@@ -54,7 +58,8 @@ def _project():
     return {
         **project,
         **listed,
-        "urls": re.findall(r'^(\w+) = "(.*)"$', tables.get("project.urls", ""), re.MULTILINE),
+        "author": re.search(r'^authors = \[\{ name = "(.*)" \}\]$', text, re.MULTILINE)[1],
+        "licence": re.search(r'^license = \{ text = "(.*)" \}$', text, re.MULTILINE)[1],
         "python": project["requires-python"],
         "extras": {name: re.findall(r'"([^"]+)"', words) for name, words in extras},
         "scripts": "\n".join(f"{name} = {call}" for name, call in scripts),
@@ -63,9 +68,10 @@ def _project():
 
 def _lines_about(project):
     """The lines of the metadata that tell what the package is."""
+    yield f"Author: {project['author']}\n"
+    yield f"License: {project['licence']}\n"
     yield f"Keywords: {','.join(project['keywords'])}\n"
     yield from (f"Classifier: {it}\n" for it in project["classifiers"])
-    yield from (f"Project-URL: {name}, {place}\n" for name, place in project["urls"])
 
 
 def _extra_lines(extras):
@@ -78,9 +84,9 @@ def _extra_lines(extras):
 
 def _package():
     """The package's files by their places: the library is beside them, or c/build left it, or the system has it."""
-    sources = HERE / "nonobench"
+    sources = HERE / "src" / "nonobench"
     files = [file for file in sorted(sources.rglob("*")) if file.suffix in CARRIED or file.name == "py.typed"]
-    packed = {file.relative_to(HERE).as_posix(): file.read_bytes() for file in files}
+    packed = {file.relative_to(HERE / "src").as_posix(): file.read_bytes() for file in files}
     libraries = [place for place in (sources / LIBRARY, HERE.parent / "c" / "out" / LIBRARY) if place.is_file()][:1]
     return {**packed, **{f"nonobench/{LIBRARY}": place.read_bytes() for place in libraries}}
 

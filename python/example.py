@@ -1,4 +1,4 @@
-"""Asks the library about a picture and a certificate, or a proof by lemmas, as files, with the cells that are published:
+"""Asks the library about a picture and a certificate, as files, with the cells that are published:
 
     python3 example.py PICTURE CERTIFICATE [ROW,COLUMN ..]
 """
@@ -11,8 +11,7 @@ picture, certificate = (Path(name).read_bytes() for name in sys.argv[1:3])
 published = [tuple(map(int, place.split(","))) for place in sys.argv[3:]]
 print(nonobench.clues(picture), end="")
 print(nonobench.verdict(picture, allowance=1000))
-check = nonobench.verify if certificate.startswith(b"nonolemma") else nonobench.check
 try:
-    print(check(picture, certificate, published=published), end="")
+    print(nonobench.check(picture, certificate, published=published), end="")
 except nonobench.CertificateFault as fault:
     print(fault.name, "at line", fault.line)

@@ -1,4 +1,4 @@
-// Colours as a solver sees them: docs/WEB.md defines when two are too near, and python/nonobench/_colours.py says the same.
+// Colours as a solver sees them: docs/FORMATS.md defines when two are too near, and python/src/nonobench/_colours.py says the same.
 
 // 512 times the square of 64, the smallest distance of colours that a solver is sure to tell apart.
 const NEAR = 512 * 64 * 64;

@@ -1,8 +1,7 @@
 // Compares the module with the native program, byte for byte:
 // NONOBENCH=program WASM=module node web/compare.mjs [--chromium] [--chance] [CASES] [SEED].
-// All sessions and worked rows of tests/ and examples/, certificates and proofs of 12 MB, and CASES made by chance (1,000): pictures
-// and puzzles with lines, files with a byte changed, backgrounds, certificates and proofs by lemmas that are right and wrong. With --chance the last alone,
-// for many cases in pieces with a seed each; with --chromium the module runs in headless Chromium and not in node. What differs is
+// All sessions and worked rows of tests/ and examples/, certificates of 12 MB, and CASES made by chance (1,000): pictures and puzzles
+// with lines, files with a byte changed, backgrounds, and certificates that are right and wrong. With --chance the last alone, for many cases in pieces with a seed each; with --chromium the module runs in headless Chromium and not in node. What differs is
 // printed, and the status is then 1.
 import { existsSync, readFileSync, readdirSync } from 'node:fs';
 import { dirname, join } from 'node:path';
@@ -34,8 +33,7 @@ async function ask(name, asked) {
 }
 
 const session = (name, file, lines, options) => ask(name, { call: 'work', file, lines, options });
-const check = (name, file, certificate, background) => ask(name, { call: 'check', file, certificate, options: { background } });
-const verify = (name, file, certificate, background) => ask(name, { call: 'verify', file, certificate, options: { background } });
+const check = (name, file, certificate, background, givens) => ask(name, { call: 'check', file, certificate, givens, options: { background } });
 const prove = (name, file, background) => ask(name, { call: 'prove', file, options: { background } });
 
 // The sessions that stand in the repository.
@@ -50,7 +48,7 @@ async function sessions() {
       const out = await session(stem, picture, readFileSync(`${stem}.session`), { format, background, history: history && Number(history) });
       const at = out.indexOf('nonocert ');
       if (at >= 0 && format === 'ppm') await check(`${stem}, its certificate`, picture, out.slice(at), background);
-      if (format === 'ppm') await verify(`${stem}, its proof`, picture, await prove(`${stem}, proved`, picture, background), background);
+      if (format === 'ppm') await check(`${stem}, what is proved`, picture, await prove(`${stem}, proved`, picture, background), background);
       count += 1;
     }
   }
@@ -80,8 +78,8 @@ const ROWS = {
   pictures: (name, text) => ask(name, { call: 'clues', file: bytesOf(text), options: { format: 'ppm' } }),
   puzzles: (name, text) => session(name, bytesOf(text), 'write non\n', { format: 'non' }),
   certificates: (name, text) => check(name, pictureOf(text.slice(0, text.indexOf(' '))), bytesOf(text.slice(text.indexOf(' ') + 1)), undefined),
-  lemmas: (name, text) => verify(name, pictureOf(text.slice(0, text.indexOf(' '))), bytesOf(text.slice(text.indexOf(' ') + 1)), undefined),
 };
+ROWS.lemmas = ROWS.certificates;
 
 async function rows() {
   let count = 0;
@@ -97,16 +95,16 @@ async function rows() {
 }
 
 // Certificates of 12 MB: a line many times over before a tree, a tree that goes on behind its end, and one of splits that ends early;
-// and proofs of 12 MB: of lemmas without literals, of branches that end early, and of lines.
+// and with lemmas: without literals, with branches that end early, and with lines.
 async function longest() {
   const picture = readFileSync(join(root, 'examples', 'diagonal.ppm')), whole = readFileSync(join(root, 'examples', 'diagonal.cert'), 'latin1');
   const at = whole.indexOf('\n') + 1, many = (line) => line.repeat(12000000 / line.length);
   await check('a certificate of 12 MB', picture, whole.slice(0, at) + many('line r 1\n') + whole.slice(at));
   await check('12 MB behind a whole tree', picture, whole + many('done\n'));
   await check('12 MB of splits', picture, whole.slice(0, at) + many('split 1 1\n'));
-  await verify('12 MB of lemmas', picture, `nonolemma 1\nlemma\n${many('line r 1\n')}`);
-  await verify('12 MB of branches', picture, `nonolemma 1\n${many('part 1 1 a\n')}`);
-  await verify('a proof of 12 MB', picture, `nonolemma 1\n${many('line r 1\n')}part 1 1 a\nline r 1\ndead c 2\nline r 1\nline c 1\nline r 2\ndone\n`);
+  await check('12 MB of lemmas', picture, `nonolemma 1\nlemma\n${many('line r 1\n')}`);
+  await check('12 MB of branches', picture, `nonolemma 1\n${many('part 1 1 a\n')}`);
+  await check('12 MB with lemmas', picture, `nonolemma 1\n${many('line r 1\n')}part 1 1 a\nline r 1\ndead c 2\nline r 1\nline c 1\nline r 2\ndone\n`);
 }
 
 async function byChance(number) {
@@ -122,9 +120,11 @@ async function byChance(number) {
     const certificate = out.slice(out.indexOf('\n') + 1);
     await check(`case ${number}, check`, made.text, certificate, options.background);
     await check(`case ${number}, check of a marred one`, made.text, chance.marred(certificate), undefined);
-    const proof = await prove(`case ${number}, proved`, made.text, undefined);
-    await verify(`case ${number}, verified`, made.text, proof, options.background);
-    await verify(`case ${number}, a marred proof`, made.text, chance.marred(proof), undefined);
+    const proved = await prove(`case ${number}, proved`, made.text, undefined);
+    await check(`case ${number}, check of what is proved`, made.text, proved, options.background);
+    await check(`case ${number}, check of a marred one`, made.text, chance.marred(proved), undefined);
+    const givens = (certificate.match(/^given .*\n/gm) ?? []).join('');
+    await check(`case ${number}, with what is published`, made.text, certificate, undefined, chance.below(2) ? givens : chance.marred(givens));
   }
   if (number % 4 === 2) {
     const puzzle = await session(`case ${number}, as a puzzle`, made.text, 'write non\n', { format: 'ppm' });
@@ -138,7 +138,7 @@ async function byChance(number) {
 try {
   const said = [];
   if (!asks.chance) {
-    said.push(`${await sessions()} sessions that stand`, `${await rows()} worked rows`, '6 certificates and proofs of 12 MB');
+    said.push(`${await sessions()} sessions that stand`, `${await rows()} worked rows`, '6 certificates of 12 MB');
     await longest();
   }
   for (let number = 0; number < Number(cases); number += 1) await byChance(number);

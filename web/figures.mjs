@@ -110,7 +110,7 @@ function certificate(path) {
 
 // From the start of the navigation to the first paint with content, of the file from disk.
 async function paint() {
-  const { Browser, pause } = await import('../tests/page_browser.mjs');
+  const { Browser, pause } = await import('../tests/page/page_browser.mjs');
   const browser = new Browser();
   try {
     const times = [];

@@ -11,7 +11,7 @@ unsigned nonobench_say(void *, unsigned, const byte *, u64);
 u64 nonobench_take(void *, byte *, u64);
 unsigned nonobench_close(void *, unsigned);
 unsigned nonobench_check(void *, const byte *, u64, const byte *, u64, const byte *, u64);
-unsigned nonobench_verify(void *, const byte *, u64, const byte *, u64, const byte *, u64);
+unsigned nonobench_check_published(void *, const byte *, u64, const byte *, u64, const byte *, u64, const byte *, u64);
 unsigned nonobench_prove(void *, const byte *, u64, const byte *, u64);
 u64 nonobench_version(byte *, u64);
 
@@ -69,10 +69,10 @@ unsigned check_within(u64 desk, u64 file, u64 size, u64 cert, u64 cert_size, u64
     return nonobench_check(here(desk), here(file), size, here(cert), cert_size, here(word), word_size);
 }
 
-CALL(verify)
-unsigned verify_within(u64 desk, u64 file, u64 size, u64 proof, u64 proof_size, u64 word, u64 word_size) {
-    if (!is_within(file, size) || !is_within(proof, proof_size) || !is_within(word, word_size)) return refuse(desk);
-    return nonobench_verify(here(desk), here(file), size, here(proof), proof_size, here(word), word_size);
+CALL(check_published)
+unsigned check_published_within(u64 desk, u64 file, u64 size, u64 cert, u64 cert_size, u64 givens, u64 givens_size, u64 word, u64 word_size) {
+    if (!is_within(file, size) || !is_within(cert, cert_size) || !is_within(givens, givens_size) || !is_within(word, word_size)) return refuse(desk);
+    return nonobench_check_published(here(desk), here(file), size, here(cert), cert_size, here(givens), givens_size, here(word), word_size);
 }
 
 CALL(prove)

@@ -1,7 +1,7 @@
 // Joins the page's modules and the module of WebAssembly into one HTML file, and lays the same out as a folder for a site:
 // join.mjs ROOT FOLDER [ENTRY]. FOLDER has nonobench.wasm; ENTRY is the page's first module, page/main.js where none is named.
 // Nothing of the time or of paths goes in, so two builds of one commit by one esbuild have the same bytes. Without esbuild it
-// ends with 77.
+// ends with 77, and with a page that is too long with 1.
 import { execFileSync, spawnSync } from 'node:child_process';
 import { createHash } from 'node:crypto';
 import { existsSync, mkdirSync, readFileSync, writeFileSync, copyFileSync, rmSync } from 'node:fs';
@@ -11,7 +11,9 @@ import { signsOf } from '../page/engine/signs.js';
 import { limitsOf } from './limits.mjs';
 
 const [root, folder, entry = join(root, 'page', 'main.js')] = process.argv.slice(2);
-const EXAMPLES = ['heart', 'mushroom', 'boat'];
+// How many bytes the page may have. tests/page/page_limit.mjs tries how soon it is ready.
+const MOST = 1048576;
+const EXAMPLES = ['balloon', 'heart', 'mushroom', 'boat']; // the first is to be mended
 const MANIFEST = {
   name: 'nonobench', short_name: 'nonobench', description: 'A workbench for multicolour nonograms', start_url: './', scope: './', display: 'standalone',
   icons: [{ src: 'icon.svg', sizes: 'any', type: 'image/svg+xml' }],
@@ -49,19 +51,6 @@ function bundled(file, ...words) {
   return stdout.trimEnd();
 }
 
-const FIRST = '$ABCDEFGHIJKLMNOPQRSTUVWXYZ_abcdefghijklmnopqrstuvwxyz'; // what names begin with
-const shortName = (at) => (at < FIRST.length ? FIRST[at] : shortName(Math.floor(at / FIRST.length) - 1) + FIRST[at % FIRST.length]);
-
-// The names of texts are short in what is built: each stands there once for each language, and where it is asked for. As a key of a
-// table it needs no quotes; between ? and : it is a value.
-function withShortNames(code) {
-  const names = [...read('page', 'texts', 'en.js').matchAll(/^ {2}'([a-z]+\.\w+)': /gm)].map(([, name]) => name);
-  const short = new Map(names.map((name, at) => [name, shortName(at)]));
-  const shortened = (whole, name, quote) => (short.has(name) ? quote + short.get(name) + quote : whole);
-  return code.replace(/(?<=[{,])"([a-z]+\.\w+)"(?=:)/g, (whole, name) => shortened(whole, name, ''))
-    .replace(/"([a-z]+\.\w+)"/g, (whole, name) => shortened(whole, name, '"'));
-}
-
 const script = (file) => bundled(file, '--format=iife', `--define:LIMITS=${JSON.stringify(limitsOf(root))}`);
 const hashOf = (text) => `'sha256-${createHash('sha256').update(text).digest('base64')}'`;
 
@@ -79,7 +68,7 @@ function pageTexts(version) {
   const built = { packed: signsOf(packed), size: packed.length, worker: worker.length, version, commit: commitOf(), trees: treesOf() };
   const icon = Buffer.from(read('page', 'icon.svg')).toString('base64');
   // What must not stand in a script within HTML; esbuild takes care of the end of the script.
-  const code = `\n${withShortNames(script(entry)).replaceAll('<!--', '<\\!--')}\n`;
+  const code = `\n${script(entry).replaceAll('<!--', '<\\!--')}\n`;
   const style = `\n${bundled(join(root, 'page', 'styles', 'index.css'))}\n`;
   const parts = (served) => ({
     '<!-- head: policy, icon -->': `<meta http-equiv="Content-Security-Policy" content="${policyOf(code, style, served)}">\n<link rel="icon" href="data:image/svg+xml;base64,${icon}">${served ? '\n<link rel="manifest" href="manifest.webmanifest">' : ''}`,
@@ -123,6 +112,11 @@ if (spawnSync('esbuild', ['--version']).error) {
 }
 const [, version] = /VERSION: &str = "([^"]+)"/.exec(read('crates', 'program_options', 'src', 'version.rt'));
 const [alone, served] = pageTexts(version);
+const size = Buffer.byteLength(alone);
+if (size > MOST) {
+  console.error(`web/join.mjs: the page has ${size} bytes, more than ${MOST}`);
+  process.exit(1);
+}
 writeFileSync(join(folder, 'nonobench.html'), alone);
-console.log(`web/join.mjs: the page has ${Buffer.byteLength(alone)} bytes, of at most 524288`);
+console.log(`web/join.mjs: the page has ${size} bytes, of at most ${MOST}`);
 writeSite(join(folder, 'site'), served);

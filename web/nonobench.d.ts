@@ -25,8 +25,8 @@ export type Place = readonly [row: number, column: number];
 export interface CheckOptions {
   /** The colour of the background, 'r,g,b'; by default white. */
   background?: string | null;
-  /** The cells whose colours are published; by default none. 'any' accepts all givens that the certificate or proof names. */
-  givens?: readonly Place[] | 'any' | null;
+  /** The cells whose colours are published, or a file with a line `given R C` for each; by default none. 'any' accepts all givens. */
+  givens?: readonly Place[] | Input | 'any' | null;
 }
 
 export interface ProveOptions {
@@ -34,24 +34,24 @@ export interface ProveOptions {
   background?: string | null;
 }
 
-/** The answer to a picture and a certificate or a proof by lemmas. */
+/** The answer to a picture and a certificate. */
 export interface Checked {
   /** It proves that no other picture of that size has the clues and the givens' colours, and all givens are published. */
   accepted: boolean;
   /** The program's status: 0 if it is accepted; 1 also if a given is not published. */
   status: number;
-  /** What the program says; or `certificate UnpublishedGiven at line N`, if a given is not published. */
+  /** What the program says. */
   text: string;
   /** The givens that it names, if it is right, even if one of them is not published. */
   givens: Place[];
 }
 
-/** What the search for a proof by lemmas found. */
+/** What the search for a certificate with lemmas found. `proof` is the old name of `certificate`, and deprecated. */
 export type Proved =
-  /** The proof, which has no givens. */
-  | { ruling: 'unique'; proof: string }
-  /** Another picture has the clues; or neither such a picture nor a proof was found within the bounds of the search. */
-  | { ruling: 'ambiguous' | 'undecided'; proof: null };
+  /** The certificate, which has no givens. */
+  | { ruling: 'unique'; certificate: string; proof: string }
+  /** Another picture has the clues; or neither such a picture nor a certificate was found within the bounds of the search. */
+  | { ruling: 'ambiguous' | 'undecided'; certificate: null; proof: null };
 
 /** An open picture, until it is closed. A bench without references is closed some time later. */
 export interface Bench {
@@ -66,10 +66,11 @@ export interface Bench {
 /** An instance of the module. It shares no benches with other instances. */
 export interface Engine {
   open(file: Input, options?: OpenOptions): Bench;
+  /** Checks a certificate, in any of its forms. */
   check(picture: Input, certificate: Input, options?: CheckOptions): Checked;
-  /** Checks a proof by lemmas. */
-  verify(picture: Input, proof: Input, options?: CheckOptions): Checked;
-  /** Makes a proof by lemmas. It may take minutes. */
+  /** @deprecated The old name of `check`. */
+  verify(picture: Input, certificate: Input, options?: CheckOptions): Checked;
+  /** Makes a certificate with lemmas. It may take minutes. */
   prove(picture: Input, options?: ProveOptions): Proved;
   /** The clues of a file, a line each, as the program prints them. */
   clues(file: Input, options?: OpenOptions): string;
@@ -89,6 +90,12 @@ export class Fault extends Error {
   readonly text: string;
   constructor(kind: Fault['kind'], text: string);
 }
+
+/**
+ * What an editor seems to have done to a certificate that was refused with this text, in a few words: its lines end with
+ * CR LF, it is UTF-16, or it begins with a byte order mark. Empty if there is no sign of that.
+ */
+export function hintOf(text: string, certificate: Input): string;
 
 /** Makes an engine of the bytes of nonobench.wasm. */
 export function load(bytes: Uint8Array | ArrayBuffer): Promise<Engine>;

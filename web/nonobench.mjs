@@ -1,20 +1,17 @@
-// The workbench as a module of JavaScript: benches on pictures, and the check of certificates and proofs by lemmas. It imports
-// nothing and runs in browsers and in node from version 18 on.
+// The workbench as a module of JavaScript: benches on pictures, and the check of certificates. It imports nothing and runs in browsers
+// and in node from version 18 on.
 //
 //     const engine = await load(bytes)                      // the bytes of nonobench.wasm
 //     const bench = engine.open(picture, {history: 100})    // a P3 picture or a two-colour .non text
 //     bench.say('clues\nverdict\n')                         // what the program `nonobench work` answers
 //     bench.close()
 //     engine.check(picture, certificate, {givens: [[1, 1]]})    // {accepted, status, text, givens}
-//     engine.prove(picture)                                 // {ruling, proof}, a proof by lemmas
-//     engine.verify(picture, proof)                         // as check, for such a proof
+//     engine.prove(picture)                                 // {ruling, certificate}, a certificate with lemmas
 //     engine.clues(picture)                                 // what the program `nonobench` prints for it
 //     engine.version                                        // as `nonobench --version` prints it after the name
 
 const DONE = 0;
-const REFUSED = 1;
 const MEMORY = 4;
-const CLOSED = 5;
 const OPTIONS = 6;
 
 // How many bytes an input may have, as for the program.
@@ -22,6 +19,9 @@ const MOST_BYTES = 16777216;
 
 // The room that a text is first taken in.
 const ROOM = 65536;
+
+// Where the handle of a bench lies, behind the desk's pointer in its cell.
+const HANDLE_AT = 8n;
 
 /** Why a call was not answered. `kind` is 'open', 'memory', 'closed' or 'ended', and `text` what the program says. */
 export class Fault extends Error {
@@ -36,11 +36,13 @@ export class Fault extends Error {
 const encoder = new TextEncoder();
 const decoder = new TextDecoder();
 
-// The bytes of a text or of bytes.
+// An option, where it is a property of the object itself: what somebody has put on Object.prototype is none.
+const own = (options, name) => (options && Object.hasOwn(options, name) ? options[name] : undefined);
+
+// The bytes of a text, or a copy of bytes: neither another thread nor a class of the caller's says anything else of them later.
 function bytesOf(input) {
   if (typeof input === 'string') return encoder.encode(input);
-  if (input instanceof Uint8Array) return input;
-  if (input instanceof ArrayBuffer) return new Uint8Array(input);
+  if (input instanceof Uint8Array || input instanceof ArrayBuffer) return new Uint8Array(input);
   throw new TypeError('expected a string, a Uint8Array or an ArrayBuffer');
 }
 
@@ -51,20 +53,20 @@ function isNon(bytes) {
   return /^[ \t]*(?:width|height|rows|columns|goal|catalogue|title)\b/m.test(front);
 }
 
-const NONE = new Set();
+const NONE = new Uint8Array(0);
 
-// The cells that are published, as texts `ROW COLUMN`; null for 'any'.
+// The cells that are published as a file of givens: a line for each pair, or a text as it is; null for 'any'.
 function publishedOf(givens) {
   if (givens === undefined || givens === null) return NONE;
   if (givens === 'any') return null;
-  const isCount = (number) => Number.isInteger(number) && number > 0;
-  if (!Array.isArray(givens) || !givens.every((place) => Array.isArray(place) && place.length === 2 && place.every(isCount))) {
-    throw new TypeError("givens must be pairs [row, column] that count from 1, or 'any'");
+  if (!Array.isArray(givens)) return givens;
+  if (!givens.every((place) => Array.isArray(place) && place.length === 2 && Number.isInteger(place[0]) && Number.isInteger(place[1]))) {
+    throw new TypeError("givens must be pairs [row, column] that count from 1, a file of givens, or 'any'");
   }
-  return new Set(givens.map(([row, column]) => `${row} ${column}`));
+  return givens.map(([row, column]) => `given ${row} ${column}\n`).join('');
 }
 
-// The givens that an accepted certificate or proof names: their lines stand directly below its first one.
+// The givens that a right certificate names: their lines stand directly below its first one.
 function givensOf(certificate) {
   const from = certificate.indexOf(0x0a) + 1;
   if (certificate[from] !== 0x67) return []; // 'g'
@@ -74,85 +76,92 @@ function givensOf(certificate) {
   return givens;
 }
 
+const UTF_16 = 'it is UTF-16, and must be ASCII';
+
+// What a certificate that begins with these two bytes is.
+const ODD_STARTS = new Map([
+  ['255 254', UTF_16], ['254 255', UTF_16], ['110 0', UTF_16], ['0 110', UTF_16],
+  ['239 187', 'it begins with a byte order mark, and must begin with its first word'],
+]);
+
+/**
+ * What an editor seems to have done to a certificate that was refused with the text `certificate NotCert at line 1`; empty where
+ * there is no sign of that, and for another text.
+ */
+export function hintOf(text, certificate) {
+  if (text.trimEnd() !== 'certificate NotCert at line 1') return '';
+  const front = bytesOf(certificate).subarray(0, ROOM), line = decoder.decode(front).split('\n', 1)[0];
+  const odd = ODD_STARTS.get(front.subarray(0, 2).join(' '));
+  return odd ?? (line.endsWith('\r') ? 'its lines end with CR LF, and must end with LF alone' : '');
+}
+
 /** An instance of the module with its memory. Each has benches of its own. */
 class Engine {
   #calls;
-  #cell;
+  #cell; // that of the desk for calls without a bench
   #hasEnded = false;
-  // Closes benches that nobody holds any more.
-  #dropped = new FinalizationRegistry((handle) => {
-    if (!this.#hasEnded) this.#calls.nonobench_close(this.#cell, handle);
-  });
+  // Ends the desks of benches that nobody holds any more.
+  #dropped = new FinalizationRegistry((cell) => this.#end(cell));
 
   constructor(instance) {
     this.#calls = instance.exports;
-    this.#cell = this.#room(16);
-    if (this.#run(() => this.#calls.nonobench_start(this.#cell)) !== DONE) throw new Fault('memory', 'memory');
+    this.#cell = this.#desk();
   }
 
   /** Opens a bench. Throws a Fault if the file is refused. */
   open(file, options = {}) {
-    const bytes = this.#input(file);
-    const history = options.history ?? 100;
+    const bytes = this.#input(file), history = own(options, 'history') ?? 100, format = own(options, 'format');
     if (!Number.isInteger(history) || history < 1 || history > 1000) throw new Fault('open', 'history must be 1 to 1000');
-    const non = options.format === undefined ? isNon(bytes) : options.format === 'non';
-    const background = this.#background(options.background);
+    const non = format === undefined ? isNon(bytes) : format === 'non';
+    const background = this.#background(options);
     if (non && background.length > 0) throw new Fault('open', 'background goes with ppm');
-    const out = this.#room(4);
+    // Each bench has a desk of its own, which ends in a moment, however many others are open.
+    const cell = this.#desk();
     try {
       const status = this.#lend([bytes, background], ([file, word]) =>
-        this.#calls.nonobench_open(this.#cell, file.at, file.size, non ? 1 : 0, word.at, word.size, history, out));
-      if (status !== DONE) this.#refuse(status);
-      const handle = new DataView(this.#calls.memory.buffer).getUint32(Number(out), true), bench = new Bench(this, handle);
-      this.#dropped.register(bench, handle, bench);
-      return bench;
-    } finally {
-      this.#give(out);
+        this.#calls.nonobench_open(cell, file.at, file.size, non ? 1 : 0, word.at, word.size, history, cell + HANDLE_AT));
+      if (status !== DONE) this.#refuse(status, cell);
+    } catch (fault) {
+      this.#end(cell);
+      throw fault;
     }
+    const bench = new Bench((lines) => this.#say(cell, lines), () => this.#close(cell, bench));
+    this.#dropped.register(bench, cell, bench);
+    return bench;
   }
 
   /**
-   * Checks a certificate of a picture, and answers the program's text and status: 0 if it is accepted. `givens` are the cells that
-   * are published, [row, column] each; by default none. A certificate that names another given is refused with the text
-   * `certificate UnpublishedGiven at line N`, which the program does not have. The answer has the givens that the certificate
-   * names, if its proof is right. 'any' accepts whatever it names, for a site that then publishes these cells.
+   * Checks a certificate of a picture, in any of its forms, and answers the program's text and status: 0 if it is accepted. `givens`
+   * are the cells that are published, [row, column] each, or a file with a line `given R C` for each; by default none. A certificate
+   * that names another given is refused with the text `certificate UnpublishedGiven at line N`. The answer has the givens that the
+   * certificate names, if its proof is right. 'any' accepts whatever it names, for a site that then publishes these cells.
    */
   check(picture, certificate, options = {}) {
-    return this.#checked('certificate', picture, certificate, options, (file, cert, word) =>
-      this.#calls.nonobench_check(this.#cell, file.at, file.size, cert.at, cert.size, word.at, word.size));
-  }
-
-  /** Checks a proof by lemmas of a picture, with the options and the answer of `check`. */
-  verify(picture, proof, options = {}) {
-    return this.#checked('proof', picture, proof, options, (file, lines, word) =>
-      this.#calls.nonobench_verify(this.#cell, file.at, file.size, lines.at, lines.size, word.at, word.size));
-  }
-
-  /**
-   * Makes a proof by lemmas of a picture: {ruling, proof}. The ruling is 'unique' with the proof, which has no givens, or 'ambiguous'
-   * or 'undecided' with null. Throws a Fault where the picture is refused.
-   */
-  prove(picture, options = {}) {
-    const status = this.#lend([this.#input(picture), this.#background(options.background)], ([file, word]) =>
-      this.#calls.nonobench_prove(this.#cell, file.at, file.size, word.at, word.size));
-    if (status !== DONE) this.#refuse(status);
-    const text = this.#text();
-    return text.startsWith('nonolemma ') ? { ruling: 'unique', proof: text } : { ruling: text.trimEnd(), proof: null };
-  }
-
-  // Checks a certificate or a proof, as `word` says, by a call of the module.
-  #checked(word, picture, certificate, options, call) {
-    const background = this.#background(options.background), published = publishedOf(options.givens);
-    const held = this.#input(certificate), proof = held.buffer instanceof ArrayBuffer ? held : held.slice(); // shared memory may change
-    const status = this.#lend([this.#input(picture), proof, background], (lent) => call(...lent));
+    const background = this.#background(options), published = publishedOf(own(options, 'givens'));
+    const cert = this.#input(certificate); // what is checked here, and what the givens are read of
+    const files = [this.#input(picture), cert, ...(published === null ? [] : [this.#input(published)]), background];
+    const call = published === null ? 'nonobench_check' : 'nonobench_check_published';
+    const status = this.#lend(files, (lent) => this.#calls[call](this.#cell, ...lent.flatMap(({ at, size }) => [at, size])));
     if (status === MEMORY || status === OPTIONS) this.#refuse(status);
     const text = this.#text();
-    if (status !== DONE) return { accepted: false, status, text, givens: [] };
-    const givens = givensOf(proof);
-    if (text !== `${word} accepted${givens.length > 0 ? `, givens ${givens.length}` : ''}\n`) throw new Fault('ended', `the module names other givens: ${text}`);
-    const at = published ? givens.findIndex(([row, column]) => !published.has(`${row} ${column}`)) : -1;
-    if (at >= 0) return { accepted: false, status: REFUSED, text: `certificate UnpublishedGiven at line ${at + 2}`, givens };
-    return { accepted: true, status, text, givens };
+    const givens = status === DONE || text.startsWith('certificate UnpublishedGiven ') ? givensOf(cert) : [];
+    if (status === DONE && text !== `certificate accepted${givens.length > 0 ? `, givens ${givens.length}` : ''}\n`) throw new Fault('ended', `the module names other givens: ${text}`);
+    return { accepted: status === DONE, status, text, givens };
+  }
+
+  /** @deprecated The old name of `check`. */
+  verify(...words) { return this.check(...words); }
+
+  /**
+   * Makes a certificate with lemmas of a picture: {ruling, certificate}. The ruling is 'unique' with the certificate, which has no
+   * givens, or 'ambiguous' or 'undecided' with null. Throws a Fault where the picture is refused.
+   */
+  prove(picture, options = {}) {
+    const status = this.#lend([this.#input(picture), this.#background(options)], ([file, word]) =>
+      this.#calls.nonobench_prove(this.#cell, file.at, file.size, word.at, word.size));
+    if (status !== DONE) this.#refuse(status);
+    const text = this.#text(), certificate = text.startsWith('nonolemma ') ? text : null;
+    return { ruling: certificate ? 'unique' : text.trimEnd(), certificate, proof: certificate }; // `proof` is its old name
   }
 
   /** The clues of a file, a line each, as the program prints them. Throws a Fault if the file is refused. */
@@ -167,18 +176,18 @@ class Engine {
     }
   }
 
-  // Answers lines on the bench of a handle.
-  say(handle, lines) {
-    const status = this.#lend([bytesOf(lines)], ([text]) => this.#calls.nonobench_say(this.#cell, handle, text.at, text.size));
-    if (status !== DONE) this.#refuse(status);
-    return this.#text();
+  // Answers lines on the bench of a cell's desk.
+  #say(cell, lines) {
+    const handle = new DataView(this.#calls.memory.buffer).getUint32(Number(cell + HANDLE_AT), true);
+    const status = this.#lend([bytesOf(lines)], ([text]) => this.#calls.nonobench_say(cell, handle, text.at, text.size));
+    if (status !== DONE) this.#refuse(status, cell);
+    return this.#text(cell);
   }
 
-  // Ends the bench of a handle.
-  close(handle, bench) {
+  // Ends the desk of a bench.
+  #close(cell, bench) {
     this.#dropped.unregister(bench);
-    const status = this.#run(() => this.#calls.nonobench_close(this.#cell, handle));
-    if (status !== DONE) this.#refuse(status);
+    this.#run(() => this.#end(cell));
   }
 
   /** The version of the module, as the program prints it after its name. */
@@ -196,29 +205,47 @@ class Engine {
     return this.#calls.memory.buffer.byteLength;
   }
 
+  // A new desk, in a cell with room for a handle.
+  #desk() {
+    const cell = this.#room(16);
+    if (this.#run(() => this.#calls.nonobench_start(cell)) === DONE) return cell;
+    this.#give(cell);
+    throw new Fault('memory', 'memory');
+  }
+
+  // Ends a desk with what is open on it, and gives its cell back.
+  #end(cell) {
+    if (this.#hasEnded) return;
+    this.#calls.nonobench_end(new DataView(this.#calls.memory.buffer).getBigUint64(Number(cell), true));
+    this.#calls.free(cell);
+  }
+
   #input(input) {
+    // A text has as many bytes as letters, or more.
+    if ((typeof input === 'string' ? input.length : input?.byteLength) > MOST_BYTES) throw new Fault('open', 'input too long');
     const bytes = bytesOf(input);
     if (bytes.length > MOST_BYTES) throw new Fault('open', 'input too long');
     return bytes;
   }
 
   // The word for a background: empty where none is given, and then not taken for one.
-  #background(word) {
+  #background(options) {
+    const word = own(options, 'background');
     if (word === undefined || word === null) return new Uint8Array(0);
-    if (!/^[0-9]+,[0-9]+,[0-9]+$/.test(word)) throw new Fault('open', 'background must be R,G,B');
-    return encoder.encode(word);
+    const text = String(word);
+    if (!/^[0-9]+,[0-9]+,[0-9]+$/.test(text)) throw new Fault('open', 'background must be R,G,B');
+    return encoder.encode(text);
   }
 
-  #refuse(status) {
+  #refuse(status, cell = this.#cell) {
     if (status === MEMORY) throw new Fault('memory', 'memory');
-    if (status === CLOSED) throw new Fault('closed', 'closed');
     if (status === OPTIONS) throw new Fault('open', 'background must be R,G,B');
-    throw new Fault('open', this.#text());
+    throw new Fault('open', this.#text(cell));
   }
 
-  // The text of the last call.
-  #text() {
-    return this.#put((out, room) => this.#calls.nonobench_take(this.#cell, out, room));
+  // The text of the last call on a desk.
+  #text(cell = this.#cell) {
+    return this.#put((out, room) => this.#calls.nonobench_take(cell, out, room));
   }
 
   // The text that a call puts out, as far as there is room, and answers how many bytes it has.
@@ -275,28 +302,34 @@ class Engine {
 
 /** A bench on a picture: what a session is said to, until it is closed. One that nobody holds any more is closed at some time. */
 class Bench {
-  #engine;
-  #handle;
+  #say;
+  #close;
   #isClosed = false;
 
-  constructor(engine, handle) {
-    this.#engine = engine;
-    this.#handle = handle;
+  constructor(say, close) {
+    this.#say = say;
+    this.#close = close;
   }
 
   /** Answers lines, each a command, with exactly what the program writes for them. */
   say(lines) {
-    return this.#engine.say(this.#handle, lines);
+    this.#refuseClosed();
+    return this.#say(lines);
   }
 
   /** Ends the bench. Each further call throws a Fault. */
   close() {
+    this.#refuseClosed();
     this.#isClosed = true;
-    this.#engine.close(this.#handle, this);
+    this.#close();
+  }
+
+  #refuseClosed() {
+    if (this.#isClosed) throw new Fault('closed', 'closed');
   }
 
   // `using bench = engine.open(..)` ends it, where the language has that.
-  [Symbol.dispose ?? Symbol('dispose')]() {
+  [/** @type {any} */ (Symbol).dispose ?? Symbol('dispose')]() {
     if (!this.#isClosed) this.close();
   }
 }

@@ -1,7 +1,7 @@
 // The two sides that web/compare.mjs compares: the native program, and the module in node or in headless Chromium. Each has a call
 // `answer`, which gives {out, said, status}: what is written, what is said on standard error, and the status. It is asked
-// {call: 'work', file, lines, options}, {call: 'check' or 'verify', file, certificate, options}, {call: 'prove', file, options} or
-// {call: 'clues', file, options}, as bytes.
+// {call: 'work', file, lines, options}, {call: 'check', file, certificate, givens, options}, where there may be no givens,
+// {call: 'prove', file, options} or {call: 'clues', file, options}, as bytes.
 import { spawnSync } from 'node:child_process';
 import { closeSync, mkdtempSync, openSync, readFileSync, rmSync, writeFileSync } from 'node:fs';
 import { tmpdir } from 'node:os';
@@ -21,11 +21,12 @@ export class Program {
     return path;
   }
 
-  answer({ call, file, lines, certificate, options }) {
+  answer({ call, file, lines, certificate, givens, options }) {
     const { format, background, history } = options;
     if (call === 'clues') return this.#ran([], file);
     const words = [call, this.#kept('file', file)];
     if (certificate !== undefined) words.push(this.#kept('certificate', certificate));
+    if (givens !== undefined) words.push('--givens', this.#kept('givens', givens));
     if (call === 'work') words.push('--format', format);
     if (background !== undefined) words.push('--background', background);
     if (history !== undefined) words.push('--history', String(history));
@@ -47,18 +48,18 @@ export class Program {
 }
 
 // What an engine answers, as the program would. It runs in a page too, so it uses nothing that stands beside it.
-function answerOf(engine, { call, file, lines, certificate, options }) {
+function answerOf(engine, { call, file, lines, certificate, givens = 'any', options }) {
   const answered = (out) => ({ out, said: '', status: 0 });
   const refused = (text, status) => ({ out: '', said: `nonobench: ${text}\n`, status });
   try {
     if (call === 'clues') return answered(engine.clues(file, options));
-    if (call === 'check' || call === 'verify') {
-      const { accepted, text, status } = engine[call](file, certificate, { ...options, givens: 'any' });
+    if (call === 'check') {
+      const { accepted, text, status } = engine.check(file, certificate, { ...options, givens });
       return accepted ? answered(text) : refused(text, status);
     }
     if (call === 'prove') {
-      const { ruling, proof } = engine.prove(file, options);
-      return answered(proof ?? `${ruling}\n`);
+      const { ruling, certificate: made } = engine.prove(file, options);
+      return answered(made ?? `${ruling}\n`);
     }
     const bench = engine.open(file, options);
     try {
@@ -79,7 +80,7 @@ export async function inNode(module) {
 
 /** The module in a page of headless Chromium. Bytes go there as base64. */
 export async function inChromium(module) {
-  const { Browser } = await import('../tests/page_browser.mjs');
+  const { Browser } = await import('../tests/page/page_browser.mjs');
   const browser = new Browser();
   const page = await browser.page();
   const coded = (bytes) => (bytes === undefined ? undefined : Buffer.from(bytes).toString('base64'));
@@ -90,13 +91,13 @@ export async function inChromium(module) {
     const answer = (0, eval)(`(${source})`);
     window.answer = (asked) => {
       const whole = { ...asked };
-      for (const name of ['file', 'lines', 'certificate']) if (asked[name] !== undefined) whole[name] = bytesOf(asked[name]);
+      for (const name of ['file', 'lines', 'certificate', 'givens']) if (asked[name] !== undefined) whole[name] = bytesOf(asked[name]);
       return answer(engine, whole);
     };
   }, readFileSync(new URL('nonobench.mjs', import.meta.url), 'utf8'), coded(module), answerOf.toString());
   return {
-    answer: ({ call, file, lines, certificate, options }) =>
-      page.run((asked) => window.answer(asked), { call, file: coded(file), lines: coded(lines), certificate: coded(certificate), options }),
+    answer: ({ call, options, ...files }) =>
+      page.run((asked) => window.answer(asked), { call, options, ...Object.fromEntries(Object.entries(files).map(([name, bytes]) => [name, coded(bytes)])) }),
     end: () => browser.close(),
   };
 }

@@ -1,8 +1,8 @@
 // Tests of the module by node's own runner: WASM=path node --test web/test.mjs. The texts that are expected stand in tests/ and
 // examples/, or are worked out by hand from docs/FORMATS.md.
 import assert from 'node:assert/strict';
-import { spawnSync } from 'node:child_process';
-import { existsSync, mkdirSync, mkdtempSync, readFileSync, readdirSync, rmSync, writeFileSync } from 'node:fs';
+import { spawn, spawnSync } from 'node:child_process';
+import { existsSync, mkdirSync, mkdtempSync, readFileSync, readdirSync, rmSync, truncateSync, writeFileSync } from 'node:fs';
 import { tmpdir } from 'node:os';
 import { dirname, join, resolve } from 'node:path';
 import test from 'node:test';
@@ -10,14 +10,15 @@ import { fileURLToPath } from 'node:url';
 import { setFlagsFromString } from 'node:v8';
 import { runInNewContext } from 'node:vm';
 import { colourShown, coloursTooNear } from './colours.mjs';
-import { Fault, load } from './nonobench.mjs';
+import { TRIED, waits } from '../tests/waits.mjs';
+import { Fault, hintOf, load } from './nonobench.mjs';
 
 const root = join(dirname(fileURLToPath(import.meta.url)), '..');
 const bytes = readFileSync(process.env.WASM ?? join(root, 'web', 'out', 'nonobench.wasm'));
 const text = (...parts) => readFileSync(join(root, ...parts), 'utf8');
 const fresh = () => load(bytes);
-// The version of the crates, which the module must tell.
-const [, VERSION] = /VERSION: &str = "([^"]+)"/.exec(text('crates', 'program_options', 'src', 'version.rt'));
+// The version of the crates, or of the release that is tried, which the module must tell.
+const VERSION = TRIED ?? /VERSION: &str = "([^"]+)"/.exec(text('crates', 'program_options', 'src', 'version.rt'))[1];
 
 // An engine with the plain calls of its module, some of them put in place of its own.
 async function watched(others = {}) {
@@ -35,13 +36,12 @@ async function watched(others = {}) {
   }
 }
 
-// How many bytes of the heap were handed out for the first time while a function ran. A block of 2 MiB is the first of its
-// size, and lies at the end of what is in use; one of 4 MiB then tells where that end is.
+// How many bytes more than before the blocks have that are held after a function ran. The heap tells that since 0.7.0.
+const told = { skip: waits('0.7.0') };
 function taken(calls, run) {
-  const [room, more] = [2097152, 4194304].map((size) => BigInt(size - 16));
-  const from = calls.malloc(room);
+  const before = calls.nonobench_held();
   run();
-  return Number(calls.malloc(more) - from) - 2097152;
+  return Number(calls.nonobench_held() - before);
 }
 
 // Two rows, black and white, white and black: another picture has the clues, and a given decides it.
@@ -80,7 +80,7 @@ test('what files, options and words are refused, and how it is said', async () =
   }
   for (const background of ['', '1,2', '1,2,3,4', 'red', '1,2,65536', '1,2,-3']) {
     assert.deepEqual(faultOf(() => engine.open(DIAGONAL, { background })), ['open', 'background must be R,G,B']);
-    for (const call of ['check', 'verify']) assert.deepEqual(faultOf(() => engine[call](DIAGONAL, '', { background })), ['open', 'background must be R,G,B']);
+    assert.deepEqual(faultOf(() => engine.check(DIAGONAL, '', { background, givens: 'any' })), ['open', 'background must be R,G,B']);
     assert.deepEqual(faultOf(() => engine.prove(DIAGONAL, { background })), ['open', 'background must be R,G,B']);
   }
   assert.deepEqual(faultOf(() => engine.open(PUZZLE, { background: '0,0,0' })), ['open', 'background goes with ppm']);
@@ -179,7 +179,7 @@ test('lengths past the memory are refused, and the module goes on', async () => 
   assert.equal(engine.open(DIAGONAL).say('verdict\n'), 'ambiguous\n.a\na.\n');
 });
 
-test('lengths past the memory are refused by each plain call, there is no text, and the module goes on', async () => {
+test('lengths past the memory are refused by each plain call, there is no text, and the module goes on', { skip: waits('0.7.0') }, async () => {
   const { engine, calls } = await watched();
   const cell = calls.malloc(16n), file = calls.malloc(64n), end = () => BigInt(engine.memory), version = BigInt(engine.version.length);
   new Uint8Array(calls.memory.buffer, Number(file), DIAGONAL.length).set(new TextEncoder().encode(DIAGONAL));
@@ -187,13 +187,14 @@ test('lengths past the memory are refused by each plain call, there is no text, 
   const size = BigInt(DIAGONAL.length);
   const open = (at, length, word = [file, 0n], handle = cell + 8n) => calls.nonobench_open(cell, at, length, 0, ...word, 1, handle);
   const check = (...pairs) => calls.nonobench_check(cell, ...pairs.flat(), file, 0n);
-  const verify = (...words) => calls.nonobench_verify(cell, ...words.flat());
+  const published = (...words) => calls.nonobench_check_published(cell, ...words.flat());
   assert.equal(open(file, size), 0);
   const past = [[file, 2n ** 32n + 1n], [file, 2n ** 64n - 1n], [2n ** 63n, 1n], [2n ** 64n - 1n, 1n]];
   const refused = [
     (...at) => open(...at), (...at) => open(file, size, at), (at) => open(file, size, [file, 0n], at - 2n), (...at) => calls.nonobench_say(cell, 1, ...at),
     (...at) => check(at, [file, size]), (...at) => check([file, size], at), (...at) => calls.nonobench_check(cell, file, size, file, size, ...at),
-    (...at) => verify(at, [file, size, file, 0n]), (...at) => verify([file, size], at, [file, 0n]), (...at) => verify([file, size, file, size], at),
+    (...at) => published(at, [file, size, file, 0n, file, 0n]), (...at) => published([file, size], at, [file, 0n, file, 0n]),
+    (...at) => published([file, size, file, size], at, [file, 0n]), (...at) => published([file, size, file, size, file, 0n], at),
     (...at) => calls.nonobench_prove(cell, ...at, file, 0n), (...at) => calls.nonobench_prove(cell, file, size, ...at),
     (at) => calls.nonobench_start(at - 6n),
   ];
@@ -218,8 +219,10 @@ test('lengths past the memory are refused by each plain call, there is no text, 
   assert.equal(engine.open(DIAGONAL).say('verdict\n'), 'ambiguous\n.a\na.\n');
 });
 
-test('bytes up to the last of the memory are taken by each plain call, and the handle of a refused one is 0', async () => {
-  const { calls } = await watched();
+test('bytes up to the last of the memory are taken by each plain call, and the handle of a refused one is 0', { skip: waits('0.7.0') }, async () => {
+  const { engine, calls } = await watched();
+  engine.open(DIAGONAL).close();
+  calls.memory.grow(1); // in which the heap has nothing
   const cell = calls.malloc(16n), file = calls.malloc(64n), size = BigInt(DIAGONAL.length), end = () => calls.memory.buffer.byteLength;
   const put = (text, at) => new Uint8Array(calls.memory.buffer, at, text.length).set(new TextEncoder().encode(text));
   const last = (text) => (put(text, end() - text.length), [BigInt(end() - text.length), BigInt(text.length)]);
@@ -238,9 +241,10 @@ test('bytes up to the last of the memory are taken by each plain call, and the h
   assert.equal(calls.nonobench_check(cell, ...last(DIAGONAL), file, size, file, 0n), 1);
   assert.equal(calls.nonobench_check(cell, file, size, ...last('nonocert 2\n'), file, 0n), 1);
   assert.equal(calls.nonobench_check(cell, file, size, file, size, ...last('0,0,0')), 1);
-  assert.equal(calls.nonobench_verify(cell, ...last(DIAGONAL), file, size, file, 0n), 1);
-  assert.equal(calls.nonobench_verify(cell, file, size, ...last('nonolemma 1\n'), file, 0n), 1);
-  assert.equal(calls.nonobench_verify(cell, file, size, file, size, ...last('0,0,0')), 1);
+  assert.equal(calls.nonobench_check_published(cell, ...last(DIAGONAL), file, size, file, 0n, file, 0n), 1);
+  assert.equal(calls.nonobench_check_published(cell, file, size, ...last('nonolemma 1\n'), file, 0n, file, 0n), 1);
+  assert.equal(calls.nonobench_check_published(cell, file, size, file, size, ...last('given 1 1\n'), file, 0n), 1);
+  assert.equal(calls.nonobench_check_published(cell, file, size, file, size, file, 0n, ...last('0,0,0')), 1);
   assert.equal(calls.nonobench_prove(cell, ...last(DIAGONAL), file, 0n), 0);
   assert.equal(calls.nonobench_prove(cell, file, size, ...last('0,0,0')), 0);
   assert.equal(calls.nonobench_say(cell, 1, ...last('verdict\n')), 0);
@@ -250,7 +254,7 @@ test('bytes up to the last of the memory are taken by each plain call, and the h
   assert.equal(new TextDecoder().decode(new Uint8Array(calls.memory.buffer, end() - 3, 3)), VERSION.slice(0, 3));
 });
 
-test('a null beside a length is refused by each plain call, and nothing is read or written there', async () => {
+test('a null beside a length is refused by each plain call, and nothing is read or written there', { skip: waits('0.7.0') }, async () => {
   const { calls } = await watched();
   const cell = calls.malloc(16n), file = calls.malloc(64n), size = BigInt(DIAGONAL.length);
   new Uint8Array(calls.memory.buffer, Number(file), 64).set(new TextEncoder().encode(DIAGONAL));
@@ -265,13 +269,15 @@ test('a null beside a length is refused by each plain call, and nothing is read 
   assert.equal(calls.nonobench_check(cell, 0n, 1n, file, size, 0n, 0n), 6);
   assert.equal(calls.nonobench_check(cell, file, size, 0n, 1n, 0n, 0n), 6);
   assert.equal(calls.nonobench_check(cell, file, size, file, size, 0n, 1n), 6);
-  assert.equal(calls.nonobench_verify(cell, 0n, 1n, file, size, 0n, 0n), 6);
-  assert.equal(calls.nonobench_verify(cell, file, size, 0n, 1n, 0n, 0n), 6);
-  assert.equal(calls.nonobench_verify(cell, file, size, file, size, 0n, 1n), 6);
+  for (const nth of [0, 1, 2, 3]) {
+    const files = [[file, size], [file, size], [0n, 0n], [0n, 0n]];
+    files[nth] = [0n, 1n];
+    assert.equal(calls.nonobench_check_published(cell, ...files.flat()), 6);
+  }
   assert.equal(calls.nonobench_prove(cell, 0n, 1n, 0n, 0n), 6);
   assert.equal(calls.nonobench_prove(cell, file, size, 0n, 1n), 6);
   assert.equal(calls.nonobench_prove(cell, file, size, 0n, 0n), 0);
-  assert.equal(calls.nonobench_verify(cell, file, size, file, size, 0n, 0n), 1);
+  assert.equal(calls.nonobench_check_published(cell, file, size, file, size, 0n, 0n, 0n, 0n), 1);
   assert.equal(calls.nonobench_check(cell, file, size, file, size, 0n, 0n), 1);
   const low = () => new Uint8Array(calls.memory.buffer, 0, 8192).slice(), before = low();
   assert.equal(calls.nonobench_take(cell, 0n, 64n), 29n);
@@ -301,8 +307,9 @@ test('at the bound of memory a call is refused, and answers again when there is 
   for (; refused(() => bench.say(lines)); turns += 1) calls.free(blocks.pop());
   assert.ok(turns > 3, `${turns}`);
   assert.equal(bench.say(lines), whole);
-  assert.ok(refused(() => engine.open(text('examples', 'moon.ppm')).say(lines)));
-  bench.close();
+  const more = [], opened = () => (more.push(engine.open(text('examples', 'moon.ppm'))), more.at(-1).say(lines));
+  while (!refused(opened)) assert.ok(more.length < 99);
+  [bench, ...more].forEach((one) => one.close());
   assert.equal(engine.open(text('examples', 'heart.ppm')).say(lines), whole);
 });
 
@@ -319,7 +326,7 @@ test('a pointer has 64 bits to a host, all of them are looked at, and blocks are
   for (const room of [1n, 16n, 17n, 1000n, 100000n]) assert.equal(calls.malloc(room) % 16n, 0n, `${room}`);
 });
 
-test('a desk that is ended gives back what it and its benches held', async () => {
+test('a desk that is ended gives back what it and its benches held', told, async () => {
   const { calls } = await watched();
   const cell = calls.malloc(16n), file = calls.malloc(64n);
   new Uint8Array(calls.memory.buffer, Number(file), DIAGONAL.length).set(new TextEncoder().encode(DIAGONAL));
@@ -377,14 +384,14 @@ test('the version is that of the crates, whole or as far as there is room', asyn
 });
 
 // The clauses of the calls say the same, and this is what a host sees.
-test('there is no text after memory was refused, behind a closed handle, or behind options that are refused', async () => {
+test('there is no text after memory was refused, behind a closed handle, or behind options that are refused', { skip: waits('0.7.0') }, async () => {
   const { calls } = await watched();
   const cell = calls.malloc(16n), file = calls.malloc(64n), size = BigInt(DIAGONAL.length);
   new Uint8Array(calls.memory.buffer, Number(file), 64).set(new TextEncoder().encode(DIAGONAL));
   assert.equal(calls.nonobench_start(cell), 0);
   const open = (history = 1) => calls.nonobench_open(cell, file, size, 0, file, 0n, history, cell + 8n);
   const check = (word = 0n) => calls.nonobench_check(cell, file, size, file, size, file, word);
-  const verify = (word = 0n) => calls.nonobench_verify(cell, file, size, file, size, file, word);
+  const published = (word = 0n) => calls.nonobench_check_published(cell, file, size, file, size, file, 0n, file, word);
   const prove = (word = 0n) => calls.nonobench_prove(cell, file, size, file, word);
   const short = (call) => {
     calls.nonobench_refuse(1);
@@ -395,7 +402,7 @@ test('there is no text after memory was refused, behind a closed handle, or behi
   const cases = [
     [4, () => short(() => open())], [4, () => short(() => check())], [0, () => open()], [5, () => calls.nonobench_say(cell, 9, file, size)],
     [5, () => calls.nonobench_close(cell, 9)], [0, () => calls.nonobench_close(cell, 1)], [6, () => open(0)], [6, () => check(size)],
-    [4, () => short(() => verify())], [4, () => short(() => prove())], [6, () => verify(size)], [6, () => prove(size)],
+    [4, () => short(() => published())], [4, () => short(() => prove())], [6, () => published(size)], [6, () => prove(size)],
   ];
   for (const [status, call] of cases) {
     // What stood there before: that the picture is no certificate.
@@ -454,7 +461,7 @@ test('a long answer is taken whole', async () => {
   }
 });
 
-test('a certificate is accepted, and what is wrong is said', async () => {
+test('a certificate is accepted, and what is wrong is said', { skip: waits('0.7.0') }, async () => {
   const engine = await fresh();
   const picture = text('examples', 'given.ppm'), certificate = text('examples', 'given.cert');
   const givens = [[1, 1]];
@@ -465,7 +472,14 @@ test('a certificate is accepted, and what is wrong is said', async () => {
   }
   assert.deepEqual(engine.check(picture, 'no certificate\n'), { accepted: false, status: 1, text: 'certificate NotCert at line 1', givens: [] });
   assert.deepEqual(engine.check('P4\n', certificate), { accepted: false, status: 1, text: 'ppm NotP3 at byte 0', givens: [] });
-  for (const wrong of ['1,1', 'all', [1, 1], [[1]], [[0, 1]], [['1', '1']], [[1, 1.5]], 5, new Set([[1, 1]])]) {
+  const file = new TextEncoder().encode('given 2 2\ngiven 1 1\n');
+  for (const one of [file, file.buffer, 'given 1 1']) assert.deepEqual(engine.check(picture, certificate, { givens: one }).givens, givens);
+  for (const [wrong, name] of [['1,1', 'BadLine at line 1'], ['all', 'BadLine at line 1'], [[[1, 1], [0, 1]], 'Place at line 2'], [[[1, 1], [1, 1]], 'Repeated at line 2'], [[[-1, 1]], 'BadLine at line 1']]) {
+    assert.deepEqual(engine.check(picture, certificate, { givens: wrong }), { accepted: false, status: 1, text: `givens ${name}`, givens: [] });
+  }
+  assert.deepEqual(engine.verify(picture, certificate, { givens }), engine.check(picture, certificate, { givens })); // its old name
+  assert.deepEqual(faultOf(() => engine.check(picture, certificate, { givens: ' '.repeat(16777217) })), ['open', 'input too long']);
+  for (const wrong of [[1, 1], [[1]], [['1', '1']], [[1, 1.5]], 5, new Set([[1, 1]])]) {
     assert.throws(() => engine.check(picture, certificate, { givens: wrong }), TypeError);
   }
   // By its background the first colour of this picture has a clue or none: where the left cell is background, nothing tells the
@@ -490,67 +504,129 @@ function pictureOf(rows) {
 
 const placesOf = (word) => (word === '-' ? [] : word.split(';').map((place) => place.split(',').map(Number)));
 
-test('a certificate is accepted where its givens are among those that are published', async () => {
+test('a certificate is accepted where its givens are among those that are published', { skip: waits('0.7.0') }, async () => {
   const engine = await fresh();
   let count = 0;
   for (const line of text('tests', 'cases', 'published.case').split('\n')) {
     if (line === '' || line.startsWith('#')) continue;
-    const [, rows, published, proof, given, answer] = /^(\S+) (\S+) (.*) => (\S+) (.*)$/.exec(line);
+    const [, rows, published, lines, given, answer] = /^(\S+) (\S+) (.*) => (\S+) (.*)$/.exec(line);
     const refused = answer.startsWith('! '), givens = published === 'any' ? 'any' : placesOf(published);
     const wanted = { accepted: !refused, status: refused ? 1 : 0, text: refused ? answer.slice(2) : `${answer}\n`, givens: placesOf(given) };
-    const call = proof.startsWith('nonolemma') ? 'verify' : 'check';
-    assert.deepEqual(engine[call](pictureOf(rows), unescaped(proof), { givens }), wanted, line);
+    assert.deepEqual(engine.check(pictureOf(rows), unescaped(lines), { givens }), wanted, line);
     count += 1;
   }
   assert.ok(count > 30, `${count}`);
 });
 
-test('a proof by lemmas that is made is accepted, with a byte changed it is refused or proves the same, and none proves two solutions', async () => {
+test('a certificate with lemmas that is made is accepted, with a byte changed it is refused or proves the same, and none proves two solutions', { skip: waits('0.7.0') }, async () => {
   const engine = await fresh(), picture = pictureOf('a./.b');
-  assert.deepEqual(engine.prove(DIAGONAL), { ruling: 'ambiguous', proof: null });
+  assert.deepEqual(engine.prove(DIAGONAL), { ruling: 'ambiguous', certificate: null, proof: null });
   assert.deepEqual(faultOf(() => engine.prove('P4\n')), ['open', 'ppm NotP3 at byte 0']);
-  const { ruling, proof } = engine.prove(new TextEncoder().encode(picture), { background: null });
-  assert.equal(ruling, 'unique');
-  const accepted = { accepted: true, status: 0, text: 'proof accepted\n', givens: [] };
-  assert.deepEqual(engine.verify(picture, proof), accepted);
-  assert.deepEqual(engine.check(picture, proof), { accepted: false, status: 1, text: 'certificate NotCert at line 1', givens: [] });
+  const { ruling, certificate, proof } = engine.prove(new TextEncoder().encode(picture), { background: null });
+  assert.deepEqual([ruling, certificate.slice(0, 12), proof], ['unique', 'nonolemma 2\n', certificate]);
+  const accepted = { accepted: true, status: 0, text: 'certificate accepted\n', givens: [] };
+  assert.deepEqual(engine.check(picture, certificate), accepted);
   let refused = 0;
-  for (let at = 0; at < proof.length; at += 1) {
+  for (let at = 0; at < certificate.length; at += 1) {
     for (const sign of ['', ' ', '1', '2', 'x', '\n']) {
-      const text = proof.slice(0, at) + sign + proof.slice(at + 1), answer = engine.verify(picture, text);
+      const text = certificate.slice(0, at) + sign + certificate.slice(at + 1), answer = engine.check(picture, text);
       if (answer.accepted) assert.deepEqual(answer, accepted);
       else refused += 1;
-      assert.equal(engine.verify(DIAGONAL, text, { givens: 'any' }).accepted, false, text);
+      assert.equal(engine.check(DIAGONAL, text, { givens: 'any' }).accepted, false, text);
     }
   }
-  assert.ok(refused > proof.length * 3, `${refused}`);
+  assert.ok(refused > certificate.length * 3, `${refused}`);
 });
 
-test('proofs by lemmas are answered as the cases say', async () => {
+test('certificates of all forms are answered as the cases say', { skip: waits('0.7.0') }, async () => {
   const engine = await fresh();
-  let count = 0;
-  for (const line of text('tests', 'cases', 'lemmas.case').split('\n')) {
-    if (line === '' || line.startsWith('#') || /\\[^n]/.test(line)) continue;
-    const [, rows, proof, answer] = /^(\S+) (.*) => (.*)$/.exec(line), refused = answer.startsWith('! ');
-    const { accepted, text: said } = engine.verify(pictureOf(rows), unescaped(proof), { givens: 'any' });
-    assert.deepEqual([accepted, said], refused ? [false, answer.slice(2)] : [true, `${answer}\n`], line);
-    count += 1;
+  for (const kind of ['certificates', 'lemmas']) {
+    let count = 0;
+    for (const line of text('tests', 'cases', `${kind}.case`).split('\n')) {
+      if (line === '' || line.startsWith('#') || /\\[^n]/.test(line)) continue;
+      const [, rows, lines, answer] = /^(\S+) (.*) => (.*)$/.exec(line), refused = answer.startsWith('! ');
+      const { accepted, text: said } = engine.check(pictureOf(rows), unescaped(lines), { givens: 'any' });
+      assert.deepEqual([accepted, said], refused ? [false, answer.slice(2)] : [true, `${answer}\n`], line);
+      count += 1;
+    }
+    assert.ok(count > 40, `${count}`);
   }
-  assert.ok(count > 40, `${count}`);
 });
 
-test('what is read of a certificate is what was checked, also where its memory is shared', async () => {
+test('what is read of a certificate is what was checked, also where its memory is shared', { skip: waits('0.7.0') }, async () => {
   const { engine, calls } = await watched();
   const bytes = new TextEncoder().encode('nonocert 2\ngiven 1 1\nline r 1\nline c 1\nline r 2\ndone\n');
   const shared = new Uint8Array(new SharedArrayBuffer(bytes.length));
   shared.set(bytes);
-  const plain = calls.nonobench_check;
-  calls.nonobench_check = (...words) => {
+  const plain = calls.nonobench_check_published;
+  calls.nonobench_check_published = (...words) => {
     const status = plain(...words);
     shared.fill(0x20); // as another thread may
     return status;
   };
-  assert.deepEqual(engine.check(DIAGONAL, shared, { givens: [] }).givens, [[1, 1]]);
+  assert.deepEqual(engine.check(DIAGONAL, shared, { givens: [[1, 1]] }).givens, [[1, 1]]);
+});
+
+test('what is read of a certificate is what was checked, whatever a class of the caller says of it', { skip: waits('0.7.0') }, async () => {
+  const { engine, calls } = await watched();
+  const bytes = new TextEncoder().encode('nonocert 2\ngiven 1 1\nline r 1\nline c 1\nline r 2\ndone\n');
+  class Odd extends Uint8Array {
+    get buffer() { return new ArrayBuffer(0); }
+
+    indexOf() { return 0; }
+  }
+  const odd = new Odd(new SharedArrayBuffer(bytes.length)), plain = calls.nonobench_check_published;
+  odd.set(bytes);
+  calls.nonobench_check_published = (...words) => {
+    const status = plain(...words);
+    odd.fill(0x20);
+    return status;
+  };
+  assert.deepEqual(engine.check(DIAGONAL, odd, { givens: [[1, 1]] }), { accepted: true, status: 0, text: 'certificate accepted, givens 1\n', givens: [[1, 1]] });
+  odd.set(bytes);
+  assert.equal(engine.check(DIAGONAL, odd).text, 'certificate UnpublishedGiven at line 2');
+});
+
+// What a merge of somebody's JSON may leave behind, while a call runs.
+function polluted(properties, call) {
+  Object.assign(Object.prototype, properties); // eslint-disable-line no-extend-native
+  try {
+    return call();
+  } finally {
+    for (const name of Object.keys(properties)) delete Object.prototype[name];
+  }
+}
+
+test('an option is a property of the object itself', { skip: waits('0.7.0') }, async () => {
+  const engine = await fresh();
+  const all = 'nonocert 2\ngiven 1 1\ngiven 1 2\ngiven 2 1\ngiven 2 2\ndone\n', refused = 'certificate UnpublishedGiven at line 2';
+  for (const options of [undefined, {}, null, Object.create({ givens: 'any' })]) {
+    for (const given of [all, all.replace('nonocert 2', 'nonolemma 1')]) {
+      const answer = polluted({ givens: 'any' }, () => engine.check(DIAGONAL, given, options));
+      assert.deepEqual([answer.accepted, answer.text], [false, refused]);
+    }
+  }
+  // By a black background the white cells are coloured, and other lines are forced.
+  const unique = pictureOf('a./.b'), certificate = engine.open(unique).say('certify\n');
+  const pollution = { background: '0,0,0', format: 'non', history: 1 };
+  assert.equal(polluted(pollution, () => engine.check(unique, certificate)).text, 'certificate accepted\n');
+  assert.equal(polluted(pollution, () => engine.prove(unique).ruling), 'unique');
+  assert.equal(polluted(pollution, () => engine.clues(unique)), engine.clues(unique));
+  const bench = polluted(pollution, () => engine.open(unique));
+  assert.equal(bench.say('pin 1 1\npin 1 2\nundo\nundo\n'), 'ok\n'.repeat(4));
+  // A hole in a pair is no number, whatever stands on the prototype.
+  assert.throws(() => polluted({ 1: 1 }, () => engine.check(DIAGONAL, all, { givens: [new Array(2)] })), TypeError);
+});
+
+test('a bench is closed in a moment, however many others are open', async () => {
+  const engine = await fresh(), held = [];
+  const times = [() => { for (let i = 0; i < 8000; i += 1) held.push(engine.open(DIAGONAL)); }, () => held.forEach((bench) => bench.close())].map((run) => {
+    const from = process.cpuUsage();
+    run();
+    const { user, system } = process.cpuUsage(from);
+    return user + system;
+  });
+  assert.ok(times[1] < times[0], `opened in ${times[0]} and closed in ${times[1]} microseconds`);
 });
 
 test('benches that nobody holds any more are closed, and a bench is closed once by what disposes of it', async () => {
@@ -577,7 +653,7 @@ test('benches that nobody holds any more are closed, and a bench is closed once 
   }
 });
 
-test('10,000 benches are opened and closed, and not a block more is taken', async () => {
+test('10,000 benches are opened and closed, and not a block more is taken', told, async () => {
   const { engine, calls } = await watched();
   const session = () => {
     const bench = engine.open(DIAGONAL);
@@ -589,6 +665,23 @@ test('10,000 benches are opened and closed, and not a block more is taken', asyn
   };
   for (let i = 0; i < 10; i += 1) session();
   assert.equal(taken(calls, () => { for (let i = 0; i < 10000; i += 1) session(); }), 0);
+});
+
+test('memory that was full of benches is whole again once they are closed', told, async () => {
+  const { engine, calls } = await watched(), held = [];
+  const large = [29n, 28n].map((size) => calls.malloc(2n ** size - 16n)); // so that fewer benches fill it
+  assert.deepEqual(faultOf(() => { for (;;) held.push(engine.open(DIAGONAL)); }), ['memory', 'memory']);
+  const count = held.length;
+  assert.ok(count > 1000, `${count}`);
+  // Every second one first, so that what is free lies in pieces.
+  for (const part of [0, 1]) held.forEach((bench, at) => { if (at % 2 === part) bench.close(); });
+  large.forEach((at) => calls.free(at));
+  assert.deepEqual(engine.check(text('examples', 'diagonal.ppm'), text('examples', 'diagonal.cert')).accepted, true);
+  const most = calls.malloc(2n ** 29n); // a block of 768 MiB
+  assert.notEqual(most, 0n);
+  calls.free(most);
+  for (let i = count; i < 100000; i += 1) engine.open(DIAGONAL).close();
+  assert.ok(engine.memory <= 1073741824, `${engine.memory}`);
 });
 
 test('each growth of memory refused in turn is an ordinary answer', async () => {
@@ -617,14 +710,14 @@ test('each growth of memory refused in turn is an ordinary answer', async () => 
   assert.equal(engine.open(picture).say(lines), whole);
 });
 
-test('each growth refused in turn while a certificate or a proof is checked, or one made, is a fault of memory', async () => {
+test('each growth refused in turn while a certificate is checked or made is a fault of memory', { skip: waits('0.7.0') }, async () => {
   const { engine, calls } = await watched();
   const picture = text('examples', 'given.ppm'), certificate = text('examples', 'given.cert'), givens = [[1, 1]];
-  const proof = `nonolemma 1${certificate.slice(10)}`, unique = pictureOf('a./.b'), made = engine.prove(unique);
-  const accepted = (word) => ({ accepted: true, status: 0, text: `${word} accepted, givens 1\n`, givens });
+  const lemmas = `nonolemma 1${certificate.slice(10)}`, unique = pictureOf('a./.b'), made = engine.prove(unique);
+  const accepted = { accepted: true, status: 0, text: 'certificate accepted, givens 1\n', givens };
   const asked = [
-    [() => engine.check(picture, certificate, { givens }), accepted('certificate')], [() => engine.verify(picture, proof, { givens }), accepted('proof')],
-    [() => engine.prove(unique), made], [() => engine.prove(DIAGONAL), { ruling: 'ambiguous', proof: null }],
+    [() => engine.check(picture, certificate, { givens }), accepted], [() => engine.check(picture, lemmas, { givens: 'any' }), accepted],
+    [() => engine.prove(unique), made], [() => engine.prove(DIAGONAL), { ruling: 'ambiguous', certificate: null, proof: null }],
   ];
   for (const [call, wanted] of asked) {
     let refused = 0;
@@ -648,7 +741,7 @@ test('each growth refused in turn while a certificate or a proof is checked, or 
   }
 });
 
-test('any bytes are answered, and the module goes on', async () => {
+test('any bytes are answered, and the module goes on', { skip: waits('0.7.0') }, async () => {
   const engine = await fresh();
   let seed = 1;
   const next = (n) => {
@@ -669,7 +762,7 @@ test('any bytes are answered, and the module goes on', async () => {
         }
       }
       assert.equal(typeof engine.check(file, noise).text, 'string');
-      assert.equal(typeof engine.verify(file, noise).text, 'string');
+      assert.equal(typeof engine.check(file, noise, { givens: noise }).text, 'string');
     }
     assert.equal(typeof bench.say(noise), 'string');
   }
@@ -716,25 +809,25 @@ function uploadedBy(name, folder, ...words) {
   return [run.stdout + run.stderr, run.status];
 }
 
-test('the example checks an upload in a thread of its own, and its status tells a refusal', () => {
+test('the example checks an upload in a thread of its own, and its status tells a refusal', { skip: waits('0.7.0') }, () => {
   const said = (...words) => uploaded(join(root, 'examples'), ...words);
   const folder = mkdtempSync(join(tmpdir(), 'nonobench-upload-'));
   const file = (name, lines) => (writeFileSync(join(folder, name), lines), join(folder, name));
   try {
     const one = file('one', 'given 1 1\n'), cross = file('cross.ppm', 'P3\n2 2\n1\n0 0 0 1 1 1\n1 1 1 0 0 0\n');
-    const proof = file('cross.cert', 'nonocert 2\ngiven 1 1\ngiven 1 2\ngiven 2 1\ngiven 2 2\ndone\n');
+    const all = file('cross.cert', 'nonocert 2\ngiven 1 1\ngiven 1 2\ngiven 2 1\ngiven 2 2\ndone\n');
     assert.deepEqual(said('diagonal.ppm', 'diagonal.cert'), ['certificate accepted\n', 0]);
     assert.deepEqual(said('given.ppm', 'given.cert', one), ['certificate accepted, givens 1\n', 0]);
-    const lemmas = file('given.proof', 'nonolemma 1\ngiven 1 1\nline r 1\nline c 1\nline r 2\ndone\n');
-    assert.deepEqual(said('given.ppm', lemmas, one), ['proof accepted, givens 1\n', 0]);
+    const lemmas = file('lemmas.cert', 'nonolemma 2\ngiven 1 1\nline r1 c1 r2\ndone\n');
+    assert.deepEqual(said('given.ppm', lemmas, one), ['certificate accepted, givens 1\n', 0]);
     assert.deepEqual(said('given.ppm', lemmas), ['refused: certificate UnpublishedGiven at line 2\n', 1]);
     assert.deepEqual(said('given.ppm', 'given.cert'), ['refused: certificate UnpublishedGiven at line 2\n', 1]);
     assert.deepEqual(said('given.ppm', 'diagonal.cert'), ['refused: certificate NotDead at line 5\n', 1]);
-    assert.deepEqual(said(cross, proof), ['refused: certificate UnpublishedGiven at line 2\n', 1]);
-    assert.deepEqual(said(cross, proof, one), ['refused: certificate UnpublishedGiven at line 3\n', 1]);
+    assert.deepEqual(said(cross, all), ['refused: certificate UnpublishedGiven at line 2\n', 1]);
+    assert.deepEqual(said(cross, all, one), ['refused: certificate UnpublishedGiven at line 3\n', 1]);
     assert.match(said('none.ppm', 'diagonal.cert')[0], /^check_upload: ENOENT: no such file or directory, open 'none.ppm'\n$/);
     assert.equal(said('none.ppm', 'diagonal.cert')[1], 3);
-    assert.equal(said('given.ppm', 'given.cert', cross)[1], 3);
+    assert.deepEqual(said('given.ppm', 'given.cert', cross), ['refused: givens BadLine at line 1\n', 1]);
     assert.equal(said('given.ppm')[1], 2);
     const [text, status] = uploadedBy(join(folder, 'none.wasm'), join(root, 'examples'), 'diagonal.ppm', 'diagonal.cert');
     assert.match(text, /^check_upload: the package nonobench is not installed here, and ENOENT: .*none\.wasm'\n$/);
@@ -744,7 +837,7 @@ test('the example checks an upload in a thread of its own, and its status tells 
   }
 });
 
-test('the example loads nothing from the current folder', () => {
+test('the example loads nothing from the current folder', { skip: waits('0.7.0') }, () => {
   const folder = mkdtempSync(join(tmpdir(), 'nonobench-hostile-'));
   try {
     const mark = join(folder, 'ran'), hostile = `require('node:fs').appendFileSync(${JSON.stringify(mark)}, 'ran')`;
@@ -761,4 +854,92 @@ test('the example loads nothing from the current folder', () => {
   } finally {
     rmSync(folder, { recursive: true, force: true });
   }
+});
+
+test('a certificate that an editor changed is told so, beside NotCert', { skip: waits('0.7.0') }, async () => {
+  const engine = await fresh(), unique = pictureOf('a./.b'), certificate = engine.open(unique).say('certify\n');
+  const utf16 = (isBig, hasMark) => Buffer.from([...(hasMark ? '\ufeff' : ''), ...certificate].flatMap((sign) => {
+    const code = sign.charCodeAt(0), pair = [code & 255, code >> 8];
+    return isBig ? pair.reverse() : pair;
+  }));
+  const changed = [
+    [certificate.replaceAll('\n', '\r\n'), 'its lines end with CR LF, and must end with LF alone'],
+    [`\ufeff${certificate}`, 'it begins with a byte order mark, and must begin with its first word'],
+    ...[[false, false], [false, true], [true, false], [true, true]].map((words) => [utf16(...words), 'it is UTF-16, and must be ASCII']),
+    ['', ''], ['nonocert 3\n', ''], ['nonocert 3\nline r 1\r\n', ''],
+  ];
+  for (const [file, hint] of changed) {
+    const { text } = engine.check(unique, file);
+    assert.deepEqual([text, hintOf(text, file)], ['certificate NotCert at line 1', hint]);
+  }
+  const late = certificate.replace('\n', '\n\r\n');
+  assert.equal(hintOf(engine.check(unique, late).text, late), '');
+  assert.equal(hintOf('certificate accepted\n', certificate.replaceAll('\n', '\r\n')), '');
+});
+
+// A folder of a test's own.
+function ownFolder(t) {
+  const folder = mkdtempSync(join(tmpdir(), 'nonobench-upload-'));
+  t.after(() => rmSync(folder, { recursive: true, force: true }));
+  return folder;
+}
+
+test('the example reads regular files alone, and none that is too long', { skip: waits('0.7.0') }, (t) => {
+  const folder = ownFolder(t), [picture, certificate] = ['diagonal.ppm', 'diagonal.cert'].map((name) => join(root, 'examples', name));
+  const pipe = join(folder, 'pipe'), long = join(folder, 'long');
+  assert.equal(spawnSync('mkfifo', [pipe]).status, 0);
+  for (const place of [0, 1, 2]) {
+    for (const name of [pipe, '/dev/zero', folder]) {
+      const words = [picture, certificate, join(root, 'examples', 'given.givens')];
+      words[place] = name;
+      assert.deepEqual(uploaded(folder, ...words), [`check_upload: not a regular file: ${name}\n`, 3]);
+    }
+  }
+  writeFileSync(long, '');
+  truncateSync(long, 3 * 2 ** 30);
+  assert.deepEqual(uploaded(folder, long, certificate), ['check_upload: a file has more than 4194304 bytes\n', 1]);
+  assert.deepEqual(uploaded(folder, picture, certificate, long), ['check_upload: a file has more than 4194304 bytes\n', 1]);
+  // Of one that could be read whole, nothing is.
+  truncateSync(long, 1500000000);
+  const told = join(folder, 'told'), early = join(folder, 'early.cjs');
+  writeFileSync(early, `process.on('exit', () => require('node:fs').writeFileSync(${JSON.stringify(told)}, String(process.resourceUsage().maxRSS)));`);
+  const run = spawnSync(process.execPath, ['-r', early, join(root, 'examples', 'check_upload.mjs'), long, certificate], {
+    env: { ...process.env, WASM: resolve(process.env.WASM ?? join(root, 'web', 'out', 'nonobench.wasm')) },
+  });
+  assert.equal(run.status, 1);
+  assert.ok(Number(readFileSync(told, 'utf8')) < 200 * 1024, readFileSync(told, 'utf8'));
+  truncateSync(long, 4194304);
+  assert.deepEqual(uploaded(folder, long, certificate), ['refused: ppm NotP3 at byte 0\n', 1]);
+  assert.deepEqual(uploaded(folder, picture, writeCrlf(folder, certificate)), [
+    'refused: certificate NotCert at line 1 (its lines end with CR LF, and must end with LF alone)\n', 1]);
+});
+
+// A certificate as an editor of Windows saves it.
+function writeCrlf(folder, certificate) {
+  writeFileSync(join(folder, 'crlf.cert'), readFileSync(certificate, 'utf8').replaceAll('\n', '\r\n'));
+  return join(folder, 'crlf.cert');
+}
+
+test('the example ends a check that takes too long, by the processor or by the clock', async (t) => {
+  const folder = ownFolder(t), [picture, certificate] = ['diagonal.ppm', 'diagonal.cert'].map((name) => join(root, 'examples', name));
+  // A package whose check takes its time: as the script's name says.
+  mkdirSync(join(folder, 'node_modules', 'nonobench'), { recursive: true });
+  writeFileSync(join(folder, 'node_modules', 'nonobench', 'package.json'), '{"name": "nonobench", "exports": "./index.mjs"}');
+  writeFileSync(join(folder, 'node_modules', 'nonobench', 'index.mjs'), `
+    const wait = (seconds) => Atomics.wait(new Int32Array(new SharedArrayBuffer(4)), 0, 0, seconds * 1000);
+    const tasks = { some: () => wait(12), clock: () => wait(3600), processor: () => { for (;;); } };
+    export const hintOf = () => '';
+    export const load = async () => ({ check() { tasks[/(\\w+)\\.mjs$/.exec(process.argv[1])[1]](); return { accepted: true, text: 'certificate accepted\\n' }; } });
+  `);
+  const script = readFileSync(join(root, 'examples', 'check_upload.mjs'), 'utf8');
+  const asked = async (name, limits) => {
+    const own = Object.entries(limits).reduce((text, [limit, value]) => text.replace(new RegExp(`(?<=const ${limit} = )\\d+`), `${value}`), script);
+    writeFileSync(join(folder, `${name}.mjs`), own);
+    const child = spawn(process.execPath, [join(folder, `${name}.mjs`), picture, certificate], { cwd: folder });
+    let said = '';
+    for (const stream of [child.stdout, child.stderr]) stream.on('data', (bytes) => { said += bytes; });
+    return [await new Promise((done) => { child.on('close', done); }), said];
+  };
+  const answers = await Promise.all([asked('some', {}), asked('clock', { MOST_CLOCK: 3 }), asked('processor', { MOST_PROCESSOR: 2, MOST_CLOCK: 3600 })]);
+  assert.deepEqual(answers, [[0, 'certificate accepted\n'], [1, 'refused: took too long\n'], [1, 'refused: took too long\n']]);
 });

@@ -1,6 +1,6 @@
-"""A small site for puzzles: it takes a picture with a certificate or a proof by lemmas, stores what is proved, and prints the puzzle.
+"""A small site for puzzles: it takes a picture with a certificate, stores what is proved, and prints the puzzle.
 
-    PYTHONPATH=python python3 -m flask --app examples/site/app run
+    PYTHONPATH=python/src python3 examples/site/app.py
 
 Nothing that comes in is trusted: sizes are bounded before anything is read, names of files are not looked at, the check runs in
 a process that is ended where it takes too long, and what is shown is escaped.
@@ -8,9 +8,9 @@ a process that is ended where it takes too long, and what is shown is escaped.
 
 import contextlib
 import hashlib
-import io
 import itertools
 import json
+import logging
 import os
 import queue
 import re
@@ -18,14 +18,9 @@ import sqlite3
 import unicodedata
 
 import nonobench
-from flask import Flask, abort, g, redirect, render_template_string, request, url_for
+from flask import Flask, abort, g, jsonify, redirect, render_template_string, request, url_for
+from werkzeug.exceptions import HTTPException
 
-try:
-    from PIL import Image
-except ImportError:
-    Image = None
-
-MOST_CELLS = 120
 MOST_TITLE = 100
 MOST_SHOWN = 200
 PNG = b"\x89PNG\r\n\x1a\n"
@@ -38,15 +33,22 @@ JOINERS = "\u200c\u200d"
 # Letters and a sign that show nothing: fillers of Hangul, and the empty cell of Braille.
 BLANK = dict.fromkeys(map(ord, "\u115f\u1160\u2800\u3164\uffa0"), " ")
 
-# `certificate` is that, or a proof by lemmas. `shown` is the sum of the picture as it is shown: what makes two puzzles one, whatever
-# cells are given.
+# `shown` is the sum of the picture as it is shown: what makes two puzzles one, whatever cells are given.
 TABLE = """
 CREATE TABLE IF NOT EXISTS published (
     id INTEGER PRIMARY KEY, title TEXT NOT NULL, picture BLOB NOT NULL, certificate BLOB NOT NULL,
     puzzle TEXT NOT NULL, shown TEXT NOT NULL UNIQUE
 )"""
 
-# What a fault is called in docs/FORMATS.md, in the words of a reader; {} is `certificate` or `proof`.
+# A puzzle takes the place of one that is shown alike and has more given cells: whoever gives nearly all blocks no better puzzle.
+PUBLISH = """
+INSERT INTO published (title, picture, certificate, puzzle, shown) VALUES (?, ?, ?, ?, ?)
+ON CONFLICT (shown) DO UPDATE SET
+    title = excluded.title, picture = excluded.picture, certificate = excluded.certificate, puzzle = excluded.puzzle
+WHERE json_array_length(excluded.puzzle, '$.givens') < json_array_length(published.puzzle, '$.givens')
+"""
+
+# What a fault is called in docs/FORMATS.md, in the words of a reader.
 WORDS = {
     "NotP3": "The picture is neither a PNG image nor a plain PPM text (P3).",
     "Truncated": "The picture ends too early.",
@@ -57,16 +59,16 @@ WORDS = {
     "SampleOver": "A sample of the picture is larger than the picture's maximum.",
     "TooManyColours": "The picture has more than 16 colours, white included.",
     "TrailingToken": "The picture goes on after its last cell.",
-    "NotCert": "This is neither a certificate nor a proof by lemmas.",
-    "BadLine": "The {} has a line that no {} may have.",
-    "Place": "The {} names a place outside the picture.",
-    "NotDead": "The {} says that a line cannot be filled, or a lemma not be met, but it can.",
-    "NotDone": "The {} says that all cells are decided, but one is not.",
-    "Ended": "The {} ends before all is proved.",
-    "Trailing": "The {} goes on after all is proved.",
-    "NoLemma": "The {} uses a lemma that is not there.",
-    "Misplaced": "The {} has a line about lemmas in the wrong place.",
-    "Full": "The {} has too many lemmas.",
+    "NotCert": "This is not a certificate.",
+    "BadLine": "The certificate has a line that no certificate may have.",
+    "Place": "The certificate names a place outside the picture.",
+    "NotDead": "The certificate says that a line cannot be filled, or a lemma not be met, but it can.",
+    "NotDone": "The certificate says that all cells are decided, but one is not.",
+    "Ended": "The certificate ends before all is proved.",
+    "Trailing": "The certificate goes on after all is proved.",
+    "NoLemma": "The certificate uses a lemma that is not there.",
+    "Misplaced": "The certificate has a line about lemmas in the wrong place.",
+    "Full": "The certificate has too many lemmas.",
     "TooLong": "A file is too long.",
 }
 
@@ -92,7 +94,7 @@ FORM = PAGE + """{% if reason %}<p class="refused">{{ reason }}</p>{% endif %}
 <form method="post" action="{{ url_for('take') }}" enctype="multipart/form-data">
 <label>Title <input name="title" maxlength="100"></label>
 <label>Picture, one cell per pixel (PNG, or PPM as P3 text) <input type="file" name="picture" required></label>
-<label>Certificate or proof by lemmas <input type="file" name="certificate" required></label><button>Check and publish</button></form>"""
+<label>Certificate <input type="file" name="certificate" required></label><button>Check and publish</button></form>"""
 
 PUZZLE = PAGE + """{% macro clue(blocks) %}{% for length, letter in blocks %}<span style="{{ inks[letter] }}">{{ length }}</span>
 {%- else %}<span>0</span>{% endfor %}{% endmacro %}
@@ -113,24 +115,15 @@ class Refused(Exception):
 
 
 def picture_of(file):
-    """A picture as a P3 text: a PNG is read by Pillow, a cell for each pixel, and everything else is left as it is."""
+    """A picture as a P3 text: a PNG as browsers show it, a cell for each pixel. Everything else is left as it is."""
     if not file.startswith(PNG):
         return file
-    if Image is None:
-        raise Refused("This site cannot read PNG, since Pillow is not installed. Upload a plain PPM text (P3).")
     try:
-        with Image.open(io.BytesIO(file), formats=["PNG"]) as image:
-            if max(image.size) > MOST_CELLS:
-                raise Refused(WORDS["TooLarge"])
-            if image.mode[0] in "IF":  # samples of 16 bits
-                image = image.point(lambda sample: sample * (1 / 257)).convert("L")
-            flat = Image.new("RGBA", image.size, "white")
-            flat.alpha_composite(image.convert("RGBA"))
-    except Refused:
-        raise
-    except Exception as error:  # whatever a decoder makes of a stranger's bytes
-        raise Refused("The image cannot be read.") from error
-    return nonobench.picture_of(*flat.size, flat.convert("RGB").getdata())
+        return nonobench.picture_of_image(file)
+    except ImportError as error:
+        raise Refused("This site cannot read PNG, since Pillow is not installed. Upload a plain PPM text (P3).") from error
+    except nonobench.ImageFault as fault:
+        raise Refused(WORDS["TooLarge"] if fault.name == "a size" else f"The image is refused: {fault.name}.") from fault
 
 
 class Picture:
@@ -166,19 +159,14 @@ def puzzle_of(picture, clues, givens):
     })
 
 
-def word_of(certificate):
-    """What was uploaded with a picture: a `certificate`, or a `proof` by lemmas."""
-    return "proof" if certificate.startswith(b"nonolemma") else "certificate"
-
-
-def refuse_no_puzzle(picture, givens, word):
+def refuse_no_puzzle(picture, givens):
     """Refuses what is proved, and yet no puzzle that a solver can be handed."""
     near = picture.near()
     if near:
         first, second = ("white" if triple == WHITE else "rgb({}, {}, {})".format(*triple) for triple in near)
         raise Refused(f"Two colours look alike: {first} and {second}. Make them differ more; white is the background.")
     if len(givens) == len(picture.cells):
-        raise Refused(f"The {word} gives every cell, so there is nothing left to solve.")
+        raise Refused("The certificate gives every cell, so there is nothing left to solve.")
 
 
 def title_of(text):
@@ -189,10 +177,20 @@ def title_of(text):
     return seen if any(unicodedata.category(sign)[0] in "LNPS" for sign in seen) else "Untitled"
 
 
-def reason_of(fault, word):
-    """A fault in words, of a picture or of what came with it."""
-    place = fault.text.rpartition(" at ")[2]
-    return WORDS.get(fault.name, fault.text).replace("{}", word) + (f" ({place})" if " at " in fault.text else "")
+def reason_of(fault, certificate):
+    """A fault in words, of a picture or of its certificate."""
+    hint, place = nonobench.hint_of(fault, certificate), fault.text.rpartition(" at ")[2]
+    return WORDS.get(fault.name, fault.text) + (f" It seems that {hint}." if hint else "") + (f" ({place})" if " at " in fault.text else "")
+
+
+def wants_json():
+    """Whether a client asks for JSON before a page."""
+    return request.accept_mimetypes.best_match(["text/html", "application/json"]) == "application/json"
+
+
+def address_of(number):
+    """The address of a puzzle."""
+    return url_for("puzzle", number=number)
 
 
 def ink_of(triple):
@@ -236,27 +234,25 @@ class Site:
                 self.workers.get_nowait().close()
 
     def proved(self, file, certificate):
-        """A picture whose certificate or proof is accepted, and what is published of it: with the givens that this names."""
-        word = word_of(certificate)
+        """A picture whose certificate is accepted, and what is published of it: with the givens that this names."""
         try:
             with self.worker() as worker:
-                check = worker.verify if word == "proof" else worker.check
-                givens = check(file, certificate, published=nonobench.ANY_GIVEN).givens
+                givens = worker.check(file, certificate, published=nonobench.ANY_GIVEN).givens
                 clues = worker.clues(file)
         except nonobench.Fault as fault:
-            raise Refused(reason_of(fault, word)) from fault
+            raise Refused(reason_of(fault, certificate)) from fault
         except TimeoutError as error:
             raise Refused(f"The check took more than {self.config['SECONDS']:g} seconds.") from error
         except MemoryError as error:
             raise Refused("The check took too much memory.", 503) from error
         picture = Picture(file)
-        refuse_no_puzzle(picture, givens, word)
+        refuse_no_puzzle(picture, givens)
         return picture, puzzle_of(picture, clues, givens)
 
     def database(self):
         """The connection of this request."""
         if "database" not in g:
-            g.database = sqlite3.connect(self.config["DATABASE"])
+            g.database = sqlite3.connect(self.config["DATABASE"], timeout=60)
             g.database.row_factory = sqlite3.Row
             g.database.execute(TABLE)
         return g.database
@@ -264,14 +260,84 @@ class Site:
     def store(self, title, file, certificate):
         """Stores a puzzle that is proved, and answers its number."""
         picture, puzzle = self.proved(file, certificate)
-        try:
-            with self.database() as database:
-                return database.execute(
-                    "INSERT INTO published (title, picture, certificate, puzzle, shown) VALUES (?, ?, ?, ?, ?)",
-                    (title, file, certificate, puzzle, picture.sum()),
-                ).lastrowid
-        except sqlite3.IntegrityError as error:
-            raise Refused("This puzzle is already here, with these given cells or others.", 409) from error
+        with self.database() as database:
+            if not database.execute(PUBLISH, (title, file, certificate, puzzle, picture.sum())).rowcount:
+                raise Refused("This puzzle is already here, with as few given cells.", 409)
+            return database.execute("SELECT id FROM published WHERE shown = ?", (picture.sum(),)).fetchone()["id"]
+
+
+def guard(app):
+    """Says what a page may do, and in which form a client is told what went wrong."""
+
+    @app.teardown_appcontext
+    def close(_error):
+        if "database" in g:
+            g.pop("database").close()
+
+    @app.after_request
+    def restrict(response):
+        response.headers["Content-Security-Policy"] = (
+            "default-src 'none'; style-src 'unsafe-inline'; form-action 'self'; frame-ancestors 'none'; base-uri 'none'"
+        )
+        response.headers["X-Content-Type-Options"] = "nosniff"
+        response.headers["Vary"] = "Accept"
+        return response
+
+    @app.errorhandler(Refused)
+    def refuse(error):
+        if wants_json():
+            return jsonify(refused=str(error)), error.status
+        return render_template_string(FORM, title="Not published", reason=str(error)), error.status
+
+    @app.errorhandler(HTTPException)
+    def fail(error):
+        return (jsonify(refused=error.name), error.code) if wants_json() else error
+
+    @app.errorhandler(413)
+    def too_long(_error):
+        return refuse(Refused(f"The files have more than {app.config['MAX_CONTENT_LENGTH'] >> 20} MiB.", 413))
+
+
+def add_pages(app, site):
+    """The addresses of the site: the list, the form, where a puzzle is taken, and each puzzle."""
+
+    @app.get("/")
+    def puzzles():
+        found = site.database().execute("SELECT id, title FROM published ORDER BY id DESC LIMIT ?", (MOST_SHOWN,)).fetchall()
+        if wants_json():
+            return jsonify(puzzles=[{"number": row["id"], "title": row["title"], "address": address_of(row["id"])} for row in found])
+        return render_template_string(LIST, title="Puzzles", found=found)
+
+    @app.get("/new")
+    def form():
+        return render_template_string(FORM, title="Upload a puzzle", reason="")
+
+    @app.post("/puzzles")
+    def take():
+        files = [request.files.get(name) for name in ("picture", "certificate")]
+        if not all(files):
+            raise Refused("Choose a picture and a certificate.")
+        picture, certificate = (file.read() for file in files)
+        number = site.store(title_of(request.form.get("title", "")), picture_of(picture), certificate)
+        if wants_json():
+            return jsonify(number=number, address=address_of(number)), 201, {"Location": address_of(number)}
+        return redirect(address_of(number), 303)
+
+    @app.get("/puzzles/<number>")
+    def puzzle(number):
+        found = None
+        if re.fullmatch("[1-9][0-9]{0,17}", number):  # fewer digits than the database's numbers and Python's have
+            found = site.database().execute("SELECT title, puzzle FROM published WHERE id = ?", (int(number),)).fetchone()
+        if found is None:
+            abort(404)
+        puzzle = json.loads(found["puzzle"])
+        if wants_json():
+            return jsonify(number=int(number), title=found["title"], **puzzle)
+        return render_template_string(
+            PUZZLE, title=found["title"], rows=puzzle["rows"], columns=puzzle["columns"],
+            inks={letter: ink_of(triple) for letter, triple in puzzle["colours"].items()},
+            givens={(row, column): given_of(triple) for row, column, triple in puzzle["givens"]},
+        )
 
 
 def create_app(**config):
@@ -283,58 +349,23 @@ def create_app(**config):
     )
     app.config.update(config)
     site = app.extensions["puzzles"] = Site(app.config)
-
-    @app.teardown_appcontext
-    def close(_error):
-        if "database" in g:
-            g.pop("database").close()
-
-    @app.after_request
-    def guard(response):
-        response.headers["Content-Security-Policy"] = (
-            "default-src 'none'; style-src 'unsafe-inline'; form-action 'self'; frame-ancestors 'none'; base-uri 'none'"
-        )
-        response.headers["X-Content-Type-Options"] = "nosniff"
-        return response
-
-    @app.errorhandler(Refused)
-    def refuse(error):
-        return render_template_string(FORM, title="Not published", reason=str(error)), error.status
-
-    @app.errorhandler(413)
-    def too_long(_error):
-        return refuse(Refused(f"The files have more than {app.config['MAX_CONTENT_LENGTH'] >> 20} MiB.", 413))
-
-    @app.get("/")
-    def puzzles():
-        found = site.database().execute("SELECT id, title FROM published ORDER BY id DESC LIMIT ?", (MOST_SHOWN,)).fetchall()
-        return render_template_string(LIST, title="Puzzles", found=found)
-
-    @app.get("/new")
-    def form():
-        return render_template_string(FORM, title="Upload a puzzle", reason="")
-
-    @app.post("/puzzles")
-    def take():
-        files = [request.files.get(name) for name in ("picture", "certificate")]
-        if not all(files):
-            raise Refused("Choose a picture, and a certificate or a proof by lemmas.")
-        picture, certificate = (file.read() for file in files)
-        number = site.store(title_of(request.form.get("title", "")), picture_of(picture), certificate)
-        return redirect(url_for("puzzle", number=number), 303)
-
-    @app.get("/puzzles/<int:number>")
-    def puzzle(number):
-        found = None
-        if number < 1 << 63:
-            found = site.database().execute("SELECT title, puzzle FROM published WHERE id = ?", (number,)).fetchone()
-        if found is None:
-            abort(404)
-        puzzle = json.loads(found["puzzle"])
-        return render_template_string(
-            PUZZLE, title=found["title"], rows=puzzle["rows"], columns=puzzle["columns"],
-            inks={letter: ink_of(triple) for letter, triple in puzzle["colours"].items()},
-            givens={(row, column): given_of(triple) for row, column, triple in puzzle["givens"]},
-        )
-
+    guard(app)
+    add_pages(app, site)
     return app
+
+
+def main():
+    """Serves the site by waitress, to which slow clients cost a connection and no thread."""
+    import waitress
+
+    app = create_app()
+    logging.getLogger("waitress.queue").setLevel(logging.ERROR)
+    waitress.serve(
+        app, listen=os.environ.get("SITE_LISTEN", "127.0.0.1:5000"), threads=8, connection_limit=1000, asyncore_use_poll=True,
+        channel_timeout=30, max_request_header_size=1 << 15, max_request_body_size=2 * app.config["MAX_CONTENT_LENGTH"],
+        inbuf_overflow=1 << 16, ident=None,
+    )
+
+
+if __name__ == "__main__":
+    main()

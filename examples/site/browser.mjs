@@ -6,7 +6,7 @@ import { spawn } from 'node:child_process';
 import { mkdirSync, mkdtempSync, rmSync, writeFileSync } from 'node:fs';
 import { tmpdir } from 'node:os';
 import { join, resolve } from 'node:path';
-import { Browser, pause } from '../../tests/page_browser.mjs';
+import { Browser, pause } from '../../tests/page/page_browser.mjs';
 
 const root = new URL('../..', import.meta.url).pathname;
 const example = (name) => join(root, 'examples', name);
@@ -17,9 +17,8 @@ const address = `http://127.0.0.1:${port}`;
 
 // The line of the site's README, but for the port.
 function start() {
-    const words = ['-m', 'flask', '--app', 'examples/site/app', 'run', '--port', port];
-    const env = { ...process.env, PYTHONPATH: 'python', SITE_DATABASE: join(work, 'puzzles.sqlite') };
-    return spawn(process.env.PYTHON ?? 'python3', words, { cwd: root, env, stdio: ['ignore', 'ignore', 'inherit'] });
+    const env = { ...process.env, PYTHONPATH: 'python/src', SITE_DATABASE: join(work, 'puzzles.sqlite'), SITE_LISTEN: `127.0.0.1:${port}` };
+    return spawn(process.env.PYTHON ?? 'python3', ['examples/site/app.py'], { cwd: root, env, stdio: ['ignore', 'ignore', 'inherit'] });
 }
 
 async function answers() {
@@ -96,15 +95,15 @@ const steps = {
         assert.deepEqual(await page.run(looks), [['\u00d7', 'rgb(255, 255, 255)', 'rgb(0, 0, 0)', 'solid']]);
         await page.shot(join(folder, 'empty.png'));
     },
-    async 'proofs by lemmas are taken as certificates are'(page) {
-        // A black and a blue cell on the diagonal, and the proof of such a picture in tests/cases/lemmas.case.
+    async 'certificates with lemmas are taken as others are'(page) {
+        // A black and a blue cell on the diagonal, and the certificate of such a picture in tests/cases/lemmas.case.
         writeFileSync(join(work, 'blue.ppm'), 'P3 2 2 255 0 0 0 255 255 255 255 255 255 0 0 255\n');
-        writeFileSync(join(work, 'blue.proof'), 'nonolemma 1\npart 1 1 a\nline r 1\ndead c 2\nline r 1\nline c 1\nline r 2\ndone\n');
-        writeFileSync(join(work, 'all.proof'), 'nonolemma 1\ngiven 1 1\ngiven 1 2\ngiven 2 1\ngiven 2 2\ndone\n');
-        assert.match(await bring(page, 'Other', join(work, 'cross.ppm'), join(work, 'blue.proof')), /The proof says .* \(line 4\)/);
-        assert.match(await bring(page, 'All', join(work, 'cross.ppm'), join(work, 'all.proof')), /The proof gives every cell/);
+        writeFileSync(join(work, 'lemmas.cert'), 'nonolemma 1\npart 1 1 a\nline r 1\ndead c 2\nline r 1\nline c 1\nline r 2\ndone\n');
+        writeFileSync(join(work, 'all.cert'), 'nonolemma 1\ngiven 1 1\ngiven 1 2\ngiven 2 1\ngiven 2 2\ndone\n');
+        assert.match(await bring(page, 'Other', join(work, 'cross.ppm'), join(work, 'lemmas.cert')), /The certificate says .* \(line 4\)/);
+        assert.match(await bring(page, 'All', join(work, 'cross.ppm'), join(work, 'all.cert')), /The certificate gives every cell/);
         page.faults.length = 0; // the browser notes the statuses 422
-        assert.match(await bring(page, 'Blue', join(work, 'blue.ppm'), join(work, 'blue.proof')), /It has one solution: this was proved/);
+        assert.match(await bring(page, 'Blue', join(work, 'blue.ppm'), join(work, 'lemmas.cert')), /It has one solution: this was proved/);
         assert.deepEqual(await page.run(looks), []);
         await page.goto(address);
         assert.deepEqual(await titles(page), ['Blue', 'Empty', 'Two <b>cells</b>']);

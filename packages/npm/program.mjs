@@ -1,18 +1,28 @@
 #!/usr/bin/env node
-// The program nonobench over the module: the arguments, the bytes and the statuses of the native one, wherever node runs.
+// The program nonobench over the module: the arguments, the bytes and the statuses of the native one, wherever node runs. Only where
+// an editor changed a certificate, a further line says so.
 import { readFileSync } from 'node:fs';
 import { Ending, ended } from './ending.mjs';
-import { Fault } from './nonobench.mjs';
+import { Fault, hintOf } from './nonobench.mjs';
 import { load } from './node.mjs';
 import { eachLine, readFile, readInput, say, write } from './streams.mjs';
 import { readWords } from './words.mjs';
 
 const beside = (name) => JSON.parse(readFileSync(new URL(name, import.meta.url), 'utf8'));
 
-// Prints what was accepted, or ends.
-function tell({ accepted, status, text }) {
-  if (!accepted) throw ended(status, text);
+// Checks a certificate: prints what was accepted, or ends.
+async function check({ files, givens, options: { background } }) {
+  const [picture, certificate] = files.map(readFile), published = givens === undefined ? 'any' : readFile(givens);
+  const { accepted, status, text } = (await load()).check(picture, certificate, { background, givens: published });
+  const hint = hintOf(text, certificate);
+  if (!accepted) throw ended(status, hint ? `${text}\nnonobench: ${hint}` : text);
   write(text);
+}
+
+// A certificate with lemmas in its older form: a step on each line.
+function singleSteps(certificate) {
+  const lines = (line, word, steps) => steps.split(' ').map((step) => `${word} ${word === 'line' ? `${step[0]} ${step.slice(1)}` : step}`).join('\n');
+  return certificate.replace('nonolemma 2', 'nonolemma 1').replace(/^(line|use|drop) (.*)$/gm, lines);
 }
 
 const TASKS = {
@@ -26,19 +36,13 @@ const TASKS = {
     write((await load()).clues(picture, options));
   },
 
-  async check({ files, options: { background } }) {
-    const [picture, certificate] = files.map(readFile);
-    tell((await load()).check(picture, certificate, { background, givens: 'any' }));
-  },
+  check,
 
-  async verify({ files, options: { background } }) {
-    const [picture, proof] = files.map(readFile);
-    tell((await load()).verify(picture, proof, { background, givens: 'any' }));
-  },
+  verify: check, // its old name
 
-  async prove({ files, options: { background } }) {
-    const { ruling, proof } = (await load()).prove(readFile(files[0]), { background });
-    write(proof ?? `${ruling}\n`);
+  async prove({ files, options: { background, format } }) {
+    const { ruling, certificate } = (await load()).prove(readFile(files[0]), { background });
+    write(certificate === null ? `${ruling}\n` : format === '1' ? singleSteps(certificate) : certificate);
   },
 
   async work({ files, options }) {

@@ -1,5 +1,5 @@
 // Tests of the package for npm by node's own runner: PACKAGE=folder NONOBENCH=program node --test packages/npm/test.mjs. The folder is
-// as packages/npm/stage makes it. The arguments are compared with those of the native program; .ci/cases and .ci/examples run both.
+// as packages/npm/stage makes it. The arguments are compared with those of the native program; tests/program/ runs both.
 import assert from 'node:assert/strict';
 import { spawn, spawnSync } from 'node:child_process';
 import { mkdirSync, mkdtempSync, readFileSync, rmSync, symlinkSync, writeFileSync } from 'node:fs';
@@ -46,7 +46,7 @@ function asked(args) {
 
 const PIECES = ['work', 'check', 'verify', 'prove', 'help', '--help', '-h', '--version', '-V', '--', '-', '', 'one', 'two', '-x', '-1', '--other', '--help=1', '-hV', '-Vh', '-xh',
   '--history', '--history=5', '--history=', '5', '+5', '007', '0', '1000', '1001', '5x', '--format', '--format=non', '--format=gif', 'non', 'ppm',
-  '--background', '--background=1,2,3', '--background=', '1,2,3', '1,2', '0,0,65536', '00001,2,3', '--no-help', '---', '--=x', '-=', '-h=1', '--histor'];
+  '--format=1', '--format=2', '--givens', '--givens=', '--givens=three', '--background', '--background=1,2,3', '--background=', '1,2,3', '1,2', '0,0,65536', '00001,2,3', '--no-help', '---', '--=x', '-=', '-h=1', '--histor'];
 
 test('arguments are taken and refused as by the native program', () => {
   const chance = new Chance(20);
@@ -167,11 +167,21 @@ test('the package is imported by its name, and brings its module', async (t) => 
   assert.equal(stdout, `true certificate accepted ${version}\n`.repeat(2) + 'true ppm NotP3 at byte 0\n', stderr);
 });
 
+test('a certificate that an editor changed is told so, on a line of its own', (t) => {
+  const file = join(ownFolder(t), 'crlf.cert');
+  writeFileSync(file, readFileSync(example('diagonal.cert'), 'utf8').replaceAll('\n', '\r\n'));
+  for (const word of ['check', 'verify']) {
+    const { status, stdout, stderr } = spawnSync(process.execPath, [program, word, example('diagonal.ppm'), file], { encoding: 'utf8' });
+    assert.deepEqual([status, stdout, stderr], [1, '', `${done([word, example('diagonal.ppm'), file]).said}nonobench: its lines end with CR LF, and must end with LF alone\n`]);
+  }
+});
+
 test('a module that fails is told, with a status', (t) => {
   const place = ownFolder(t);
   assert.equal(spawnSync('cp', ['-r', `${folder}/.`, place]).status, 0);
   writeFileSync(join(place, 'nonobench.mjs'), `
     export class Fault extends Error { constructor(kind, text) { super(text); this.kind = kind; this.text = text; } }
+    export const hintOf = () => '';
     export const load = async () => ({ clues() { throw new Fault('ended', 'the module has ended: unreachable'); } });
   `);
   const { status, stdout, stderr } = spawnSync(process.execPath, [join(place, 'program.mjs')], { input: '', encoding: 'utf8' });

@@ -6,13 +6,14 @@ import { Ending, ended } from './ending.mjs';
 const HELP = { help: { type: 'boolean', short: 'h' } };
 const BACKGROUND = { background: { type: 'string' } };
 const TOP = { ...HELP, version: { type: 'boolean', short: 'V' } };
+const CHECK = { files: 2, options: { ...HELP, ...BACKGROUND, givens: { type: 'string' } } };
 const COMMANDS = {
   work: { files: 1, options: { ...HELP, ...BACKGROUND, format: { type: 'string' }, history: { type: 'string' } } },
-  check: { files: 2, options: { ...HELP, ...BACKGROUND } },
-  verify: { files: 2, options: { ...HELP, ...BACKGROUND } },
-  prove: { files: 1, options: { ...HELP, ...BACKGROUND } },
+  check: CHECK,
+  verify: CHECK, // its old name
+  prove: { files: 1, options: { ...HELP, ...BACKGROUND, format: { type: 'string' } } },
 };
-const PROOFS = { check: 'certificate', verify: 'proof' };
+const FORMATS = { work: ['ppm', 'non'], prove: ['1', '2'] };
 const MOST_SAMPLE = 65535;
 const MOST_HISTORY = 1000;
 
@@ -23,18 +24,19 @@ function refuse(why) {
 const tokensOf = (args, options) => parseArgs({ args, options, strict: false, allowPositionals: true, tokens: true }).tokens;
 
 // What is wrong with the value of an option, if anything. A background is looked at later, when all else is known to be right.
-function wrongValue(name, value) {
-  if (name === 'format' && value !== 'ppm' && value !== 'non') return 'it must be ppm or non';
+function wrongValue(command, name, value) {
+  if (name === 'format' && !FORMATS[command].includes(value)) return `it must be ${FORMATS[command].join(' or ')}`;
   if (name !== 'history') return undefined;
   if (!/^\+?[0-9]+$/.test(value)) return 'it must be a number';
   return Number(value) >= 1 && Number(value) <= MOST_HISTORY ? undefined : `it must be 1 to ${MOST_HISTORY}`;
 }
 
 // Takes the value of an option.
-function takeOption(found, { name, rawName, value, inlineValue }, options) {
+function takeOption(found, { name, rawName, value, inlineValue }, command) {
+  const { options } = COMMANDS[command];
   if (!Object.hasOwn(options, name) || options[name].type === 'boolean') refuse(`unexpected argument '${rawName}' found`);
   if (value === undefined || (!inlineValue && /^-./.test(value))) refuse(`a value is required for '${rawName}'`);
-  const wrong = wrongValue(name, value);
+  const wrong = wrongValue(command, name, value);
   if (wrong) refuse(`invalid value '${value}' for '${rawName}': ${wrong}`);
   if (Object.hasOwn(found, name)) refuse(`the argument '${rawName}' cannot be used multiple times`);
   found[name] = value;
@@ -57,12 +59,12 @@ function commandOf(command, args) {
   const files = [], found = {};
   for (const token of tokensOf(args, options)) {
     if (token.kind === 'option' && token.name === 'help' && token.value === undefined) return { task: 'help', page: command };
-    if (token.kind === 'option') takeOption(found, token, options);
+    if (token.kind === 'option') takeOption(found, token, command);
     if (token.kind === 'positional' && files.push(token.value) > wanted) refuse(`unexpected argument '${token.value}' found`);
   }
-  if (files.length < wanted) refuse(`${command} needs ${wanted === 1 ? 'a file' : `a picture and a ${PROOFS[command]}`}`);
-  const { format = 'ppm', history = '100' } = found;
-  return { task: command, files, options: { format, history: Number(history), background: backgroundOf(found) } };
+  if (files.length < wanted) refuse(`${command} needs ${wanted === 1 ? 'a file' : 'a picture and a certificate'}`);
+  const { format = command === 'prove' ? '2' : 'ppm', history = '100', givens } = found;
+  return { task: command, files, givens, options: { format, history: Number(history), background: backgroundOf(found) } };
 }
 
 // What `help` and the command behind it ask for.
@@ -83,7 +85,8 @@ function topOf(args) {
 }
 
 /**
- * What the arguments ask for: {task}, which is 'clues', 'work', 'check', 'verify', 'prove', 'help' or 'version', with {files, options} or {page}.
+ * What the arguments ask for: {task}, which is 'clues', 'work', 'check', 'verify', 'prove', 'help' or 'version', with
+ * {files, givens, options} or {page}.
  * Throws an Ending where they are refused. Node puts U+FFFD for bytes that are not UTF-8, so an argument with it is refused too.
  */
 export function readWords(args) {

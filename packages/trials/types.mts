@@ -15,7 +15,7 @@ function answer(engine: Engine, picture: Input): string {
 
 function proved(engine: Engine, picture: Input, options: ProveOptions, published: CheckOptions): Checked | string {
   const found: Proved = engine.prove(picture, options);
-  return found.ruling === 'unique' ? engine.verify(picture, found.proof, published) : found.ruling;
+  return found.ruling === 'unique' ? engine.check(picture, found.certificate, published) : found.ruling;
 }
 
 export async function tried(picture: Uint8Array, certificate: string, published: Place[]): Promise<Checked | string> {

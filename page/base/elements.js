@@ -35,16 +35,25 @@ export function svgPart(name, attributes, ...children) {
  */
 export const withoutGestures = (element) => element.addEventListener('touchstart', (event) => event.preventDefault(), { passive: false });
 
-let saidTimer = 0;
+const said = { timer: 0, count: 0, stays: false, from: 0 };
+const READ = 4000; // milliseconds in which a message is read
 
 /**
- * Says something to the user, in the line at the top: `kind` is '' or 'alarm'. An alarm stays until it is clicked or something else is
- * said; so does what has an `action`, {name, run}, a button beside the text.
+ * Says something to the user: `kind` is '' or 'alarm'. An alarm stays until it is clicked, something else is said or painting goes on;
+ * what has an `action`, {name, run}, a button beside the text, stays while painting, too. Returns what takes the message back.
  */
 export function say(text, kind = '', action = null) {
-  clearTimeout(saidTimer);
+  clearTimeout(said.timer);
   const line = $('said');
   line.dataset.kind = kind;
   line.replaceChildren(text, ...(action ? [' ', make('button', { type: 'button', onclick: action.run }, action.name)] : []));
-  if (text && !kind && !action) saidTimer = setTimeout(() => say(''), 8000);
+  if (text && !kind && !action) said.timer = setTimeout(() => say(''), 2 * READ);
+  Object.assign(said, { count: said.count + 1, stays: action !== null, from: performance.now() });
+  const own = said.count;
+  return () => { if (said.count === own) say(''); };
+}
+
+/** A stroke ends a message that was read. */
+export function hush() {
+  if (!said.stays && performance.now() - said.from > READ && $('said').textContent) say('');
 }

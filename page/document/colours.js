@@ -24,16 +24,28 @@ export function inkOn(triple, maxval) {
 const HUES = [{ end: 14, name: 'document.red' }, { end: 42 }, { end: 68, name: 'document.yellow' }, { end: 165, name: 'document.green' }, { end: 200, name: 'document.cyan' },
   { end: 258, name: 'document.blue' }, { end: 292, name: 'document.purple' }, { end: 344, name: 'document.pink' }, { end: 361, name: 'document.red' }];
 
+// Least lightness, from 0 to 1, of what is very light, light, plain and dark; what is below them all is very dark.
+const GREY_STEPS = [0.8, 0.6, 0.4, 0.22];
+const HUE_STEPS = [0.88, 0.75, 0.28, 0.15];
+const shadedName = (name, step) => [phrase('document.veryLight', { name }), phrase('document.light', { name }), name, phrase('document.dark', { name }), phrase('document.veryDark', { name })][step];
+const stepOf = (light, steps) => steps.filter((least) => light < least).length;
+
+function greyName(light) {
+  if (light > 0.93) return phrase('document.white');
+  if (light < 0.12) return phrase('document.black');
+  const step = stepOf(light, GREY_STEPS);
+  return step === 1 ? phrase('document.lightGrey') : step === 3 ? phrase('document.darkGrey') : shadedName(phrase('document.grey'), step);
+}
+
 /** A plain name for a colour. */
 export function nameOf(triple, maxval) {
   const [red, green, blue] = eightBits(triple, maxval);
   const [most, least] = [Math.max(red, green, blue), Math.min(red, green, blue)];
   const light = (most + least) / 510;
-  if (most - least < 24) return phrase(light > 0.93 ? 'document.white' : light < 0.12 ? 'document.black' : light > 0.6 ? 'document.lightGrey' : light < 0.35 ? 'document.darkGrey' : 'document.grey');
+  if (most - least < 24) return greyName(light);
   const turn = most === red ? (green - blue) / (most - least) : most === green ? 2 + (blue - red) / (most - least) : 4 + (red - green) / (most - least);
   const hue = (turn * 60 + 360) % 360;
-  const name = phrase(HUES.find(({ end }) => hue < end).name ?? (light < 0.42 ? 'document.brown' : 'document.orange'));
-  return light > 0.75 ? phrase('document.light', { name }) : light < 0.28 ? phrase('document.dark', { name }) : name;
+  return shadedName(phrase(HUES.find(({ end }) => hue < end).name ?? (light < 0.42 ? 'document.brown' : 'document.orange')), stepOf(light, HUE_STEPS));
 }
 
 export const plainHexOf = (triple) => triple.map((sample) => sample.toString(16).padStart(2, '0')).join('');

@@ -14,3 +14,21 @@ export function nearPairs({ colours, maxval, picture }) {
   }
   return pairs;
 }
+
+/** For each colour of a document the number of that which it becomes where those that look alike are one: the one with most cells. */
+export function mergedNumbers(doc) {
+  const flat = doc.picture.join('');
+  const counts = doc.colours.map((_, at) => flat.split(LETTERS[at]).length);
+  const pairs = nearPairs(doc).map((pair) => pair.map((letter) => LETTERS.indexOf(letter)));
+  const isNear = (one, other) => pairs.some((pair) => pair.includes(one) && pair.includes(other));
+  // What is transparent is no colour that another one becomes.
+  const order = [...counts.keys()].sort((one, other) => counts[other] - counts[one]).filter((at) => at > 0 || !doc.isClear);
+  const stay = [];
+  const into = [...counts.keys()];
+  for (const at of order) {
+    const other = stay.find((one) => isNear(one, at));
+    if (other === undefined) stay.push(at);
+    else into[at] = other;
+  }
+  return into;
+}

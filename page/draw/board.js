@@ -86,13 +86,16 @@ function drawBox(surface, look, at, { x, y, width, height }) {
   surface.chip(x + hair, y + hair, width - 2 * hair, height - 2 * hair, { fill: look.tints[at], edge: look.fills[at], weight: FRAME * Math.min(width, height) });
 }
 
+/** The size of the text of a block in its box. */
+export const textSize = (look, block, { width, height }) => Math.min(look.font, height, (width * (look.style === 'box' ? 1 - 2 * FRAME : 1)) / widthOf(blockText(look, block)));
+
 /** One block of a clue in its box. */
 export function drawBlock(surface, look, block, { x, y, width, height }) {
   const at = LETTERS.indexOf(block.letter);
   if (look.style === 'box') drawBox(surface, look, at, { x, y, width, height });
   else if (look.style === 'chip') drawChip(surface, look, at, { x, y, width, height });
   const text = blockText(look, block);
-  const size = Math.min(look.font, height, (width * (look.style === 'box' ? 1 - 2 * FRAME : 1)) / widthOf(text));
+  const size = textSize(look, block, { width, height });
   const [middle, high] = look.isWhole ? [height / 2 + 0.5, Math.floor(size)] : [height / 2, size];
   if (size >= look.least) surface.text(text, x + width / 2, y + middle, { size: high, ink: look.style === 'chip' ? look.inks[at] : look.ink, family: look.family, weight: look.weight });
 }
@@ -100,6 +103,24 @@ export function drawBlock(surface, look, block, { x, y, width, height }) {
 /** The clue of a line without a block. */
 export function drawNone(surface, look, x, y) {
   if (look.font >= look.least) surface.text('0', x, y, { size: look.font, ink: look.faint, family: look.family });
+}
+
+const sumOf = (lengths) => lengths.reduce((sum, length) => sum + length, 0);
+
+/**
+ * How long the blocks of a clue are drawn along their line, and whether some have no room. Where they want more than there is, each gives
+ * up the same share of what its text can spare.
+ */
+export function lengthsIn(look, axis, blocks, { near, far, gap, sizeOf }) {
+  const wanted = blocks.map((block) => sizeOf(block)[axis === 'r' ? 'width' : 'height']);
+  const room = near - far - gap * (blocks.length - 1);
+  const all = sumOf(wanted);
+  if (all <= room) return { lengths: wanted, isCut: false };
+  const least = blocks.map((block, at) => Math.min(wanted[at], Math.ceil(look.least * (axis === 'r' ? widthOf(blockText(look, block)) : 1)) + 1));
+  const lowest = sumOf(least);
+  if (lowest > room) return { lengths: least, isCut: true };
+  const share = (room - lowest) / (all - lowest);
+  return { lengths: wanted.map((length, at) => Math.floor(least[at] + (length - least[at]) * share)), isCut: false };
 }
 
 /**
@@ -111,10 +132,12 @@ export function drawClue(surface, look, axis, blocks, place, drawOne = drawBlock
   const across = axis === 'r';
   const whole = (value) => (look.isWhole ? Math.floor(value) : value);
   if (!blocks.length) return drawNone(surface, look, ...(across ? [near - look.font / 2, middle] : [middle, near - look.font / 2]));
+  const { lengths } = lengthsIn(look, axis, blocks, place);
   let edge = near;
   for (let at = blocks.length - 1; at >= 0; at--) {
-    const { width, height } = sizeOf(blocks[at]);
-    const length = across ? width : height;
+    const length = lengths[at];
+    const size = sizeOf(blocks[at]);
+    const [width, height] = across ? [length, size.height] : [size.width, length];
     if (edge - length < far) return drawCut(surface, look, across, place);
     const box = across ? { x: edge - width, y: whole(middle - height / 2), width, height } : { x: whole(middle - width / 2), y: edge - height, width, height };
     if (crossed?.[at]) drawCrossed(surface, look, blocks[at], box, drawOne);

@@ -7,7 +7,7 @@ import { clamp } from '../base/words.js';
 const SMALLEST = 3; // a cell's side in the page's pixels
 const LARGEST = 64;
 const MARGIN = 6;
-const FEW = 4; // blocks of a clue for which a picture that is fitted has room, however short its clues are
+const FEW = 4; // blocks of a clue for which a picture that is fitted has room, however short its clues and lines are
 const AROUND = 14; // the page's pixels around the blocks of a clue: some more than the strips leave free
 const EDGES = { left: 23, top: 17 }; // the page's pixels of clues that are folded: room for the numbers of lines
 
@@ -20,7 +20,6 @@ export class Geometry {
     this.left = this.top = 40; // room for the clues
     this.panX = this.panY = 0; // how far the picture is moved to the left and up
     this.slack = { x: 0, y: 0 }; // free room at the left and above the clues
-    this.wantsFit = false; // whether clues have grown past what a fitted picture leaves them
     this.isFitted = true;
     this.isFolded = false; // whether clues are edges with numbers of lines alone
     this.letters = false;
@@ -55,13 +54,13 @@ export class Geometry {
   }
 
   // How much room all clues want with a cell of this size, at most a part of what there is. `spare` blocks more may come, and where
-  // they may, a few in all: the first strokes on a blank picture cut no clue.
+  // they may, a quarter of what a line has cells: drawn narrower, clues of twice as many blocks have room there.
   room(cell, spare = 1) {
     const font = this.fontFor(cell);
     const isTiny = cell < 7 * this.scale;
     const tick = 4 * this.scale;
     const one = (size) => (isTiny ? size.blocks * (tick + 2) : size.signs * font * 0.62 + size.blocks * ((this.letters ? 0.62 : 0) * font + font / 2 + 2.5)); // a block's width is rounded
-    const few = (length) => (spare ? Math.min(FEW, Math.ceil(length / 2)) : 0);
+    const few = (length) => (spare ? Math.max(Math.min(FEW, Math.ceil(length / 2)), Math.ceil(length / 4) + 1) : 0);
     const [block, across, down] = [one({ blocks: 1, signs: 1 }), few(this.columns), few(this.rows)];
     const most = Math.max(across * block, Math.max(0, ...this.rowSizes.map(one)) + spare * block);
     const tall = Math.max(down, Math.max(0, ...this.columnSizes.map((size) => size.blocks)) + spare) * ((isTiny ? tick : this.pitchFor(cell)) + 1);
@@ -115,12 +114,11 @@ export class Geometry {
     // A picture smaller than its room stands in the middle, somewhat above it.
     const free = (room, length) => Math.max(0, room - length - MARGIN);
     this.slack = { x: Math.floor(free(this.width - this.left, this.columns * this.cell) / 2), y: Math.floor(free(this.height - this.top, this.rows * this.cell) / 3) };
-    this.wantsFit = false;
   }
 
   /**
-   * Makes room where clues have grown, beside cells that stay where they are: of the free room first. A picture that is fitted and has
-   * none is fitted again later (`wantsFit`); till then its longest clues are drawn in part. Answers whether anything is drawn elsewhere.
+   * Makes room where clues have grown, beside cells that stay where they are: of the free room first. Where a picture that is fitted has
+   * none, clues are drawn narrower. Answers whether anything is drawn elsewhere.
    */
   grow() {
     if (this.isFolded) return false;
@@ -128,7 +126,6 @@ export class Geometry {
     let [more, higher] = [Math.max(0, left - this.left), Math.max(0, top - this.top)];
     if (!more && !higher) return false;
     if (this.isFitted) {
-      this.wantsFit ||= more > this.slack.x || higher > this.slack.y;
       [more, higher] = [Math.min(more, this.slack.x), Math.min(higher, this.slack.y)];
     }
     this.left += more;

@@ -1,6 +1,6 @@
 // Marks over the cells: a reason with its premises, a selection, the rubber of a drag, the axes of symmetric pens.
 
-import { HOLE } from '../document/regions.js';
+import { HOLE, boxAround, shapeOf } from '../document/regions.js';
 import { isPossible } from '../document/symmetry.js';
 
 function ringAround(pen, sheet, row, col, ink, dash, grow) {
@@ -68,6 +68,32 @@ function drawBox(pen, sheet, box) {
   drawDashed(pen, sheet, path);
 }
 
+// The places where line solving stalls, each framed; where there are several they have numbers.
+function drawPlaces(pen, sheet) {
+  const { geometry: at, state, places } = sheet;
+  places.forEach((cells, number) => {
+    const box = boxAround(new Set(cells), state.columns);
+    const path = new Path2D();
+    edgesOf(path, at, box, shapeOf(new Set(cells), box, state.picture));
+    for (const [ink, wide] of [['#fff', 5], [sheet.inks.alarm, 2.5]]) {
+      pen.strokeStyle = ink;
+      pen.lineWidth = wide * at.scale;
+      pen.stroke(path);
+    }
+    if (places.length < 2) return;
+    const [x, y, size] = [at.x(cells[0] % state.columns), at.y(Math.floor(cells[0] / state.columns)), 8 * at.scale];
+    pen.fillStyle = sheet.inks.alarm;
+    pen.beginPath();
+    pen.arc(x, y, size, 0, 7);
+    pen.fill();
+    pen.fillStyle = sheet.inks.paper;
+    pen.font = `600 ${Math.round(size * 1.4)}px ${sheet.family}`;
+    pen.textAlign = 'center';
+    pen.textBaseline = 'middle';
+    pen.fillText(number + 1, x, y + at.scale / 2);
+  });
+}
+
 // The axes of symmetric pens; quarter turns have a ring about the middle.
 function drawAxes(pen, sheet) {
   const { geometry: at, state, symmetry } = sheet;
@@ -96,6 +122,7 @@ export function drawMarks(pen, sheet) {
   pen.rect(at.originX - 2, at.originY - 2, at.width, at.height);
   pen.clip();
   if (sheet.symmetry !== 'none' && isPossible(sheet.symmetry, sheet.state)) drawAxes(pen, sheet);
+  drawPlaces(pen, sheet);
   if (sheet.reason) drawReason(pen, sheet);
   for (const box of sheet.boxes) drawBox(pen, sheet, box);
   pen.restore();

@@ -3,7 +3,7 @@
 import { hexOf, lightness, tintOf } from '../document/colours.js';
 import { columnOf, eightBitDoc, rowOf } from '../document/document.js';
 import { LETTERS } from '../document/limits.js';
-import { coloursOf, drawClue, drawGiven, drawRules, drawSign, wholeFrame } from './board.js';
+import { coloursOf, drawClue, drawGiven, drawRules, drawSign, edges, textSize, wholeFrame } from './board.js';
 
 export const PAPER_INK = '#1a1a1a';
 export const PAPER_FAMILY = 'system-ui, "Liberation Sans", "DejaVu Sans", sans-serif';
@@ -62,6 +62,22 @@ export function drawPaper(surface, puzzle, { x, y, cell, show = 'colours', solut
   if (!solution) for (const [row, col] of givensIn(board)) drawGiven(surface, frame.x + col * cell, frame.y + row * cell, cell);
   if (hasClues) drawPaperClues(board, puzzle.clues);
   if (hasNumbers) drawPaperNumbers(board);
+}
+
+/** How large the smallest text of the clues is on paper, by the side of a cell. */
+export function smallestText(puzzle, show) {
+  const doc = eightBitDoc(puzzle.doc);
+  const look = paperLook({}, doc, 1, show);
+  return [...puzzle.clues.rows, ...puzzle.clues.columns].flat().reduce((least, block) => Math.min(least, textSize(look, block, { width: ROOM, height: ROOM })), look.font);
+}
+
+/** Where a cell lies between its lines, {left, top, width, height} in a list, in a puzzle that `drawPaper` drew at a place. */
+export function cellOnPaper(surface, puzzle, { x, y, cell }, row, col) {
+  const { left, top } = sizeOfPaper(puzzle);
+  const look = paperLook(surface, puzzle.doc, cell, 'colours');
+  const [across, wide] = edges(look, col, col + 1, Math.round(x + left * cell), cell, puzzle.doc.columns);
+  const [down, high] = edges(look, row, row + 1, Math.round(y + top * cell), cell, puzzle.doc.rows);
+  return [across, down, wide, high];
 }
 
 // Numbers of each fifth line where a part has no clues.

@@ -38,6 +38,7 @@ class Sheet {
     this.reason = null;
     this.held = null; // a line that is dragged: {axis, word, from, to}
     this.boxes = []; // rectangles over the cells: {top, left, bottom, right, shape}
+    this.places = []; // where line solving stalls: groups of cells, by their places
     this.symmetry = 'none'; // of the pens, as document/symmetry.js has it
     this.underlay = null; // an image to trace
     this.frame = 0;
@@ -63,6 +64,7 @@ class Sheet {
     Object.assign(this.geometry, { rows: state.rows, columns: state.columns });
     this.geometry.measure(state.clues, isOther ? null : state.changed);
     if (isOther) {
+      this.places = [];
       if (!before || this.geometry.isFitted || this.geometry.isFolded) this.geometry.fit();
       else {
         this.geometry.spread();
@@ -279,7 +281,7 @@ export function startSheet() {
   sheet = new Sheet($('stage'));
   on('opened', () => {
     $('work').hidden = false;
-    Object.assign(sheet, { state: null, overlay: new Map(), boxes: [], reason: null, other: false, held: null });
+    Object.assign(sheet, { state: null, overlay: new Map(), boxes: [], places: [], reason: null, other: false, held: null });
     sheet.resized();
   });
   on('shown', (state) => {
@@ -287,8 +289,6 @@ export function startSheet() {
     sheet.stage.dataset.drawn = Number(sheet.stage.dataset.drawn ?? 0) + 1;
   });
   on('judged', (state) => sheet.judge(state));
-  // What would have moved the picture under the pointer waits until something else is used.
-  for (const name of ['pointerdown', 'focusin']) addEventListener(name, (/** @type {any} */ event) => { if (sheet.geometry.wantsFit && !sheet.stage.contains(event.target)) sheet.fit(); });
   on('stroke', () => {
     sheet.update();
     sheet.redraw();

@@ -2,7 +2,7 @@
 // drawn again only when its clue, its mark or its place changes. Where Fit folds the clues, edges with the numbers of some lines
 // stand there.
 
-import { drawClue } from './board.js';
+import { drawClue, lengthsIn } from './board.js';
 import { Sprites } from './sprites.js';
 import { CanvasSurface } from './surface.js';
 
@@ -100,14 +100,23 @@ export class Strips {
     pen.rect(0, Math.max(at.originY, y), at.originX, at.cell);
     pen.clip();
     this.band(sheet, 'r', row, at.slackX(), y, at.left - gap / 2, at.cell, anew);
-    const height = Math.min(at.cell - 1, at.font + Math.round(6 * at.scale));
-    this.clue(sheet, 'r', row, { near: at.originX - gap - Math.round(4 * at.scale), far: at.slackX() + 6 * at.scale, middle: y + at.cell / 2, gap: 2, sizeOf: (block) => ({ width: this.rowWidth(at, block), height }) });
+    this.clue(sheet, 'r', row);
     pen.restore();
   }
 
-  clue(sheet, axis, line, place) {
-    const blocks = sheet.clues[axis === 'r' ? 'rows' : 'columns'][line];
-    drawClue(this.surfaces[axis], sheet.look, axis, blocks, { ...place, unit: sheet.geometry.scale }, this.copy);
+  clue(sheet, axis, line) {
+    drawClue(this.surfaces[axis], sheet.look, axis, sheet.clues[axis === 'r' ? 'rows' : 'columns'][line], this.placeOf(sheet, axis, line), this.copy);
+  }
+
+  // Where the clue of a line lies, as `drawClue` takes it.
+  placeOf({ geometry: at }, axis, line) {
+    const [gap, around, unit] = [Math.round(3 * at.scale) + Math.round(4 * at.scale), 6 * at.scale, at.scale];
+    if (axis === 'r') {
+      const height = Math.min(at.cell - 1, at.font + Math.round(6 * at.scale));
+      return { near: at.originX - gap, far: at.slackX() + around, middle: at.y(line) + at.cell / 2, gap: 2, unit, sizeOf: (block) => ({ width: this.rowWidth(at, block), height }) };
+    }
+    const size = { width: Math.min(at.cell - 1, Math.round(at.font * 2.6)), height: at.cell < 7 * at.scale ? Math.round(4 * at.scale) : at.pitch };
+    return { near: at.originY - gap, far: at.slackY() + around, middle: at.x(line) + at.cell / 2, gap: 1, unit, sizeOf: () => size };
   }
 
   rowWidth(at, block) {
@@ -124,19 +133,28 @@ export class Strips {
     pen.rect(Math.max(at.originX, x), 0, at.cell, at.originY);
     pen.clip();
     this.band(sheet, 'c', col, x, at.slackY(), at.cell, at.top - gap / 2, anew);
-    const width = Math.min(at.cell - 1, Math.round(at.font * 2.6));
-    const height = at.cell < 7 * at.scale ? Math.round(4 * at.scale) : at.pitch;
-    this.clue(sheet, 'c', col, { near: at.originY - gap - Math.round(4 * at.scale), far: at.slackY() + 6 * at.scale, middle: x + at.cell / 2, gap: 1, sizeOf: () => ({ width, height }) });
+    this.clue(sheet, 'c', col);
     pen.restore();
+  }
+
+  /** Whether cells are large enough for numbers. */
+  hasNumbers({ geometry }) {
+    return !geometry.isFolded && geometry.cell >= 7 * geometry.scale;
   }
 
   /** Whether a clue is drawn in part only, or without its numbers. */
   isCut(sheet, axis, at) {
-    const { geometry } = sheet;
-    if (geometry.cell < 10 * geometry.scale) return true;
-    const blocks = sheet.clues[axis === 'r' ? 'rows' : 'columns'][at];
-    const spare = 13 * geometry.scale;
-    if (axis === 'c') return blocks.length * (geometry.pitch + 1) > geometry.top - spare;
-    return blocks.reduce((sum, block) => sum + this.rowWidth(geometry, block) + 2, 0) > geometry.left - spare;
+    return sheet.geometry.cell < 10 * sheet.geometry.scale || this.isBeyond(sheet, axis, at);
+  }
+
+  /** Of how many clues not all blocks have room. */
+  countCut(sheet) {
+    const { rows, columns } = sheet.clues;
+    const cut = (axis, clues) => clues.filter((_, at) => this.isBeyond(sheet, axis, at)).length;
+    return cut('r', rows) + cut('c', columns);
+  }
+
+  isBeyond(sheet, axis, at) {
+    return lengthsIn(sheet.look, axis, sheet.clues[axis === 'r' ? 'rows' : 'columns'][at], this.placeOf(sheet, axis, at)).isCut;
   }
 }

@@ -92,7 +92,7 @@ export class Client {
     return this.call('say', { lines: Array.isArray(lines) ? lines.map((line) => `${line}\n`).join('') : lines });
   }
 
-  /** Checks a certificate or a proof by lemmas of a P3 picture; `givens` are the cells that the puzzle gives, [row, column] from 1. */
+  /** Checks a certificate of a P3 picture; `givens` are the cells that the puzzle gives, [row, column] from 1. */
   check(picture, certificate, { background, givens }) {
     return this.call('check', { picture, certificate, background, givens });
   }

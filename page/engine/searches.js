@@ -126,14 +126,14 @@ export class Searches {
     }, true);
   }
 
-  /** A proof by lemmas, which has no givens: its text, or null. It tells the verdict too, but not another picture. */
+  /** A certificate with lemmas, which has no givens: its text, or null. It tells the verdict too, but not another picture. */
   async prove(seconds = this.hooks.seconds()) {
     const { version } = this;
     return this.job(phrase('engine.searchingCertificate'), seconds, async (copy, run) => {
       const [{ text }] = await copy.say('write ppm');
-      const { proof } = await this.within(run, run.engine.call('prove', { picture: text, background: run.state.colours[0].join(',') }));
-      if (proof) this.tellVerdict(version, { kind: 'verdict', word: 'unique' });
-      return proof;
+      const { certificate } = await this.within(run, run.engine.call('prove', { picture: text, background: run.state.colours[0].join(',') }));
+      if (certificate) this.tellVerdict(version, { kind: 'verdict', word: 'unique' });
+      return certificate;
     }, true);
   }
 

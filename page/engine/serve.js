@@ -1,6 +1,7 @@
 // What a worker does: one engine and one bench. It gets {id, call, ...} and answers {id, ok} or {id, fault: {kind, text}}; before
 // that a long call tells what it finds, {id, told}.
 
+import { hintOf } from '../../web/nonobench.mjs';
 import { gradeOf } from '../grade/grade.js';
 import { Board } from '../repair/board.js';
 import { give, mix, repair } from '../repair/repair.js';
@@ -24,13 +25,16 @@ export function serve(scope, load) {
       return opened.say(lines);
     },
     check({ picture, certificate, background, givens }) {
-      return engine[certificate.startsWith('nonolemma') ? 'verify' : 'check'](picture, certificate, { background, givens });
+      const answer = engine.check(picture, certificate, { background, givens });
+      return { ...answer, hint: hintOf(answer.text, certificate) };
     },
     prove({ picture, background }) {
       return engine.prove(picture, { background });
     },
     repair({ board, goal, seconds }, told) {
-      return repair({ board: new Board(board), goal, seconds, say }, { found: (found) => told({ found }), nearer: (nearer) => told({ nearer }) });
+      return repair({ board: new Board(board), goal, seconds, say }, {
+        found: (found) => told({ found }), nearer: (nearer) => told({ nearer }), placed: (places, placed) => told({ places, placed }),
+      });
     },
     give({ board, goal, seconds }, told) {
       return give({ board: new Board(board), goal, seconds, say }, { found: (found) => told({ found }) });

@@ -16,10 +16,11 @@ import { exportAs, saveDownload, saving, showFileName } from '../library/saving.
 import { phrase } from '../texts/phrase.js';
 import { addAction, runAction } from '../view/actions.js';
 import { openDialog } from '../view/dialogs.js';
-import { nearText } from '../view/palette.js';
+import { nearText } from '../view/dress.js';
 import { gradeAtHand, gradeLine } from '../view/grading.js';
 import { asSeen, heard } from '../view/tools.js';
 import { certificateText } from '../view/verdict.js';
+import { exportPath } from './animation.js';
 import { WARNINGS, atHand, startPrinting } from './printing.js';
 
 const PNG_SIDE = 1600; // pixels that the longer side of a PNG comes near to
@@ -61,26 +62,26 @@ async function exportText(form) {
   await saveDownload(form, warningText());
 }
 
-// The document that is open, and its certificate or proof with the form that it has; null where there is none of that document.
+// The document that is open, and its certificate; null where there is none of that document.
 async function certified() {
   await asSeen();
   const doc = docOf(bench.state);
   const text = await certificateText();
-  return text && bench.state && sameDoc(doc, bench.state) ? { doc: eightBitDoc(doc), text, form: text.startsWith('nonolemma') ? 'proof' : 'cert' } : null;
+  return text && bench.state && sameDoc(doc, bench.state) ? { doc: eightBitDoc(doc), text } : null;
 }
 
 async function exportCertificate() {
   const found = await certified();
-  if (found) exportAs(found.form, found.text);
+  if (found) exportAs('cert', found.text);
 }
 
-// What a site checks a puzzle by, as nonobench-audit calls it: the picture, its certificate or proof, and what lies beside it.
+// What a site checks a puzzle by, as nonobench-audit calls it: the picture, its certificate, and what lies beside it.
 async function exportForSite() {
   const found = await certified();
   if (!found) return;
-  const { doc, text, form } = found;
+  const { doc, text } = found;
   const ground = doc.colours[0].join(',');
-  const parts = { ppm: ppmTextOf(doc), [form]: text, givens: (text.match(/^given .*\n/gm) ?? []).join(''), background: ground === '255,255,255' ? '' : `${ground}\n` };
+  const parts = { ppm: ppmTextOf(doc), cert: text, givens: (text.match(/^given .*\n/gm) ?? []).join(''), background: ground === '255,255,255' ? '' : `${ground}\n` };
   const files = Object.entries(parts).filter(([, part]) => part).map(([ending, part]) => ({ name: `${bench.name}.${ending}`, bytes: new TextEncoder().encode(part) }));
   exportAs('zip', writeZip(files), '-site');
 }
@@ -120,6 +121,7 @@ export function startExporting() {
   addAction({ id: 'export-empty', name: phrase('export.exportEmptyPuzzlePng'), place: 'file', group: 'export', run: exportEmpty });
   addAction({ id: 'export-ppm', name: phrase('export.exportPlainPpm'), place: 'file', group: 'export', run: () => exportText('ppm') });
   addAction({ id: 'export-non', name: phrase('export.exportNonTwoColours'), place: 'file', group: 'export', can: () => bench.state.colours.length <= 2 || !/[b-o]/.test(bench.state.picture.join('')), run: () => exportText('non') });
+  addAction({ id: 'export-path', name: phrase('export.exportPath'), place: 'file', group: 'export', run: exportPath });
   addAction({ id: 'certificate', name: phrase('export.exportCertificate'), place: 'file', group: 'export', run: exportCertificate });
   addAction({ id: 'export-site', name: phrase('export.exportForSite'), place: 'file', group: 'export', run: exportForSite });
   startPrinting();

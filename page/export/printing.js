@@ -3,6 +3,7 @@
 import { $, make, say } from '../base/elements.js';
 import { clamp, sizeText } from '../base/words.js';
 import { docOf } from '../document/document.js';
+import { smallestText } from '../draw/papers.js';
 import { bench } from '../engine/bench.js';
 import { writeZip } from '../formats/zip.js';
 import { gradeName, verdictName } from '../grade/names.js';
@@ -13,7 +14,7 @@ import { LANGUAGE, phrase } from '../texts/phrase.js';
 import { addAction } from '../view/actions.js';
 import { openDialog } from '../view/dialogs.js';
 import { gradeAtHand } from '../view/grading.js';
-import { nearText } from '../view/palette.js';
+import { nearText } from '../view/dress.js';
 import { asSeen } from '../view/tools.js';
 import { SHEET_TEXTS, entryOf } from './entries.js';
 import { GRIDS, PAPERS, isLarge, partsOf, sheetsOf } from './sheets.js';
@@ -21,7 +22,7 @@ import { GRIDS, PAPERS, isLarge, partsOf, sheetsOf } from './sheets.js';
 const PAPER_NAMES = { a4: 'A4', a5: 'A5', letter: phrase('export.usLetter'), book: phrase('export.sixByNine') };
 const SHOWN = { colours: phrase('view.colours'), letters: phrase('export.letters'), signs: phrase('export.signs') };
 const MARGINS = [5, 40]; // millimetres
-const LEAST_CELL = 3; // millimetres that are read and filled easily
+const [LEAST_CELL, LEAST_TEXT] = [3, 2]; // millimetres that are filled and read easily
 const USUAL = { paper: 'a4', isWide: false, margin: 12, perSheet: 1, show: 'colours', answers: true, hasGrade: false };
 const chosen = { ...USUAL }; // as it was chosen last
 const page = { rule: -1 }; // the place of the rule for the size of paper, in the page's style
@@ -106,6 +107,15 @@ function readFields({ paper, wide, margin, perSheet, show, answers, grade }) {
   return { paper: paper.value in PAPERS ? paper.value : USUAL.paper, isWide: wide.checked, margin: clamp(Number.isFinite(side) ? side : USUAL.margin, ...MARGINS), perSheet: Number(perSheet.value), show: show.value, answers: answers.checked, hasGrade: grade.checked };
 }
 
+// That cells or numbers of puzzles are small on their sheets; '' where none are.
+function smallOn(sheets, puzzles, { show }) {
+  const cell = Math.min(...sheets.map((sheet) => sheet.cell ?? Infinity));
+  const text = cell * Math.min(...puzzles.map((one) => smallestText(one, show)));
+  const tenths = (value) => Math.round(value * 10) / 10;
+  if (cell < LEAST_CELL) return phrase('export.smallestCellsMmWide', { value: tenths(cell) });
+  return text < LEAST_TEXT ? phrase('export.smallestNumbersMmHigh', { value: tenths(text) }) : '';
+}
+
 // What is to be known before it is printed.
 function warningsOf(puzzle, near) {
   const parts = isLarge(puzzle) ? phrase('export.goesOverSheetsMap', { sheets: partsOf(puzzle.doc).length }) : '';
@@ -117,7 +127,14 @@ async function printPuzzle() {
   const [own, near] = [atHand(), nearText(bench.state)];
   const { fields, rows } = printFields(near, gradeAtHand());
   const others = libraryPart(await otherCards());
-  const content = make('div', { class: 'rows' }, ...rows, others.part, ...warningsOf(own, near));
+  const small = make('p', { class: 'faint', id: 'print-small', role: 'status' });
+  const content = make('div', { class: 'rows' }, ...rows, others.part, ...warningsOf(own, near), small);
+  const showSmall = () => {
+    const options = readFields(fields);
+    small.textContent = smallOn(sheetsFor([own], options), [own], options);
+  };
+  content.addEventListener('change', showSmall);
+  showSmall();
   const way = await openDialog({ title: phrase('export.printTitle'), content, wide: true, buttons: [{ name: phrase('export.saveSvg'), value: 'svg' }, { name: phrase('export.printAction'), value: 'print', main: true }] });
   if (!way) return;
   Object.assign(chosen, readFields(fields));
@@ -132,9 +149,10 @@ async function printPuzzle() {
   if (alike) return say(phrase('export.printLettersSigns', { name: alike.name, near: nearText(alike.doc) }), 'alarm');
   const opened = await withClues(records);
   if (!opened) return;
-  const sheets = sheetsFor([{ ...own, doc: { ...own.doc, about: { ...own.doc.about, title } } }, ...opened].sort(byName), chosen);
-  const least = Math.min(...sheets.map(({ cell }) => cell ?? Infinity));
-  if (least < LEAST_CELL) say(phrase('export.smallestCellsMmWide', { value: Math.round(least * 10) / 10 }), 'alarm');
+  const puzzles = [{ ...own, doc: { ...own.doc, about: { ...own.doc.about, title } } }, ...opened].sort(byName);
+  const sheets = sheetsFor(puzzles, chosen);
+  const isSmall = smallOn(sheets, puzzles, chosen);
+  if (isSmall) say(isSmall, 'alarm');
   if (way === 'svg') return saveSvg(sheets);
   fillPrint(sheets);
   globalThis.print();

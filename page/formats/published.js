@@ -5,16 +5,19 @@ import { eightBits } from '../document/colours.js';
 import { FileFault } from '../document/limits.js';
 import { phrase } from '../texts/phrase.js';
 
-/** The places of the cells of a text, `given R C` in each line, in a picture of that size. Lines at its end may be empty. */
+/** The places of the cells of a file of givens in a picture of that size: a line `given R C` each, none twice. */
 export function readGivens(text, { rows, columns }) {
-  const lines = text ? text.split(/\r?\n/) : [];
-  while (lines.length > 1 && lines.at(-1) === '') lines.pop();
-  return new Set(lines.map((line, at) => {
-    const [, row, column] = (/^given ([0-9]{1,3}) ([0-9]{1,3})$/.exec(line) ?? []).map(Number);
+  const found = new Set();
+  for (const [at, line] of text.replace(/\n$/, '').split('\n').entries()) {
+    if (!text) break;
+    const [, row, column] = (/^given (0|[1-9][0-9]{0,2}) (0|[1-9][0-9]{0,2})$/.exec(line) ?? []).map(Number);
     if (row === undefined) throw new FileFault(phrase('formats.lineNoGiven', { line: at + 1 }));
     if (row < 1 || row > rows || column < 1 || column > columns) throw new FileFault(phrase('formats.givenOutside', { row, column }));
-    return (row - 1) * columns + column - 1;
-  }));
+    const place = (row - 1) * columns + column - 1;
+    if (found.has(place)) throw new FileFault(phrase('formats.givenTwice', { line: at + 1 }));
+    found.add(place);
+  }
+  return found;
 }
 
 /**

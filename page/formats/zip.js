@@ -48,8 +48,8 @@ export function writeZip(files) {
 
 const damaged = () => new FileFault(phrase('formats.archiveDamaged'));
 
-/** The files of a zip as `{name, bytes}`, where `bytes` is null for what is not read: what is encrypted or too large. */
-export async function readZip(bytes) {
+/** The files of a zip by their directory, each `{name, read}`: `read()` gives its bytes, or null for what is encrypted or too large. */
+export function zipEntries(bytes) {
   const view = new DataView(bytes.buffer, bytes.byteOffset, bytes.byteLength);
   let end = bytes.length - 22;
   while (end >= 0 && view.getUint32(end, true) !== END) end--;
@@ -61,9 +61,17 @@ export async function readZip(bytes) {
     if (at + 46 > bytes.length || view.getUint32(at, true) !== CENTRAL) throw damaged();
     const [title, extra, comment] = [28, 30, 32].map((place) => view.getUint16(at + place, true));
     const name = new TextDecoder().decode(bytes.subarray(at + 46, at + 46 + title));
-    files.push({ name, bytes: await unpackedEntry(bytes, view, at) });
+    const place = at;
+    files.push({ name, read: () => unpackedEntry(bytes, view, place) });
     at += 46 + title + extra + comment;
   }
+  return files;
+}
+
+/** The files of a zip as `{name, bytes}`, where `bytes` is null for what is not read. */
+export async function readZip(bytes) {
+  const files = [];
+  for (const { name, read } of zipEntries(bytes)) files.push({ name, bytes: await read() });
   return files;
 }
 

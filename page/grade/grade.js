@@ -1,9 +1,9 @@
-// How hard a puzzle with one solution is, as docs/GRADE.md defines it. Nothing here is proved.
+// How hard a puzzle with one solution is, as docs/FORMATS.md defines it. Nothing here is proved.
 
 import { Narrowing, Puzzle, mapOf } from './puzzle.js';
 import { treeOf } from './tree.js';
 
-// docs/GRADE.md states these bounds: the greatest figures with which a puzzle still has the word.
+// docs/FORMATS.md states these bounds: the greatest figures with which a puzzle still has the word.
 const BOUNDS = {
   easy: { rounds: 2, wait: 8 },
   medium: { rounds: 4, wait: 15 },

@@ -10,5 +10,9 @@ const VERDICTS = { unique: 'grade.unique', ambiguous: 'grade.ambiguous', undecid
 /** A grade in words, as a library or a sheet shows it. */
 export const gradeName = (word) => (GRADES[word] ? phrase(GRADES[word]) : word);
 
+/** The place of a grade among all, the easiest first, and of a verdict; below 0 for what is none. */
+export const gradePlace = (word) => Object.keys(GRADES).indexOf(word);
+export const verdictPlace = (word) => Object.keys(VERDICTS).indexOf(word);
+
 /** A verdict in words; what is none stays as it is. */
 export const verdictName = (word) => (VERDICTS[word] ? phrase(VERDICTS[word]) : word);

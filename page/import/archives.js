@@ -3,13 +3,17 @@
 import { say } from '../base/elements.js';
 import { bareName, cleanName } from '../base/words.js';
 import { webpbnText } from '../formats/webpbn.js';
-import { readZip, writeZip } from '../formats/zip.js';
+import { writeZip, zipEntries } from '../formats/zip.js';
 import { keep } from '../library/keep.js';
 import { faultText, withClues } from '../library/open.js';
 import { recordOfDoc } from '../library/records.js';
 import { SAVE_TYPES, download } from '../library/saving.js';
 import { phrase } from '../texts/phrase.js';
+import { confirmDialog } from '../view/dialogs.js';
+import { Progress } from '../view/progress.js';
 import { docsOfUnit, grouped } from './beside.js';
+
+const MANY = 200; // files: more are asked for first
 
 // A name that no other file of the archive has.
 function freeName(name, taken) {
@@ -49,22 +53,29 @@ export async function exportAll() {
 }
 
 // The files of an archive by their folders, as grouped() takes them.
-async function foldersOf(bytes) {
+async function foldersOf(entries, goesOn) {
   const folders = new Map();
-  for (const { name: path, bytes: content } of await readZip(bytes)) {
-    if (path.endsWith('/')) continue;
-    const at = path.lastIndexOf('/') + 1;
-    const file = { path, name: path.slice(at), size: content?.length ?? Infinity, arrayBuffer: async () => content };
-    if (!folders.has(path.slice(0, at))) folders.set(path.slice(0, at), []);
-    folders.get(path.slice(0, at)).push(file);
+  for (const [at, { name: path, read }] of entries.entries()) {
+    if (!(await goesOn(phrase('import.filesRead', { at, count: entries.length })))) break;
+    const content = await read();
+    const from = path.lastIndexOf('/') + 1;
+    const file = { path, name: path.slice(from), size: content?.length ?? Infinity, arrayBuffer: async () => content };
+    if (!folders.has(path.slice(0, from))) folders.set(path.slice(0, from), []);
+    folders.get(path.slice(0, from)).push(file);
   }
   return [...folders.values()];
 }
 
-/** The documents of an archive as `{ docs: [{ name, doc }], unread: [name], why }`, where `why` is what is wrong with the first unread. */
-export async function readArchive(bytes) {
+const filesIn = (bytes) => zipEntries(bytes).filter(({ name }) => !name.endsWith('/'));
+
+/**
+ * The documents of an archive as `{ docs: [{ name, doc }], unread: [name], why }`, where `why` is what is wrong with the first unread.
+ * `goesOn` hears how far it is, and answers whether to go on.
+ */
+export async function readArchive(bytes, goesOn = async (text) => true) {
   const [docs, unread, faults] = [[], [], []];
-  for (const unit of (await foldersOf(bytes)).flatMap(grouped)) {
+  for (const unit of (await foldersOf(filesIn(bytes), goesOn)).flatMap(grouped)) {
+    if (!(await goesOn(phrase('import.picturesRead', { pictures: docs.length })))) break;
     const { docs: found, left } = await docsOfUnit(unit).catch((fault) => {
       faults.push(faultText(fault));
       return { docs: [], left: [] };
@@ -82,21 +93,45 @@ export async function readArchive(bytes) {
 
 const sameText = (one, other) => webpbnText(one) === webpbnText(other);
 
-/** Adds the pictures of an archive to the library, but for those that are there. Answers how many of it are there then. */
-export async function takeArchive(bytes, name) {
-  const { docs, unread, why } = await readArchive(bytes);
+// Adds documents to the library, but for those that are there: how many were added, and how many were known.
+async function addAll(docs, goesOn) {
   const keeper = await keep.ready();
   const before = new Set(await keeper.cards()); // each of them is one picture of the archive at most
   let [added, known] = [0, 0];
   for (const { name: title, doc } of docs) {
+    if (!(await goesOn(phrase('import.picturesAddedOf', { at: added, count: docs.length })))) break;
     const card = await keeper.cardOfDoc(before, doc, sameText);
     before.delete(card);
     if (card) known++;
     else if (await keeper.put(recordOfDoc(doc, title, true))) added++;
     else break;
   }
-  const there = added + known;
-  const left = [known ? phrase('import.picturesThereAlready', { pictures: known }) : '', unread.length ? phrase('import.filesNotRead', { files: unread.length }) + (why && `: ${why.replace(/\.$/, '')}`) : '', there < docs.length ? phrase('import.picturesNotTaken', { pictures: docs.length - there }) : ''].filter(Boolean).join(', ');
-  if (there === docs.length) say(phrase('import.picturesFromArchive', { name, pictures: added, left: left ? `; ${left}` : '' }), unread.length ? 'alarm' : '');
-  return there;
+  return { added, known };
+}
+
+/**
+ * Adds the pictures of an archive to the library, but for those that are there; of many files the user is asked first. Answers how many
+ * of it are there then.
+ */
+export async function takeArchive(bytes, name) {
+  const { length: count } = filesIn(bytes);
+  if (count > MANY && !(await confirmDialog(phrase('import.addManyFiles', { files: count }), phrase('import.pictureGoesLibrary', { name }), phrase('import.addLibrary')))) return 0;
+  const progress = new Progress(phrase('import.opening', { name }), '');
+  const goesOn = (text) => progress.goesOn(text);
+  try {
+    const { docs, unread, why } = await readArchive(bytes, goesOn);
+    const { added, known } = await addAll(docs, goesOn);
+    tellAdded(name, { docs, unread, why, added, known, isStopped: progress.isStopped });
+    return added + known;
+  } finally {
+    progress.end();
+  }
+}
+
+// Says what came of an archive. Where the library took no more, it has said why.
+function tellAdded(name, { docs, unread, why, added, known, isStopped }) {
+  const missing = docs.length - added - known;
+  if (missing && !isStopped) return;
+  const left = [known ? phrase('import.picturesThereAlready', { pictures: known }) : '', unread.length ? phrase('import.filesNotRead', { files: unread.length }) + (why && `: ${why.replace(/\.$/, '')}`) : '', missing ? phrase('import.picturesNotTaken', { pictures: missing }) : '', isStopped ? phrase('import.stopped') : ''].filter(Boolean).join(', ');
+  say(phrase('import.picturesFromArchive', { name, pictures: added, left: left ? `; ${left}` : '' }), unread.length || isStopped ? 'alarm' : '');
 }

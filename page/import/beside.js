@@ -1,5 +1,5 @@
-// What lies beside a picture and goes with it, by the names that nonobench-audit knows: NAME.givens and NAME.background. NAME.cert and
-// NAME.proof go with it too, and are not checked here.
+// What lies beside a picture and goes with it, by the names that nonobench-audit knows: NAME.givens and NAME.background. NAME.cert, or
+// NAME.proof as it was called before, goes with it too, and is not checked here.
 
 import { FileFault } from '../document/limits.js';
 import { MOST_BYTES_READ } from '../formats/ppm.js';
@@ -8,7 +8,7 @@ import { faultText } from '../library/open.js';
 import { phrase } from '../texts/phrase.js';
 import { docsOfBytes } from './reading.js';
 
-const PICTURE = /\.(p[pgbn]m|png|gif|bmp|webp|jpe?g|non|xml)$/i;
+const PICTURE = /\.(p[pgbn]m|png|gif|bmp|webp|avif|svg|jpe?g|non|xml)$/i;
 const BESIDE = /\.(givens|background|cert|proof|GIVENS|BACKGROUND|CERT|PROOF)$/;
 const NUMBERED = /\.[1-9][0-9]{0,5}\.(cert|proof)$/i; // of a puzzle in a set
 
@@ -23,8 +23,8 @@ function filesFor(named, name, ending) {
 
 // A picture with what goes with it. Where several files have one name, it is not known which of them go together.
 function unitOf(file, named) {
-  const [givens, background, ...proofs] = ['givens', 'background', 'cert', 'proof'].map((ending) => filesFor(named, file.name, ending));
-  const beside = [...givens.slice(0, 1), ...background.slice(0, 1), ...proofs.flat()];
+  const [givens, background, ...certificates] = ['givens', 'background', 'cert', 'proof'].map((ending) => filesFor(named, file.name, ending));
+  const beside = [...givens.slice(0, 1), ...background.slice(0, 1), ...certificates.flat()];
   const isClear = !beside.length || [file, ...beside].every(({ name }) => named.get(name).length === 1);
   return { file, givens: givens[0], background: background[0], beside, fault: isClear ? '' : phrase('import.severalOfName') };
 }
@@ -43,8 +43,8 @@ export function grouped(files) {
   return [...units, ...alone.map((file) => ({ file, beside: [], fault: phrase('import.noPictureGoes') }))];
 }
 
-/** Whether a certificate or a proof goes with the file of a unit. */
-export const hasProof = ({ beside }) => beside.some(({ name }) => /\.(cert|proof)$/i.test(name));
+/** Whether a certificate goes with the file of a unit. */
+export const hasCertificate = ({ beside }) => beside.some(({ name }) => /\.(cert|proof)$/i.test(name));
 
 async function bytesOf(file) {
   if (file.size > MOST_BYTES_READ) throw new FileFault(phrase('import.more16Mib'));

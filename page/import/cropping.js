@@ -1,4 +1,5 @@
-// The image in the dialog for pictures: the part of it that is taken, dragged by mouse, finger or pen.
+// The image in the dialog for pictures: the part of it that is taken, dragged by mouse, finger or pen, and colours that are picked by a
+// click, or by arrow keys and Enter.
 
 import { make, withoutGestures } from '../base/elements.js';
 import { clamp } from '../base/words.js';
@@ -7,14 +8,20 @@ import { phrase } from '../texts/phrase.js';
 
 const TEXT = { source: phrase('import.imageDragSelectPart') };
 const LEAST = 2; // pixels a side of a part
+const STILL = 4; // pixels of the screen that a pointer moves at most in a click
+const STEPS = 40; // of a key along the longer side
 
 export class Source {
-  width; height; middle; most; take;
+  width; height; middle; most; take; pick;
 
-  /** `take` gets a part `{x, y, width, height}` in pixels of the image. `middle` is a canvas with the image, made smaller. */
-  constructor({ width, height }, middle, most, take) {
-    Object.assign(this, { width, height, middle, most, take, small: null });
-    this.canvas = make('canvas', { id: 'import-source', 'aria-label': TEXT.source, role: 'img' });
+  /**
+   * `take` gets a part `{x, y, width, height}` in pixels of the image, and `pick` the place of one. `middle` is a canvas with the image,
+   * made smaller.
+   */
+  constructor({ width, height }, middle, most, { take, pick }) {
+    Object.assign(this, { width, height, middle, most, take, pick, small: null, crop: null });
+    this.place = [width >> 1, height >> 1]; // that the keys move
+    this.canvas = make('canvas', { id: 'import-source', 'aria-label': TEXT.source, role: 'img', tabindex: '0' });
     this.hear();
   }
 
@@ -22,6 +29,7 @@ export class Source {
     const { canvas } = this;
     withoutGestures(canvas);
     let from = null;
+    let isPart = false;
     const at = (event) => {
       const box = canvas.getBoundingClientRect();
       return [clamp((event.clientX - box.left) / box.width, 0, 1) * this.width, clamp((event.clientY - box.top) / box.height, 0, 1) * this.height];
@@ -30,15 +38,35 @@ export class Source {
       event.preventDefault();
       canvas.setPointerCapture(event.pointerId);
       from = at(event);
+      isPart = false;
     });
     canvas.addEventListener('pointermove', (event) => {
       if (!from) return;
       const to = at(event);
       const [x, y] = [0, 1].map((axis) => Math.floor(Math.min(from[axis], to[axis])));
       const [right, bottom] = [0, 1].map((axis) => Math.ceil(Math.max(from[axis], to[axis])));
-      if (right - x > LEAST && bottom - y > LEAST) this.take({ x, y, width: right - x, height: bottom - y });
+      isPart ||= Math.hypot(...[0, 1].map((axis) => to[axis] - from[axis])) * (canvas.getBoundingClientRect().width / this.width) > STILL;
+      if (isPart && right - x > LEAST && bottom - y > LEAST) this.take({ x, y, width: right - x, height: bottom - y });
     });
-    for (const end of ['pointerup', 'pointercancel']) canvas.addEventListener(end, () => { from = null; });
+    canvas.addEventListener('pointerup', () => {
+      if (from && !isPart) this.pick(from.map(Math.floor));
+      from = null;
+    });
+    canvas.addEventListener('pointercancel', () => { from = null; });
+    canvas.addEventListener('keydown', (event) => this.key(event));
+    for (const change of ['focus', 'blur']) canvas.addEventListener(change, () => this.draw(this.crop));
+  }
+
+  // Arrow keys move the place, by single pixels with Shift; Enter or Space picks its colour.
+  key(event) {
+    const ways = { ArrowLeft: [-1, 0], ArrowRight: [1, 0], ArrowUp: [0, -1], ArrowDown: [0, 1] };
+    const way = ways[event.key];
+    if (!way && event.key !== 'Enter' && event.key !== ' ') return;
+    event.preventDefault();
+    if (!way) return this.pick(this.place);
+    const step = event.shiftKey ? 1 : Math.max(1, Math.round(Math.max(this.width, this.height) / STEPS));
+    this.place = this.place.map((at, axis) => clamp(at + way[axis] * step, 0, [this.width, this.height][axis] - 1));
+    this.draw(this.crop);
   }
 
   // The image as it is shown, without the part.
@@ -55,6 +83,7 @@ export class Source {
 
   /** Draws the image, darker outside of the part. */
   draw(crop) {
+    this.crop = crop;
     const { width, height } = this.shown();
     Object.assign(this.canvas, { width, height });
     const pen = this.canvas.getContext('2d');
@@ -67,5 +96,16 @@ export class Source {
     pen.fill('evenodd');
     pen.strokeStyle = '#fff';
     pen.strokeRect(crop.x * by + 0.5, crop.y * by + 0.5, crop.width * by - 1, crop.height * by - 1);
+    if (document.activeElement === this.canvas && this.canvas.matches(':focus-visible')) this.drawPlace(pen, by);
+  }
+  // A ring around the place of the keys, black in white, so that it is seen on every colour.
+  drawPlace(pen, by) {
+    const [x, y] = this.place.map((at) => (at + 0.5) * by);
+    for (const [wide, colour] of [[5, '#fff'], [2, '#000']]) {
+      Object.assign(pen, { lineWidth: wide, strokeStyle: colour });
+      pen.beginPath();
+      pen.arc(x, y, 7, 0, 7);
+      pen.stroke();
+    }
   }
 }

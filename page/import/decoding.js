@@ -4,10 +4,13 @@ import { FileFault } from '../document/limits.js';
 import { penOf } from '../draw/small.js';
 import { phrase } from '../texts/phrase.js';
 import { sizeOfImage } from './images.js';
+import { imageOfSvg } from './svg.js';
 
 export const MOST_IMAGE = 1 << 28; // bytes of a file
 export const HEAD = 1 << 20; // bytes that are read here: the size is in them
-export const IMAGES = new Set(['png', 'jpeg', 'gif', 'webp']);
+export const IMAGES = new Set(['png', 'jpeg', 'gif', 'webp', 'bmp', 'avif', 'svg', 'heic', 'tiff']);
+const NOT_DRAWN = { heic: 'HEIC', tiff: 'TIFF' }; // which no browser but Apple's draws
+const MOST_SVG = 1 << 24; // bytes
 const MOST_DECODED = 100e6; // pixels of an image file, which the browser unpacks
 const MOST_SIDE = 2048; // pixels a side that a larger one is made smaller to: more than the dialog works on
 
@@ -26,6 +29,11 @@ function decoding(size) {
 
 /** The pixels of an image file, after the size in its head was looked at: the browser reads the rest of it. */
 export async function imageOfFile(file, head, kind) {
+  if (NOT_DRAWN[kind]) throw new FileFault(phrase('import.saveAsPng', { kind: NOT_DRAWN[kind] }));
+  if (kind === 'svg') {
+    if (file.size > MOST_SVG) throw new FileFault(phrase('import.more16Mib'));
+    return imageOfSvg(new TextDecoder().decode(await file.arrayBuffer()), MOST_SIDE);
+  }
   const size = sizeOfImage(head, kind);
   if (!size) throw new FileFault(phrase('import.sizeNotToldBeginning'));
   const options = decoding(size);

@@ -1,6 +1,8 @@
-// Few colours for flat art, such as icons: its own colours as they are, and of too many those first become one that look most
-// alike, by their distance in Oklab, by the area that each has, and by how much of that is edges alone.
+// Few colours for flat art, such as icons: its own colours as they are, and of too many those first become one that a solver may take
+// for one another, then those that look most alike, by their distance in Oklab, by the area that each has, and by how much of that is
+// edges alone.
 
+import { coloursTooNear } from '../../web/colours.mjs';
 import { oklabOf } from '../document/colours.js';
 import { isTransparent } from './images.js';
 import { farness, keyOf, nearestOf, once, spotsOf, weightOf } from './spots.js';
@@ -98,38 +100,51 @@ function weighed(groups, locked) {
   }));
 }
 
-// The pair that is merged next: [what stays, what goes], or null. What is locked never goes, what is guarded goes last.
+// In which turn a pair is merged: first what a solver may take for one another, last what is guarded.
+const turnOf = (stays, goes) => (goes.alike.has(stays) ? 0 : goes.isGuarded ? 2 : 1);
+
+// The pair that is merged next: what stays and what goes, or null. What is locked never goes.
 function cheapest(groups) {
   let best = null;
   for (const [at, one] of groups.entries()) {
-    for (const other of groups.slice(at + 1)) {
+    for (let to = at + 1; to < groups.length; to++) {
+      const other = groups[to];
       const [stays, goes] = other.isLocked || (!one.isLocked && other.weight > one.weight) ? [other, one] : [one, other];
       if (goes.isLocked) continue;
+      const turn = turnOf(stays, goes);
+      if (best && turn > best.turn) continue;
       const cost = farness(one.place, other.place) * ((one.weight * other.weight) / (one.weight + other.weight));
-      if (!best || (goes.isGuarded === best.goes.isGuarded ? cost < best.cost : best.goes.isGuarded)) best = { stays, goes, cost };
+      if (!best || turn < best.turn || cost < best.cost) best = { stays, goes, cost, turn };
     }
   }
   return best;
 }
 
-/** Groups made fewer: of two the one stays as it is that weighs more. */
-export function mergedDown(groups, most) {
+// Groups with `least`: to how few colours they are made before this one goes into another one. Of two the one stays as it is that
+// weighs more; 1 is of what never goes.
+function mergedDown(groups) {
+  for (const group of groups) Object.assign(group, { least: 1, alike: new Set(groups.filter((other) => coloursTooNear(group.triple, other.triple))) });
   let left = groups;
-  while (left.length > most) {
-    const pair = cheapest(left);
-    if (!pair) break;
-    pair.stays.weight += pair.goes.weight;
-    left = left.filter((group) => group !== pair.goes);
+  for (let pair = cheapest(left); pair; pair = cheapest(left)) {
+    const { stays, goes } = pair;
+    goes.least = left.length;
+    stays.weight += goes.weight;
+    left = left.filter((group) => group !== goes);
   }
-  return left;
+  return groups;
 }
+
+const triplesOf = (groups, most) => groups.filter(({ least }) => least <= most).map(({ triple }) => triple);
 
 /** At most so many of the own colours of flat art, the most used first; the locked ones are among them. */
 export function flatPalette(image, most, locked = []) {
-  const groups = groupsOf(image);
-  const met = new Set(groups.map((group) => group.triple.join()));
-  const added = locked.filter((triple) => !met.has(triple.join())).map((triple) => ({ triple, place: placeOfTriple(triple), area: 0, edges: 0 }));
-  return mergedDown(weighed([...groups, ...added], locked), most).map((group) => group.triple);
+  const groups = once(image, `palette ${locked.join(';')} flat`, () => {
+    const own = groupsOf(image);
+    const met = new Set(own.map((group) => group.triple.join()));
+    const added = locked.filter((triple) => !met.has(triple.join())).map((triple) => ({ triple, place: placeOfTriple(triple), area: 0, edges: 0 }));
+    return mergedDown(weighed([...own, ...added], locked));
+  });
+  return triplesOf(groups, most);
 }
 
 /** How many colours flat art has of some area each; 0 where an image is none. */
@@ -145,5 +160,5 @@ export function nearestPalette(image, triples, most, locked = []) {
   const groups = triples.map((triple, at) => ({ triple, place: places[at], area: 0, edges: 0 }));
   for (const { triple, weight } of spotsOf(image)) groups[nearestOf(places, placeOfTriple(triple))].area += weight;
   const isLocked = (group) => locked.some((triple) => triple.join() === group.triple.join());
-  return mergedDown(weighed(groups.filter((group) => group.area > 0 || isLocked(group)), locked), most).map((group) => group.triple);
+  return triplesOf(mergedDown(weighed(groups.filter((group) => group.area > 0 || isLocked(group)), locked)), most);
 }

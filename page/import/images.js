@@ -7,18 +7,43 @@ import { isBlankByte } from '../formats/ppm.js';
 
 const bytesBegin = (bytes, text, from = 0) => [...text].every((sign, at) => bytes[from + at] === sign.charCodeAt(0));
 
-/** What a file is, by its bytes alone: 'ppm', 'png', 'jpeg', 'gif', 'webp', 'zip', 'cert', 'xml', 'non' or null. */
+// Whether it begins as a certificate, also where an editor put a byte order mark before it, or made UTF-16 of it.
+function isCertificate(bytes) {
+  const signs = String.fromCharCode(...bytes.subarray(0, 24).filter((byte) => byte > 0 && byte < 128));
+  return signs.startsWith('nonocert') || signs.startsWith('nonolemma');
+}
+
+// What a file of ISO's base media format is, by its brands: AVIF (AV1), or HEIC and its kin.
+function kindOfBrands(bytes) {
+  const brands = String.fromCharCode(...bytes.subarray(8, Math.min(bytes.length, pairAt(bytes, 2), 64)));
+  return /avi[fs]/.test(brands) ? 'avif' : /hei[cxms]|hev[cx]|mif1|msf1/.test(brands) ? 'heic' : null;
+}
+
+// Whether the first element of an XML text is SVG's.
+function isSvg(bytes) {
+  const text = new TextDecoder('latin1').decode(bytes.subarray(0, 8192));
+  const left = text.replace(/<!--[^]*?-->|<\?[^]*?\?>/g, '').replace(/<!DOCTYPE[^>[]*(\[[^\]]*\])?\s*>/i, '');
+  return /^[^<]*<(\w+:)?svg[\s/>]/.test(left);
+}
+
+/**
+ * What a file is, by its bytes alone: 'ppm', 'png', 'jpeg', 'gif', 'webp', 'bmp', 'avif', 'svg', 'heic', 'tiff', 'zip', 'cert', 'xml',
+ * 'non' or null.
+ */
 export function kindOfFile(bytes) {
   if (bytesBegin(bytes, 'P3') || bytesBegin(bytes, 'P6')) return 'ppm';
   if (bytesBegin(bytes, '\u0089PNG\r\n\u001a\n')) return 'png';
   if (bytes[0] === 0xff && bytes[1] === 0xd8 && bytes[2] === 0xff) return 'jpeg';
   if (bytesBegin(bytes, 'GIF8')) return 'gif';
   if (bytesBegin(bytes, 'PK\u0003\u0004') || bytesBegin(bytes, 'PK\u0005\u0006')) return 'zip';
-  if (bytesBegin(bytes, 'nonocert') || bytesBegin(bytes, 'nonolemma')) return 'cert';
+  if (isCertificate(bytes)) return 'cert';
   if (bytesBegin(bytes, 'RIFF') && bytesBegin(bytes, 'WEBP', 8)) return 'webp';
+  if (bytesBegin(bytes, 'BM') && bytes[14] >= 12 && bytes[15] === 0) return 'bmp';
+  if (bytesBegin(bytes, 'ftyp', 4)) return kindOfBrands(bytes);
+  if (bytesBegin(bytes, 'II*\u0000') || bytesBegin(bytes, 'MM\u0000*')) return 'tiff';
   let at = bytesBegin(bytes, '\u00ef\u00bb\u00bf') ? 3 : 0;
   while (at < bytes.length && isBlankByte(bytes[at])) at++;
-  if (bytes[at] === 60) return 'xml'; // <
+  if (bytes[at] === 60) return isSvg(bytes) ? 'svg' : 'xml'; // <
   return bytes.length && bytes.subarray(0, 4096).every((byte) => byte >= 32 || isBlankByte(byte)) ? 'non' : null;
 }
 
@@ -45,12 +70,34 @@ function sizeOfWebp(bytes) {
   return [(bits & 0x3fff) + 1, ((bits >>> 14) & 0x3fff) + 1];
 }
 
-/** Width and height that the head of a PNG, GIF, JPEG or WebP tells, before anything is unpacked; null where it tells none. */
+const fourAt = (bytes, at) => pairAt(bytes, at) * 65536 + pairAt(bytes, at + 2);
+
+// The size of a BMP; rows from the top down are counted below 0.
+function sizeOfBmp(bytes) {
+  if (bytes[14] === 12) return [pairAt(bytes, 18, true), pairAt(bytes, 20, true)];
+  const view = new DataView(bytes.buffer, bytes.byteOffset);
+  return [18, 22].map((at) => Math.abs(view.getInt32(at, true)));
+}
+
+// The size of an AVIF: that of the largest of its items, by their properties `ispe`.
+function sizeOfAvif(bytes) {
+  let size = null;
+  for (let at = bytes.indexOf(0x69); at >= 0 && at + 16 <= bytes.length; at = bytes.indexOf(0x69, at + 1)) {
+    if (!bytesBegin(bytes, 'ispe', at)) continue;
+    const found = [fourAt(bytes, at + 8), fourAt(bytes, at + 12)];
+    if (!size || found[0] * found[1] > size[0] * size[1]) size = found;
+  }
+  return size;
+}
+
+/** Width and height that the head of an image file tells, before anything is unpacked; null where it tells none. */
 export function sizeOfImage(bytes, kind) {
   if (bytes.length < 26) return null;
-  if (kind === 'png') return [pairAt(bytes, 16) * 65536 + pairAt(bytes, 18), pairAt(bytes, 20) * 65536 + pairAt(bytes, 22)];
+  if (kind === 'png') return [fourAt(bytes, 16), fourAt(bytes, 20)];
   if (kind === 'gif') return [pairAt(bytes, 6, true), pairAt(bytes, 8, true)];
   if (kind === 'jpeg') return sizeOfJpeg(bytes);
+  if (kind === 'bmp') return sizeOfBmp(bytes);
+  if (kind === 'avif') return sizeOfAvif(bytes);
   return kind === 'webp' && bytes.length >= 30 ? sizeOfWebp(bytes) : null;
 }
 

@@ -10,17 +10,22 @@ import { kindOfPalette } from '../formats/palettes.js';
 import { openDoc } from '../library/open.js';
 import { phrase } from '../texts/phrase.js';
 import { openDialog } from '../view/dialogs.js';
+import { Alike } from './alike.js';
+import { contactSheet, sizesFor } from './contacts.js';
 import { Source } from './cropping.js';
+import { cutSheet } from './cutting.js';
+import { isFlat } from './flat.js';
+import { isTransparent, scaledTo } from './images.js';
 import { Inks } from './inks.js';
 import { Judging, judgedText } from './judging.js';
 import { Maker } from './making.js';
-import { proposalFor, withoutMargin } from './proposing.js';
-import { thresholdFor } from './tone.js';
+import { coloursApart, proposalFor, withoutMargin } from './proposing.js';
+import { thresholdFor, toned } from './tone.js';
 
 const TEXT = {
   title: (name) => phrase('import.turnImageIntoPuzzle', { name }), create: phrase('import.createPuzzle'), done: (name) => phrase('import.madeFromImageVerdict', { name }),
-  preview: phrase('import.puzzle'), drag: phrase('import.dragOverImageSelect'), part: phrase('import.partImagePixels'), left: phrase('import.left'), top: phrase('import.top'), wide: phrase('import.width'), high: phrase('import.height'), whole: phrase('import.wholeImage'), trim: phrase('import.trimMargin'),
-  cells: phrase('import.cells'), columns: phrase('view.columns'), rows: phrase('view.rows'), keeps: phrase('import.keepProportions'), sharp: phrase('import.pixelArtOnePixel'), colours: phrase('view.colours'), count: phrase('import.howManyBackground'),
+  preview: phrase('import.puzzle'), drag: phrase('import.dragOverImageSelect'), part: phrase('import.partImagePixels'), left: phrase('import.left'), top: phrase('import.top'), wide: phrase('import.width'), high: phrase('import.height'), whole: phrase('import.wholeImage'), sprites: phrase('import.sheetOfSprites'), trim: phrase('import.trimMargin'),
+  cells: phrase('import.cells'), columns: phrase('view.columns'), rows: phrase('view.rows'), keeps: phrase('import.keepProportions'), sharp: phrase('import.pixelArtOnePixel'), several: phrase('import.severalSizes'), colours: phrase('view.colours'), count: phrase('import.howManyBackground'),
   two: phrase('import.twoColoursLightness'), inverted: phrase('import.drawLightParts'), threshold: phrase('import.darkBelow'), lines: phrase('import.lineArtAreaDark'), area: phrase('import.percentCell'),
   light: phrase('import.lightDots'), brightness: phrase('import.brightness'), contrast: phrase('import.contrast'), dither: phrase('import.dithering'), specks: phrase('import.removeSpecksUpSo'),
   facts: ({ columns, rows, colours }) => phrase('import.cellsColoursBackground', { columns, rows, colours: colours.length }),
@@ -31,6 +36,7 @@ const SLOW_MS = 40; // where the last preview took longer, a sketch comes first
 const SKETCH_REST = 150; // milliseconds without a change before the preview follows a sketch
 const SHOWN_SIDE = 320; // pixels of the two pictures in the dialog
 const MOST_SPECK = 12;
+const AROUND = 0.008; // of a photo's longer side: how far around a click its colour is a mean
 
 /** An image as points of a canvas. */
 function canvasOfImage({ width, height, data }) {
@@ -54,12 +60,16 @@ class Importing {
     this.maker = new Maker();
     this.inks = new Inks(() => this.change('inks'), () => { this.colours.value = Math.max(2, Number(this.colours.value) - 1); });
     this.judging = new Judging((found) => { this.verdict.textContent = judgedText(found); });
-    this.source = new Source(image, this.middle.canvas, SHOWN_SIDE, (part) => this.take(part));
+    this.alike = new Alike(() => this.inks.merge());
+    this.source = new Source(image, this.middle.canvas, SHOWN_SIDE, { take: (part) => this.take(part), pick: (place) => this.pick(place) });
     this.doc = null;
     this.isWaiting = false; // for the document of the last change
+    this.isSheet = false; // that is to be cut into several puzzles
     Object.assign(this, { frame: 0, timer: 0, spent: 0 });
     this.make();
     this.change();
+    this.colours.value = coloursApart(this.proposal.colours, (colours) => this.maker.doc(this.part(), this.size, { ...this.options(), colours }));
+    this.showFields();
   }
 
   field(name, attributes) {
@@ -87,23 +97,35 @@ class Importing {
     this.facts = make('p', { role: 'status', class: 'faint', id: 'import-facts' });
     this.verdict = make('p', { role: 'status', id: 'import-verdict' });
     this.content = make('div', { class: 'importing' },
-      make('div', { class: 'pictures' }, make('figure', {}, this.source.canvas, make('figcaption', {}, TEXT.drag)), make('figure', {}, this.preview, this.facts, this.verdict)),
-      make('div', { class: 'choices' }, this.sizes(), this.inkChoices(), this.lights(), this.parts()),
+      make('div', { class: 'pictures' }, make('figure', {}, this.source.canvas, make('figcaption', {}, TEXT.drag)), make('figure', {}, this.preview, this.facts, this.verdict, this.alike.element)),
+      make('div', { class: 'choices' }, this.sizes(), this.inkChoices(), this.lights()), this.parts(),
       make('datalist', { id: 'colour-names' }, ...COLOUR_NAMES.map((name) => make('option', { value: name }))));
   }
 
   parts() {
     const { width, height } = this.full;
-    return make('fieldset', {}, make('legend', {}, TEXT.part), this.field('left', { min: '0', max: width - 1, value: 0 }), this.field('top', { min: '0', max: height - 1, value: 0 }),
+    return make('fieldset', { class: 'parts' }, make('legend', {}, TEXT.part), this.field('left', { min: '0', max: width - 1, value: 0 }), this.field('top', { min: '0', max: height - 1, value: 0 }),
       this.field('wide', { min: '1', max: width, value: width }), this.field('high', { min: '1', max: height, value: height }),
       make('div', { class: 'ground' }, make('button', { type: 'button', onclick: () => this.take({ x: 0, y: 0, width, height }) }, TEXT.whole),
-        make('button', { type: 'button', id: 'import-trim', onclick: () => this.take(withoutMargin(this.full)) }, TEXT.trim)));
+        make('button', { type: 'button', id: 'import-trim', onclick: () => this.take(withoutMargin(this.full)) }, TEXT.trim),
+        make('button', { type: 'button', id: 'import-sprites', onclick: () => this.leaveForSprites() }, TEXT.sprites)));
   }
 
   sizes() {
     const { columns, rows, sharp } = this.proposal;
-    return make('fieldset', {}, make('legend', {}, TEXT.cells), this.field('columns', { min: '1', max: MOST_CELLS, value: columns, id: 'import-columns' }),
-      this.field('rows', { min: '1', max: MOST_CELLS, value: rows, id: 'import-rows' }), this.tick('keeps', true), this.tick('sharp', sharp));
+    const several = make('button', { type: 'button', id: 'import-contacts', onclick: () => this.showContacts() }, TEXT.several);
+    return make('fieldset', {}, make('legend', {}, TEXT.cells), this.field('columns', { min: '1', max: MOST_CELLS, value: columns, id: 'import-columns', autofocus: true }),
+      this.field('rows', { min: '1', max: MOST_CELLS, value: rows, id: 'import-rows' }), this.tick('keeps', true), this.tick('sharp', sharp), several);
+  }
+
+  async showContacts() {
+    const docOf = (size, colours) => this.maker.doc(this.part(), size, { ...this.options(false), colours });
+    const taken = await contactSheet(sizesFor(this.crop, this.size), docOf);
+    if (!taken) return;
+    [this.columns.value, this.rows.value] = taken.size;
+    this.colours.value = taken.colours;
+    this.two.checked = false;
+    this.change();
   }
 
   inkChoices() {
@@ -122,9 +144,26 @@ class Importing {
     return make('fieldset', {}, make('legend', {}, TEXT.light), ...all);
   }
 
+  leaveForSprites() {
+    this.isSheet = true;
+    this.content.closest('dialog').close();
+  }
+
   take({ x, y, width, height }) {
     [this.left.value, this.top.value, this.wide.value, this.high.value] = [x, y, width, height];
     this.change('left');
+  }
+
+  // Locks the colour of the image at a place, as the palette has it.
+  pick([x, y]) {
+    const { full } = this;
+    if (this.two.checked || isTransparent(full.data, (y * full.width + x) * 4)) return;
+    const points = this.maker.points(this.part(), this.options());
+    const around = isFlat(points) ? 0 : Math.round(Math.max(full.width, full.height) * AROUND);
+    const [left, top] = [Math.max(0, x - around), Math.max(0, y - around)];
+    const box = { x: left, y: top, width: Math.min(full.width, x + around + 1) - left, height: Math.min(full.height, y + around + 1) - top };
+    const { data } = toned(scaledTo(full, box, 1, 1), this.options());
+    this.inks.keep([...data.subarray(0, 3)]);
   }
 
   readCrop() {
@@ -202,10 +241,10 @@ class Importing {
     return this.worked;
   }
 
-  options() {
+  options(isTwo = this.two.checked) {
     const value = (name) => Number(this[name].value);
     const common = { sharp: this.sharp.checked, brightness: value('brightness'), contrast: value('contrast'), specks: value('specks') };
-    if (this.two.checked) return { ...common, threshold: value('threshold'), inverted: this.inverted.checked, area: this.lines.checked ? value('area') : 0 };
+    if (isTwo) return { ...common, threshold: value('threshold'), inverted: this.inverted.checked, area: this.lines.checked ? value('area') : 0 };
     return { ...common, ...this.inks.options, colours: value('colours'), dither: this.dither.checked };
   }
 
@@ -215,6 +254,7 @@ class Importing {
     clearTimeout(this.timer);
     this.timer = setTimeout(() => this.isWaiting && this.show(), SKETCH_REST);
     this.doc = this.maker.sketch({ image: this.full, box: this.crop }, this.size, this.options());
+    this.judging.wait();
     this.draw();
     this.preview.dataset.ms = (performance.now() - begun).toFixed(1);
   }
@@ -235,6 +275,7 @@ class Importing {
     drawSmall(this.preview, this.doc, SHOWN_SIDE);
     this.source.draw(this.crop);
     this.inks.show(this.doc);
+    this.alike.show(this.doc);
     this.facts.textContent = TEXT.facts(this.doc);
   }
 }
@@ -256,6 +297,7 @@ export async function importImage(image, name) {
   const doc = await openDialog({ title: TEXT.title(name), content: importing.content, wide: true, buttons: [{ name: TEXT.create, value: () => importing.finished(), main: true }] });
   importing.judging.end();
   if (atHand === importing) atHand = null;
+  if (importing.isSheet) return cutSheet(image, importing.canvas, name);
   if (!doc || !(await openDoc(doc, { name, isSaved: false }))) return false;
   say(TEXT.done(name));
   return true;

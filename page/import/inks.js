@@ -6,14 +6,16 @@ import { radioGroup } from '../base/radios.js';
 import { hexOf, nameOf, tripleOf } from '../document/colours.js';
 import { LETTERS } from '../document/limits.js';
 import { colourNamed } from '../document/named.js';
+import { mergedNumbers } from '../document/near.js';
 import { readPalette } from '../formats/palettes.js';
-import { phrase } from '../texts/phrase.js';
+import { LANGUAGE, phrase } from '../texts/phrase.js';
 
 const TEXT = {
   palette: phrase('import.palette'), background: phrase('import.background'), lock: phrase('view.lockedBox'), replace: phrase('import.replace'), drop: phrase('import.drop'), reset: phrase('import.startAgain'), file: phrase('import.paletteFile'), name: phrase('import.nameColour'), nameHint: phrase('import.orName'),
   lockHint: phrase('import.staysHoweverManyColours'), unknown: (text) => phrase('view.noColourName', { text }), from: (name) => phrase('import.coloursAlone', { name }),
-  share: (percent) => `${percent} %`, isGround: 'background', isLocked: 'locked', wrong: (name, fault) => phrase('import.fileNotRead', { name, fault }),
+  isGround: phrase('import.isGround'), isLocked: phrase('import.isLocked'), wrong: (name, fault) => phrase('import.fileNotRead', { name, fault }),
 };
+const shareText = new Intl.NumberFormat(LANGUAGE, { style: 'percent', minimumFractionDigits: 1, maximumFractionDigits: 1 });
 const same = (one, other) => one.join() === other.join();
 const without = (triples, triple) => triples.filter((one) => !same(one, triple));
 const noEdits = () => ({ locked: [], dropped: [], replaced: [], background: null, palette: null });
@@ -23,7 +25,7 @@ export class Inks {
 
   /** `changed` hears each edit; `drops` hears that a colour was dropped. */
   constructor(changed, drops) {
-    Object.assign(this, { changed, drops, edits: noEdits(), doc: null, at: 0 });
+    Object.assign(this, { changed, drops, edits: noEdits(), doc: null, at: 0, wanted: null });
     this.row = make('div', { class: 'swatches', role: 'radiogroup', 'aria-label': TEXT.palette, id: 'import-palette' });
     this.text = make('output', { class: 'faint', id: 'import-ink' });
     this.ground = make('button', { type: 'button', onclick: () => this.edit({ background: this.source }) }, TEXT.background);
@@ -90,6 +92,22 @@ export class Inks {
     this.edit({ dropped: [...edits.dropped, source], locked: without(edits.locked, source), replaced: edits.replaced.filter(([from]) => !same(from, source)) });
   }
 
+  /** Locks a triple of the image, and chooses it. */
+  keep(triple) {
+    this.wanted = triple;
+    this.edit({ locked: [...without(this.edits.locked, triple), triple], dropped: without(this.edits.dropped, triple) });
+  }
+
+  /** Has each colour that looks like one with more cells shown as that one. */
+  merge() {
+    const { edits, doc } = this;
+    const from = doc.sources ?? doc.colours;
+    const pairs = mergedNumbers(doc).flatMap((to, at) => (to === at ? [] : [[from[at], doc.colours[to]], [doc.colours[at], doc.colours[to]]]));
+    const target = (triple) => pairs.find(([one]) => same(one, triple))?.[1] ?? triple;
+    const replaced = new Map([...edits.replaced.map(([one, to]) => [one, target(to)]), ...pairs].map((pair) => [pair[0].join(), pair]));
+    this.edit({ replaced: [...replaced.values()], background: this.isClear ? null : edits.background });
+  }
+
   async read(file) {
     try {
       const { colours } = readPalette(await file.text());
@@ -108,7 +126,8 @@ export class Inks {
 
   /** Shows the colours of a document. */
   show(doc) {
-    Object.assign(this, { doc, isClear: doc.isClear ?? false, at: Math.min(this.at, doc.colours.length - 1) });
+    const wanted = this.wanted ? (doc.sources ?? doc.colours).findIndex((one) => same(one, this.wanted)) : -1;
+    Object.assign(this, { doc, isClear: doc.isClear ?? false, at: wanted < 0 ? Math.min(this.at, doc.colours.length - 1) : wanted, wanted: null });
     const had = this.row.contains(document.activeElement);
     // The buttons stay, so that one that is pressed is there still when it is let go.
     while (this.row.children.length > doc.colours.length) this.row.lastChild.remove();
@@ -131,7 +150,7 @@ export class Inks {
   textOf(at) {
     const { doc } = this;
     const cells = doc.picture.join('').split(LETTERS[at]).length - 1;
-    const share = TEXT.share(((100 * cells) / (doc.rows * doc.columns)).toFixed(1));
+    const share = shareText.format(cells / (doc.rows * doc.columns));
     return [`${nameOf(doc.colours[at], 255)} ${hexOf(doc.colours[at], 255)}`, share, at === 0 ? TEXT.isGround : '', this.isLocked(at) ? TEXT.isLocked : ''].filter(Boolean).join(', ');
   }
 

@@ -29,12 +29,17 @@ export class Judging {
     Object.assign(this, { told, start, seconds, rest, engine: null, turn: 0, timer: 0, isBusy: false });
   }
 
-  /** Asks for a document's verdict; `told` hears {word, open, grade}, of the newest document alone. */
-  ask(doc) {
+  /** What was asked for holds no more: another document comes. */
+  wait() {
     clearTimeout(this.timer);
     this.turn++;
-    this.timer = setTimeout(() => this.work(doc, this.turn), this.rest);
     this.told({ word: 'works' });
+  }
+
+  /** Asks for a document's verdict; `told` hears {word, open, grade}, of the newest document alone. */
+  ask(doc) {
+    this.wait();
+    this.timer = setTimeout(() => this.work(doc, this.turn), this.rest);
   }
 
   end() {
@@ -57,10 +62,14 @@ export class Judging {
       engine.end();
     }, this.seconds * 1000);
     let found;
+    let known = null; // before its grade is
     try {
-      found = await judged(engine, doc, (part) => turn === this.turn && this.told(part));
+      found = await judged(engine, doc, (part) => {
+        known = part;
+        if (turn === this.turn) this.told(part);
+      });
     } catch {
-      found = { word: isLate ? 'undecided' : 'failed' };
+      found = known ?? { word: isLate ? 'undecided' : 'failed' };
     }
     clearTimeout(clock);
     if (engine.isEnded && this.engine === engine) this.engine = null;

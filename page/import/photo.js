@@ -1,11 +1,16 @@
-// Few colours for a photo: boxes of colours cut where they spread most (Heckbert's median cut, 1982, cut at the mean), then a
-// little k-means (Lloyd). Colours that are locked stay as they are.
+// Few colours for a photo: boxes of colours cut where they spread most (Heckbert's median cut, 1982, cut at the mean), or what is
+// salient, one after the other; then a little k-means (Lloyd) of each. What stands best for the parts of the image is taken. Colours that
+// are locked stay as they are.
 
 import { oklabOf } from '../document/colours.js';
-import { ALIKE, farness, nearestOf, once, spotsOf, weightOf } from './spots.js';
+import { farness, nearestOf, once, spotsOf, weightOf } from './spots.js';
 
-const KMEANS_ROUNDS = 8;
-const BIN = 0.03; // a side of the boxes of Oklab in which colours are taken as one
+const KMEANS_ROUNDS = 16;
+const POWERS = [1, 0.5]; // of the area of a part that looks alike
+const LEAST_PART = 0.004; // of the area: a smaller part is none
+const AROUND = 0.1 ** 2; // within that of Oklab colours are of a part that looks alike
+const FARTHEST = 9; // of a place from none
+const BIN = 0.025; // a side of the boxes of Oklab in which colours are taken as one
 const LOCKED_FAR = 0.04 ** 2; // within that of a locked colour nothing else is found
 
 // The axis along which spots spread most, their mean there, and how much they spread, by weight.
@@ -38,7 +43,7 @@ const meanOf = (spots, field) => {
   return [0, 1, 2].map((axis) => spots.reduce((sum, spot) => sum + spot.weight * spot[field][axis], 0) / weight);
 };
 
-// Like colours as one spot. Its weight grows more slowly than its pixels, so that a wide sky does not take all colours.
+// Like colours as one spot, with how much of the image looks like it: the areas of others by how near they are.
 function gatheredSpots(spots) {
   const bins = new Map();
   for (const spot of spots) {
@@ -47,17 +52,58 @@ function gatheredSpots(spots) {
     if (bins.has(key)) bins.get(key).push(spot);
     else bins.set(key, [spot]);
   }
-  return [...bins.values()].map((bin) => ({ lab: meanOf(bin, 'lab'), triple: meanOf(bin, 'triple'), weight: Math.sqrt(weightOf(bin)) }));
+  const gathered = [...bins.values()].map((bin) => ({ lab: meanOf(bin, 'lab'), triple: meanOf(bin, 'triple'), weight: weightOf(bin) }));
+  return gathered.map((spot) => ({ ...spot, area: gathered.reduce((sum, { lab, weight }) => sum + weight * Math.max(0, 1 - farness(spot.lab, lab) / AROUND), 0) }));
 }
+
+// Spots whose weights together, of a part that looks alike, are a power of its area: a wide sky shall not take all colours.
+const weighedBy = (spots, power) => spots.map((spot) => ({ ...spot, weight: spot.weight / spot.area ** (1 - power) }));
+
+const farFrom = (labs, lab) => labs.reduce((least, place) => Math.min(least, farness(place, lab)), FARTHEST);
+
+function groupedAround(centres, spots) {
+  const groups = centres.map(() => []);
+  for (const spot of spots) groups[nearestOf(centres, spot.lab)].push(spot);
+  return groups;
+}
+
+// Groups around those spots, one after the other, that are salient: by the root of the area that looks like them times the contrast to
+// what is taken.
+function salientGroups(spots, most, fixed) {
+  const taken = [...fixed];
+  while (taken.length < fixed.length + most) {
+    let best = { salience: 0, lab: null };
+    for (const { lab, area } of spots) {
+      const salience = Math.sqrt(area) * farFrom(taken, lab);
+      if (salience > best.salience) best = { salience, lab };
+    }
+    if (!best.lab) break;
+    taken.push(best.lab);
+  }
+  return groupedAround(taken, spots).slice(fixed.length).filter((group) => group.length);
+}
+
+// The parts of an image by their colours: around the spot that most looks like, what is near to it; then so on with what is left.
+function partsOf(spots) {
+  const [leaders, parts] = [[], []];
+  const total = weightOf(spots);
+  for (const spot of [...spots].sort((one, other) => other.area - one.area)) {
+    const at = leaders.length ? nearestOf(leaders, spot.lab) : -1;
+    if (at >= 0 && farness(leaders[at], spot.lab) < AROUND) parts[at].push(spot);
+    else parts[leaders.push(spot.lab) - 1] = [spot];
+  }
+  return parts.filter((part) => weightOf(part) >= total * LEAST_PART);
+}
+
+// How badly places stand for the parts of an image, each of which counts the same.
+const missOf = (parts, labs) => parts.reduce((sum, part) => sum + Math.sqrt(part.reduce((all, { lab, weight }) => all + weight * farFrom(labs, lab), 0) / weightOf(part)), 0);
 
 // Groups of spots around centres that move; those of `fixed` places do not, and their groups are left out.
 function movedGroups(spots, begun, fixed) {
   let groups = begun;
   for (let round = 0; round < KMEANS_ROUNDS; round++) {
     const centres = [...fixed, ...groups.map((group) => meanOf(group, 'lab'))];
-    const next = centres.map(() => []);
-    for (const spot of spots) next[nearestOf(centres, spot.lab)].push(spot);
-    const kept = next.slice(fixed.length).filter((group) => group.length);
+    const kept = groupedAround(centres, spots).slice(fixed.length).filter((group) => group.length);
     const isStill = kept.length === groups.length && kept.every((group, at) => group.length === groups[at].length);
     groups = kept;
     if (isStill) break;
@@ -65,17 +111,29 @@ function movedGroups(spots, begun, fixed) {
   return groups;
 }
 
+// The groups of spots that stand best for an image: of some that are begun in two ways, by some weights.
+function bestGroups(spots, most, fixed) {
+  const parts = partsOf(spots);
+  let best = { miss: Infinity, groups: [] };
+  for (const weighed of POWERS.map((power) => weighedBy(spots, power))) {
+    for (const begun of [cutBoxes(weighed, most), salientGroups(weighed, most, fixed)]) {
+      const groups = movedGroups(weighed, begun, fixed);
+      const miss = missOf(parts, [...fixed, ...groups.map((group) => meanOf(group, 'lab'))]);
+      if (miss < best.miss) best = { miss, groups };
+    }
+  }
+  return best.groups;
+}
+
 /** At most so many triples that stand well for a photo's colours, the locked ones first. */
 export function photoPalette(image, most, locked = []) {
   const fixed = locked.map((triple) => oklabOf(...triple));
-  const all = spotsOf(image, ALIKE);
-  const gathered = once(image, 'gathered', () => gatheredSpots(all));
   const isFree = ({ lab }) => fixed.every((place) => farness(place, lab) > LOCKED_FAR);
-  const spots = (gathered.length > most ? gathered : all).filter(isFree);
+  const spots = once(image, 'gathered', () => gatheredSpots(spotsOf(image))).filter(isFree);
   const wanted = most - locked.length;
   if (wanted < 1 || !spots.length) return locked.slice(0, most);
   const triples = new Map(locked.map((triple) => [triple.join(), triple]));
-  for (const group of movedGroups(spots, cutBoxes(spots, wanted), fixed).sort((a, b) => weightOf(b) - weightOf(a))) {
+  for (const group of bestGroups(spots, wanted, fixed).sort((a, b) => weightOf(b) - weightOf(a))) {
     const triple = meanOf(group, 'triple').map(Math.round);
     triples.set(triple.join(), triple);
   }

@@ -2,9 +2,10 @@
 // made of it without the dialog.
 
 import { MOST_CELLS, MOST_COLOURS } from '../document/limits.js';
+import { nearPairs } from '../document/near.js';
 import { countFlat } from './flat.js';
 import { docOfImage, dotSize, isTransparent, scaledTo } from './images.js';
-import { MOST_POINTS } from './making.js';
+import { MOST_POINTS, Maker } from './making.js';
 import { docOfCells } from './quantise.js';
 import { hasClear, hasFewColours, spotsOf } from './spots.js';
 
@@ -36,13 +37,28 @@ function dotsOf(image) {
   return { columns, rows, dot, sharp: true, cells, colours: coloursFor(cells, { isExact: true, some: MOST_COLOURS }) };
 }
 
-/** What the dialog proposes for an image: one cell a dot of a pixel picture, else 40 cells on the longer side. */
+/** At most so many colours that no two which cells have look alike; at least two. `docOf` makes the document with a number of colours. */
+export function coloursApart(most, docOf) {
+  let colours = most;
+  while (colours > 2 && nearPairs(docOf(colours)).length) colours--;
+  return colours;
+}
+
+/** What the dialog proposes for an image, where colours that look alike are not made fewer yet: one cell a dot of a pixel picture, else 40 cells on the longer side. */
 export function proposalFor(image) {
   const dots = dotsOf(image);
   if (dots) return dots;
   const scale = 40 / Math.max(image.width, image.height);
   const colours = coloursFor(sampled(image, Math.min(MOST_POINTS, image.width), Math.min(MOST_POINTS, image.height)), { isExact: false, some: 6 });
   return { columns: Math.max(1, Math.round(image.width * scale)), rows: Math.max(1, Math.round(image.height * scale)), dot: null, sharp: false, colours };
+}
+
+/** The document that the dialog proposes for an image. */
+export function docProposed(image) {
+  const proposal = proposalFor(image);
+  const maker = new Maker();
+  const docOf = (colours) => maker.doc({ image, box: { x: 0, y: 0, width: image.width, height: image.height } }, [proposal.columns, proposal.rows], { ...proposal, colours });
+  return docOf(coloursApart(proposal.colours, docOf));
 }
 
 /**
@@ -55,7 +71,9 @@ export function docByItself(image, background = null) {
   if (!dots || dots.dot === 1) return doc;
   const exact = docOfImage(dots.cells, background);
   if (exact || background) return exact;
-  return { ...docOfCells(dots.cells, dots), all: spotsOf(dots.cells).length + Number(hasClear(dots.cells)) };
+  const all = spotsOf(dots.cells).length + Number(hasClear(dots.cells));
+  const docOf = (colours) => docOfCells(dots.cells, { ...dots, colours });
+  return { ...docOf(all > dots.colours ? coloursApart(dots.colours, docOf) : dots.colours), all };
 }
 
 /** The part of an image without the lines at its edges that are transparent, or of the colour of its corner, all along. */

@@ -1,72 +1,25 @@
-// Several files at once: what each holds, with its verdict and grade, in a table; then all of them to the library, or out as one zip.
+// Several files at once: what each holds, with its verdict and grade, in a table that is sorted by a click on its heads; then all that
+// are ambiguous repaired, all of them to the library, or out as one zip.
 
 import { make, say } from '../base/elements.js';
 import { tell } from '../base/events.js';
-import { bareName, sizeText } from '../base/words.js';
-import { nameOf } from '../document/colours.js';
+import { bareName } from '../base/words.js';
 import { FileFault } from '../document/limits.js';
 import { Judge } from '../engine/judging.js';
-import { gradeName, verdictName } from '../grade/names.js';
+import { Mender } from '../engine/mending.js';
 import { keep } from '../library/keep.js';
 import { faultText, openDoc } from '../library/open.js';
 import { recordOfDoc } from '../library/records.js';
-import { phrase } from '../texts/phrase.js';
+import { download } from '../library/saving.js';
+import { LANGUAGE, phrase } from '../texts/phrase.js';
 import { openDialog } from '../view/dialogs.js';
 import { secondsChosen } from '../view/verdict.js';
 import { saveArchive } from './archives.js';
-import { docsOfUnit, hasProof } from './beside.js';
+import { docsOfUnit, hasCertificate } from './beside.js';
+import { HEADS, Row } from './rows.js';
 
 const MOST_SECONDS = 30; // for a picture
-const HEADS = [phrase('view.name'), phrase('import.size'), phrase('view.colours'), phrase('import.verdict'), phrase('import.grade')];
-
-// Under what a verdict holds: the size of a document, how many cells are given, and a background that is not white.
-function factsOf(doc) {
-  const [ground] = doc.colours;
-  const given = doc.givens.size ? phrase('import.given', { cells: doc.givens.size }) : '';
-  const isWhite = ground.every((sample) => sample === doc.maxval);
-  return [sizeText(doc), given, isWhite ? '' : phrase('export.background', { names: nameOf(ground, doc.maxval) })].filter(Boolean).join(', ');
-}
-
-// How many colours a document has, of more where the image had more.
-const countOf = ({ colours: { length }, all = 0 }) => (all > length ? phrase('import.ofAll', { count: length, all }) : String(length));
-
-/** A picture out of a file, with what is known about it so far. */
-class Row {
-  constructor(name, doc, fault = '') {
-    this.name = name;
-    this.doc = doc;
-    this.fault = fault;
-    this.word = doc ? '…' : '';
-    /** @type {any} */
-    this.grade = null;
-    this.element = make('tr', { tabindex: doc ? '0' : null, 'data-name': name });
-    this.show();
-  }
-
-  /** The texts of the table's columns, as a report has them too. */
-  get texts() {
-    const { doc, word, grade } = this;
-    return doc ? [this.name, factsOf(doc), countOf(doc), verdictName(word), grade ? gradeName(grade.word) : '–'] : [this.name, this.fault, '', '', ''];
-  }
-
-  show() {
-    const { doc } = this;
-    const [name, size, ...others] = this.texts;
-    const cells = doc ? [make('td', {}, size), ...others.map((text) => make('td', {}, text))] : [make('td', { colspan: HEADS.length - 1, class: 'wrong' }, size)];
-    this.element.replaceChildren(make('th', { scope: 'row' }, name), ...cells);
-  }
-
-  async judge(judge) {
-    const found = await judge.judge(this.doc).catch((fault) => ({ word: faultText(fault), grade: null }));
-    if (!found) return;
-    Object.assign(this, { word: found.word, grade: found.grade });
-    this.show();
-  }
-
-  get facts() {
-    return { verdict: ['unique', 'ambiguous', 'undecided'].includes(this.word) ? this.word : null, grade: this.grade?.word ?? null };
-  }
-}
+const MEND_SECONDS = 3; // for a search of repairs
 
 /** The rows of units: one for each picture, read or not, and one for each file that none is read from. */
 async function rowsOf(units, imageDocs) {
@@ -103,8 +56,10 @@ async function keepAll(rows) {
   if (added === rows.length) say(phrase('import.picturesAdded', { pictures: added }));
 }
 
+const csvOf = (rows) => new TextEncoder().encode(`\ufeff${valuesText(rows)}\r\n`);
+
 function exportRows(rows, all) {
-  const report = { name: 'report.csv', bytes: new TextEncoder().encode(`\ufeff${valuesText(all)}\r\n`) };
+  const report = { name: 'report.csv', bytes: csvOf(all) };
   return saveArchive(rows, { file: 'nonobench puzzles.zip', text: phrase('import.picturesSavedNonobenchPuzzles', { pictures: rows.length }), others: [report] });
 }
 
@@ -122,31 +77,92 @@ function hearRow(row, dialogOf) {
   });
 }
 
-/** Shows the units of several files in a table; `imageDocs` is as for docsOfUnit. Judging goes on while the table is open. */
+// The heads of a table, each a button that sorts its rows: once more turns them.
+function headsOf(rows) {
+  const { compare } = new Intl.Collator(LANGUAGE, { numeric: true });
+  const order = (one, other) => (typeof one === 'string' ? compare(one, other) : one - other || 0);
+  const heads = HEADS.map((text, at) => make('th', { scope: 'col' }, make('button', { type: 'button', onclick: () => sort(at) }, text)));
+  const sort = (at) => {
+    const way = heads[at].getAttribute('aria-sort') === 'ascending' ? -1 : 1;
+    for (const head of heads) head.removeAttribute('aria-sort');
+    heads[at].setAttribute('aria-sort', way > 0 ? 'ascending' : 'descending');
+    rows[0].element.parentElement.append(...[...rows].sort((one, other) => way * order(one.keys[at], other.keys[at])).map((row) => row.element));
+  };
+  return heads;
+}
+
+/** The table of rows with what is done to all of them, while it is open. */
+class Table {
+  constructor(rows, notes) {
+    this.rows = rows;
+    this.puzzles = rows.filter((row) => row.doc);
+    this.judge = new Judge({ seconds: Math.min(MOST_SECONDS, secondsChosen()) });
+    /** @type {Mender | null} */
+    this.mender = null;
+    const table = make('table', { id: 'several' }, make('thead', {}, make('tr', {}, ...headsOf(rows))), make('tbody', {}, ...rows.map((row) => row.element)));
+    for (const row of this.puzzles) hearRow(row, () => table.closest('dialog'));
+    this.count = make('p', { id: 'several-count', role: 'status' });
+    this.repair = make('button', { type: 'button', id: 'several-repair', disabled: true, onclick: () => this.turnRepair() }, phrase('import.repairAll'));
+    const csv = make('button', { type: 'button', id: 'several-csv', onclick: () => download(csvOf(rows), 'nonobench puzzles.csv', 'text/csv') }, phrase('import.saveTable'));
+    this.element = make('div', {}, make('div', { class: 'ground' }, this.count, this.repair, csv), ...notes, make('div', { class: 'scrolls' }, table));
+  }
+
+  async judgeAll() {
+    const { puzzles } = this;
+    const told = (at) => { this.count.textContent = phrase('import.picturesJudgedRowOpens', { pictures: at, count: puzzles.length }); };
+    told(0);
+    for (const [at, row] of puzzles.entries()) {
+      await row.judge(this.judge);
+      told(at + 1);
+    }
+    this.repair.disabled = !puzzles.some((row) => row.isAmbiguous);
+  }
+
+  // Repairs the pictures that are ambiguous, one after the other; the button stops that.
+  async turnRepair() {
+    if (this.mender) return this.mender.end();
+    const wanted = this.puzzles.filter((row) => row.isAmbiguous);
+    this.mender = new Mender({ seconds: MEND_SECONDS });
+    this.repair.textContent = phrase('view.stop');
+    let done = 0;
+    try {
+      for (const [at, row] of wanted.entries()) {
+        this.count.textContent = phrase('import.repairsTried', { at, count: wanted.length });
+        if (await row.mend(this.mender, this.judge)) done++;
+      }
+    } catch { /* it was stopped */ }
+    this.mender.end();
+    this.mender = null;
+    this.count.textContent = phrase('import.repairsDone', { pictures: done, count: wanted.length });
+    this.repair.textContent = phrase('import.repairAll');
+    this.repair.disabled = !this.puzzles.some((row) => row.isAmbiguous);
+  }
+
+  end() {
+    this.judge.end();
+    this.mender?.end();
+  }
+}
+
+/** Shows the units of several files in a table; `imageDocs` is as for docsOfUnit. */
 export async function takeSeveral(units, imageDocs) {
   say(`${phrase('import.files', { files: units.length })} …`);
   const rows = await rowsOf(units, imageDocs);
   say('');
-  const puzzles = rows.filter((row) => row.doc);
-  const table = make('table', { id: 'several' }, make('thead', {}, make('tr', {}, ...HEADS.map((head) => make('th', { scope: 'col' }, head)))), make('tbody', {}, ...rows.map((row) => row.element)));
-  for (const row of puzzles) hearRow(row, () => table.closest('dialog'));
-  const count = make('p', { id: 'several-count', role: 'status' });
-  const told = (at) => { count.textContent = phrase('import.picturesJudgedRowOpens', { pictures: at, count: puzzles.length }); };
-  told(0);
-  const notes = units.some(hasProof) ? [make('p', { class: 'faint' }, phrase('import.proofsNotChecked'))] : [];
-  const judge = new Judge({ seconds: Math.min(MOST_SECONDS, secondsChosen()) });
+  return showRows(rows, units.some(hasCertificate) ? [make('p', { class: 'faint' }, phrase('import.certificatesNotChecked'))] : []);
+}
+
+/** Shows rows in a table. Judging goes on while it is open. */
+export async function showRows(rows, notes = []) {
+  const table = new Table(rows, notes);
+  const { puzzles } = table;
   const chosen = openDialog({
-    title: phrase('import.puzzles', { puzzles: rows.length }), wide: true, content: make('div', {}, count, ...notes, make('div', { class: 'scrolls' }, table)),
+    title: phrase('import.puzzles', { puzzles: rows.length }), wide: true, content: table.element,
     buttons: [{ name: phrase('view.close'), value: null }, ...(puzzles.length ? [{ name: phrase('import.saveAllZip'), value: 'zip' }, { name: phrase('import.addLibrary'), value: 'library', main: true }] : [])],
   });
-  const judged = (async () => {
-    for (const [at, row] of puzzles.entries()) {
-      await row.judge(judge);
-      told(at + 1);
-    }
-  })();
+  const judged = table.judgeAll();
   const way = await chosen;
-  judge.end();
+  table.end();
   await judged;
   if (way === 'library') await keepAll(puzzles);
   if (way === 'zip') await exportRows(puzzles, rows);

@@ -1,7 +1,7 @@
 // Files that come in by choice, drop or paste: read by the browser alone, bounded, and opened as documents. A picture with too
 // many cells or colours goes through the dialog of importing.js.
 
-import { $, make, say } from '../base/elements.js';
+import { make, say } from '../base/elements.js';
 import { tell } from '../base/events.js';
 import { bareName, number } from '../base/words.js';
 import { FileFault } from '../document/limits.js';
@@ -13,7 +13,8 @@ import { faultText, openDoc } from '../library/open.js';
 import { recordOfDoc } from '../library/records.js';
 import { phrase } from '../texts/phrase.js';
 import { isTyping } from '../view/actions.js';
-import { openDialog, openDialogs } from '../view/dialogs.js';
+import { openDialogs } from '../view/dialogs.js';
+import { Progress } from '../view/progress.js';
 import { takeArchive } from './archives.js';
 import { grouped } from './beside.js';
 import { takeCertificate } from './certificates.js';
@@ -26,7 +27,7 @@ import { docByItself } from './proposing.js';
 import { NOT_READ, aboutNon, docOfNon, isNonText, readPpmFile, readXmlFile } from './reading.js';
 import { takeSeveral } from './several.js';
 
-const TAKEN_KINDS = '.ppm,.pnm,.non,.xml,.givens,.background,.cert,.proof,.zip,.gpl,.pal,.hex,.png,.jpg,.jpeg,.gif,.webp,image/png,image/jpeg,image/gif,image/webp';
+const TAKEN_KINDS = '.ppm,.pnm,.non,.xml,.givens,.background,.cert,.proof,.zip,.gpl,.pal,.hex,.png,.jpg,.jpeg,.gif,.webp,.bmp,.avif,.svg,image/*';
 const MOST_ARCHIVE = 1 << 30; // bytes
 
 /** Takes a file (or a blob that was pasted); `handle` is the browser's own for writing it again. */
@@ -53,7 +54,7 @@ async function takeBytes(bytes, file, handle) {
   if (kind === 'xml') return takeXml(text(), name, handle);
   if (kind === 'non' && kindOfPalette(text())) return takePalette(text(), file.name ?? 'palette');
   if (kind === 'non') return takeNon(text(), name, handle);
-  if (kind === 'cert') return takeCertificate(text(), file.name ?? 'certificate');
+  if (kind === 'cert') return takeCertificate(bytes, file.name ?? 'certificate');
   if (kind === 'zip') {
     await takeArchive(bytes, file.name ?? 'archive');
     tell('library', null);
@@ -88,23 +89,15 @@ function takeNon(text, name, handle) {
   return openNon(text, name, { about: aboutNon(text) }, handle);
 }
 
-const STOP_AFTER = 400; // milliseconds until a search can be stopped by the user
-
 // Of clues without a goal a picture is searched for, in a worker of its own, which the user can stop.
 async function openNon(text, name, page, handle = null) {
   const engine = startEngine();
-  /** @type {any} */
-  let dialog = null;
-  const timer = setTimeout(() => {
-    openDialog({ title: phrase('import.opening', { name }), content: phrase('import.searchingPictureTheseClues'), buttons: [{ name: phrase('view.stop'), value: null, main: true }] }).then(() => engine.end('stopped'));
-    dialog = $('dialogs').lastElementChild;
-  }, STOP_AFTER);
+  const progress = new Progress(phrase('import.opening', { name }), phrase('import.searchingPictureTheseClues'), () => engine.end('stopped'));
   let doc;
   try {
     doc = await docOfNon(text, page, engine);
   } finally {
-    clearTimeout(timer);
-    dialog?.close();
+    progress.end();
   }
   return openDoc(doc, { name, handle, form: 'non' });
 }
@@ -185,7 +178,7 @@ export function hearFiles() {
     const text = event.clipboardData.getData('text/plain');
     if (isTyping(event.target) && (!file || text)) return; // a field takes a text itself
     if (file) takeDropped([file], null);
-    else if (/^\s*(P3\s|<\?xml|<puzzle|nonocert|nonolemma)/.test(text) || /^width [0-9]/m.test(text)) takeDropped([new File([text], 'pasted')], null);
+    else if (/^\s*(P3\s|<\?xml|<puzzle|<svg[\s>]|nonocert|nonolemma)/.test(text) || /^width [0-9]/m.test(text)) takeDropped([new File([text], 'pasted')], null);
     else if (text && !event.defaultPrevented) say(phrase('import.whatPastedCouldNot', { why: NOT_READ }), 'alarm');
     else return;
     event.preventDefault();

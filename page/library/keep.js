@@ -10,7 +10,7 @@ import { Keeper } from './keeper.js';
 import { newId, recordOf } from './records.js';
 import { claim, openShelf } from './shelf.js';
 
-export const keep = { keeper: null, opening: null, id: null, free: null, untouched: null, when: 0, grade: null, isKept: true, isPaused: false, wasTold: false, isAsked: false, makeRoom: null };
+export const keep = { keeper: null, opening: null, id: null, free: null, untouched: null, when: 0, grade: null, isKept: true, isPaused: false, told: null, isAsked: false, makeRoom: null };
 
 /** Opens the library, once. */
 keep.ready = (home = globalThis) => {
@@ -26,10 +26,12 @@ const REASONS = { full: phrase('library.browsersStorageFull'), none: phrase('lib
 keep.said = ({ kind, why }) => {
   keep.isKept = kind === 'kept';
   tell('kept', keep.isKept);
-  if (keep.isKept) keep.wasTold = false;
-  if (keep.isKept || keep.wasTold) return;
-  keep.wasTold = true;
-  say(phrase('library.yourWorkTabAlone', { why: REASONS[why] }), 'alarm', why === 'full' ? { name: phrase('library.makeRoom'), run: () => keep.makeRoom?.() } : null);
+  if (keep.isKept) {
+    keep.told?.();
+    keep.told = null;
+  }
+  if (keep.isKept || keep.told) return;
+  keep.told = say(phrase('library.yourWorkTabAlone', { why: REASONS[why] }), 'alarm', why === 'full' ? { name: phrase('library.makeRoom'), run: () => keep.makeRoom?.() } : null);
 };
 
 /**

@@ -19,9 +19,9 @@ export const SAVE_TYPES = {
   ppm: { type: 'image/x-portable-pixmap', ending: '.ppm', what: phrase('library.plainPpmPictureRest') },
   non: { type: 'text/plain', ending: '.non', what: phrase('library.nonTwoColourPuzzle') },
   cert: { type: 'text/plain', ending: '.cert', what: phrase('library.certificate') },
-  proof: { type: 'text/plain', ending: '.proof', what: phrase('library.certificate') },
   svg: { type: 'image/svg+xml', ending: '.svg', what: phrase('library.sheetSvg') },
   png: { type: 'image/png', ending: '.png', what: phrase('library.picturePng') },
+  gif: { type: 'image/gif', ending: '.gif', what: phrase('library.solvingPath') },
   zip: { type: 'application/zip', ending: '.zip', what: phrase('library.archive') },
 };
 const DOCUMENT_FORMS = ['xml', 'ppm', 'non'];

@@ -60,13 +60,13 @@ const playButton = (id, name, run, more = {}) => make('button', { type: 'button'
 function playBar() {
   return make('div', { class: 'group', id: 'play-bar' },
     make('h2', {}, phrase('play.play')),
-    playButton('play-undo', phrase('view.undo'), () => playTurn('past', 'future')), playButton('play-redo', phrase('view.redo'), () => playTurn('future', 'past')),
+    playButton('play-undo', phrase('view.undo'), () => playTurn('past', 'future'), { 'data-short': '↶', 'aria-label': phrase('view.undo') }), playButton('play-redo', phrase('view.redo'), () => playTurn('future', 'past'), { 'data-short': '↷', 'aria-label': phrase('view.redo') }),
     playButton('play-check', phrase('view.check'), checkPlay, { title: phrase('play.marksCellsNotYour') }),
     playButton('play-hint', phrase('play.hint'), hintPlay, { title: phrase('play.lineTellsMoreAgain') }),
     playButton('play-clear', phrase('play.startOver'), clearPlay), playButton('play-walk', phrase('play.walkThrough'), startWalk),
     playButton('play-smaller', '−', () => zoomPlay(-1), { 'aria-label': phrase('play.smallerCells') }), playButton('play-larger', '+', () => zoomPlay(1), { 'aria-label': phrase('play.largerCells') }),
     playButton('play-help', '?', () => runAction('guide'), { 'aria-label': phrase('view.guide'), title: phrase('view.guide') }),
-    playButton('play-close', phrase('play.backPicture'), () => $('play-room').close()));
+    playButton('play-close', phrase('play.backPicture'), () => $('play-room').close(), { 'data-short': '←', 'aria-label': phrase('play.backPicture') }));
 }
 
 function playBoard() {

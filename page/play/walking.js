@@ -5,6 +5,7 @@ import { clamp } from '../base/words.js';
 import { LETTERS } from '../document/limits.js';
 import { nameOf } from '../document/colours.js';
 import { phrase } from '../texts/phrase.js';
+import { runAction } from '../view/actions.js';
 import { searches } from '../view/verdict.js';
 import { Walk, bookSteps, easiestSteps, onlyStep, roundsOf, treeSteps } from '../walk/steps.js';
 import { puzzleOf, stepText } from './hints.js';
@@ -34,6 +35,7 @@ export function walkBar() {
     button('walk-play', phrase('play.playSteps'), turnPlaying), button('walk-hardest', phrase('play.hardestStep'), () => goTo(walking.walk.hardest)),
     make('label', {}, phrase('play.order'), make('select', { id: 'walk-order', onchange: (event) => takeOrder(event.target.value) }, ...ORDERS.map(([value, name]) => make('option', { value }, name)))),
     make('label', {}, make('input', { type: 'checkbox', id: 'walk-heat', onchange: showHeat }), phrase('play.heatMap')),
+    button('walk-save', 'GIF', () => runAction('export-path'), { title: phrase('play.savePath'), 'aria-label': phrase('play.savePath') }),
     button('walk-end', phrase('play.solveYourself'), endWalk));
 }
 

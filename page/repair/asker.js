@@ -27,8 +27,8 @@ export class Asker {
     const place = (index) => `${Math.floor(index / columns) + 1} ${(index % columns) + 1}`;
     const lines = [];
     for (const index of this.pinned) if (!pins.has(index)) lines.push(`unpin ${place(index)}`);
-    for (const index of pins) if (!this.pinned.has(index)) lines.push(`pin ${place(index)}`);
     for (let index = 0; index < cells.length; index++) if (cells[index] !== this.shown[index]) lines.push(`paint ${place(index)} ${LETTERS[cells[index]]}`);
+    for (const index of pins) if (!this.pinned.has(index)) lines.push(`pin ${place(index)}`);
     return lines;
   }
 

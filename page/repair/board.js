@@ -1,7 +1,7 @@
 // The picture that is to be repaired: which cells may take which colour, by what rule, and a candidate of it that is changed in place.
 
 import { clueOf } from '../grade/lines.js';
-import { Puzzle } from '../grade/puzzle.js';
+import { Puzzle, cellsOf } from '../grade/puzzle.js';
 
 const HALF = 2 ** 26; // two halves of a key, each below this, make a number that is exact
 
@@ -19,6 +19,14 @@ class Move {
     this.pain = codes.reduce((sum, code) => sum + board.pain(code >> 4, code & 15), 0) / codes.length;
     this.lines = [...new Set(codes.flatMap((code) => board.linesOf(code >> 4)))];
   }
+}
+
+/** What may change of an open document, as Board takes it. */
+export function boardFields(state, { rule = true, mirror = null } = {}) {
+  return {
+    rows: state.rows, columns: state.columns, cells: cellsOf(state.picture), givens: [...state.givens], lockedCells: [...state.locks],
+    lockedColours: state.colours.flatMap((_, at) => (state.inks[at]?.locked ? [at] : [])), rule, mirror,
+  };
 }
 
 /** A picture with what may be changed in it. `rule` asks for the damage rule; `mirror` is 'x', 'y' or null. */
@@ -48,6 +56,14 @@ export class Board {
     const cells = this.cells.slice();
     for (const { index, colour } of changes) cells[index] = colour;
     return Object.assign(Object.create(Board.prototype), this, { cells, clues: new Puzzle(this.rows, this.columns, cells).clues });
+  }
+
+  /** The same where some cells more are given: what is changed is elsewhere. */
+  holding(given) {
+    const isLocked = this.isLocked.slice();
+    for (const index of given) isLocked[index] = 1;
+    const moves = this.moves.filter((move) => move.codes.every((code) => !isLocked[code >> 4]));
+    return Object.assign(Object.create(Board.prototype), this, { givens: [...this.givens, ...given], isLocked, moves });
   }
 
   #around(index) {

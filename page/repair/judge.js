@@ -20,9 +20,11 @@ class Finding {
 
 /** Judges candidates: for the goal 'unique' by questions, for 'lines' by the plain solver, and by a question where that says yes. */
 export class Judge {
-  constructor(asker, goal) {
+  /** `pins` are cells that are given besides those of the session's picture. */
+  constructor(asker, goal, pins = new Set()) {
     this.asker = asker;
     this.goal = goal;
+    this.pins = pins;
   }
 
   async judge(candidate) {
@@ -30,7 +32,7 @@ export class Judge {
   }
 
   async #byQuestion(candidate) {
-    const { word, open, map, other } = await this.asker.ask(candidate.cells);
+    const { word, open, map, other } = await this.asker.ask(candidate.cells, this.pins);
     if (word === 'unique') return new Finding({ isGoal: true, open });
     const openCells = [...map.join('')].flatMap((letter, index) => (letter === '?' ? [index] : []));
     if (word === 'undecided') return new Finding({ isUndecided: true, open, openCells });
@@ -57,7 +59,7 @@ export class Judge {
 
   // Whether the session says so, too.
   async #isProved(candidate) {
-    const { word, open } = await this.asker.ask(candidate.cells);
+    const { word, open } = await this.asker.ask(candidate.cells, this.pins);
     return word === 'unique' && open === 0;
   }
 }

@@ -10,6 +10,7 @@ import { climb, dive } from './descents.js';
 import { Giving, givensForLines } from './givens.js';
 import { Judge, SpentError } from './judge.js';
 import { Nearest, mixAll } from './mixing.js';
+import { elsewhere, placesOf } from './places.js';
 import { Search } from './search.js';
 
 const MOST_ONES = 24; // repairs of one cell that are listed
@@ -20,6 +21,8 @@ const DUSTY = 120; // open cells from which on a picture is loose
 const MOST_QUESTIONS = 2000;
 const MOST_NEAR = 8; // cells of what is told as nearer
 const MOST_MIXED = 9; // changes that a mixture stays below
+const FOR_PLACES = 0.15; // of the time, for repairs of one place each
+const PLACE = 150; // milliseconds for one place
 
 /** The end of a search: by the clock, or by the number of questions. */
 class Limit {
@@ -106,6 +109,24 @@ function proposalOf(candidate, goal, { open }) {
   };
 }
 
+// Where a picture has several places to mend, looks for repairs of each by itself; the best of all together is a repair of the whole.
+async function inPlaces(search, limit, goal, told) {
+  const { board, judge: { asker } } = search;
+  const places = placesOf(board, () => limit.share(FOR_PLACES / 3));
+  told?.(places);
+  if (places.length < 2 || board.mirror) return;
+  const best = [];
+  const others = elsewhere(places);
+  for (let at = 0; at < places.length && limit.share(FOR_PLACES); at++) {
+    const found = (candidate, finding) => candidate.codes.length && told?.(places, { ...proposalOf(candidate, goal, finding), place: at });
+    const one = new Search(board.holding(others[at]), new Judge(asker, goal, new Set(others[at])), limit, { found, tried() {} });
+    if (!(await one.all(1, PLACE / 2, MOST_ONES))) await one.all(2, PLACE, MOST_TWOS);
+    best.push(...(one.best ?? []));
+  }
+  search.candidate.become(best);
+  if (best.length > 0 && search.candidate.isNeat() && (await search.evaluate()).isGoal) search.record();
+}
+
 // Runs a search until it is through or its bounds are spent; answers whether it came through. The session is then as before.
 async function bounded(asker, work) {
   const isThrough = await work().then(() => true, (error) => {
@@ -119,8 +140,9 @@ async function bounded(asker, work) {
 /**
  * Looks for repairs until the time is up, the questions are spent or nothing smaller is left. Answers `{ best, proved, questions,
  * isThrough, near }`: how many changes the smallest has (or null), up to how many were tried in vain, and what `mix` may begin with.
+ * `placed` hears the places where line solving stalls, and then what mends one of them: a proposal with the number of its `place`.
  */
-export async function repair({ board, goal, say, seconds, ...bounds }, { found = null, nearer = null } = {}) {
+export async function repair({ board, goal, say, seconds, ...bounds }, { found = null, nearer = null, placed = null } = {}) {
   const limit = new Limit({ seconds, ...bounds });
   const asker = new Asker(board, say);
   const near = new Nearest();
@@ -136,7 +158,10 @@ export async function repair({ board, goal, say, seconds, ...bounds }, { found =
     nearer?.(one);
   };
   const search = new Search(board, new Judge(asker, goal), limit, { found: (candidate, finding) => found?.(proposalOf(candidate, goal, finding)), tried });
-  const isThrough = await bounded(asker, () => (goal === 'lines' ? forLines : forOneSolution)(search, limit));
+  const isThrough = await bounded(asker, async () => {
+    await inPlaces(search, limit, goal, placed);
+    await (goal === 'lines' ? forLines : forOneSolution)(search, limit);
+  });
   return { best: search.best ? search.size : null, proved: search.proved, questions: asker.questions, isThrough, near: near.all };
 }
 

@@ -174,7 +174,7 @@ async function makeRoom() {
   const test = () => (chosen().length ? '' : phrase('start.chooseLeastOnePicture'));
   if (!(await openDialog({ title: phrase('start.makeRoom'), content, buttons: [{ name: phrase('view.delete'), value: true, main: true, test }] }))) return;
   for (const { id } of chosen()) await keep.keeper.drop(id);
-  keep.wasTold = false;
+  keep.told = null;
   say('');
   keep.now();
 }

@@ -1,4 +1,4 @@
-// The start screen: a new picture, a file, what the browser keeps, and three examples.
+// The start screen: a new picture, a file, what the browser keeps, and examples.
 
 import { $, make } from '../base/elements.js';
 import { on } from '../base/events.js';
@@ -42,12 +42,18 @@ function openCard() {
     make('button', { type: 'button', class: 'main', id: 'open-go', onclick: () => chooseFile() }, phrase('start.chooseFile')));
 }
 
+const EXAMPLE_SIDE = 96; // pixels
+const EXAMPLES = { balloon: phrase('start.balloon'), heart: phrase('start.heart'), mushroom: phrase('start.mushroom'), boat: phrase('start.boat') };
+const MEND = 'balloon'; // it has two solutions
+
 function exampleItem(source) {
   const doc = docOfImage(readPpm(new TextEncoder().encode(source.textContent.trimStart())));
   if (!doc) return '';
   const { example } = source.dataset;
-  return make('li', {}, make('button', { type: 'button', class: 'kept', onclick: () => openDoc(doc, { name: example }) },
-    smallPicture(doc), make('span', {}, make('b', {}, example), make('span', { class: 'faint' }, sizeText(doc)))));
+  const name = EXAMPLES[example] ?? example;
+  const facts = example === MEND ? phrase('start.mendExample') : phrase('start.uniqueExample');
+  return make('li', {}, make('button', { type: 'button', class: 'kept', 'data-name': example, onclick: () => openDoc(doc, { name }) },
+    smallPicture(doc, EXAMPLE_SIDE), make('span', {}, make('b', {}, name), make('span', { class: 'faint' }, sizeText(doc)), make('span', { class: 'faint' }, facts))));
 }
 
 /** Shows the start screen, over what is open. */

@@ -1,7 +1,7 @@
 // The language of the page: what its user has chosen, else the first that the browser asks for and the page has, else English.
 
 /** The languages of the page, as BCP 47 names them, each by its own name. */
-export const LANGUAGES = { en: 'English', de: 'Deutsch' };
+export const LANGUAGES = { en: 'English', de: 'Deutsch', fr: 'Français' };
 
 /** English from right to left, and longer (./mirrored.js): for tests, in no menu. */
 export const MIRRORED = 'en-x-mirrored';

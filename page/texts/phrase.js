@@ -4,6 +4,7 @@
 
 import { DE } from './de.js';
 import { EN } from './en.js';
+import { FR } from './fr.js';
 import { DIRECTION, LANGUAGE, MIRRORED } from './language.js';
 import { mirrored } from './mirrored.js';
 
@@ -17,9 +18,9 @@ export { DIRECTION, LANGUAGE };
 
 /**
  * The tables of all languages: `tsc -p page` refuses one whose names or places are not those of English.
- * @type {{ en: typeof EN, de: SameTexts<typeof EN, typeof DE> }}
+ * @type {{ en: typeof EN, de: SameTexts<typeof EN, typeof DE>, fr: SameTexts<typeof EN, typeof FR> }}
  */
-const TABLES = { en: EN, de: DE };
+const TABLES = { en: EN, de: DE, fr: FR };
 const TEXTS = TABLES[LANGUAGE] ?? EN;
 
 const ORDER = ['zero', 'one', 'two', 'few', 'many', 'other'];

@@ -86,18 +86,11 @@ export function makeMenus() {
   }
 }
 
-// The menus whose actions a menu has: where a small window has no room for Help, File has it too.
-function placesOf(place) {
-  const hasRoom = $('menu-help').previousElementSibling.offsetParent !== null;
-  return place === 'file' && !hasRoom ? ['file', 'help'] : [place];
-}
-
 function fillMenu(list, place, button) {
   const items = [];
   let group = null;
-  const places = placesOf(place);
   for (const action of actions.values()) {
-    if (!places.includes(action.place)) continue;
+    if (action.place !== place) continue;
     if (group !== null && group !== action.group) items.push(make('hr', { role: 'separator' }));
     ({ group } = action);
     const item = actionButton(action, { role: 'menuitem', tabindex: '-1' });
@@ -109,7 +102,7 @@ function fillMenu(list, place, button) {
     items.push(item);
   }
   list.replaceChildren(...items);
-  const box = button.getBoundingClientRect();
+  const box = (button.offsetParent ? button : $('help-open')).getBoundingClientRect(); // on a phone Help opens from beside the verdict
   list.style.left = `${Math.max(4, Math.min(box.left, innerWidth - 260))}px`;
   list.style.top = `${box.bottom + 4}px`;
 }

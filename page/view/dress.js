@@ -3,6 +3,7 @@
 import { make } from '../base/elements.js';
 import { cssOf, inkOn, nameOf } from '../document/colours.js';
 import { LETTERS } from '../document/limits.js';
+import { nearPairs } from '../document/near.js';
 import { bench } from '../engine/bench.js';
 import { phrase } from '../texts/phrase.js';
 
@@ -16,6 +17,15 @@ export function inkName(doc, letter) {
 
 /** A colour's letter and name in the open document. */
 export const colourText = (letter) => `${wordOf(letter)}, ${inkName(bench.state, letter)}`;
+
+/** Colours of a document that a solver may take for one another, in words; '' where there are none. */
+export function nearText(doc) {
+  const name = (letter) => (letter === '.' ? phrase('view.theBackground') : phrase('view.nameLetter', { name: inkName(doc, letter), letter }));
+  const pairs = nearPairs(doc).map(([one, other]) => phrase('view.andPair', { name: name(one), name2: name(other) }));
+  if (!pairs.length) return '';
+  const more = pairs.length > 2 ? phrase('view.pairs', { pairs: pairs.length - 2 }) : '';
+  return phrase('view.tooMuchAlikeTold', { value: pairs.slice(0, 2).join('; '), more });
+}
 
 /** A colour of a document by its swatch and its name. */
 export function swatchChip(doc, letter) {

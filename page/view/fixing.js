@@ -1,32 +1,38 @@
-// The panel 'Fix it': proposals of cells to repaint, to give, or some of both, until the picture is the only solution or needs no
-// guessing. They are compared side by side; one click takes one, and one undo takes it back.
+// Fix it, below the picture: proposals of cells to repaint, to give, or some of both, until the picture needs no guessing or is at least
+// the only solution. They are seen side by side, place by place; one click takes one, and one undo takes it back.
 
 import { $, make, say } from '../base/elements.js';
-import { on } from '../base/events.js';
+import { on, tell } from '../base/events.js';
 import { number } from '../base/words.js';
 import { placeOf, sameBenchPart } from '../document/document.js';
 import { LETTERS } from '../document/limits.js';
 import { cellsThatDiffer } from '../document/shapes.js';
 import { sheet } from '../draw/sheet.js';
 import { bench } from '../engine/bench.js';
-import { cellsOf } from '../grade/puzzle.js';
+import { boardFields } from '../repair/board.js';
 import { phrase } from '../texts/phrase.js';
-import { proposalItem } from './proposals.js';
+import { placeText, proposalItem } from './proposals.js';
+import { bySize, ideas, keyOf, mirrorOf, seenOf, sizeOf } from './ranking.js';
 import { selection, setDown } from './select.js';
 import { searches, secondsChosen, verdictView } from './verdict.js';
 
-const GOALS = [['unique', phrase('view.oneSolution')], ['lines', phrase('view.noGuessing')]];
+const GOALS = [['lines', phrase('view.noGuessing')], ['unique', phrase('view.oneSolution')]];
 const MIRRORS = [['', phrase('view.comes')], ['x', phrase('view.leftRightSame')], ['y', phrase('view.topBottomSame')]];
 const MOST_SHOWN = 24;
+const MOST_OF_ALL = 4; // proposals for all places together, where each is mended by itself
 const MOST_MIXED = 2;
 const QUICK = 0.2; // seconds for given cells before repaints are looked for; where that is too short there is more time behind them
 const FEW = 8; // cells: what needs more is too loose
-const SPARE = 3; // seconds that a search in the worker has left to end by itself
+const FALLBACK = 1.5; // seconds for one solution, where no guessing is not to be had
+const MIRRORED = 0.7; // seconds for repairs that keep both halves of a picture alike
+const REST = 400; // milliseconds between a stroke and the search for what mends it, while proposals are shown
+const NO_PLACES = [];
+const SPARE = 5; // seconds that a search in the worker has left to end by itself
 const LONGER = phrase('view.longerSearchTimeMay');
 const LOOSE = phrase('view.pictureTooLooseBolder');
 
 // What was found, for which picture (`of`), and what was asked for. It stays while a proposal is tried: an undo shows the list again.
-const fixing = { goal: 'unique', rule: true, mirror: '', of: null, found: [], kept: new Set(), near: null, said: '', frame: 0, previews: false, isWanted: false };
+const fixing = { goal: 'lines', rule: true, mirror: '', of: null, found: [], kept: new Set(), places: NO_PLACES, near: null, said: '', frame: 0, previews: false, isWanted: false, turn: 0, waits: 0 };
 const isOfThis = () => fixing.of !== null && bench.state !== null && sameBenchPart(fixing.of, bench.state);
 
 /** Whether there is something to mend. */
@@ -39,22 +45,23 @@ const button = (id, name, run) => make('button', { type: 'button', id, onclick: 
 export function openFix() {
   const { state } = bench;
   if (!canFix()) return;
-  if (!isOfThis()) fixing.goal = state.verdict.word === 'unique' ? 'lines' : 'unique';
+  if (state.verdict.word === 'unique') fixing.goal = 'lines';
   fixing.isWanted = true;
   $('fix').hidden = false;
   $('fix').replaceChildren(
-    make('h3', {}, phrase('view.fixTitle')),
-    make('p', {}, phrase('view.repaintFewCellsGive')),
-    make('p', {}, make('label', {}, phrase('view.until'), choice('fix-goal', GOALS, fixing.goal, (value) => { fixing.goal = value; }))),
-    make('details', { id: 'fix-more' }, make('summary', {}, phrase('view.whatMayRepainted')), ...choices()),
     make('div', { class: 'group' },
+      make('h2', {}, phrase('view.fixTitle')), make('label', {}, phrase('view.until'), choice('fix-goal', GOALS, fixing.goal, (value) => { fixing.goal = value; findRepairs(); })),
       button('fix-paint', phrase('view.findCellsRepaint'), findRepairs), button('fix-give', phrase('view.giveCells'), giveCells), button('fix-close', phrase('view.close'), closeFix)),
     make('p', { id: 'fix-said', role: 'status' }),
-    make('ul', { id: 'fix-list', 'aria-label': phrase('view.proposals') }),
+    make('div', { id: 'fix-list', role: 'group', 'aria-label': phrase('view.proposals') }),
+    make('details', { id: 'fix-more' }, make('summary', {}, phrase('view.whatMayRepainted')), ...choices()),
   );
   showLocks();
   showFound();
-  $('fix-paint').focus();
+  tell('fixing', true);
+  $('fix-paint').focus({ preventScroll: true });
+  if (isOfThis() && fixing.found.length) fixSays(fixing.said);
+  else findRepairs();
 }
 
 function choices() {
@@ -91,21 +98,21 @@ function showLocks() {
   $('fix-locks').textContent = phrase('view.lockedCellsColoursCells', { cells: state.locks.size, colours });
 }
 
-/** What may change, as page/repair/board.js takes it. */
-function boardOf(state) {
-  return {
-    rows: state.rows, columns: state.columns, cells: cellsOf(state.picture), givens: [...state.givens], lockedCells: [...state.locks],
-    lockedColours: state.colours.flatMap((_, at) => (state.inks[at]?.locked ? [at] : [])), rule: fixing.rule, mirror: fixing.mirror || null,
-  };
-}
+const boardOf = (state) => boardFields(state, { rule: fixing.rule, mirror: fixing.mirror || null });
 
 // ---- searching
 
 /** Hides the panel; it comes again with the picture that its list is for. */
 export function hideFix() {
-  if ($('fix')) $('fix').hidden = true;
+  if ($('fix').hidden) return;
+  $('fix').hidden = true;
   preview(null);
+  showPlaces();
+  tell('fixing', false);
 }
+
+/** Whether proposals are looked for or shown. */
+export const isFixing = () => !$('fix').hidden;
 
 function closeFix() {
   fixing.isWanted = false;
@@ -129,6 +136,7 @@ async function searched(name, work) {
 // Gives the fewest cells that suffice, as one stroke.
 async function giveCells() {
   const { goal } = fixing;
+  fixing.turn++;
   const run = await searched(phrase('view.lookingCellsGive'), (copy, state) => copy.work('give', { board: boardOf(state), goal, seconds: secondsChosen() }, ({ found }) => {
     copy.found = found;
     copy.note(phrase('view.cellsSuffice', { cells: found.given.length }));
@@ -146,16 +154,20 @@ async function takeGivens(state, { given, isLeast }) {
 
 // Lists proposals, while they are found: the smallest and least seen first.
 async function findRepairs() {
-  Object.assign(fixing, { found: fixing.found.filter((one) => fixing.kept.has(one) && isOfThis()), near: null, of: bench.state, said: '' });
+  clearTimeout(fixing.waits);
+  Object.assign(fixing, { found: fixing.found.filter((one) => fixing.kept.has(one) && isOfThis()), places: NO_PLACES, near: null, of: bench.state, said: '', turn: fixing.turn + 1 });
+  fixSays('');
   showFound();
-  const { goal } = fixing;
+  const { goal, turn } = fixing;
   const part = Math.min(2, secondsChosen() / 4); // of the time, for the givens, and for mixtures
   const run = await searched(phrase('view.lookingRepairs'), async (copy, state) => {
     const board = boardOf(state);
     fixing.of = state;
-    const told = ({ found, nearer }) => {
-      if (found) add(state, found);
-      else fixing.near = { ...nearer, far: farOf(state, goal, nearer), state };
+    const told = ({ found, nearer, places, placed }) => {
+      if (places) fixing.places = places;
+      if (found ?? placed) add(state, found ?? placed);
+      else if (nearer) fixing.near = { ...nearer, far: farOf(state, goal, nearer), state };
+      else showPlaces();
       copy.note(noteOf());
     };
     const give = async (seconds) => {
@@ -164,25 +176,28 @@ async function findRepairs() {
       return given.isLeast;
     };
     const isLeast = await give(QUICK);
+    const mirror = board.mirror ? null : mirrorOf(state.picture);
+    if (mirror) await copy.work('repair', { board: { ...board, mirror }, goal, seconds: MIRRORED }, ({ found }) => found && add(state, found));
     copy.found = await copy.work('repair', { board, goal, seconds: Math.max(1, secondsChosen() - 2) }, told);
+    const isFar = !(wholes()[0]?.cells.length <= FEW);
+    if (goal === 'lines' && isFar && state.verdict.word !== 'unique') await copy.work('repair', { board, goal: 'unique', seconds: FALLBACK }, ({ found }) => found && add(state, found));
     if (!isLeast) await give(part);
-    const bound = Math.min(...fixing.found.filter((one) => one.state === state).map(sizeOf), Infinity);
+    const bound = Math.min(...fixing.found.filter((one) => one.state === state && one.place === undefined).map(sizeOf), Infinity);
     await copy.work('mix', { board, goal, near: copy.found.near, bound, seconds: part }, told);
     return copy.found;
   });
-  if (run) tellFound(run.done);
+  if (run && turn === fixing.turn) tellFound(run.done);
 }
 
 function add(state, one) {
-  fixing.found.push({ ...one, state });
+  const isKnown = fixing.found.some((other) => other.place === one.place && other.cells && one.cells && !other.given && !one.given && keyOf(other) === keyOf(one));
+  if (!isKnown) fixing.found.push({ ...one, state, ...seenOf(state, one) });
   if (!fixing.frame) fixing.frame = requestAnimationFrame(showFound);
 }
 
-/** How many cells a proposal changes. */
-const sizeOf = ({ cells = [], given = [] }) => cells.length + given.length;
-// The fewest cells first; of these what leaves nothing to guess, and then what is seen least.
-const bySize = (one, other) => sizeOf(one) - sizeOf(other) || Number(one.open > 0) - Number(other.open > 0) || one.pain - other.pain;
 const repaints = () => fixing.found.filter(({ cells, given }) => cells && !given).sort(bySize);
+const wholes = () => repaints().filter(({ place }) => place === undefined);
+const ofPlace = (at) => repaints().filter(({ place }) => place === at);
 const mixtures = () => fixing.found.filter(({ cells, given }) => cells && given).sort(bySize);
 const givens = () => fixing.found.filter(({ cells }) => !cells).sort((one, other) => other.given.length - one.given.length);
 
@@ -195,7 +210,7 @@ function farOf(state, goal, near) {
 
 // How far a search is, for the line that tells what runs.
 function noteOf() {
-  const [best] = [...mixtures(), ...repaints()].sort(bySize);
+  const [best] = [...mixtures(), ...wholes()].sort(bySize);
   return best ? phrase('view.cells', { cells: sizeOf(best) }) : fixing.near?.far ?? '';
 }
 
@@ -206,7 +221,7 @@ function tellFound(done) {
 }
 
 function foundText(done) {
-  const [best] = repaints();
+  const [best] = wholes();
   const ended = verdictView.ended || !done?.isThrough;
   const mixed = mixtures().length;
   if (!best) {
@@ -214,9 +229,10 @@ function foundText(done) {
     const near = mixed ? phrase('view.whatListedGivesCells') : fixing.near ? phrase('view.whatListedComesNearer') : '';
     return `${none}${near} ${ended ? `${LONGER} ` : ''}${LOOSE}`;
   }
+  if (best.goal !== fixing.goal && best.open > 0) return phrase('view.onlyOneSolution');
   const least = done && done.proved >= best.cells.length - 1 ? phrase('view.noneSmaller') : '';
   const loose = best.cells.length > FEW ? phrase('view.moreCellsPictureToo', { few: FEW }) : '';
-  return phrase('view.proposalsFoundChooseOne', { proposals: listed().length, least, loose });
+  return phrase('view.proposalsFoundChooseOne', { proposals: groups().reduce((sum, { items }) => sum + items.length, 0), least, loose });
 }
 
 // ---- the list
@@ -224,21 +240,33 @@ function foundText(done) {
 function showFound() {
   fixing.frame = 0;
   if (!$('fix-list')) return;
+  showPlaces();
   if (!isOfThis()) {
     $('fix-list').replaceChildren();
     fixSays('');
     return;
   }
   const hears = { take, keep, preview, isKept: (one) => fixing.kept.has(one) };
-  $('fix-list').replaceChildren(...listed().map((one) => proposalItem(one, hears)));
+  $('fix-list').replaceChildren(...groups().map(({ title, items }) => make('section', {}, title && make('h3', {}, title), make('ul', {}, ...items.map((one) => proposalItem(one, hears))))));
 }
 
-// What is shown: repaints about as small as the smallest, or what came nearer; then mixtures, and the fewest givens.
-function listed() {
-  const [best] = repaints();
-  const shown = repaints().filter((one) => one.cells.length <= best.cells.length + 1 || fixing.kept.has(one)).slice(0, MOST_SHOWN);
-  const near = !best && fixing.near ? [fixing.near] : [];
-  return [...shown, ...near, ...mixtures().slice(0, MOST_MIXED), ...givens().slice(-1)];
+// The places where line solving stalls are marked in the picture, while they are those of the picture.
+function showPlaces() {
+  const places = isFixing() && isOfThis() ? fixing.places : NO_PLACES;
+  if (places === sheet.places) return;
+  sheet.places = places;
+  sheet.redraw();
+}
+
+// What is shown: repaints of all places, and of each by itself; or what came nearer; then mixtures, and the fewest givens.
+function groups() {
+  const { places } = fixing;
+  const near = !wholes().length && fixing.near ? [fixing.near] : [];
+  const apart = places.length > 1 ? places.map((place, at) => ({ title: phrase('view.placeOnly', { at: at + 1, place: placeText(fixing.of, place[0]) }), items: ideas(ofPlace(at), MOST_SHOWN, fixing.kept) })) : [];
+  const isApart = apart.some(({ items }) => items.length);
+  const all = { title: isApart ? phrase('view.allPlaces', { places: places.length }) : '', items: [...ideas(wholes(), isApart ? MOST_OF_ALL : MOST_SHOWN, fixing.kept), ...near] };
+  const others = { title: phrase('view.givesToo'), items: [...mixtures().slice(0, MOST_MIXED), ...givens().slice(-1)] };
+  return [all, ...apart, others].filter(({ items }) => items.length);
 }
 
 function keep(one, is) {
@@ -267,16 +295,19 @@ async function take(one) {
   say(phrase('view.cellsRepaintedOneUndo', { cells: cells.length, more, count: sizeOf(one) }));
 }
 
-/** Shows the proposals with the picture that they are for, and hides them with any other. */
+/** Shows the proposals with the picture that they are for; while they are shown, another picture gets its own once the hand rests. */
 export function startFixing() {
   on('shown', () => {
     if (!fixing.isWanted) return;
     showLocks();
-    if (isOfThis() && $('fix').hidden) {
+    if (isOfThis() && !isFixing() && canFix()) {
       $('fix').hidden = false;
       fixSays(fixing.said);
+      tell('fixing', true);
     }
     showFound();
+    clearTimeout(fixing.waits);
+    if (isFixing() && !isOfThis() && canFix()) fixing.waits = setTimeout(findRepairs, REST);
   });
   on('closed', closeFix);
 }

@@ -7,14 +7,13 @@ import { radioGroup } from '../base/radios.js';
 import { eightBits, hexOf, nameOf, tripleOf } from '../document/colours.js';
 import { LETTERS, MOST_COLOURS } from '../document/limits.js';
 import { COLOUR_NAMES, colourNamed } from '../document/named.js';
-import { nearPairs } from '../document/near.js';
 import { reordered } from '../document/shapes.js';
 import { bench } from '../engine/bench.js';
 import { inksOf } from '../formats/webpbn.js';
 import { phrase } from '../texts/phrase.js';
 import { addAction } from './actions.js';
 import { openDialog } from './dialogs.js';
-import { colourText, dress, inkName } from './dress.js';
+import { colourText, dress, nearText } from './dress.js';
 import { setDown } from './select.js';
 import { heard, tools, useColour } from './tools.js';
 
@@ -73,15 +72,6 @@ const tellColours = behindFrame(() => {
   palette.text.textContent = `${colourText(tools.colour)}: ${phrase('view.cells', { cells: count })}`;
   showNear();
 });
-
-// Colours that a solver may take for one another, in words; '' where there are none.
-export function nearText(doc) {
-  const name = (letter) => (letter === '.' ? phrase('view.theBackground') : phrase('view.nameLetter', { name: inkName(doc, letter), letter }));
-  const pairs = nearPairs(doc).map(([one, other]) => phrase('view.andPair', { name: name(one), name2: name(other) }));
-  if (!pairs.length) return '';
-  const more = pairs.length > 2 ? phrase('view.pairs', { pairs: pairs.length - 2 }) : '';
-  return phrase('view.tooMuchAlikeTold', { value: pairs.slice(0, 2).join('; '), more });
-}
 
 let nearShown = [];
 function showNear() {

@@ -1,35 +1,101 @@
-// Proposals as they are listed: the picture before and after side by side, which cells change, and what takes or keeps one.
+// Proposals as they are shown: the part of the picture that changes, as it will be, large enough to be seen; what takes or keeps one.
 
 import { make } from '../base/elements.js';
+import { cssOf } from '../document/colours.js';
 import { LETTERS } from '../document/limits.js';
+import { boxAround } from '../document/regions.js';
+import { cutOut } from '../document/shapes.js';
+import { givenCorners } from '../draw/given.js';
 import { smallPicture } from '../draw/small.js';
 import { phrase } from '../texts/phrase.js';
-import { swatchChip } from './dress.js';
+import { inkName } from './dress.js';
 
 const MOST_NAMED = 3; // cells that are named one by one
-const SIDE = 100; // pixels of a small picture
+const SIDE = 96; // pixels of a picture
+const AROUND = 3; // cells that are shown around those that change
+const LEAST = 9; // cells of a picture's side
+const APART = 8; // rows or columns from which on two changes are seen in pictures of their own
+const MOST_PARTS = 4; // such pictures, in the room of one
 
-// A small picture with frames round some cells.
-function framed(doc, places) {
-  const canvas = smallPicture(doc, SIDE);
-  const side = canvas.width / doc.columns;
-  const pen = canvas.getContext('2d');
-  for (const [ink, wide] of [['#fff', 3], ['#c8321e', 1.5]]) {
-    pen.strokeStyle = ink;
-    pen.lineWidth = wide;
-    for (const place of places) pen.strokeRect((place % doc.columns) * side - 1, Math.floor(place / doc.columns) * side - 1, side + 2, side + 2);
-  }
-  return canvas;
-}
+const letterAt = ({ picture, columns }, index) => picture[Math.floor(index / columns)][index % columns];
 
-function painted(picture, cells) {
+/** A picture's rows with some cells painted. */
+export function painted(picture, cells) {
   const rows = picture.map((row) => [...row]);
   const columns = picture[0].length;
   for (const { index, colour } of cells) rows[Math.floor(index / columns)][index % columns] = LETTERS[colour];
   return rows.map((row) => row.join(''));
 }
 
-const placeText = ({ columns }, index) => phrase('view.placeOfCell', { value: Math.floor(index / columns) + 1, columns: (index % columns) + 1 });
+// From and to along one side of a picture: what changes with some cells around it, as far as the picture goes.
+function span(from, to, length) {
+  const wanted = Math.min(length, Math.max(LEAST, to - from + 1 + 2 * AROUND));
+  const first = Math.max(0, Math.min(length - wanted, Math.floor((from + to + 1 - wanted) / 2)));
+  return [first, first + wanted - 1];
+}
+
+function windowOf({ rows, columns }, places) {
+  const box = boxAround(new Set(places), columns);
+  const [top, bottom] = span(box.top, box.bottom, rows);
+  const [left, right] = span(box.left, box.right, columns);
+  return { top, left, bottom, right };
+}
+
+// Each cell that changes is framed, with its colour of now in a corner; a given cell has its mark.
+function drawChanges(canvas, { state, cells = [], given = [] }, box) {
+  const side = canvas.width / (box.right - box.left + 1);
+  const pen = canvas.getContext('2d');
+  const at = (index) => [(index % state.columns - box.left) * side, (Math.floor(index / state.columns) - box.top) * side];
+  const shape = (corners, fill) => {
+    pen.fillStyle = fill;
+    pen.beginPath();
+    for (const corner of corners) pen.lineTo(...corner);
+    pen.closePath();
+    pen.fill();
+  };
+  for (const { index } of cells) {
+    const [x, y] = at(index);
+    const colour = state.colours[LETTERS.indexOf(letterAt(state, index))];
+    shape([[x + side, y + side * 0.4], [x + side, y + side], [x + side * 0.4, y + side]], cssOf(colour, state.maxval));
+    for (const [ink, wide] of [['#fff', 3.5], ['#c8321e', 2]]) {
+      pen.strokeStyle = ink;
+      pen.lineWidth = wide;
+      pen.strokeRect(x - 0.5, y - 0.5, side + 1, side + 1);
+    }
+  }
+  for (const index of given) {
+    shape(givenCorners(...at(index), side * 2), '#1a1a1a');
+    shape(givenCorners(...at(index).map((one) => one + side * 0.12), side * 1.5), '#fff');
+  }
+}
+
+// Places in groups that are near one another.
+function groupsOf({ columns }, places) {
+  let groups = [];
+  const isNear = (one, other) => Math.abs(Math.floor(one / columns) - Math.floor(other / columns)) < APART && Math.abs((one % columns) - (other % columns)) < APART;
+  for (const place of places) {
+    const near = groups.filter((group) => group.some((one) => isNear(one, place)));
+    groups = [...groups.filter((group) => !near.includes(group)), [...near.flat(), place]];
+  }
+  return groups;
+}
+
+// The parts of a picture that a proposal changes, as they will be: one, or the first of several side by side.
+function picturesOf(one) {
+  const { state, cells = [], given = [] } = one;
+  const after = { ...state, picture: painted(state.picture, cells) };
+  const groups = groupsOf(state, [...cells.map(({ index }) => index), ...given]).slice(0, MOST_PARTS);
+  return groups.map((places) => {
+    const box = windowOf(state, places);
+    const canvas = smallPicture(cutOut(after, box), groups.length > 1 ? SIDE / 2 : SIDE);
+    const isIn = (index) => places.includes(index);
+    drawChanges(canvas, { state, cells: cells.filter(({ index }) => isIn(index)), given: given.filter(isIn) }, box);
+    return canvas;
+  });
+}
+
+/** A cell by its row and column, in words. */
+export const placeText = ({ columns }, index) => phrase('view.placeOfCell', { value: Math.floor(index / columns) + 1, columns: (index % columns) + 1 });
 
 const namedOf = (state, places) => `${places.slice(0, MOST_NAMED).map((index) => placeText(state, index)).join('; ')}${places.length > MOST_NAMED ? '; …' : ''}`;
 
@@ -42,29 +108,32 @@ function leftOf({ goal, far, open }) {
 
 // What is repainted, in words: a single cell with its colours, else the places.
 function paintedText({ state, cells }) {
-  if (cells.length > 1) return [`${phrase('view.cells', { cells: cells.length })}: ${namedOf(state, cells.map(({ index }) => index))}`];
+  if (cells.length > 1) return `${phrase('view.cells', { cells: cells.length })}: ${namedOf(state, cells.map(({ index }) => index))}`;
   const [{ index, colour }] = cells;
-  const before = state.picture[Math.floor(index / state.columns)][index % state.columns];
-  return [phrase('view.oneCell', { place: placeText(state, index) }), swatchChip(state, before), phrase('view.to'), swatchChip(state, LETTERS[colour])];
+  return `${phrase('view.oneCell', { place: placeText(state, index) })}${inkName(state, letterAt(state, index))}${phrase('view.to')}${inkName(state, LETTERS[colour])}`;
 }
 
 const givenText = ({ state, given, isLeast }) => `${phrase('view.cells', { cells: given.length })}${isLeast ? phrase('view.fewest') : ''}: ${namedOf(state, given)}`;
 
-function textOf(one) {
-  if (!one.cells) return [phrase('view.give', { given: givenText(one) })];
-  return one.given ? [phrase('view.repaint'), ...paintedText(one), phrase('view.alsoGive', { given: givenText(one) })] : [...paintedText(one), leftOf(one)];
+/** All that is told of a proposal. */
+export function textOf(one) {
+  if (!one.cells) return phrase('view.give', { given: givenText(one) });
+  return one.given ? `${phrase('view.repaint')}${paintedText(one)}${phrase('view.alsoGive', { given: givenText(one) })}` : paintedText(one) + leftOf(one);
+}
+
+// The few words below its picture.
+function shortOf({ cells, given, goal, far, open }) {
+  if (far) return phrase('view.closer');
+  const counts = [cells && phrase('view.cells', { cells: cells.length }), given && phrase('view.givenShort', { cells: given.length })].filter(Boolean).join(' + ');
+  return goal === 'unique' && open ? `${counts}, ${phrase('view.guessShort', { cells: open })}` : counts;
 }
 
 /** A proposal as an item of a list: `hears` has `take`, `keep`, `preview`, `isKept`. */
 export function proposalItem(one, { take, keep, preview, isKept }) {
-  const { state } = one;
-  const places = [...(one.cells ?? []).map(({ index }) => index), ...(one.given ?? [])];
-  const after = one.cells ? { ...state, picture: painted(state.picture, one.cells) } : state;
-  const pictures = make('span', { class: 'pair' }, framed(state, one.cells ? places : []), make('span', { 'aria-hidden': 'true' }, '→'), framed(after, places));
-  const text = make('span', {}, ...textOf(one));
   const show = () => preview(one);
   const hide = () => preview(null);
-  const button = make('button', { type: 'button', onclick: () => take(one), onpointerenter: show, onfocus: show, onpointerleave: hide, onblur: hide }, pictures, text);
-  const box = make('input', { type: 'checkbox', checked: isKept(one), onchange: (event) => keep(one, event.target.checked) });
-  return make('li', {}, button, make('label', { class: 'faint' }, box, phrase('view.keepNextSearch')));
+  const text = textOf(one);
+  const button = make('button', { type: 'button', 'aria-label': text, title: text, onclick: () => take(one), onpointerenter: show, onfocus: show, onpointerleave: hide, onblur: hide }, make('span', { class: 'parts' }, ...picturesOf(one)), make('span', {}, shortOf(one)));
+  const box = make('input', { type: 'checkbox', checked: isKept(one), 'aria-label': phrase('view.keepNextSearch'), onchange: (event) => keep(one, event.target.checked) });
+  return make('li', {}, button, make('label', { title: phrase('view.keepNextSearch') }, box, phrase('view.keep')));
 }

@@ -10,7 +10,7 @@ import { startEngine } from '../engine/client.js';
 import { Searches } from '../engine/searches.js';
 import { phrase } from '../texts/phrase.js';
 import { actionButton, actions, addAction } from './actions.js';
-import { canFix, hideFix, openFix } from './fixing.js';
+import { canFix, hideFix, isFixing, openFix } from './fixing.js';
 
 const TIMES = [['5', '5 s'], ['30', '30 s'], ['', phrase('view.untilStopped')]];
 const HATCHINGS = [['off', phrase('view.pictureAlone')], ['differing', phrase('view.cellsDiffer')], ['open', phrase('view.openCells')]];
@@ -56,11 +56,11 @@ const choiceOf = (id, values, change) => make('select', { id, onchange: (event) 
 function makeVerdictPanel() {
   $('audit').append(
     make('div', { id: 'verdict-line' }, make('h2', { id: 'verdict' }, '…'), make('span', { id: 'verdict-short' }),
+      make('button', { type: 'button', id: 'help-open', 'aria-haspopup': 'menu', popovertarget: 'menu-help', 'aria-label': phrase('view.help') }, '?'),
       make('button', { type: 'button', id: 'verdict-open', 'aria-expanded': 'false', 'aria-controls': 'verdict-more', onclick: turnVerdictMore }, phrase('view.more'))),
     make('div', { id: 'verdict-more' },
       make('p', { id: 'verdict-why' }),
       make('div', { id: 'verdict-do', class: 'group' }),
-      make('div', { id: 'fix', hidden: true }),
       make('dl', {}, make('dt', { id: 'grade-name' }, phrase('view.gradeNotProved')), make('dd', { id: 'grade' }), make('dt', { id: 'open-name' }, phrase('view.needGuessing')), make('dd', { id: 'open' }), make('dt', {}, phrase('view.cluesChanged')), make('dd', { id: 'changed' })),
       make('p', {}, make('label', {}, phrase('view.show'), choiceOf('hatching', HATCHINGS, (value) => setHatching(value)))),
       make('p', { id: 'legend', class: 'faint' }),
@@ -93,7 +93,7 @@ export function setHatching(value) {
 
 function showHatching(state) {
   if (!state) return;
-  const fitting = { unique: 'off', ambiguous: 'differing', undecided: 'open' }[state.verdict.word];
+  const fitting = isFixing() ? 'open' : { unique: 'off', ambiguous: 'differing', undecided: 'open' }[state.verdict.word];
   sheet.hatching = verdictView.hatching ?? fitting;
   $('hatching').value = sheet.hatching;
   $('legend').textContent = {
@@ -192,10 +192,10 @@ function showOther(other) {
   sheet.redraw();
 }
 
-// Whether a proof by lemmas may do better than a tree, or than none: it has no givens, and line logic alone needs neither.
+// Whether a certificate with lemmas may do better than a tree, or than none: it has no givens, and line logic alone needs neither.
 const mayProve = (state) => state && state.open > 0 && !state.givens.size && state.verdict.word !== 'ambiguous' && [null, 'time'].includes(verdictView.ended);
 
-/** A certificate of the present picture as a text, or a proof by lemmas if that is shorter, or null; what is found is told as the verdict. */
+/** A certificate of the present picture as a text, the shorter of two that are made, or null; what is found is told as the verdict. */
 export async function certificateText() {
   if (bench.state?.verdict.word === 'ambiguous') {
     say(phrase('view.thereNoCertificateAnother'), 'alarm');
@@ -204,8 +204,8 @@ export async function certificateText() {
   verdictView.ended = null;
   let text = await searches.certify();
   if (mayProve(bench.state)) {
-    const proof = await searches.prove();
-    if (proof && !(text?.length <= proof.length)) text = proof;
+    const lemmas = await searches.prove();
+    if (lemmas && !(text?.length <= lemmas.length)) text = lemmas;
   }
   const why = {
     time: phrase('view.noCertificateFoundWithin', { secondsChosen: secondsChosen() }),
@@ -245,6 +245,10 @@ export function startVerdict() {
   on('stroke', () => searches.strokeBegun());
   on('closed', () => searches.shown(null));
   on('opened', () => { verdictView.hatching = null; });
+  on('fixing', (is) => {
+    if (is && $('audit').classList.contains('open')) turnVerdictMore(); // on a small screen it would cover the proposals
+    showHatching(bench.state);
+  });
   on('shown', (state) => {
     verdictView.ended = null;
     searches.shown(state);

@@ -19,11 +19,11 @@ UNIQUE = ("a.", ".b")
 AMBIGUOUS = ("a.", ".a")
 OTHER = ".a/a."
 GIVEN_CERT = "nonocert 2\ngiven 1 1\nline r 1\nline c 1\nline r 2\ndone\n"
-# As in tests/cases/: a certificate and a proof by lemmas of UNIQUE, and proofs of AMBIGUOUS with a cell given, and with all of them.
+# As in tests/cases/: two certificates of UNIQUE, the second with lemmas, and such ones of AMBIGUOUS with a cell given, and with all.
 CERT = "nonocert 1\nline r 1\nsplit 1 1\nline c 1\ndead r 2\nline r 1\nline c 1\nline c 2\ndone\n"
-PROOF = "nonolemma 1\npart 1 1 a\nline r 1\ndead c 2\nline r 1\nline c 1\nline r 2\ndone\n"
-GIVEN_PROOF = "nonolemma 1\ngiven 1 1\nline r 1\nline c 1\nline r 2\ndone\n"
-ALL_PROOF = "nonolemma 1\ngiven 1 1\ngiven 1 2\ngiven 2 1\ngiven 2 2\ndone\n"
+LEMMAS = "nonolemma 1\npart 1 1 a\nline r 1\ndead c 2\nline r 1\nline c 1\nline r 2\ndone\n"
+GIVEN_LEMMAS = "nonolemma 1\ngiven 1 1\nline r 1\nline c 1\nline r 2\ndone\n"
+ALL_LEMMAS = "nonolemma 1\ngiven 1 1\ngiven 1 2\ngiven 2 1\ngiven 2 2\ndone\n"
 
 
 def p3(rows, background=None):
@@ -71,7 +71,7 @@ class Case(unittest.TestCase):
         return [sys.executable, "-m", "nonobench.audit", *map(str, words), *([] if is_bounded else ["--seconds", str(PATIENCE)])]
 
     def env(self, **more):
-        return {**os.environ, "PYTHONPATH": str(ROOT / "python"), "PYTHONDONTWRITEBYTECODE": "1", **more}
+        return {**os.environ, "PYTHONPATH": str(ROOT / "python" / "src"), "PYTHONDONTWRITEBYTECODE": "1", **more}
 
     def run_audit(self, *words, status=None, **more):
         """A run: what it printed, what it said, and its status, which is looked at where it is given."""

@@ -5,6 +5,7 @@ Pictures and what is expected of them are worked by hand. Pillow, defusedxml and
 
 import contextlib
 import csv
+import hashlib
 import io
 import json
 import os
@@ -13,19 +14,22 @@ import signal
 import sys
 import types
 import unittest
+import unittest.mock
 from collections import deque
 from pathlib import Path
 
 sys.path.insert(0, str(Path(__file__).resolve().parent))
 from audit_parts import (  # noqa: E402
-    ALL_PROOF, AMBIGUOUS, BLACK, CERT, GIVEN_CERT, GIVEN_PROOF, OTHER, PATIENCE, PROOF, RED, ROOT, UNIQUE, WHITE, Case, chequered, eventually, p3, webpbn,
+    ALL_LEMMAS, AMBIGUOUS, BLACK, CERT, GIVEN_CERT, GIVEN_LEMMAS, LEMMAS, OTHER, PATIENCE, RED, ROOT, UNIQUE, WHITE, Case, chequered, eventually, p3, webpbn,
 )
 
+import pytest  # noqa: E402
 import nonobench  # noqa: E402
+from nonobench import check_site  # noqa: E402
 from nonobench.collection import arguments, certificates, judging, readers, running, serving, tally, workers  # noqa: E402
 from nonobench.collection.puzzles import Unreadable  # noqa: E402
 
-# One solution, whose certificate says much twice: it is three times as long as a proof by lemmas.
+# One solution, whose certificate says much twice: it is three times as long as one with lemmas.
 LEARNT = (
     "a...a....a..", ".a..a.a.a.a.", "a..aa.a..a..", "aaaa...a.a..", "aa..a..aaa..", ".a.......a..", ".a....aa.aaa", "..aaaa......",
     "...aa.a.a.aa", "a..a..aa..aa", ".aa....aa.aa", "...a...aaa.a",
@@ -41,13 +45,88 @@ def one(data, suffix="", ground=NONE):
     return puzzles[0]
 
 
+# Values that a field of a row cannot have. Its puzzle has one solution, a given and a certificate.
+POISONED = {
+    "file": [1, "", None, ["site/one.ppm"], "\ud800"],
+    "verdict": ["fine", "Unique", 1, None, ["unique"], {}],
+    "rows": ["2", 2.0, True, 0, 121, -1, None, [2]],
+    "columns": ["2", [], 1e3],
+    "colours": [0, 17, "3"],
+    "open": [-1, "0", False],
+    "givens": ["1,1", [1, 1], [[1]], [[1, "1"]], [[0, 1]], [[1, 1, 1]], [[1, True]], [], 1],
+    "palette": ["ffffff", ["ffffff", "000000", "#ff0000"], ["fff", "000", "f00"], [1, 2, 3], {}],
+    "picture": [1, None, ["a.", ".b"]],
+    "near": [1, [], "x", ["x"], [["#ffffff and #000000"]], {"a": 1}],
+    "lines": ["7", -1, 1.5],
+    "grade": ["simple", 1, ["easy"]],
+    "figures": [[], [1, 2, 3, 4, 5], {}, {"rounds": 1}, {"rounds": "1", "evaluations": 1, "wait": 1, "splits": 0, "depth": 0}, None],
+    "certificate": [1, True, [], {}, {"accepted": 1}, {"accepted": False}, {"accepted": True, "why": "x"}, {"accepted": False, "why": 1}, {"accepted": True, "givens": 1}, {"accepted": True, "unpublished": [[1, 1]]}],
+    "error": [1, [], {"a": 1}],
+    "note": [1, ["x"]],
+    "missing": [1, ["Pillow"], "\x1b[2J"],
+    "title": [1, "", None],
+    "seconds": ["1", -1, True, None],
+    "content": [1, None],
+    "made": [1, None, ["0.6.0 white"]],
+    "limit": [1],
+    "more": [False, 1, "yes"],
+    "puzzle": [0, "1", True, 1.5],
+}
+
+
+# The same for several fields, and why.
+UNLIKE = (
+    ({"verdict": "ambiguous"}, "the field 'other' is missing"), ({"verdict": "error"}, "the field 'error' is missing"),
+    ({"rows": 3}, "the field 'picture' has another size, or other colours"), ({"picture": "a./.c"}, "the field 'picture' has another size"),
+    ({"other": "a."}, "the field 'other' has another size"), ({"verdict": "undecided"}, "the field 'grade' goes with the verdict 'unique'"),
+    ({"palette": ["ffffff"]}, "the numbers of colours or open cells differ"), ({"open": 5}, "the numbers of colours or open cells differ"),
+    ({"givens": [[1, 3]]}, "a given lies outside the picture"), ({"fit": True}, "no row has a field 'fit'"), ({"lemmas": {"accepted": True}}, "no row has a field 'lemmas'"),
+    ({"certificate": {"accepted": True, "givens": [[3, 1]]}}, "a given lies outside the picture"),
+)
+TORN = (
+    ('"verdict"', '"verdict":"ambiguous","verdict"', "it has a field twice"), ('"accepted":true', '"accepted":false,"accepted":true', "it has a field twice"),
+    ('"unique"', '"\xff"', "it is not UTF-8"), ('"unique"', "[" * 100_000 + "]" * 100_000, "it is nested too deeply"),
+    ('"rows":2', '"rows":NaN', "NaN is no number"), ('"rows":2', '"rows":2x', "it is not JSON"), ('"rows":2', f'"rows":{"9" * 5000}', ""),
+    ('"rows":2', '"rows":2,"seconds":1e999', "the field 'seconds' is wrong"),
+)
+
+
+def poisons_of(row):
+    """Lines that are no rows though they are like one, and why."""
+    def line(made):
+        return json.dumps(made, separators=(",", ":"))
+
+    for field, values in POISONED.items():
+        yield from ((line({**row, field: value}).encode(), f"the field '{field}' is wrong") for value in values)
+    for field in ("verdict", "rows", "columns", "colours", "open", "palette", "picture", "figures"):
+        yield line({name: value for name, value in row.items() if name != field}).encode(), f"the field '{field}' is missing"
+    yield from ((line({**row, **changes}).encode(), why) for changes, why in UNLIKE)
+    yield from ((line(row).replace(old, new).encode("latin-1"), why) for old, new, why in TORN)
+    yield from ((text, "it is not ") for text in (b"[]", b"7", b"null", b'"x"', b"my diary", b""))
+    yield b"{}", "the field 'file' is missing"
+
+
+def in_process(folder, *words):
+    """The status of a run in this process, and what it said on standard error."""
+    said, before = io.StringIO(), os.getcwd()
+    kept = {number: signal.getsignal(number) for number in (signal.SIGINT, signal.SIGTERM)}
+    os.chdir(folder)
+    try:
+        with contextlib.redirect_stderr(said), contextlib.redirect_stdout(io.StringIO()):
+            return running.main([*words, "--quiet"]), said.getvalue()
+    finally:
+        os.chdir(before)
+        for number, handler in kept.items():
+            signal.signal(number, handler)
+
+
 def beside_words(text):
     """The cells of a file of givens of a picture of 3 rows and 4 columns, as tests/cases/beside.txt has them."""
     try:
         puzzles = list(readers.puzzles_of(p3(["...."] * 3), ".ppm", NONE, text))
-        judging.judge(judging.Desk(), puzzles[0], None, print, False)
+        judging.judge(judging.Desk(), puzzles[0], None, print, has_tree=False)
     except Unreadable as error:
-        return "outside" if "outside" in str(error) else "refused"
+        return "outside" if str(error).startswith("givens Place") else "refused"
     return " ".join("%d,%d" % place for place in puzzles[0].givens) or "none"
 
 
@@ -105,8 +184,9 @@ class Reading(unittest.TestCase):
         self.assertEqual(one(image("PNG", "RGBA", pixels)).text, p3(UNIQUE))
         puzzle = one(image("PNG", "RGBA", pixels), ground=readers.Ground((1, 2, 3)))
         self.assertEqual((puzzle.text, puzzle.background), (p3(UNIQUE, (1, 2, 3)), (1, 2, 3)))
-        # Half black over white is grey.
-        self.assertIn(b"\n127 127 127\n", one(image("PNG", "RGBA", [(0, 0, 0, 128)] * 4)).text)
+        # What is half transparent has no colour of its own.
+        with self.assertRaisesRegex(Unreadable, "the image is refused: half transparent"):
+            one(image("PNG", "RGBA", [(0, 0, 0, 128)] * 4))
 
     def test_background(self):
         self.assertEqual(one(image("PNG"), ground=readers.ground_of("corner")).background, BLACK)
@@ -121,8 +201,9 @@ class Reading(unittest.TestCase):
             with self.subTest(word), self.assertRaises(ValueError):
                 readers.ground_of(word)
 
+    @pytest.mark.since("0.7.0")
     def test_what_lies_beside(self):
-        """The texts that the page reads too, in tests/page_several.mjs."""
+        """The texts that the page reads too, in tests/page/page_several.mjs."""
         count = 0
         for line in (ROOT / "tests" / "cases" / "beside.txt").read_text(encoding="utf-8").splitlines():
             if not line or line.startswith("#"):
@@ -135,6 +216,7 @@ class Reading(unittest.TestCase):
             count += 1
         self.assertGreater(count, 40)
 
+    @pytest.mark.since("0.7.0")
     def test_a_background_beside_a_puzzle_with_its_own(self):
         for puzzle in (one(webpbn(UNIQUE).encode()), one(b"width 1\nheight 1\nrows\n1\ncolumns\n1\n", ".non")):
             for word, is_read in (("white", True), ("255,255,255", True), ("corner", True), ("0,0,0", False)):
@@ -147,7 +229,7 @@ class Reading(unittest.TestCase):
 
     def test_a_jpeg_is_named(self):
         for suffix in (".jpg", ".ppm", ".png", ""):
-            with self.subTest(suffix), self.assertRaisesRegex(Unreadable, "JPEG: its colours are not exact"):
+            with self.subTest(suffix), self.assertRaisesRegex(Unreadable, "the image is refused: lossy"):
                 one(image("JPEG"), suffix)
 
     def test_colours_and_sizes(self):
@@ -166,16 +248,6 @@ class Reading(unittest.TestCase):
         made.save(file, "PNG")
         self.assertEqual(len(set(one(file.getvalue()).text.split(b"\n")[3:-1])), 15)
 
-    def test_samples_of_16_bits(self):
-        from PIL import Image
-
-        made = Image.new("I;16", (2, 1))
-        made.putpixel((0, 0), 0)
-        made.putpixel((1, 0), 65535)
-        file = io.BytesIO()
-        made.save(file, "PNG")
-        self.assertEqual(one(file.getvalue()).text, b"P3\n2 1\n255\n0 0 0\n255 255 255\n")
-
     def test_non(self):
         puzzle = one(b"width 1\nheight 1\nrows\n1\ncolumns\n1\n", ".non")
         self.assertTrue(puzzle.is_non)
@@ -184,6 +256,12 @@ class Reading(unittest.TestCase):
         puzzle = one(webpbn(UNIQUE, "A &lt;b&gt; title").encode())
         self.assertEqual((puzzle.text, puzzle.background, puzzle.title), (p3(UNIQUE), WHITE, "A <b> title"))
 
+    def test_xml_with_one_goal_twice(self):
+        goal = "<solution><image>|X.||.r|</image></solution>"
+        other = '<solution type="solution"><image>|.X||r.|</image></solution>'
+        self.assertEqual(one(webpbn(UNIQUE, more=goal + other).encode()).text, p3(UNIQUE))
+
+    @pytest.mark.since("0.7.0")
     def test_xml_with_givens(self):
         saved = '<solution type="saved" id="{}"><image>|X?||?{}|</image></solution>'
         self.assertEqual(one(webpbn(AMBIGUOUS, more=saved.format("givens", "?")).encode()).givens, ((1, 1),))
@@ -224,8 +302,11 @@ class Reading(unittest.TestCase):
         two = clues.replace("<count>1</count></line></clues>", '<count color="red">1</count></line></clues>')
         self.assertRegex(str(one(f"<puzzle>{two}</puzzle>".encode())), "several colours and no solution")
 
+    @pytest.mark.since("0.7.0")
     def test_xml_that_is_refused(self):
         clue = '<clues type="rows"><line><count>2</count></line><line/></clues>'
+        own = '<clues type="rows"><line><count>1</count></line><line><count color="red">1</count></line></clues>'
+        saved = '<solution type="saved" id="givens"><image>|X?||??|</image></solution>'
         for text, words in (
             (webpbn(UNIQUE, more=clue), "the clues of the rows are not those of the solution"),
             (webpbn(UNIQUE, kind="triddler"), "of the type triddler"),
@@ -237,6 +318,18 @@ class Reading(unittest.TestCase):
             (webpbn(UNIQUE).replace('<puzzle type="grid"', '<puzzle type="grid" backgroundcolor="blue"'), "background of the puzzle"),
             (webpbn(UNIQUE).replace("</color>", '</color><color name="rose" char="r">f08</color>'), "two colours of the puzzle have the sign 'r'"),
             ("<puzzle/>", "neither a solution nor all clues"),
+            (webpbn(UNIQUE, more="<solution><image>|.X||r.|</image></solution>"), "several goals, and they are different pictures"),
+            (webpbn(UNIQUE).replace('type="goal"', 'type="solution"').replace("</puzzle>", '<solution type="solution"><image>|.X||r.|</image></solution></puzzle>'),
+             "several goals, and they are different pictures"),
+            (webpbn(UNIQUE).replace('char="r"', 'char="?"').replace("r|", "?|"), "has the sign '\\?', which stands for a cell of any colour"),
+            # A browser shows what stands behind an element within a text, and nothing says which of two it shows.
+            (webpbn(UNIQUE).replace("|X.|", "|X.|<b/>"), "a text of the puzzle has elements in it"),
+            (webpbn(UNIQUE).replace("f00", "f00<b/>"), "a text of the puzzle has elements in it"),
+            (webpbn(UNIQUE, more=clue.replace("<count>2", "<count>1<b/>2")), "a text of the puzzle has elements in it"),
+            (webpbn(UNIQUE).replace("<image>", "<image>|.X||r.|</image><image>"), "the puzzle has the image of a solution twice"),
+            (webpbn(UNIQUE, more=own + clue), "the puzzle has the clues of the rows twice"),
+            (webpbn(UNIQUE, more=saved + saved.replace("X", "?")), "the puzzle has its givens twice"),
+            (webpbn(UNIQUE).replace("|X.|", "|[Xr].|").replace('char="r"', 'char="?"').replace("r|", "?|"), "has the sign '\\?'"),
         ):
             with self.subTest(words):
                 self.assertRegex(str(one(text.encode())), words)
@@ -244,6 +337,7 @@ class Reading(unittest.TestCase):
             with self.subTest(words), self.assertRaisesRegex(Unreadable, words):
                 one(text if isinstance(text, bytes) else text.encode())
 
+    @pytest.mark.since("0.7.0")
     def test_page_and_package_read_alike(self):
         # As the page writes it: two colours, a black given, and clues.
         text = (ROOT / "python" / "tests" / "page.xml").read_bytes()
@@ -267,6 +361,19 @@ class Running(Case):
         self.assertEqual([two[name] for name in ("verdict", "open", "other")], ["ambiguous", 4, OTHER])
         self.assertNotIn("lines", two)
         self.assertEqual(rows["site/key.non"]["verdict"], "unique")
+
+    def test_an_exception_is_no_verdict(self):
+        self.put("one.ppm", p3(UNIQUE))
+        for name in ("audit", "_take_all", "_count_files", "_summary"):
+            with self.subTest(name), unittest.mock.patch.object(running.Run, name, side_effect=KeyError("odd")):
+                status, said = in_process(self.folder, "site", "--jsonl", f"{name}.jsonl")
+                self.assertEqual((status, said.count("KeyError: 'odd'")), (3, 1))
+        with unittest.mock.patch.object(running, "options_of", side_effect=ValueError("odd")):
+            self.assertEqual(in_process(self.folder)[0], 3)
+
+    def test_version(self):
+        for words in (["--version"], ["merge", "--version"]):
+            self.assertEqual(self.run_audit(*words, status=0).stdout, f"nonobench-audit {nonobench.version()}\n")
 
     def test_status(self):
         self.put("one.ppm", p3(UNIQUE))
@@ -311,6 +418,7 @@ class Running(Case):
         names = self.run_audit("site/=1+1.ppm", "--csv", "-").stdout
         self.assertIn("\nsite/=1+1.ppm,", names)
 
+    @pytest.mark.since("0.7.0")
     def test_certificates_are_written(self):
         self.put("one.ppm", p3(UNIQUE))
         self.put("small/one.png", image("PNG"))
@@ -328,35 +436,24 @@ class Running(Case):
             "site/set.xml#1": {"accepted": True}, "site/set.xml#2": None, "site/set.xml#3": {"accepted": True},
         })
 
-    def test_proofs_are_written_beside_long_certificates(self):
-        self.put("one.ppm", p3(UNIQUE))
+    @pytest.mark.since("0.7.0")
+    def test_certificates_with_lemmas_are_written_where_a_puzzle_needs_guesses(self):
+        self.put("lines.ppm", p3(["aa", "a."]))
         self.put("learnt.ppm", p3(LEARNT))
         self.put("given.ppm", p3(LEARNT))
         self.put("given.givens", "given 1 7\n")
-        for words in (["--prove", "1"], ["--prove", "x", "--certify", "certs"], ["--prove", "1", "--certify", "certs", "--scheduler", "tcp://none:1"]):
-            self.run_audit("site", *words, status=2)
-        made = self.folder / "certs"
-        rows = self.rows("site", "--certify", "certs", "--prove", "9999999", status=0)
-        self.assertEqual(sorted(place.name for place in made.iterdir()), ["given.cert", "learnt.cert", "one.cert"])
-        self.assertFalse(any("proof" in row for row in rows.values()))
-        # The certificate of `one.ppm` is short, and a proof has no givens.
-        rows = self.rows("site", "--certify", "certs", "--prove", "1000", status=0)
-        self.assertEqual(sorted(place.name for place in made.iterdir()), ["given.cert", "learnt.cert", "learnt.proof", "one.cert"])
-        proof = (made / "learnt.proof").read_bytes()
-        self.assertEqual(rows["site/learnt.ppm"]["proof"], proof.count(b"\n"))
-        self.assertEqual(nonobench.verify(p3(LEARNT), proof).givens, ())
-        size = len((made / "learnt.cert").read_bytes())
-        self.assertLess(len(proof), size)
-        for most, is_written in ((size, False), (size - 1, True)):
-            row = self.rows("site/learnt.ppm", "--certify", "more", "--prove", most, status=0)["site/learnt.ppm"]
-            self.assertEqual(("proof" in row, (self.folder / "more" / "learnt.proof").exists()), (is_written, is_written))
-        # One that is missing is made again, and one that is no longer wanted goes.
-        (made / "learnt.proof").unlink()
-        self.rows("site", "--certify", "certs", "--prove", "1000", "--resume", status=0)
-        self.assertEqual((made / "learnt.proof").read_bytes(), proof)
-        self.rows("site", "--certify", "certs", "--prove", "9999999", "--resume", status=0)
-        self.assertFalse((made / "learnt.proof").exists())
+        made, firsts = self.folder / "certs", {"given": b"nonocert 2", "learnt": b"nonolemma 2", "lines": b"nonocert 1"}
+        for words in ([], ["--no-grade"], ["--resume"]):
+            if words == ["--resume"]:
+                (made / "learnt.cert").unlink()
+            rows = self.rows("site", "--certify", "certs", *words, status=0)
+            self.assertEqual({place.stem: place.read_bytes().split(b"\n")[0] for place in made.iterdir()}, firsts)
+            for name in firsts:
+                self.assertEqual(rows[f"site/{name}.ppm"]["lines"], (made / f"{name}.cert").read_bytes().count(b"\n"))
+        self.assertLess(2 * len((made / "learnt.cert").read_bytes()), len(nonobench.certify(p3(LEARNT))))
+        self.assertTrue(all(row["certificate"]["accepted"] for row in self.rows("site", "--certificates", "certs", status=0).values()))
 
+    @pytest.mark.since("0.7.0")
     def test_puzzles_without_a_certificate_are_counted(self):
         counts = tally.Tally()
         for verdict, text in (("unique", '{"lines":7}'), ("unique", '{"note":"\\"lines\\":"}'), ("ambiguous", "{}")):
@@ -364,20 +461,29 @@ class Running(Case):
         for certify, wanted in (("certs", "nonobench-audit: unique, but no certificate made in time or memory: 1\n"), (None, "")):
             said = io.StringIO()
             with contextlib.redirect_stderr(said):
-                counts.warn(arguments.Options(["site"], certify=certify), False)
+                counts.warn(arguments.Options(["site"], certify=certify), False, [])
             self.assertEqual(said.getvalue(), wanted)
 
-    def test_a_proof_beside_a_puzzle_stays(self):
-        self.put("learnt.ppm", p3(LEARNT))
-        proof = nonobench.prove(p3(LEARNT)).proof
-        self.put("learnt.proof", proof)
-        rows = self.rows("site", "--certify", "site", "--prove", "9999999", status=0)
-        self.assertEqual(rows["site/learnt.ppm"]["lemmas"], {"accepted": True})
-        self.assertNotIn("proof", rows["site/learnt.ppm"])
-        self.assertEqual((self.folder / "site" / "learnt.proof").read_bytes(), proof)
-        self.assertEqual(sorted(place.name for place in (self.folder / "site").iterdir()), ["learnt.cert", "learnt.ppm", "learnt.proof"])
+    @pytest.mark.since("0.7.0")
+    def test_an_older_file_of_a_certificate_is_read_where_no_newer_one_is(self):
+        self.put("one.ppm", p3(UNIQUE))
+        self.put("set.xml", "<puzzleset>" + webpbn(UNIQUE) * 2 + "</puzzleset>")
+        for name in ("one.proof", "set.proof", "set.2.PROOF"):
+            self.put(name, LEMMAS)
+        self.assertEqual([row["certificate"] for row in self.rows("site", status=0).values()], [{"accepted": True}] * 3)
+        self.put("one.cert", CERT)
+        self.put("one.proof", "x")
+        self.assertIn("\nnonobench-audit: site/one.proof: not read, since a .cert is there\n", "\n" + self.run_audit("site", status=0).stderr)
+        self.put("set.2.cert", CERT)
+        self.put("set.2.PROOF", "x")
+        done = self.run_audit("site", "--quiet", status=0)
+        self.assertEqual(done.stderr, "nonobench-audit: site/one.proof and 1 more: not read, since a .cert is there\n")
+        # What is written has the new name, and then that counts.
+        self.run_audit("site", "--certify", "site", status=0)
+        self.assertEqual(sorted(place.name for place in self.site.glob("set*cert")), ["set.2.cert", "set.cert"])
 
-    def test_a_proof_is_told_before_its_certificate_is_made(self):
+    @pytest.mark.since("0.7.0")
+    def test_a_certificate_with_lemmas_is_told_before_a_tree_is_made(self):
         class Slow(judging.Desk):
             def say(self, lines):
                 if lines == b"certify\n":
@@ -386,36 +492,27 @@ class Running(Case):
 
         known = []
         with self.assertRaises(TimeoutError):
-            judging.judge(Slow(), one(p3(LEARNT)), None, known.append, most=1000)
-        self.assertEqual([judged.proof[:12] for judged in known], ["", "nonolemma 1\n"])
+            judging.judge(Slow(), one(p3(LEARNT)), None, known.append, is_kept=True)
+        self.assertEqual([judged.certificate[:12] for judged in known], ["", "nonolemma 2\n"])
+        judged = judging.judge(Slow(), one(p3(LEARNT)), None, known.append, is_kept=True, has_tree=False)
+        self.assertEqual((judged.certificate[:12], judged.tree), ("nonolemma 2\n", ""))
 
-    def test_a_proof_in_the_collection_stays_wherever_proofs_are_read(self):
+    @pytest.mark.since("0.7.0")
+    def test_a_certificate_that_cannot_be_written(self):
         self.put("learnt.ppm", p3(LEARNT))
-        self.put("learnt.proof", "of a designer\n")
-        read = self.folder / "read"
-        read.mkdir()
-        (read / "learnt.proof").write_bytes(nonobench.prove(p3(LEARNT)).proof)
-        self.rows("site", "--certificates", "read", "--certify", "site", "--prove", "9999999", status=0)
-        self.assertEqual((self.site / "learnt.proof").read_text(), "of a designer\n")
-
-    def test_a_proof_that_cannot_be_written(self):
-        self.put("learnt.ppm", p3(LEARNT))
-        place = self.folder / "certs" / "learnt.proof"
+        place = self.folder / "certs" / "learnt.cert"
         place.mkdir(parents=True)
-        words = ["site", "--certify", "certs", "--prove", "1000", "--jsonl", "rows"]
-        self.assertIn("nonobench-audit: proofs not written: 1\n", self.run_audit(*words, status=3).stderr)
+        words = ["site", "--certify", "certs", "--jsonl", "rows"]
+        self.assertIn("nonobench-audit: certificates not written: 1\n", self.run_audit(*words, status=3).stderr)
         row = self.read("rows")["site/learnt.ppm"]
-        self.assertEqual((row["verdict"], row["note"]), ("unique", "its proof was not written: Is a directory"))
-        self.assertNotIn("proof", row)
+        self.assertEqual((row["verdict"], row["note"], row["grade"]), ("unique", "its certificate was not written: Is a directory", "expert"))
         # What is written on the way goes too.
-        self.assertEqual(sorted(os.listdir(self.folder / "certs")), ["learnt.cert", "learnt.proof"])
-        # One that is not wanted need not be written.
-        self.run_audit("site", "--certify", "certs", "--prove", "9999999", "--jsonl", "other", status=0)
-        self.assertNotIn("note", self.read("other")["site/learnt.ppm"])
+        self.assertEqual(sorted(os.listdir(self.folder / "certs")), ["learnt.cert"])
         place.rmdir()
         self.run_audit(*words, "--resume", status=0)
-        self.assertEqual(self.read("rows")["site/learnt.ppm"]["proof"], place.read_bytes().count(b"\n"))
+        self.assertEqual(self.read("rows")["site/learnt.ppm"]["lines"], place.read_bytes().count(b"\n"))
 
+    @pytest.mark.since("0.7.0")
     def test_a_verdict_stays_where_memory_is_out(self):
         class Short(judging.Desk):
             def say(self, lines):
@@ -429,21 +526,22 @@ class Running(Case):
                     raise MemoryError
                 self.append(words)
 
-        place = self.put("one.ppm", p3(UNIQUE))
-        beside = (1, "cert", str(self.put("one.cert", CERT)))
+        place = self.put("one.ppm", p3(["aa", "a."]))
+        beside = (1, str(self.put("one.cert", "nonocert 1\nline r 1\nline c 1\nline c 2\ndone\n")))
         to = str(self.folder / "made")
         task = serving.Task(0, "one.ppm", str(place), (beside,), None, None, to, "", 1, serving.FULL)
-        for desk, missing, lines in ((Short, "certificate", None), (judging.Desk, "grade", 6)):
+        for desk, missing in ((Short, "certificate"), (judging.Desk, "grade")):
             answers, left = Answers(), []
-            judge = serving.Judging(serving.Settings("", "", 1024, None, "white", True, True, False, None), answers)
+            judge = serving.Judging(serving.Settings("", "", 1024, None, "white", True, True, False), answers)
             judge._desk, judge._leave = desk(), left.append
             judge.answer(task)
             row = json.loads(answers[-1][3])
             with self.subTest(missing):
-                self.assertEqual((answers[-1][1], row["verdict"], row["certificate"], row.get("lines")), ("last", "unique", {"accepted": True}, lines))
+                self.assertEqual((answers[-1][1], row["verdict"], row["certificate"], "lines" in row), ("last", "unique", {"accepted": True}, missing == "grade"))
                 self.assertEqual(row["note"], f"its {missing}: out of memory: more than 1024 MiB")
-                self.assertEqual((left, os.path.exists(f"{to}.cert")), ([task], lines is not None))
+                self.assertEqual((left, os.path.exists(f"{to}.cert")), ([task], missing == "grade"))
 
+    @pytest.mark.since("0.7.0")
     def test_a_certificate_goes_back_before_the_grade(self):
         # Over a scheduler, what is known of a puzzle has its certificate, should its grade not come.
         class Answers(list):
@@ -451,7 +549,7 @@ class Running(Case):
                 self.append(words)
 
         answers = Answers()
-        judge = serving.Judging(serving.Settings("", "", 1024, 9, "white", True, False, True, None), answers)
+        judge = serving.Judging(serving.Settings("", "", 1024, 9, "white", True, False, True), answers)
         place = self.put("one.ppm", p3(UNIQUE))
         judge.answer(serving.Task(0, "one.ppm", str(place), (), None, None, "one", "", 1, serving.FULL))
         known, last = answers
@@ -459,19 +557,21 @@ class Running(Case):
         self.assertEqual(nonobench.check(p3(UNIQUE), certificates.unpacked(last[4]).encode()).givens, ())
         self.assertEqual({**json.loads(known[3]), **json.loads(last[3])}, json.loads(last[3]))
 
+    @pytest.mark.since("0.7.0")
     def test_a_note_that_a_certificate_was_not_written_goes_before_the_grade(self):
         class Answers(list):
             def put(self, *words):
                 self.append(words)
 
         answers = Answers()
-        judge = serving.Judging(serving.Settings("", "", 1024, 9, "white", True, False, False, None), answers)
+        judge = serving.Judging(serving.Settings("", "", 1024, 9, "white", True, False, False), answers)
         place = self.put("one.ppm", p3(UNIQUE))
         (self.folder / "one.cert").mkdir()
         judge.answer(serving.Task(0, "one.ppm", str(place), (), None, None, str(self.folder / "one"), "", 1, serving.FULL))
         self.assertEqual([words[1] for words in answers], ["known", "last"])
         self.assertEqual({json.loads(words[3])["note"] for words in answers}, {"its certificate was not written: Is a directory"})
 
+    @pytest.mark.since("0.7.0")
     def test_a_certificate_that_came_back_is_written_without_a_grade(self):
         to = str(self.folder / "certs" / "one")
         run = running.Run(arguments.Options(["site"], certify="certs", is_quiet=True))
@@ -479,6 +579,92 @@ class Running(Case):
         text = '{"file":"one.ppm","verdict":"unique","lines":9,"note":"its grade: no answer within 9 seconds"}'
         run._deliver_answer(workers.Answer(0, True, "unique", text, certificates.packed(CERT)))
         self.assertEqual(Path(f"{to}.cert").read_text(), CERT)
+
+    @pytest.mark.since("0.7.0")
+    def test_pictures_are_written(self):
+        """What is published is what was judged: it is judged alike, and each certificate is accepted beside it."""
+        self.put("one.png", image("PNG"))
+        self.put("two.ppm", p3(AMBIGUOUS))
+        self.put("given.ppm", p3(AMBIGUOUS))
+        self.put("given.givens", "given 2 2\ngiven 1 1\n")
+        # By a black background: one white cell, on maxval 1.
+        self.put("in/dark.ppm", b"P3 # mine\n2 1 1 0 0 0 1 1 1")
+        self.put("in/dark.background", "corner")
+        self.put("set.xml", "<puzzleset>" + webpbn(UNIQUE) + webpbn(AMBIGUOUS) + webpbn(UNIQUE[::-1]) + "</puzzleset>")
+        self.put("key.non", "width 1\nheight 1\nrows\n1\ncolumns\n1\n")
+        first = self.rows("site", "--ppm", "out", "--certify", "out", status=1)
+        out = self.folder / "out"
+        made = {str(place.relative_to(out)): place.read_bytes() for place in out.rglob("*") if place.is_file() and place.suffix != ".cert"}
+        self.assertEqual(made, {
+            "one.ppm": p3(UNIQUE), "given.ppm": p3(AMBIGUOUS), "given.givens": b"given 2 2\ngiven 1 1\n", "in/dark.ppm": b"P3 # mine\n2 1 1 0 0 0 1 1 1",
+            "in/dark.background": b"0,0,0\n", "set.ppm": p3(UNIQUE), "set.3.ppm": p3(UNIQUE[::-1]), "key.ppm": made["key.ppm"],
+        })
+        self.assertEqual(made["key.ppm"].split(), b"P3 1 1 255 0 0 0".split())
+        again = self.rows("out", status=0)
+        self.assertEqual(len(again), 6)
+        self.assertTrue(all(row["certificate"]["accepted"] for row in again.values()))
+        for name, other in (("site/one.png", "out/one.ppm"), ("site/given.ppm", "out/given.ppm"), ("site/in/dark.ppm", "out/in/dark.ppm"), ("site/set.xml#3", "out/set.3.ppm")):
+            for field in ("picture", "palette", "givens"):
+                self.assertEqual(first[name].get(field), again[other].get(field))
+        self.assertEqual(check_site.main([str(out), "--quiet"]), 0)
+        # What is no longer published goes, what is missing comes again, and what is as it was stays.
+        (self.site / "given.givens").write_text("given 1 1\n")
+        self.put("in/dark.ppm", b"P3 2 1 1 1 1 1 0 0 0")
+        (out / "one.ppm").unlink()
+        before = (out / "set.ppm").stat().st_mtime_ns
+        self.rows("site", "--ppm", "out", "--certify", "out", "--resume", status=1)
+        self.assertEqual((out / "given.givens").read_bytes(), b"given 1 1\n")
+        self.assertEqual(((out / "one.ppm").read_bytes(), (out / "set.ppm").stat().st_mtime_ns), (p3(UNIQUE), before))
+        self.assertFalse((out / "in" / "dark.background").exists())
+        self.assertEqual(check_site.main([str(out), "--quiet"]), 0)
+
+    @pytest.mark.since("0.7.0")
+    def test_pictures_are_not_written_where_puzzles_are_read(self):
+        self.put("in/one.ppm", p3(UNIQUE))
+        os.symlink("site", self.folder / "other")
+        for words in (["site", "--ppm", "site"], ["site", "--ppm", "site/out"], ["site/in", "--ppm", "site"], ["site/in/one.ppm", "--ppm", "site/in"],
+                      ["site", "--ppm", "other/in"], ["site/in", "--givens", "site", "--ppm", "site/out"], ["site", "--ppm", "out", "--scheduler", "tcp://none:1"]):
+            with self.subTest(words):
+                self.run_audit(*words, status=2)
+        self.assertEqual((self.site / "in" / "one.ppm").read_bytes(), p3(UNIQUE))
+
+    def test_a_picture_that_cannot_be_written(self):
+        self.put("one.ppm", p3(UNIQUE))
+        (self.folder / "out" / "one.ppm").mkdir(parents=True)
+        done = self.run_audit("site", "--ppm", "out", "--jsonl", "rows", status=3)
+        self.assertIn("nonobench-audit: pictures not written: 1\n", done.stderr)
+        self.assertEqual(self.read("rows")["site/one.ppm"]["note"], "its picture was not written: Is a directory")
+        # What is no file gives way, and nothing waits for it.
+        (self.folder / "out" / "one.ppm").rmdir()
+        os.mkfifo(self.folder / "out" / "one.ppm")
+        self.run_audit("site", "--ppm", "out", status=0)
+        self.assertEqual((self.folder / "out" / "one.ppm").read_bytes(), p3(UNIQUE))
+
+    @pytest.mark.since("0.7.0")
+    def test_what_is_written_takes_the_place_of_pipes_and_links(self):
+        """No run waits for a pipe that lies where it writes, nor leaves a link whose file somebody else may change."""
+        self.put("one.ppm", p3(UNIQUE))
+        self.put("learnt.ppm", p3(LEARNT))
+        os.mkfifo(self.site / "learnt.cert")
+        out = self.folder / "out"
+        out.mkdir()
+        os.mkfifo(out / "learnt.ppm")
+        os.symlink("../site/one.ppm", out / "one.ppm")
+        words = ["--untrusted", "--certify", "site", "--ppm", "out", "--allow", "99999"]
+        self.assertEqual([row.get("note") for row in self.rows("site", *words, status=0).values()], [None, None])
+        self.assertEqual(nonobench.check(p3(LEARNT), (self.site / "learnt.cert").read_bytes()).givens, ())
+        for name, cells in (("one", UNIQUE), ("learnt", LEARNT)):
+            self.assertEqual((out / f"{name}.ppm").read_bytes(), p3(cells))
+            self.assertFalse((out / f"{name}.ppm").is_symlink())
+
+    @pytest.mark.since("0.7.0")
+    def test_a_row_has_the_sum_of_its_file(self):
+        files = {"one.ppm": p3(UNIQUE), "set.xml": ("<puzzleset>" + webpbn(UNIQUE) * 2 + "</puzzleset>").encode(), "bad.png": b"x"}
+        for name, data in files.items():
+            self.put(name, data)
+        self.put("one.cert", CERT)
+        for name, row in self.rows("site", status=3).items():
+            self.assertEqual(row["sha256"], hashlib.sha256(files[name.removeprefix("site/").split("#")[0]]).hexdigest())
 
     def test_what_is_known_of_a_puzzle_gives_it_no_more_time(self):
         ours, theirs = os.pipe()
@@ -491,8 +677,9 @@ class Running(Case):
                 self.assertEqual(len(list(pool._read(hand))), is_further)
                 self.assertEqual(hand.since > 5.0, is_further)
 
+    @pytest.mark.since("0.7.0")
     def test_a_grade_that_does_not_come_takes_neither_note_nor_certificate(self):
-        said = '{"file":"one.ppm","verdict":"unique","lines":7,"note":"its proof was not written: x","seconds":1.5}'
+        said = '{"file":"one.ppm","verdict":"unique","lines":7,"note":"its certificate was not written: x","seconds":1.5}'
         task = serving.Task(0, "one.ppm", "one.ppm", (), None, None, None, "", 1, serving.FULL)
         for why, is_late, seconds in (("no answer within 9 seconds", True, 9.0), ("its process ended by signal 9", False, 1.5)):
             hand = types.SimpleNamespace(known=["0", "known", "unique", said, "last CERT"])
@@ -500,12 +687,13 @@ class Running(Case):
             (answer,) = pool._blame(hand, task, why, is_late)
             row = json.loads(answer.text)
             self.assertEqual((answer.is_last, answer.verdict, answer.certificate), (True, "unique", "CERT"))
-            self.assertEqual((row["note"], row["seconds"]), (f"its proof was not written: x; its grade: {why}", seconds))
+            self.assertEqual((row["note"], row["seconds"]), (f"its certificate was not written: x; its grade: {why}", seconds))
             # It is known of this puzzle alone.
             hand.tasks = deque([task])
             self.assertEqual(list(pool._take(hand, task, answer)), [answer])
             self.assertIsNone(hand.known)
 
+    @pytest.mark.since("0.7.0")
     def test_no_two_certificates_have_one_name(self):
         several = "<puzzleset>" + webpbn(UNIQUE) + webpbn(LEARNT) + "</puzzleset>"
         for name, data in (("set.xml", several), ("set.2.ppm", p3(UNIQUE)), ("a.ppm", p3(UNIQUE)), ("a.pgm", p3(LEARNT)), ("a.ppm.ppm", p3(LEARNT)),
@@ -524,6 +712,7 @@ class Running(Case):
         rows = self.rows("site", "--certificates", "certs", status=0)
         self.assertEqual([("certificate" in rows[f"site/set.xml#{number}"]) for number in (1, 2)], [True, False])
 
+    @pytest.mark.since("0.7.0")
     def test_an_output_is_no_input(self):
         files = {"one.ppm": p3(UNIQUE), "one.cert": CERT.encode(), "two.ppm": p3(UNIQUE), "odd.txt": p3(UNIQUE)}
         kept = {self.put(name, data): data for name, data in files.items()}
@@ -542,6 +731,7 @@ class Running(Case):
         for words, limit in ((["--allow", "9"], "9 splits"), (["--seconds", "2"], "2 s"), (["--allow", "9", "--seconds", "2"], "9 splits, 2 s"), ([], "10 s")):
             self.assertEqual(running.settings_of(arguments.options_of([str(self.site), *words])).limit, limit)
 
+    @pytest.mark.since("0.7.0")
     def test_certificates_beside(self):
         self.put("one.ppm", p3(UNIQUE))
         self.put("one.cert", "nonocert 1\nline r 1\n")
@@ -552,7 +742,7 @@ class Running(Case):
         self.put("three.givens", "given 1 1\n")
         rows = self.rows("site", status=1)
         self.assertEqual(rows["site/one.ppm"]["certificate"], {"accepted": False, "why": "certificate Ended at line 3"})
-        self.assertEqual(rows["site/two.ppm"]["certificate"], {"accepted": True, "givens": [[1, 1]], "unpublished": [[1, 1]]})
+        self.assertEqual(rows["site/two.ppm"]["certificate"], {"accepted": False, "why": "certificate UnpublishedGiven at line 2"})
         # With its given the puzzle has one solution, and its certificate names what is published.
         self.assertEqual(rows["site/three.ppm"]["verdict"], "unique")
         self.assertEqual(rows["site/three.ppm"]["givens"], [[1, 1]])
@@ -561,91 +751,81 @@ class Running(Case):
             (self.site / name).unlink()
         self.run_audit("site", status=0)
 
-    # Proofs beside puzzles: the picture, the proof, the cells that are published, and what is said of it. Each cell of `all` is given.
-    PROOFS = {
-        "good": (UNIQUE, PROOF, "", {"accepted": True}, "proof accepted"),
-        "cut": (UNIQUE, "nonolemma 1\ndone\n", "", {"accepted": False, "why": "certificate NotDone at line 2"},
-                "proof refused: certificate NotDone at line 2"),
+    # Certificates beside puzzles: the picture, the certificate, the cells that are published, what is said of it, and its givens. Each
+    # cell of `all` is given.
+    BESIDE = {
+        "good": (UNIQUE, LEMMAS, "", "accepted", []),
+        "cut": (UNIQUE, "nonolemma 1\ndone\n", "", "refused: certificate NotDone at line 2", None),
         # Whichever cell of the first row is black: the second column has room for a black cell, and it needs one.
-        "other": (AMBIGUOUS, PROOF, "", {"accepted": False, "why": "certificate NotDead at line 4"},
-                  "proof refused: certificate NotDead at line 4"),
-        "kind": (UNIQUE, CERT, "", {"accepted": False, "why": "certificate NotCert at line 1"},
-                 "proof refused: certificate NotCert at line 1"),
-        "unpublished": (AMBIGUOUS, GIVEN_PROOF, "", {"accepted": True, "givens": [[1, 1]], "unpublished": [[1, 1]]},
-                        "proof accepted, unpublished givens 1"),
-        "published": (AMBIGUOUS, GIVEN_PROOF, "given 1 1\n", {"accepted": True, "givens": [[1, 1]]}, "proof accepted, givens 1"),
-        "all": (AMBIGUOUS, ALL_PROOF, "given 1 1\n",
-                {"accepted": True, "givens": [[1, 1], [1, 2], [2, 1], [2, 2]], "unpublished": [[1, 2], [2, 1], [2, 2]]},
-                "proof accepted, unpublished givens 3"),
+        "other": (AMBIGUOUS, LEMMAS, "", "refused: certificate NotDead at line 4", None),
+        "kind": (UNIQUE, "nonolemma 3\n", "", "refused: certificate NotCert at line 1", None),
+        "crlf": (UNIQUE, CERT.replace("\n", "\r\n"), "",
+                 "refused: certificate NotCert at line 1 (its lines end with CR LF, and must end with LF alone)", None),
+        "unpublished": (AMBIGUOUS, GIVEN_LEMMAS, "", "refused: certificate UnpublishedGiven at line 2", None),
+        "published": (AMBIGUOUS, GIVEN_LEMMAS, "given 2 2\ngiven 1 1", "accepted, givens 1", [[1, 1]]),
+        "all": (AMBIGUOUS, ALL_LEMMAS, "given 1 1\n", "refused: certificate UnpublishedGiven at line 3", None),
     }
 
-    def test_proofs_beside(self):
-        for name, (picture, proof, givens, _, _) in self.PROOFS.items():
+    @pytest.mark.since("0.7.0")
+    def test_what_is_said_of_certificates_beside(self):
+        for name, (picture, text, givens, _, _) in self.BESIDE.items():
             self.put(f"{name}.ppm", p3(picture))
-            self.put(f"{name}.proof", proof)
+            self.put(f"{name}.cert", text)
             self.put(f"{name}.givens", givens)
         done = self.run_audit("site", "--jsonl", "rows", "--csv", "rows.csv", "--html", "report.html", status=1)
         rows = self.read("rows")
         table = self.run_audit("site", status=1).stdout
         sheet = {row["file"]: row for row in csv.DictReader(io.StringIO((self.folder / "rows.csv").read_text()))}
         page = (self.folder / "report.html").read_text()
-        self.assertIn('<p class="flaws">Besides: proofs not accepted 3, proofs with unpublished givens 2. Such puzzles', page)
+        self.assertIn('<p class="flaws">Besides: certificates not accepted 6. Such puzzles', page)
         shown = {record[0]: record for record in records_of(page)}
-        for name, (_, _, _, told, words) in self.PROOFS.items():
-            file = f"site/{name}.ppm"
+        for name, (_, _, _, words, givens) in self.BESIDE.items():
+            file, told = f"site/{name}.ppm", {"accepted": True, "givens": givens} if givens else {"accepted": True}
             with self.subTest(name):
-                self.assertEqual((rows[file].get("lemmas"), rows[file].get("certificate")), (told, None))
-                self.assertIn(f"  {file}; {words}\n", table)
-                self.assertEqual((f"proof {sheet[file]['lemmas']}", sheet[file]["certificate"]), (words, ""))
-                self.assertEqual((shown[file][12], shown[file][15:]), (words, [] if name in ("good", "published") else [1]))
-        self.assertIn("besides: proofs not accepted 3, proofs with unpublished givens 2\n", done.stdout)
+                self.assertEqual(rows[file]["certificate"], told if givens is not None else {"accepted": False, "why": words[9:]})
+                self.assertIn(f"  {file}; certificate {words}\n", table)
+                self.assertEqual(sheet[file]["certificate"], words)
+                self.assertEqual((shown[file][12], shown[file][15:]), (f"certificate {words}", [1] if givens is None else []))
+        self.assertIn("besides: certificates not accepted 6\n", done.stdout)
 
-    def test_the_status_counts_proofs(self):
-        for name, (picture, proof, givens, told, _) in self.PROOFS.items():
+    @pytest.mark.since("0.7.0")
+    def test_the_status_counts_certificates(self):
+        for name, (picture, text, givens, _, told) in self.BESIDE.items():
             self.put("one.ppm", p3(picture))
-            self.put("one.proof", proof)
+            self.put("one.cert", text)
             self.put("one.givens", givens)
             with self.subTest(name):
-                self.run_audit("site", "--quiet", status=0 if name in ("good", "published") else 1)
+                self.run_audit("site", "--quiet", status=1 if told is None else 0)
 
-    def test_a_proof_and_a_certificate(self):
-        accepted, refused = {"accepted": True}, {"accepted": False, "why": "certificate NotCert at line 1"}
-        for certificate, proof, told in ((CERT, PROOF, (accepted, accepted)), (CERT, "", (accepted, refused)), ("", PROOF, (refused, accepted)),
-                                         (PROOF, CERT, (refused, refused))):
-            self.put("one.ppm", p3(UNIQUE))
-            self.put("one.cert", certificate)
-            self.put("one.proof", proof)
-            with self.subTest((certificate, proof)):
-                row = self.rows("site", status=0 if told == (accepted, accepted) else 1)["site/one.ppm"]
-                self.assertEqual((row.get("certificate"), row.get("lemmas")), told)
-        self.assertIn("; certificate refused: certificate NotCert at line 1; proof refused: ", self.run_audit("site").stdout)
+    @pytest.mark.since("0.7.0")
+    def test_a_certificate_of_a_puzzle_that_is_undecided(self):
+        # Without a split it is open which diagonal is black; with the given it is not. The verdict stays that of the search.
+        self.put("one.ppm", p3(LEARNT))
+        self.put("one.cert", nonobench.prove(p3(LEARNT)).certificate)
+        row = self.rows("site", "--allow", "0", status=1)["site/one.ppm"]
+        self.assertEqual((row["verdict"], row["certificate"]), ("undecided", {"accepted": True}))
 
-    def test_proofs_of_a_puzzle_that_is_undecided(self):
-        # Without a split it is open which diagonal is black; as for a certificate, the verdict stays what it is.
-        self.put("one.ppm", p3(AMBIGUOUS))
-        for ending, text, field in (("cert", GIVEN_CERT, "certificate"), ("proof", GIVEN_PROOF, "lemmas")):
-            self.put(f"one.{ending}", text)
-            row = self.rows("site", "--allow", "0", status=1)["site/one.ppm"]
-            self.assertEqual((row["verdict"], row.get(field, {}).get("accepted")), ("undecided", True))
-
-    def test_proofs_are_found(self):
+    @pytest.mark.since("0.7.0")
+    def test_certificates_are_found(self):
         self.put("small/one.ppm", p3(UNIQUE))
         self.put("twin.ppm", p3(UNIQUE))
         self.put("twin.png", image("PNG"))
         self.put("set.xml", "<puzzleset>" + webpbn(UNIQUE) + webpbn(AMBIGUOUS) + webpbn(UNIQUE) + "</puzzleset>")
-        for name, text in (("small/one", PROOF), ("twin.ppm", PROOF), ("twin.png", CERT), ("set", PROOF), ("set.2", PROOF), ("set.3", PROOF), ("set.4", "x")):
-            place = self.folder / "proofs" / f"{name}.proof"
-            place.parent.mkdir(parents=True, exist_ok=True)
-            place.write_text(text)
-        rows = self.rows("site", "--certificates", "proofs", status=1)
-        self.assertEqual({name.removeprefix("site/"): row.get("lemmas", {}).get("accepted") for name, row in rows.items()}, {
-            "small/one.ppm": True, "twin.ppm": True, "twin.png": False, "set.xml#1": True, "set.xml#2": False, "set.xml#3": True,
-        })
+        for ending in ("proof", "cert"):  # the second takes the place of the first
+            for name, text in (("small/one", LEMMAS), ("twin.ppm", LEMMAS), ("twin.png", "x"), ("set", LEMMAS), ("set.2", CERT), ("set.3", CERT), ("set.4", "x")):
+                place = self.folder / "certs" / f"{name}.{ending}"
+                place.parent.mkdir(parents=True, exist_ok=True)
+                place.write_text(text)
+            rows = self.rows("site", "--certificates", "certs", status=1)
+            self.assertEqual({name.removeprefix("site/"): row["certificate"]["accepted"] for name, row in rows.items()}, {
+                "small/one.ppm": True, "twin.ppm": True, "twin.png": False, "set.xml#1": True, "set.xml#2": False, "set.xml#3": True,
+            })
 
+    @pytest.mark.since("0.7.0")
     def test_of_several_files_the_worst_is_told(self):
         refused = {"accepted": False, "why": "certificate NotCert at line 1"}
-        for ending, good, field in (("cert", CERT, "certificate"), ("proof", PROOF, "lemmas")):
-            for first, second in ((good, "x"), ("x", good)):
+        for ending in ("cert", "proof"):
+            for first, second in ((CERT, "x"), ("x", CERT)):
                 self.put("one.ppm", p3(UNIQUE))
                 self.put(f"one.ppm.{ending}", first)
                 self.put(f"one.{ending}", second)
@@ -654,8 +834,11 @@ class Running(Case):
                 self.put(f"set.1.{ending}", first)
                 with self.subTest((ending, first)):
                     rows = self.rows("site", status=1)
-                    self.assertEqual([row.get(field) for row in rows.values()], [refused, refused])
+                    self.assertEqual([row["certificate"] for row in rows.values()], [refused, refused])
+            for place in self.site.glob("*.cert"):
+                place.unlink()
 
+    @pytest.mark.since("0.7.0")
     def test_what_lies_beside_is_checked_before_a_certificate_is_made(self):
         class Slow(judging.Desk):
             def say(self, lines):
@@ -674,26 +857,26 @@ class Running(Case):
         self.addCleanup(setattr, serving, "LONG", serving.LONG)
         serving.LONG = -1.0
         answers = Answers()
-        judge = serving.Judging(serving.Settings("", "", 1024, None, "white", True, True, False, None), answers)
+        judge = serving.Judging(serving.Settings("", "", 1024, None, "white", True, True, False), answers)
         judge._desk = Slow()
         place = self.put("one.ppm", p3(UNIQUE))
-        beside = [(1, kind, str(self.put(f"one.{kind}", "x"))) for kind in ("cert", "proof")]
-        task = serving.Task(0, "one.ppm", str(place), tuple(beside), None, None, None, "", 1, serving.FULL)
+        beside = (1, str(self.put("one.cert", "x")))
+        task = serving.Task(0, "one.ppm", str(place), (beside,), None, None, None, "", 1, serving.FULL)
         with self.assertRaises(TimeoutError):
             judge.answer(task)
         self.assertEqual([words[1] for words in answers], ["known"])
-        row = json.loads(answers[0][3])
-        self.assertEqual([row.get(field, {}).get("accepted") for field in ("certificate", "lemmas")], [False, False])
+        self.assertEqual(json.loads(answers[0][3])["certificate"]["accepted"], False)
 
+    @pytest.mark.since("0.7.0")
     def test_endings_in_capital_letters(self):
         refused = {"accepted": False, "why": "certificate NotCert at line 1"}
         self.put("DUCK.PNG", image("PNG"))
         self.put("SET.XML", "<puzzleset>" + webpbn(UNIQUE) + webpbn(UNIQUE) + "</puzzleset>")
-        for ending, field in (("CERT", "certificate"), ("PROOF", "lemmas")):
+        for ending in ("CERT", "PROOF"):
             for name in (f"DUCK.{ending}", f"SET.2.{ending}"):
                 self.put(name, "x")
             rows = self.rows("site", status=1)
-            self.assertEqual([row.get(field) for row in rows.values()], [refused, None, refused])
+            self.assertEqual([row.get("certificate") for row in rows.values()], [refused, None, refused])
             for name in (f"DUCK.{ending}", f"SET.2.{ending}"):
                 (self.site / name).unlink()
         # By a black background the red cells may change places.
@@ -718,6 +901,7 @@ class Running(Case):
         rows = self.rows("site/in", "site", "site/one.ppm", "site/in/one.ppm", status=0)
         self.assertEqual(list(rows), ["site/in/one.ppm", "site/one.ppm"])
 
+    @pytest.mark.since("0.7.0")
     def test_certificates_in_a_folder_that_is_not_there(self):
         self.put("one.ppm", p3(UNIQUE))
         self.assertIn("no such folder: 'certz'", self.run_audit("site", "--certificates", "certz", status=2).stderr)
@@ -731,18 +915,21 @@ class Running(Case):
         (self.folder / "certs" / "in").unlink()
         (self.folder / "certs" / "two.cert").write_text(CERT)
         done = self.run_audit("site", "--certificates", "certs", status=3)
-        self.assertIn("nonobench-audit: certs: no certificate or proof in it is of one of these puzzles\n", done.stderr)
+        self.assertIn("nonobench-audit: certs: no certificate in it is of one of these puzzles\n", done.stderr)
         self.run_audit("site", "--certificates", "certs", "--shard", "1/2", status=0)
         (self.folder / "certs" / "one.cert").write_text(CERT)
         self.run_audit("site", "--certificates", "certs", status=0)
 
+    @pytest.mark.since("0.7.0")
     def test_givens_that_do_not_fit(self):
         self.put("one.ppm", p3(AMBIGUOUS))
-        for text, words in (("given 3 1\n", "outside the picture"), ("given 1\n", "not `given R C`"), ("x", "not `given R C`")):
+        for text, why in (("given 3 1\n", "Place at line 1"), ("given 1 1\ngiven 1\n", "BadLine at line 2"), ("x", "BadLine at line 1"),
+                          ("given 2 1\ngiven 1 1\ngiven 2 1\n", "Repeated at line 3")):
             self.put("one.givens", text)
             with self.subTest(text):
-                self.assertRegex(self.rows("site", status=3)["site/one.ppm"]["error"], words)
+                self.assertEqual(self.rows("site", status=3)["site/one.ppm"]["error"], f"givens {why}")
 
+    @pytest.mark.since("0.7.0")
     def test_background_beside(self):
         # Black as background: one black cell on white is three cells on background.
         self.put("one.ppm", p3(AMBIGUOUS))
@@ -791,7 +978,7 @@ class Running(Case):
         self.assertEqual(list(self.rows("site/b.ppm", "site", "site/a", "./site")), wanted)
 
     def test_grades(self):
-        # GRADE.md's example by hand: 2 rounds, 8 evaluations, longest wait 2.
+        # FORMATS.md's example by hand: 2 rounds, 8 evaluations, longest wait 2.
         self.put("one.ppm", p3([".a.", "aa.", "..."]))
         row = self.rows("site", status=0)["site/one.ppm"]
         self.assertEqual(row["grade"], "easy")
@@ -818,6 +1005,7 @@ class Again(Case):
         for at in range(count):
             self.put(f"{at % 7}/{at:03}.ppm", p3(UNIQUE if at % 3 else AMBIGUOUS))
 
+    @pytest.mark.since("0.7.0")
     def test_resume_redoes_only_what_changed(self):
         self.fill(20)
         first = self.rows("site", "--certify", "certs", status=1)
@@ -836,35 +1024,33 @@ class Again(Case):
         self.assertEqual(again["site/0/000.ppm"]["verdict"], "unique")
         self.assertTrue((self.folder / "certs" / "2" / "002.cert").exists())
 
+    @pytest.mark.since("0.7.0")
     def test_resume_minds_what_lies_beside(self):
         refused = {"accepted": False, "why": "certificate NotDone at line 2"}
         self.put("one.ppm", p3(UNIQUE))
-        wanted = {"one.proof": (PROOF, "lemmas", {"accepted": True}), "one.cert": (CERT, "certificate", {"accepted": True})}
-        self.assertNotIn("lemmas", self.rows("site", status=0)["site/one.ppm"])
-        for name, (text, field, told) in wanted.items():
+        self.assertNotIn("certificate", self.rows("site", status=0)["site/one.ppm"])
+        for name, text in (("one.proof", LEMMAS), ("one.cert", CERT)):
             self.put(name, text)
-            self.assertEqual(self.rows("site", "--resume", status=0)["site/one.ppm"].get(field), told)
+            self.assertEqual(self.rows("site", "--resume", status=0)["site/one.ppm"]["certificate"], {"accepted": True})
             self.put(name, text.split("\n")[0] + "\ndone\n")
-            self.assertEqual(self.rows("site", "--resume", status=1)["site/one.ppm"].get(field), refused)
+            self.assertEqual(self.rows("site", "--resume", status=1)["site/one.ppm"]["certificate"], refused)
             before = (self.folder / "rows.jsonl").read_bytes()
             self.rows("site", "--resume", status=1)
             self.assertEqual((self.folder / "rows.jsonl").read_bytes(), before)
             (self.site / name).unlink()
-            self.assertNotIn(field, self.rows("site", "--resume", status=0)["site/one.ppm"])
+            self.assertNotIn("certificate", self.rows("site", "--resume", status=0)["site/one.ppm"])
 
+    @pytest.mark.since("0.7.0")
     def test_resume_minds_what_a_file_is_for(self):
-        # The same bytes under another name are another kind, or for another puzzle.
-        self.put("one.ppm", p3(UNIQUE))
-        self.put("one.cert", CERT)
+        # The same bytes under another name are for another puzzle.
         self.put("set.xml", "<puzzleset>" + webpbn(UNIQUE) + webpbn(AMBIGUOUS) + "</puzzleset>")
         self.put("set.cert", CERT)
         self.rows("site", status=1)
-        os.rename(self.site / "one.cert", self.site / "one.proof")
         os.rename(self.site / "set.cert", self.site / "set.2.cert")
         rows = self.rows("site", "--resume", status=1)
-        told = [row.get(field, {}).get("accepted") for row in rows.values() for field in ("certificate", "lemmas")]
-        self.assertEqual(told, [None, False, None, None, False, None])
+        self.assertEqual([row.get("certificate", {}).get("accepted") for row in rows.values()], [None, False])
 
+    @pytest.mark.since("0.7.0")
     def test_resume_minds_an_empty_file_of_givens(self):
         # It takes away the given of the XML, without which there are two solutions.
         self.put("set.xml", webpbn(AMBIGUOUS, more='<solution type="saved" id="givens"><image>|X?||??|</image></solution>'))
@@ -884,22 +1070,46 @@ class Again(Case):
         self.rows("site", "--allow", "9", "--resume", status=1)
         self.assertEqual((self.folder / "rows.jsonl").read_bytes(), whole)
 
+    @pytest.mark.since("0.7.0")
     def test_merge_reads_rows_that_were_written_anew(self):
         self.put("one.ppm", p3(UNIQUE))
-        self.put("one.proof", "x")
-        self.put("two.ppm", p3(UNIQUE))
-        self.put("two.cert", "x")
+        self.put("one.cert", "x")
         rows = self.rows("site", "--allow", "9", status=1)
         whole = (self.folder / "rows.jsonl").read_bytes()
         (self.folder / "blanks").write_text("".join(json.dumps(row) + "\n" for row in rows.values()))
         done = self.run_audit("merge", "blanks", "--jsonl", "merged", status=1)
-        self.assertIn("besides: certificates not accepted 1, proofs not accepted 1\n", done.stdout)
+        self.assertIn("besides: certificates not accepted 1\n", done.stdout)
         self.assertEqual((self.folder / "merged").read_bytes(), whole)
-        for line in ('{"file":"x"}', '{"file":"x","verdict":"fine"}', "[]", '{"file":1,"verdict":"unique"}'):
-            (self.folder / "other").write_text(line + "\n")
-            with self.subTest(line):
-                done = self.run_audit("merge", "blanks", "other", status=3)
-                self.assertEqual(done.stderr, "nonobench-audit: other: line 1 is not a row of an audit\n")
+
+    @pytest.mark.since("0.7.0")
+    def test_rows_that_are_none(self):
+        """Each is named, by merge and by --resume, and its status is not that of puzzles that are not fit."""
+        self.put("one.ppm", p3(UNIQUE))
+        self.put("one.cert", CERT)
+        self.put("one.givens", "given 1 1\n")
+        self.put("two.ppm", p3(AMBIGUOUS))
+        self.rows("site", "--allow", "9", status=1)
+        first, second = (self.folder / "rows.jsonl").read_bytes().splitlines()
+        poisons = list(poisons_of(json.loads(first)))
+        self.assertGreater(len(poisons), 100)
+        for line, why in poisons:
+            (self.folder / "rows.jsonl").write_bytes(second + b"\n" + line + b"\n")
+            # What --resume has no file for is left out unread.
+            resume = [["site", "--allow", "9", "--jsonl", "rows.jsonl", "--resume", "--jobs", "1"]] if b'"file":"site/one.ppm"' in line else []
+            for words in (["merge", "rows.jsonl"], *resume):
+                with self.subTest((line[:2000], words[0])):
+                    status, said = in_process(self.folder, *words)
+                    self.assertEqual(status, 3)
+                    self.assertIn(f"nonobench-audit: rows.jsonl: line 2 is not a row of an audit: {why}", said)
+                    self.assertNotIn("Traceback", said)
+
+    def test_a_flaw_of_a_kept_row_is_seen_however_it_is_written(self):
+        self.put("one.xml", '<puzzle><color name="snow" char="s">fffffe</color><solution><image>|sX.|</image></solution></puzzle>')
+        row = self.rows("site", "--allow", "9", status=1)["site/one.xml"]
+        text = json.dumps(row, separators=(",", ":")).replace('"near":[', '"\\u006eear": [')
+        (self.folder / "rows.jsonl").write_text(text + "\n")
+        self.rows("site", "--allow", "9", "--resume", status=1)
+        self.assertEqual((self.folder / "rows.jsonl").read_text(), text + "\n")
 
     def test_merge_refuses_rows_of_a_file_that_do_not_go_together(self):
         self.put("set.xml", "<puzzleset>" + webpbn(UNIQUE) * 2 + "</puzzleset>")
@@ -924,6 +1134,8 @@ class Again(Case):
             with self.subTest(name):
                 done = self.run_audit("merge", "part", "--jsonl", "merged", status=3)
                 self.assertEqual(done.stderr, "nonobench-audit: site/set.xml: rows of some of its puzzles are missing, or of another run\n")
+        (self.folder / "part").write_text(lines[1].replace("site/set", "\\u001b[2Jset"))
+        self.assertIn("nonobench-audit: \\x1b[2Jset.xml: rows of some", self.run_audit("merge", "part", status=3).stderr)
         self.assertIn("of another run", self.run_audit("merge", "whole", "one", "--jsonl", "merged", status=3).stderr)
         self.run_audit("merge", "whole", "two", "--jsonl", "merged", status=1)
         self.run_audit("merge", "whole", "--jsonl", "merged", status=0)
@@ -948,6 +1160,60 @@ class Again(Case):
         self.rows("site", "--allow", "1000", "--resume")
         self.assertEqual((self.folder / "rows.jsonl").read_bytes(), whole)
 
+    @pytest.mark.since("0.7.0")
+    def test_resume_checks_certificates_again(self):
+        """Whatever a kept row of a unique puzzle says, its puzzle and its certificate bear it out, or it is made again."""
+        self.put("one.ppm", p3(UNIQUE))
+        self.put("two.ppm", p3(AMBIGUOUS))
+        self.put("near.ppm", b"P3 2 1 255 0 0 0 9 9 9\n")
+        self.put("given.ppm", p3(AMBIGUOUS))
+        self.put("given.givens", "given 1 1\n")
+        self.put("given.cert", "nonocert 1\ndone\n")
+        words = ["site", "--seconds", str(PATIENCE), "--jobs", "1", "--certify", "certs", "--jsonl", "rows.jsonl", "--resume"]
+        in_process(self.folder, *words)
+        place = self.folder / "rows.jsonl"
+        whole, first = place.read_bytes(), self.read("rows.jsonl")
+        self.assertEqual([row["verdict"] for row in first.values()], ["unique"] * 3 + ["ambiguous"])
+        self.assertEqual(in_process(self.folder, *words)[0], 1)
+        self.assertEqual(place.read_bytes(), whole)
+        one, two, near, given = (f"site/{name}.ppm" for name in ("one", "two", "near", "given"))
+        forged = {**{name: value for name, value in first[two].items() if name != "other"}, "verdict": "unique"}
+        every = "nonocert 2\n" + "".join(f"given {cell}\n" for cell in ("1 1", "1 2", "2 1", "2 2")) + "done\n"
+        cases = [(two, {**forged, "lines": (text or "").count("\n")}, text) for text in (None, CERT, GIVEN_CERT, every)]
+        cases += [(near, {name: value for name, value in first[near].items() if name != "near"}, None)]
+        cases += [(given, {**first[given], "certificate": {"accepted": True, "givens": [[1, 1]]}}, None), (given, {**first[given], "givens": [[2, 2]]}, None)]
+        cases += [(one, {**first[one], **changes}, None) for changes in (
+            {"picture": ".b/a."}, {"palette": ["ffffff", "ff0000", "000000"]}, {"open": 3}, {"lines": 99}, {"title": "x"}, {"certificate": {"accepted": True}}, {"error": "x"})]
+        cases += [(one, {**first[one], "lines": text.count("\n")}, text) for text in ("", CERT[:-5], GIVEN_CERT)]
+        for name, row, certificate in cases:
+            rows = {**first, name: row}
+            place.write_text("".join(json.dumps(row, separators=(",", ":")) + "\n" for row in rows.values()))
+            if certificate is not None:
+                (self.folder / "certs" / f"{name[5:-4]}.cert").write_text(certificate)
+            with self.subTest((name, row, certificate)):
+                self.assertEqual(in_process(self.folder, *words)[0], 1)
+                after = self.read("rows.jsonl")
+                self.assertEqual({**after[name], "seconds": 0}, {**first[name], "seconds": 0})
+                self.assertEqual({**after, name: None}, {**first, name: None})
+            with contextlib.suppress(FileNotFoundError):
+                (self.folder / "certs" / "two.cert").unlink()
+        self.assertEqual(nonobench.check(p3(UNIQUE), (self.folder / "certs" / "one.cert").read_bytes()).givens, ())
+
+    @pytest.mark.since("0.7.0")
+    def test_resume_checks_that_no_puzzle_is_hidden(self):
+        self.put("set.xml", "<puzzleset>" + webpbn(UNIQUE) + webpbn(AMBIGUOUS) + "</puzzleset>")
+        words = ["site", "--allow", "9", "--certify", "certs", "--jsonl", "rows.jsonl", "--resume"]
+        in_process(self.folder, *words)
+        place = self.folder / "rows.jsonl"
+        whole = place.read_text()
+        rows = [json.loads(line) for line in whole.splitlines()]
+        alone = {name: value for name, value in rows[0].items() if name not in ("puzzle", "more")}
+        more = {**rows[1], "more": True}
+        for forged in ([alone], [{**alone, "puzzle": 1}], [rows[0], more, {**rows[0], "puzzle": 3, "more": True}, {**rows[1], "puzzle": 4}], [rows[0], more, {**rows[1], "puzzle": 3}]):
+            place.write_text("".join(json.dumps(row, separators=(",", ":")) + "\n" for row in forged))
+            with self.subTest(forged):
+                self.assertEqual((in_process(self.folder, *words)[0], place.read_text()), (1, whole))
+
     def test_resume_refuses_other_files(self):
         self.put("one.ppm", p3(UNIQUE))
         (self.folder / "rows.jsonl").write_text('{"file":"site/one.ppm","verdict":"unique"}\nmy diary\n')
@@ -955,6 +1221,7 @@ class Again(Case):
         self.assertIn("rows.jsonl: line 2 is not a row of an audit", done.stderr)
         self.assertIn("my diary", (self.folder / "rows.jsonl").read_text())
 
+    @pytest.mark.since("0.7.0")
     def test_shards_and_merge(self):
         self.fill(23)
         self.put("set.xml", "<puzzleset>" + webpbn(UNIQUE) * 3 + "</puzzleset>")
@@ -968,6 +1235,7 @@ class Again(Case):
         self.assertEqual([len((self.folder / f"part{part}").read_text().splitlines()) for part in (1, 2, 3)], [8, 8, 10])
         self.run_audit("merge", "part1", "--jsonl", "part1", status=2)
 
+    @pytest.mark.since("0.7.0")
     def test_a_share_without_files(self):
         self.put("one.ppm", p3(UNIQUE))
         self.put("two.ppm", p3(AMBIGUOUS))
@@ -1015,6 +1283,44 @@ class Again(Case):
             os.rename(self.folder / "rows.jsonl", self.folder / "kept.jsonl")
         os.rename(self.folder / "kept.jsonl", self.folder / "rows.jsonl")
         self.assertEqual(len(self.rows("site", "--resume", "--seconds", "2")), 31)
+
+    def test_rows_behind_a_slow_file_outlive_the_run(self):
+        self.put("0.ppm", p3_of_letters(chequered(60, 4)))
+        for at in range(1, 31):
+            self.put(f"{at:02}.ppm", p3(UNIQUE if at % 2 else AMBIGUOUS))
+        process = self.start("site", "--jobs", "2", "--seconds", "300", "--jsonl", "rows.jsonl", "--csv", "rows.csv")
+        eventually(lambda: len(self.read_some("rows.jsonl")) >= 30)
+        process.kill()
+        process.communicate(timeout=PATIENCE)
+        before = self.read("rows.jsonl")
+        self.assertEqual((len(before), before["site/02.ppm"]["verdict"]), (30, "ambiguous"))
+        after = self.rows("site", "--resume", "--seconds", "1")
+        self.assertEqual(list(after), sorted([*before, "site/0.ppm"]))
+        self.assertEqual({name: after[name] for name in before}, before)
+
+    def test_rows_that_came_early_are_put_in_order(self):
+        place, texts = self.folder / "rows.jsonl", [json.dumps({"file": f"{at}.ppm", "verdict": "error", "error": "x"}) for at in range(3)]
+        run = running.Run(arguments.Options([], jsonl=str(place), csv=str(self.folder / "rows.csv"), is_quiet=True))
+        run._open()
+        first, second, third = (workers.Answer(at, True, "error", text) for at, text in enumerate(texts))
+        with unittest.mock.patch.object(running, "BEHIND", -1.0):
+            run._take_all(iter([third, None, second, None]))
+            for sink in run._sinks:
+                sink.close(False)
+            self.assertEqual(place.read_text().splitlines(), [texts[2], texts[1]])  # what a killed run leaves
+            run = running.Run(run._options)
+            run._open()
+            run._take_all(iter([third, None, second, None, first, None]))
+        self.assertEqual(run._size, 0)
+        self.assertEqual(run._close(True), [])
+        self.assertEqual(place.read_text().splitlines(), texts)
+        self.assertEqual([line[:5] for line in (self.folder / "rows.csv").read_text().splitlines()[1:]], ["0.ppm", "1.ppm", "2.ppm"])
+
+    def test_what_is_counted_is_of_one_kind(self):
+        run = running.Run(arguments.Options(["site"], is_quiet=True))
+        run._take_all(iter([workers.Answer(1, True, "unique", "{}"), workers.Answer(2, False, "ambiguous", "{}")]))
+        run._progress._total = 3
+        self.assertRegex(run._progress._line(), r"^1 of 3 files, .*; unique 1, ambiguous 1$")
 
     def read_some(self, name):
         place = self.folder / name

@@ -1,6 +1,6 @@
-"""Tests of nonobench-audit over a Dask scheduler: cd python && python3 -m unittest tests/test_audit_cluster.py
+"""Tests of nonobench-audit over a Dask scheduler: python3 -m pytest --with all python/tests/test_audit_cluster.py
 
-A scheduler and workers of this machine. tests/audit_machines.sh has several hosts, and cuts one off.
+A scheduler and workers of this machine. tests/packages/audit_machines.py has several hosts, and cuts one off.
 """
 
 import contextlib
@@ -12,8 +12,12 @@ import sys
 import unittest
 from pathlib import Path
 
+import pytest
+
 sys.path.insert(0, str(Path(__file__).resolve().parent))
-from audit_parts import AMBIGUOUS, CERT, GIVEN_PROOF, PATIENCE, PROOF, UNIQUE, Case, eventually, p3, webpbn  # noqa: E402
+from audit_parts import AMBIGUOUS, CERT, GIVEN_LEMMAS, PATIENCE, LEMMAS, UNIQUE, Case, eventually, p3, webpbn  # noqa: E402
+
+pytestmark = [pytest.mark.all, pytest.mark.since("0.7.0")]
 
 
 class Cluster(Case):
@@ -42,9 +46,9 @@ class Cluster(Case):
         for at in range(700):
             self.put(f"{at % 5}/{at:03}.ppm", p3(UNIQUE if at % 4 else AMBIGUOUS))
         self.put("set.xml", "<puzzleset>" + webpbn(UNIQUE) + webpbn(AMBIGUOUS) + "</puzzleset>")
-        # Certificates and proofs go with their puzzles: accepted, refused, with givens that are published or not, and not read.
-        for name, text in (("0/000.cert", CERT), ("1/001.proof", PROOF), ("2/002.cert", PROOF), ("3/003.proof", CERT), ("0/020.proof", GIVEN_PROOF),
-                           ("4/004.proof", GIVEN_PROOF), ("4/004.givens", "given 1 1\n"), ("set.2.proof", PROOF)):
+        # Certificates go with their puzzles: accepted, refused, with givens that are published or not, and not read.
+        for name, text in (("0/000.cert", CERT), ("1/001.proof", LEMMAS), ("2/002.cert", LEMMAS), ("3/003.proof", "x"), ("0/020.cert", GIVEN_LEMMAS),
+                           ("4/004.cert", GIVEN_LEMMAS), ("4/004.givens", "given 1 1\n"), ("set.2.proof", LEMMAS)):
             self.put(name, text)
         (self.site / "1" / "006.proof").mkdir()
         self.put("bad.png", b"no image")
@@ -63,13 +67,30 @@ class Cluster(Case):
         self.assertEqual(run.returncode, 3, said)
         self.assertEqual((self.folder / "there").read_bytes(), (self.folder / "here").read_bytes())
         rows = self.read("there")
-        self.assertEqual({name.removeprefix("site/"): row["lemmas"]["accepted"] for name, row in rows.items() if "lemmas" in row}, {
-            "0/020.ppm": True, "1/001.ppm": True, "3/003.ppm": False, "4/004.ppm": True, "set.xml#2": False,
+        self.assertEqual({name.removeprefix("site/"): row["certificate"]["accepted"] for name, row in rows.items() if "certificate" in row}, {
+            "0/000.ppm": False, "0/020.ppm": False, "1/001.ppm": True, "2/002.ppm": True, "3/003.ppm": False, "4/004.ppm": True,
+            "set.xml#2": False,
         })
-        self.assertEqual(rows["site/1/006.ppm"]["error"], "its proof: this folder is not read")
+        self.assertEqual(rows["site/1/006.ppm"]["error"], "its certificate: this folder is not read")
         # 004 has one solution with its given, and 006 is not judged.
         for name in ("certs", "more"):
             self.assertEqual(len(list((self.folder / name).rglob("*.cert"))), 525 + 1)
+
+    def test_kept_rows_are_checked_again(self):
+        self.put("one.ppm", p3(UNIQUE))
+        self.put("two.ppm", p3(AMBIGUOUS))
+        self.worker()
+        words = ["site", "--allow", "9", "--certify", "certs", "--jsonl", "rows", "--scheduler", self.address, "--resume"]
+        self.run_audit(*words, status=1)
+        place = self.folder / "rows"
+        whole = place.read_text()
+        one, two = map(json.loads, whole.splitlines())
+        (self.folder / "certs" / "two.cert").write_text(CERT)
+        forged = {**{name: value for name, value in two.items() if name != "other"}, "verdict": "unique", "lines": CERT.count("\n")}
+        for rows in ([one, two], [one, forged]):
+            place.write_text("".join(json.dumps(row, separators=(",", ":")) + "\n" for row in rows))
+            self.run_audit(*words, status=1)
+            self.assertEqual(place.read_text(), whole)
 
     def test_no_scheduler(self):
         self.put("one.ppm", p3(UNIQUE))

@@ -18,10 +18,12 @@ import zlib
 from pathlib import Path
 
 sys.path.insert(0, str(Path(__file__).resolve().parent))
+import pytest  # noqa: E402
 from audit_parts import AMBIGUOUS, PATIENCE, ROOT, UNIQUE, Case, chequered, eventually, p3, webpbn  # noqa: E402
 from processes import children, seen  # noqa: E402
 from test_audit import p3_of_letters  # noqa: E402
 
+from nonobench.collection import arguments, cluster, running, serving  # noqa: E402
 from nonobench.collection.outputs import Failure, Output  # noqa: E402
 
 SIGN = b"\x89PNG\r\n\x1a\n"
@@ -61,12 +63,20 @@ class Files(Case):
         self.put("text.png", png(8, 8, black, chunk(b"zTXt", b"k\0\0" + bomb(64))))
         self.put("whole.png", png(8, 8, black))
         errors = self.errors("--memory", "256")
-        self.assertRegex(errors["cut.png"], "^the image cannot be read: ")
+        self.assertEqual(errors["cut.png"], "the image is refused: damaged")
         self.assertEqual(errors["empty.png"], "this does not begin as PNG does")
         self.assertEqual(errors["huge.png"], "60000 by 60000 pixels, and a puzzle has at most 120 by 120")
         self.assertIsNone(errors["bomb.png"])
-        self.assertEqual(errors["text.png"], "the image cannot be read: Decompressed Data Too Large")
+        self.assertIsNone(errors["text.png"])
         self.assertIsNone(errors["whole.png"])
+
+    def test_the_same_files_give_the_same_bytes(self):
+        # What a decoder says may have the address of an object in it.
+        for name, data in (("a.png", SIGN), ("b.gif", b"GIF89a"), ("c.bmp", b"BM"), ("d.webp", b"RIFF\0\0\0\0WEBP"), ("e.ppm", b"P6"), ("f.xml", b"<a")):
+            self.put(name, data)
+        runs = [self.run_audit("site", "--allow", "9", "--jsonl", "-", status=3).stdout for _ in range(2)]
+        self.assertEqual(runs[0], runs[1])
+        self.assertNotIn("0x", runs[0])
 
     def test_texts(self):
         self.put("cut.ppm", p3(UNIQUE)[:20])
@@ -79,8 +89,9 @@ class Files(Case):
             "long.ppm": "more than 16777216 bytes", "longest.ppm": None,
         })
 
+    @pytest.mark.since("0.7.0")
     def test_what_lies_beside(self):
-        for ending, word, field in (("cert", "certificate", "certificate"), ("proof", "proof", "lemmas")):
+        for ending in ("cert", "proof"):
             for name in ("folder", "gone", "long", "most", "zeros"):
                 self.put(f"{name}.ppm", p3(UNIQUE))
             (self.site / f"folder.{ending}").mkdir()
@@ -91,10 +102,10 @@ class Files(Case):
             with self.subTest(ending):
                 rows = self.rows("site", status=3)
                 self.assertEqual({name.removeprefix("site/"): row.get("error") for name, row in rows.items()}, {
-                    "folder.ppm": f"its {word}: this folder is not read", "gone.ppm": f"its {word}: No such file or directory",
-                    "long.ppm": f"its {word}: more than 16777216 bytes", "most.ppm": None, "zeros.ppm": f"its {word}: this is not a file",
+                    "folder.ppm": "its certificate: this folder is not read", "gone.ppm": "its certificate: No such file or directory",
+                    "long.ppm": "its certificate: more than 16777216 bytes", "most.ppm": None, "zeros.ppm": "its certificate: this is not a file",
                 })
-                self.assertEqual(rows["site/most.ppm"][field], {"accepted": False, "why": "certificate NotCert at line 1"})
+                self.assertEqual(rows["site/most.ppm"]["certificate"], {"accepted": False, "why": "certificate NotCert at line 1"})
             for place in self.site.iterdir():
                 place.rmdir() if place.is_dir() else place.unlink()
 
@@ -121,6 +132,18 @@ class Files(Case):
         self.assertIsNone(errors["broken.xml#1"])
         self.assertIsNone(errors["typed.xml"])
 
+    def test_folders_however_deep(self):
+        here = os.getcwd()
+        self.addCleanup(os.chdir, here)
+        os.chdir(self.site)
+        for _ in range(1200):
+            os.mkdir("a")
+            os.chdir("a")
+        Path("one.ppm").write_bytes(p3(UNIQUE))
+        os.chdir(here)
+        self.assertEqual(self.errors(), {"a/" * 1200 + "one.ppm": None})
+        subprocess.run(["rm", "-r", self.site / "a"], check=True)  # deeper than Python's own goes
+
     def test_no_files(self):
         os.mkfifo(self.site / "pipe.ppm")
         os.symlink("two.ppm", self.site / "one.ppm")
@@ -139,9 +162,101 @@ class Files(Case):
         })
 
 
+class Strangers(Case):
+    """Collections whose files were put there by strangers: nothing beside a puzzle is believed, and no link."""
+
+    ALL = "".join(f"given {row} {column}\n" for row in (1, 2) for column in (1, 2))
+
+    def put_beside(self, folder):
+        """What makes a puzzle with two solutions a unique one: a background that no cell has, and all cells given."""
+        folder.mkdir(exist_ok=True)
+        (folder / "one.givens").write_text(self.ALL)
+        (folder / "one.cert").write_text(f"nonocert 2\n{self.ALL}done\n")
+        (folder / "two.background").write_text("255,0,255")
+
+    def rows_of(self, *words, status=None):
+        return {name.removeprefix("site/"): row for name, row in self.rows(*words, "--allow", "9", status=status).items()}
+
+    @pytest.mark.since("0.7.0")
+    def test_nothing_beside_a_puzzle_is_believed(self):
+        for name in ("one", "two"):
+            self.put(f"{name}.ppm", p3(AMBIGUOUS))
+        self.put_beside(self.site)
+        self.assertEqual([row["verdict"] for row in self.rows_of("site", status=0).values()], ["unique", "unique"])
+        for row in self.rows_of("site", "--untrusted", status=1).values():
+            self.assertEqual((row["verdict"], row.keys() & {"givens", "certificate"}, row["palette"]), ("ambiguous", set(), ["ffffff", "000000"]))
+        # What lies in a folder that the operator names is, and it alone, whether or not all else is trusted.
+        told = self.folder / "told"
+        self.put_beside(told)
+        (told / "one.givens").write_text("given 1 1\n")
+        for words in ([], ["--untrusted"]):
+            rows = self.rows_of("site", "--givens", "told", "--certificates", "told", *words, status=1)
+            self.assertEqual(rows["one.ppm"]["givens"], [[1, 1]])
+            self.assertEqual(rows["one.ppm"]["certificate"], {"accepted": False, "why": "certificate UnpublishedGiven at line 3"})
+            self.assertEqual(rows["two.ppm"]["palette"][0], "ff00ff")
+        rows = self.rows_of("site", "--givens", "told", "--untrusted", status=0)
+        self.assertEqual([row.get("certificate") for row in rows.values()], [None, None])
+        # Also where it is the collection's own folder.
+        self.assertEqual(self.rows_of("site", "--givens", "site", "--untrusted")["one.ppm"]["givens"], [[1, 1], [1, 2], [2, 1], [2, 2]])
+        self.assertIn("no such folder: 'tolt'", self.run_audit("site", "--givens", "tolt", status=2).stderr)
+
+    def test_no_links(self):
+        secret = self.folder / "secret"
+        secret.mkdir()
+        for name in ("real.ppm", "in.ppm"):
+            (secret / name).write_bytes(p3(UNIQUE))
+        for name, to in (("link.ppm", "real.ppm"), ("out.ppm", "../secret/real.ppm"), ("zero.ppm", "/dev/zero"), ("folder", "../secret"), ("gone.ppm", "nowhere"), ("xml.xml", "/etc/passwd")):
+            os.symlink(to, self.site / name)
+        self.put("real.ppm", p3(UNIQUE))
+        self.put("sub/in.ppm", p3(UNIQUE))
+        os.mkfifo(self.site / "pipe.ppm")
+        links = dict.fromkeys(("link.ppm", "out.ppm", "zero.ppm", "gone.ppm", "xml.xml"), "this is a link")
+        wanted = {**links, "real.ppm": None, "sub/in.ppm": None, "pipe.ppm": "this is not a file"}
+        rows = self.rows_of("site", "--untrusted", status=3)
+        self.assertEqual({name: row.get("error") for name, row in rows.items()}, wanted)
+        # A path that is a link is one too: a shell may have put it there for `*`. What lies before it is the operator's.
+        os.symlink("site", self.folder / "mine")
+        rows = self.rows_of("mine/out.ppm", "mine/folder", "mine/sub", "--untrusted", status=3)
+        self.assertEqual({name: row.get("error") for name, row in rows.items()}, {"mine/folder": "this is a link", "mine/out.ppm": "this is a link", "mine/sub/in.ppm": None})
+        self.assertEqual([row.get("error") for row in self.rows_of("mine", "--untrusted").values()], ["this is a link"])
+        self.assertEqual([row.get("error") for row in self.rows_of("site/sub/..", "--untrusted").values()].count("this is a link"), 5)
+
+    @pytest.mark.since("0.7.0")
+    def test_no_links_in_the_operators_folders(self):
+        self.put("one.ppm", p3(UNIQUE))
+        self.put("sub/two.ppm", p3(UNIQUE))
+        (self.folder / "secret").mkdir()
+        for name in ("one.cert", "two.cert", "one.givens", "two.givens"):
+            (self.folder / "secret" / name).write_text("")
+        (self.folder / "told").mkdir()
+        os.symlink("../secret", self.folder / "told" / "sub")
+        for ending, option, word in (("cert", "--certificates", "certificate"), ("givens", "--givens", "givens"), ("background", "--givens", "background")):
+            (self.folder / "secret" / f"two.{ending}").write_text("")
+            place = self.folder / "told" / f"one.{ending}"
+            for to, told in (("../secret/one.cert", "this is a link"), ("/dev/zero", "this is a link"), (None, "this is not a file"), (16_777_217, "more than 16777216 bytes")):
+                os.symlink(to, place) if isinstance(to, str) else os.mkfifo(place) if to is None else place.write_bytes(bytes(to))
+                with self.subTest((option, to)):
+                    rows = self.rows_of("site", option, "told", "--untrusted", status=3)
+                    self.assertEqual(rows["one.ppm"].get("error"), f"its {word}: {told}")
+                    self.assertEqual(rows["sub/two.ppm"].get("error"), f"its {word}: a part of its path is a link")
+                place.unlink()
+            (self.folder / "secret" / f"two.{ending}").unlink()
+        # The folder itself may be a link: that is the operator's.
+        os.symlink("told", self.folder / "mine")
+        (self.folder / "told" / "one.givens").write_text("given 1 1\n")
+        self.assertEqual(self.rows_of("site", "--givens", "mine", "--untrusted")["one.ppm"]["givens"], [[1, 1]])
+
+    def test_over_a_scheduler_too(self):
+        os.symlink("/dev/zero", self.site / "one.ppm")
+        settings = running.settings_of(arguments.options_of([str(self.site), "--untrusted"]))
+        (pack,) = cluster._packs(iter([serving.Task(0, "one.ppm", str(self.site / "one.ppm"), (), None, None, None, "", 1, serving.FULL)]), settings)
+        self.assertEqual([json.loads(answer.text)["error"] for answer in pack[1]], ["this is a link"])
+
+
 class Names(Case):
     """Names and titles of strangers."""
 
+    @pytest.mark.since("0.7.0")
     def test_names(self):
         names = ["new\nline.ppm", "\x1b[31mred.ppm", "<img src=x onerror=alert(1)>.ppm", "=1+1.ppm", "rtl\u202egnp.ppm", "#2.ppm", "{{ 7*7 }}.ppm"]
         for name in names:
@@ -169,6 +284,7 @@ class Names(Case):
         self.assertIn("site/new\\nline.ppm\n", table)
         self.assertNotIn("\x1b", table)
 
+    @pytest.mark.since("0.7.0")
     def test_the_longest_names(self):
         # A name has at most 255 bytes, and a second run finds certificates of that length.
         name = "n" * 250
@@ -177,6 +293,7 @@ class Names(Case):
             self.run_audit("site", "--certify", "certs", status=0)
             self.assertEqual(os.listdir(self.folder / "certs"), [f"{name}.cert"])
 
+    @pytest.mark.since("0.7.0")
     def test_paths_lead_nowhere_else(self):
         self.put("in/one.ppm", p3(UNIQUE))
         self.put("other/one.ppm", p3(UNIQUE))
@@ -192,7 +309,7 @@ class Names(Case):
         for name in ("resource", "PIL", "defusedxml", "hashlib", "zlib", "struct", "tqdm", "jinja2"):
             self.put(f"{name}.py", f"open({str(self.folder / 'owned')!r}, 'a').write('{name} ')\n")
         self.put("one.ppm", p3(UNIQUE))
-        code = f"import sys; sys.path.insert(0, {str(ROOT / 'python')!r}); from nonobench.collection import main; sys.exit(main())"
+        code = f"import sys; sys.path.insert(0, {str(ROOT / 'python' / 'src')!r}); from nonobench.collection import main; sys.exit(main())"
         words = [sys.executable, "-I", "-c", code, ".", "--seconds", str(PATIENCE)]
         done = subprocess.run(words, cwd=self.site, capture_output=True, text=True, env=self.env())
         self.assertEqual(done.returncode, 0, done.stderr)
@@ -242,6 +359,7 @@ class Outputs(Case):
         bound = lambda: resource.setrlimit(resource.RLIMIT_FSIZE, (40, 40))  # noqa: E731
         return subprocess.run(self.words(*words), cwd=self.folder, env=self.env(), capture_output=True, text=True, preexec_fn=bound)
 
+    @pytest.mark.since("0.7.0")
     def test_a_disk_that_fills(self):
         done = self.limited("site", "--certify", "certs", "--no-grade")
         self.assertEqual(done.returncode, 3, done.stderr)
@@ -258,6 +376,7 @@ class Outputs(Case):
         self.assertIn("nonobench-audit: report.html", done.stderr)
         self.assertEqual((self.folder / "report.html").read_text(), "kept")
 
+    @pytest.mark.since("0.7.0")
     def test_a_folder_that_cannot_be_written(self):
         (self.folder / "file").write_text("")
         for option in ("--jsonl", "--csv", "--html", "--certify"):
@@ -267,6 +386,7 @@ class Outputs(Case):
                     self.assertRegex(done.stderr, rf"^nonobench-audit: {place}[.new]*: [A-Z][a-z ]+\n$")
 
     @unittest.skipIf(os.geteuid() == 0, "root writes everywhere")
+    @pytest.mark.since("0.7.0")
     def test_a_read_only_folder(self):
         (self.folder / "shut").mkdir(mode=0o555)
         for option, name in (("--certify", "shut"), ("--jsonl", "shut/rows")):
@@ -289,6 +409,7 @@ class Outputs(Case):
             with self.subTest(words):
                 self.assertEqual((done.returncode, done.stderr), (3, "nonobench-audit: standard output was closed\n"))
 
+    @pytest.mark.since("0.7.0")
     def test_two_runs_on_one_output(self):
         self.put("zero.ppm", p3_of_letters(chequered(60, 4)))
         outputs = ["--jsonl", "rows", "--csv", "rows.csv", "--html", "report.html", "--certify", "certs"]
@@ -342,6 +463,7 @@ class Processes(Case):
         self.assertEqual({name: row["verdict"] for name, row in rows.items()}, {"site/a.ppm": "unique", "site/hard.ppm": "error", "site/z.ppm": "unique"})
         self.assertEqual(rows["site/hard.ppm"]["error"], "its process ended by signal 11")
 
+    @pytest.mark.since("0.7.0")
     def test_a_process_that_dies_at_a_grade(self):
         self.put("hard.ppm", (ROOT / "measure" / "pictures" / "hard-20-k3-min.ppm").read_bytes())
         process = self.start("site", "--jobs", "1", "--seconds", "300", "--jsonl", "rows", "--certify", "certs")
@@ -400,7 +522,7 @@ class Processes(Case):
 
     def test_a_library_that_is_not_there(self):
         done = self.run_audit("site", NONOBENCH_LIBRARY="/nowhere/libnonobench.so")
-        self.assertNotEqual(done.returncode, 0)
+        self.assertEqual(done.returncode, 3)
         self.assertIn("cannot load /nowhere/libnonobench.so; build it with c/build, or set NONOBENCH_LIBRARY to its path", done.stderr)
 
     def test_libraries_that_are_not_there(self):

@@ -16,7 +16,8 @@ import unittest
 from pathlib import Path
 
 import nonobench
-from nonobench import ANY_GIVEN, Block, CertificateFault, Given, LengthFault, PictureFault, Ruling, UnpublishedGiven
+import pytest
+from nonobench import ANY_GIVEN, Block, CertificateFault, Given, GivensFault, LengthFault, PictureFault, Ruling, UnpublishedGiven
 
 ROOT = Path(__file__).resolve().parent.parent.parent
 # Two rows, black and white, white and black: another picture has the clues, and a given decides it.
@@ -90,32 +91,26 @@ class Cases(unittest.TestCase):
         for asked, answer in cases("pictures"):
             self.compare(asked, answer, lambda text=bytes_of(asked): nonobench.clues(text))
 
+    @pytest.mark.since("0.7.0")
     def test_certificates(self):
-        count = 0
-        for asked, answer in cases("certificates"):
-            rows, _, text = asked.partition(" ")
-            self.compare(asked, answer, lambda pair=(picture_of(rows), bytes_of(text)): nonobench.check(*pair, published=ANY_GIVEN))
-            count += 1
-        self.assertGreater(count, 40)
+        for name in ("certificates", "lemmas"):
+            count = 0
+            for asked, answer in cases(name):
+                rows, _, text = asked.partition(" ")
+                self.compare(asked, answer, lambda pair=(picture_of(rows), bytes_of(text)): nonobench.check(*pair, published=ANY_GIVEN))
+                count += 1
+            self.assertGreater(count, 40)
 
-    def test_lemmas(self):
-        count = 0
-        for asked, answer in cases("lemmas"):
-            rows, _, text = asked.partition(" ")
-            self.compare(asked, answer, lambda pair=(picture_of(rows), bytes_of(text)): nonobench.verify(*pair, published=ANY_GIVEN))
-            count += 1
-        self.assertGreater(count, 40)
-
+    @pytest.mark.since("0.7.0")
     def test_published(self):
         count = 0
         for asked, answer in cases("published"):
             (rows, published, text), (givens, _, answer) = asked.split(" ", 2), answer.partition(" ")
             pair = picture_of(rows), bytes_of(text)
             places = ANY_GIVEN if published == "any" else places_of(published)
-            call = nonobench.verify if text.startswith("nonolemma") else nonobench.check
-            self.compare(asked, answer, lambda: call(*pair, published=places))
+            self.compare(asked, answer, lambda: nonobench.check(*pair, published=places))
             with self.subTest(asked):
-                self.assertEqual(givens_of(lambda: call(*pair, published=places)), places_of(givens))
+                self.assertEqual(givens_of(lambda: nonobench.check(*pair, published=places)), places_of(givens))
             count += 1
         self.assertGreater(count, 20)
 
@@ -123,6 +118,7 @@ class Cases(unittest.TestCase):
 class Answers(unittest.TestCase):
     """Rows that were worked by hand."""
 
+    @pytest.mark.since("0.7.0")
     def test_check(self):
         result = nonobench.check(DIAGONAL, GIVEN, published=[(1, 1)])
         self.assertEqual(result.givens, (Given(1, 1),))
@@ -131,6 +127,12 @@ class Answers(unittest.TestCase):
         with self.assertRaises(UnpublishedGiven) as caught:
             nonobench.check(DIAGONAL, GIVEN)
         self.assertEqual((caught.exception.name, caught.exception.line), ("UnpublishedGiven", 2))
+        self.assertEqual(nonobench.check(DIAGONAL, GIVEN, published=b"given 2 2\ngiven 1 1").givens, ((1, 1),))
+        for published, name, line in (([(1, 1), (3, 1)], "Place", 2), ([(1, 1)] * 2, "Repeated", 2), ([(-1, 1)], "BadLine", 1),
+                                      (b"given 1 1\n\n", "BadLine", 2), (b"given 1 1\r\n", "BadLine", 1)):
+            with self.subTest(published), self.assertRaisesRegex(GivensFault, f"^givens {name} at line {line}$") as refused:
+                nonobench.check(DIAGONAL, GIVEN, published=published)
+            self.assertEqual((refused.exception.name, refused.exception.line), (name, line))
         again = pickle.loads(pickle.dumps(caught.exception))
         self.assertEqual((again.givens, str(again)), (((1, 1),), "certificate UnpublishedGiven at line 2"))
         with self.assertRaises(CertificateFault) as caught:
@@ -153,6 +155,7 @@ class Answers(unittest.TestCase):
         self.assertEqual(nonobench.verdict(b"P3 1 1 1 0 0 0", allowance=0).ruling, Ruling.UNIQUE)
         self.assertEqual(nonobench.verdict(DIAGONAL, 99999, (0, 0, 0)).ruling, Ruling.AMBIGUOUS)
 
+    @pytest.mark.since("0.7.0")
     def test_certify_and_audit(self):
         tile, pair = b"P3 1 1 1 0 0 0", picture_of("ab/.b")
         for picture in (tile, pair):
@@ -171,22 +174,22 @@ class Answers(unittest.TestCase):
         with self.assertRaises(ValueError):
             nonobench.audit(tile, -1)
 
-    def test_prove_and_verify(self):
+    @pytest.mark.since("0.7.0")
+    def test_prove(self):
         tile, pair = b"P3 1 1 1 0 0 0", picture_of("a./.b")
         for picture in (tile, pair):
             proved = nonobench.prove(picture)
-            self.assertEqual(proved.ruling, Ruling.UNIQUE)
-            result = nonobench.verify(picture, proved.proof)
-            self.assertEqual((result.givens, str(result)), ((), "proof accepted\n"))
-            with self.assertRaisesRegex(CertificateFault, "^certificate NotCert at line 1$"):
-                nonobench.check(picture, proved.proof)
+            self.assertEqual((proved.ruling, proved.certificate[:12]), (Ruling.UNIQUE, b"nonolemma 2\n"))
+            self.assertEqual(str(nonobench.check(picture, proved.certificate)), "certificate accepted\n")
+            # The old names.
+            self.assertEqual(nonobench.verify(picture, proved.proof), nonobench.Result(()))
         self.assertEqual(nonobench.prove(DIAGONAL), nonobench.Proved(Ruling.AMBIGUOUS))
-        # Nothing proves a picture that has another one: not the proof of another picture, nor lines of its own.
-        for text in (nonobench.prove(pair).proof, b"nonolemma 1\nline r 1\nline c 1\nline r 2\nline c 2\ndone\n"):
+        # Nothing proves a picture that has another one: not the certificate of another picture, nor lines of its own.
+        for text in (nonobench.prove(pair).certificate, b"nonolemma 2\nline r1 c1 r2 c2\ndone\n"):
             with self.assertRaises(CertificateFault):
-                nonobench.verify(DIAGONAL, text, published=ANY_GIVEN)
+                nonobench.check(DIAGONAL, text, published=ANY_GIVEN)
         with self.assertRaises(UnpublishedGiven) as caught:
-            nonobench.verify(DIAGONAL, b"nonolemma" + b" 1" + GIVEN[10:])
+            nonobench.check(DIAGONAL, b"nonolemma" + b" 1" + GIVEN[10:])
         self.assertEqual((caught.exception.line, caught.exception.givens), (2, ((1, 1),)))
         # By its background this picture has no cell that is filled in.
         self.assertEqual(nonobench.prove(tile, (0, 0, 0)).ruling, Ruling.UNIQUE)
@@ -194,21 +197,23 @@ class Answers(unittest.TestCase):
             nonobench.prove(b"P4")
         with self.assertRaises(ValueError):
             nonobench.prove(tile, (1, 2))
-        with self.assertRaises(LengthFault):
-            nonobench.verify(tile, b" " * 16777217)
+        for published in ((), b" " * 16777217):
+            with self.assertRaises(LengthFault):
+                nonobench.check(tile, b"" if published else b" " * 16777217, published=published)
 
-    def test_proofs_with_a_byte_changed(self):
+    @pytest.mark.since("0.7.0")
+    def test_certificates_with_a_byte_changed(self):
         source, picture, count = random.Random(1), picture_of("a./.b"), 0
-        proof = nonobench.prove(picture).proof
-        for at in range(len(proof)):
-            text = proof[:at] + source.choice([b"", b" ", b"0", b"7", b"x", b"\n\n"]) + proof[at + 1:]
+        right = nonobench.prove(picture).certificate
+        for at in range(len(right)):
+            text = right[:at] + source.choice([b"", b" ", b"0", b"7", b"x", b"\n\n"]) + right[at + 1:]
             try:
-                self.assertEqual(nonobench.verify(picture, text).givens, ())
+                self.assertEqual(nonobench.check(picture, text).givens, ())
             except CertificateFault:
                 count += 1
             with self.assertRaises(CertificateFault):
-                nonobench.verify(DIAGONAL, text, published=ANY_GIVEN)
-        self.assertGreater(count, len(proof) // 2)
+                nonobench.check(DIAGONAL, text, published=ANY_GIVEN)
+        self.assertGreater(count, len(right) // 2)
 
     def test_the_call_stays_where_the_module_is_imported(self):
         # `python3 -m nonobench.audit` has the name of a call.
@@ -226,12 +231,15 @@ class Answers(unittest.TestCase):
         for file in (None, "P3", 5, ["P3"]):
             with self.assertRaises(TypeError):
                 nonobench.clues(file)
-        for background in ((-1, 0, 0), (0, 0, 65536), (1, 2), (1, 2, 3, 4)):
-            with self.assertRaises(ValueError):
-                nonobench.check(DIAGONAL, GIVEN, background)
-        for published in ("1,1", [1, 1], [(1,)], [(1, 1, 1)], 5, [(1, "1")], [(1.0, 1)]):
-            with self.assertRaises((TypeError, ValueError)):
+        for background in ((-1, 0, 0), (0, 0, 65536), (1, 2), (1, 2, 3, 4), "0,0,0", (0.0, 0, 0), ("0", "0", "0"), 5, (10**5000, 0, 0)):
+            with self.assertRaisesRegex(ValueError, "^background must be a triple of numbers from 0 to 65535$"):
+                nonobench.check(DIAGONAL, GIVEN, background, ANY_GIVEN)
+        for published in ("11", "1,1", [1, 1], [(1,)], [(1, 1, 1)], 5, [(1, "1")], [(1.0, 1)], [(1, 10**5000)]):
+            with self.assertRaisesRegex(TypeError, "^published must be pairs of row and column, a file's bytes, or ANY_GIVEN$"):
                 nonobench.check(DIAGONAL, GIVEN, published=published)
+        for allowance, name in (("5", "str"), (5.0, "float"), ([], "list")):
+            with self.assertRaisesRegex(TypeError, f"^allowance must be a whole number, not {name}$"):
+                nonobench.verdict(DIAGONAL, allowance)
         for allowance in (-1, 100000):
             with self.assertRaises(ValueError):
                 nonobench.verdict(DIAGONAL, allowance)
@@ -248,6 +256,28 @@ class Answers(unittest.TestCase):
         self.assertEqual(clues.rows, ((Block(1, "a"),) * 60,) * 120)
         self.assertEqual(clues.columns, clues.rows)
 
+    @pytest.mark.since("0.7.0")
+    def test_what_an_editor_did_is_told_beside_notcert(self):
+        picture = picture_of("a./.b")
+        text = nonobench.certify(picture).decode("ascii")
+        utf_16 = "it is UTF-16, and must be ASCII"
+        changed = [
+            (text.replace("\n", "\r\n").encode(), "its lines end with CR LF, and must end with LF alone"),
+            (text.encode("utf-8-sig"), "it begins with a byte order mark, and must begin with its first word"),
+            *((text.encode(coding), utf_16) for coding in ("utf-16-le", "utf-16-be")),
+            *((("\ufeff" + text).encode(coding), utf_16) for coding in ("utf-16-le", "utf-16-be")),
+            (b"", ""), (b"nonocert 3\n", ""), (b"nonocert 3\nline r 1\r\n", ""),
+        ]
+        for file, hint in changed:
+            with self.subTest(file), self.assertRaisesRegex(CertificateFault, "NotCert at line 1") as told:
+                nonobench.check(picture, file)
+            self.assertEqual(nonobench.hint_of(told.exception, file), hint)
+        late = text.replace("\n", "\n\r\n", 1).encode()
+        with self.assertRaisesRegex(CertificateFault, "BadLine at line 2") as told:
+            nonobench.check(picture, late)
+        self.assertEqual(nonobench.hint_of(told.exception, late), "")
+
+    @pytest.mark.since("0.7.0")
     def test_any_bytes(self):
         source = random.Random(1)
         for _ in range(2000):
@@ -255,11 +285,11 @@ class Answers(unittest.TestCase):
             near = bytearray(DIAGONAL)
             near[source.randrange(len(near))] = source.randrange(256)
             for call in (lambda: nonobench.check(near, noise, published=ANY_GIVEN), lambda: nonobench.verdict(noise, 10),
-                         lambda: nonobench.clues(near), lambda: nonobench.verify(near, noise)):
+                         lambda: nonobench.clues(near), lambda: nonobench.check(near, noise, published=noise)):
                 try:
                     call()
                 except nonobench.Fault as fault:
-                    self.assertRegex(fault.text, r"^(ppm|certificate) \w+ at (byte|line) \d+$")
+                    self.assertRegex(fault.text, r"^(ppm|givens|certificate) \w+ at (byte|line) \d+$")
 
     def test_threads(self):
         answers = []
@@ -288,9 +318,10 @@ class Answers(unittest.TestCase):
         self.assertEqual(nonobench.colour_shown((0, 1, 1), 1), (0, 255, 255))
 
     def test_version(self):
+        """That of the header, or of an older release that is tried."""
         header = (ROOT / "c" / "nonobench.h").read_text(encoding="utf-8")
-        self.assertIn(f'#define NONOBENCH_VERSION "{nonobench.__version__}"', header)
-        self.assertIn(f'version = "{nonobench.__version__}"', (ROOT / "python" / "pyproject.toml").read_text(encoding="utf-8"))
+        named = re.search('#define NONOBENCH_VERSION "(.*)"', header)[1]
+        self.assertEqual(nonobench.__version__, os.environ.get("TRIED", named))
 
 
 @unittest.skipUnless(os.environ.get("NONOBENCH"), "no program is named by NONOBENCH")
@@ -308,9 +339,10 @@ class Chance(unittest.TestCase):
     def put(self, name, file):
         (Path(self.folder.name) / name).write_bytes(file)
 
+    @pytest.mark.since("0.7.0")
     def test_program(self):
         source = random.Random(int(os.environ.get("SEED", "1")))
-        accepted = refused = ambiguous = proofs = 0
+        accepted = refused = ambiguous = published = 0
         for _ in range(int(os.environ.get("CASES", "1000"))):
             picture = marred(chance_picture(source), source, 4)
             background = source.choice([None, None, (0, 0, 0), (7, 80, 7)])
@@ -326,20 +358,20 @@ class Chance(unittest.TestCase):
                 self.assertEqual(nonobench.verdict(picture, 500, background), verdict)
                 self.assertEqual(str(nonobench.clues(picture, background)), clues)
                 ambiguous += verdict.ruling is Ruling.AMBIGUOUS
-                certificate = marred(certificate, source, 3)
+                proved = nonobench.prove(picture, background)
+                answer = self.run_program(["prove", "picture", *words])
+                self.assertEqual((proved.certificate or proved.ruling.value.encode() + b"\n").decode(), answer[0])
+                certificate = marred(source.choice([certificate, proved.certificate or b""]), source, 3)
                 self.put("cert", certificate)
                 answer = self.run_program(["check", "picture", "cert", *words])
                 self.assertEqual(told(lambda: nonobench.check(picture, certificate, background, ANY_GIVEN)), answer)
                 accepted += answer[2] == 0
-                answer = self.run_program(["prove", "picture", *words])
-                proved = nonobench.prove(picture, background)
-                self.assertEqual((proved.proof or proved.ruling.value.encode() + b"\n").decode(), answer[0])
-                proof = marred(proved.proof or b"", source, 3)
-                self.put("proof", proof)
-                answer = self.run_program(["verify", "picture", "proof", *words])
-                self.assertEqual(told(lambda: nonobench.verify(picture, proof, background, ANY_GIVEN)), answer)
-                proofs += answer[2] == 0
-        self.assertGreater(min(accepted, refused, ambiguous, proofs), 20 if accepted + refused + ambiguous > 500 else 0)
+                givens = b"".join(b"given %d %d\n" % (source.randint(1, 5), source.randint(1, 5)) for _ in range(source.randint(0, 4)))
+                self.put("givens", givens)
+                answer = self.run_program(["check", "--givens", "givens", "picture", "cert", *words])
+                self.assertEqual(told(lambda: nonobench.check(picture, certificate, background, givens)), answer)
+                published += answer[2] == 0
+        self.assertGreater(min(accepted, refused, ambiguous, published), 20 if accepted + refused + ambiguous > 500 else 0)
 
 
 def chance_picture(source):

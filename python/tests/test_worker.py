@@ -20,20 +20,22 @@ from pathlib import Path
 sys.path.insert(0, str(Path(__file__).resolve().parent))
 from processes import children, is_running  # noqa: E402
 
+import pytest  # noqa: E402
 import nonobench  # noqa: E402
-from nonobench import CertificateFault, Given, LengthFault, PictureFault, UnpublishedGiven  # noqa: E402
+from nonobench import CertificateFault, Given, GivensFault, LengthFault, PictureFault, UnpublishedGiven  # noqa: E402
 
 PACKAGE = Path(nonobench.__file__).resolve().parent.parent
 # Two rows, black and white, white and black: another picture has the clues, and a given decides it.
 DIAGONAL = b"P3 2 2 255 0 0 0 255 255 255 255 255 255 0 0 0\n"
 GIVEN = b"nonocert 2\ngiven 1 1\nline r 1\nline c 1\nline r 2\ndone\n"
-GIVEN_PROOF = b"nonolemma 1\ngiven 1 1\nline r 1\nline c 1\nline r 2\ndone\n"
+LEMMAS = b"nonolemma 1\ngiven 1 1\nline r 1\nline c 1\nline r 2\ndone\n"
 TILE = b"P3 1 1 1 0 0 0"
 
 
 class Workers(unittest.TestCase):
     """Questions to another process."""
 
+    @pytest.mark.since("0.7.0")
     def test_answers_and_faults(self):
         with nonobench.Worker(seconds=300) as worker:
             self.assertEqual(worker.check(DIAGONAL, GIVEN, published=[(1, 1)]).givens, (Given(1, 1),))
@@ -47,15 +49,15 @@ class Workers(unittest.TestCase):
             self.assertEqual(worker.audit(DIAGONAL), nonobench.audit(DIAGONAL))
             self.assertEqual(worker.prove(TILE), nonobench.prove(TILE))
             self.assertEqual(worker.prove(DIAGONAL), nonobench.prove(DIAGONAL))
-            self.assertEqual(str(worker.verify(TILE, worker.prove(TILE).proof)), "proof accepted\n")
-            self.assertEqual(worker.verify(DIAGONAL, GIVEN_PROOF, published=[(1, 1)]).givens, (Given(1, 1),))
+            self.assertEqual(str(worker.verify(TILE, worker.prove(TILE).certificate)), "certificate accepted\n")
+            self.assertEqual(worker.check(DIAGONAL, LEMMAS, published=b"given 1 1\n").givens, (Given(1, 1),))
+            with self.assertRaisesRegex(GivensFault, "^givens Place at line 1$"):
+                worker.check(DIAGONAL, LEMMAS, published=[(1, 3)])
             with self.assertRaises(UnpublishedGiven) as caught:
-                worker.verify(DIAGONAL, GIVEN_PROOF)
+                worker.check(DIAGONAL, LEMMAS)
             self.assertEqual((caught.exception.line, caught.exception.givens), (2, (Given(1, 1),)))
             with self.assertRaises(LengthFault):
-                worker.verify(DIAGONAL, GIVEN_PROOF.ljust(16777217))
-            with self.assertRaisesRegex(CertificateFault, "^certificate NotCert at line 1$"):
-                worker.verify(TILE, GIVEN)
+                worker.check(DIAGONAL, LEMMAS.ljust(16777217))
             with self.assertRaises(CertificateFault) as caught:
                 worker.check(DIAGONAL, b"")
             self.assertEqual((caught.exception.name, caught.exception.line), ("NotCert", 1))
@@ -66,6 +68,7 @@ class Workers(unittest.TestCase):
             with self.assertRaises(ValueError):
                 worker.clues(DIAGONAL, (1, 2, 65536))
 
+    @pytest.mark.since("0.7.0")
     def test_time(self):
         # A process that is stopped never answers, however fast the machine.
         with nonobench.Worker(seconds=300) as worker:
@@ -103,6 +106,7 @@ class Workers(unittest.TestCase):
         env = {**os.environ, "PYTHONPATH": str(PACKAGE)}
         self.assertEqual(subprocess.run([sys.executable, "-c", program], env=env, check=False).returncode, 0)
 
+    @pytest.mark.since("0.7.0")
     def test_memory(self):
         # The question alone takes more than is left beside the interpreter.
         with nonobench.Worker(seconds=300, memory=40 << 20) as worker:
@@ -155,9 +159,8 @@ QUESTIONS = (
     ("verdict", DIAGONAL, 0),
     ("verdict", DIAGONAL, 1),
     ("verdict", TILE),
-    ("verify", TILE, b"junk"),
-    ("verify", TILE, b"nonolemma 1\nline r 1\ndone\n"),
-    ("verify", DIAGONAL, GIVEN_PROOF),
+    ("check", TILE, b"nonolemma 2\nline r1\ndone\n"),
+    ("check", DIAGONAL, LEMMAS, None, b"given 1 1\n"),
     ("prove", TILE),
     ("prove", DIAGONAL),
     ("certify", TILE),
@@ -183,6 +186,7 @@ class Interrupts(unittest.TestCase):
         kept = signal.signal(signal.SIGALRM, strike)
         self.addCleanup(signal.signal, signal.SIGALRM, kept)
 
+    @pytest.mark.since("0.7.0")
     def test_no_answer_is_that_of_another_question(self):
         source = random.Random(int(os.environ.get("SEED", "1")))
         most = int(os.environ.get("INTERRUPTS", "200"))
@@ -223,7 +227,7 @@ class Interrupts(unittest.TestCase):
             with self.subTest(number), nonobench.Worker(seconds=300) as worker:
                 worker.clues(DIAGONAL)
                 # A question whose answer nobody takes, and is not there yet when the next one is asked.
-                head = nonobench.worker.QUESTION.pack(number, 1, 300, len(DIAGONAL), 0, len(GIVEN))
+                head = nonobench.worker.QUESTION.pack(number, 1, 300, 0, len(DIAGONAL), 0, len(GIVEN), 0)
                 worker._process._stream.sendall(head + DIAGONAL + GIVEN)
                 worker._process.is_waiting = lambda: True
                 with self.assertRaisesRegex(RuntimeError, f"^the worker answered question {number} instead of 2$"):
@@ -259,7 +263,7 @@ class Interrupts(unittest.TestCase):
         with nonobench.Worker(seconds=300) as worker:
             worker.clues(DIAGONAL)
             process = worker._process
-            process._stream.sendall(nonobench.worker.QUESTION.pack(2, 1, 300, len(DIAGONAL), 0, len(GIVEN)) + DIAGONAL + GIVEN)
+            process._stream.sendall(nonobench.worker.QUESTION.pack(2, 1, 300, 0, len(DIAGONAL), 0, len(GIVEN), 0) + DIAGONAL + GIVEN)
             while process.is_waiting():
                 time.sleep(0.01)
             # It even has the number of the next question.

@@ -6,8 +6,8 @@ use Rattle.ppm_text.specs.Ppm.{ppm_of}
 use Rattle.cert_text.specs.declared.fault.CertFault.{CertFault}
 use Rattle.cert_text.specs.declared.fault.CertFault.TheVariants as cert
 use Rattle.cert_text.specs.Cert.{Certificate}
-use Rattle.cert_text.specs.Text.{cert_of}
-use Rattle.certificate.specs.FirstFault.{CertFirstFault}
+use Rattle.cert_text.specs.Reading.{cert_of}
+use Rattle.cert_check.specs.FirstFault.{CertFirstFault}
 use Rattle.program_options.specs.declared.fault.ProgramFault.{ProgramFault}
 use Rattle.program_options.specs.declared.fault.ProgramFault.TheVariants.{Memory}
 use Rattle.program_options.specs.Faults.{cert_fault_of}

@@ -1,4 +1,4 @@
 pub mod CheckLemmas
 pub mod OpenLemmas
 pub mod ProveLemmas
-pub mod VerifyLemmas
+pub mod PublishedLemmas

@@ -9,12 +9,13 @@ use Rattle.picture.specs.Writers.{AppendsFront}
 use Rattle.ppm_text.specs.declared.fault.PpmFault.{PpmFault}
 use Rattle.ppm_text.specs.Ppm.{ppm_of}
 use Rattle.cert_text.specs.declared.fault.CertFault.{CertFault}
-use Rattle.cert_text.specs.declared.tree_line.CellNumber.{CellNumber}
+use Rattle.cert_text.specs.declared.cert_line.CellNumber.{CellNumber}
 use Rattle.cert_text.specs.Cert.{Certificate}
-use Rattle.certificate.specs.FirstFault.{CertFirstFault}
-use Rattle.certificate.specs.Puzzle.{IsUnique}
-use Rattle.cert_text.specs.Text.{cert_of}
-use Rattle.certificate.specs.Tree.{IsProof}
+use Rattle.cert_check.specs.FirstFault.{CertFirstFault}
+use Rattle.cert_check.specs.Puzzle.{IsUnique}
+use Rattle.cert_text.specs.Reading.{cert_of}
+use Rattle.cert_check.specs.Tree.{IsProof}
+use Rattle.cert_check.specs.LemmaProof.{IsLemmaProof}
 use Rattle.program_options.specs.declared.fault.ProgramFault.{ProgramFault}
 use Rattle.program_options.specs.declared.fault.ProgramFault.TheVariants.{Memory, Write}
 use Rattle.program_options.specs.Faults.{cert_fault_of, fault_of}
@@ -55,13 +56,21 @@ WritesBy old new (Err fault) Is =
     ((bytes : List ℕ) × ((fault ≡ Write) × (Is (Ok bytes) × AppendsFront old new bytes)))
     ⊎ (((fault ≡ Memory) ⊎ Is (Err fault)) × Keeps old new)
 
--- the two texts are read, and the certificate proves the picture
+-- the two texts are read, and the certificate is a tree that proves the picture
 pub record IsProofOf (file : List ℕ) (background : Option Rgb) (cert : List ℕ) : Type 0 where
   pub document : Content
   pub certificate : Certificate
   pub reads_file : ppm_of file background ≡ Ok document
   pub reads_cert : cert_of cert ≡ Ok certificate
   pub is_proof : IsProof document.rows certificate
+
+-- the two texts are read, and the certificate proves the picture, with lemmas or without
+pub record IsLemmaProofOf (file : List ℕ) (background : Option Rgb) (cert : List ℕ) : Type 0 where
+  pub document : Content
+  pub certificate : Certificate
+  pub reads_file : ppm_of file background ≡ Ok document
+  pub reads_cert : cert_of cert ≡ Ok certificate
+  pub is_proof : IsLemmaProof document.rows certificate
 
 -- The two texts are read, and no other picture of that size has the picture's clues and its colours in the givens.
 pub record IsOnlyPicture (file : List ℕ) (background : Option Rgb) (cert : List ℕ) : Type 0 where

@@ -1,6 +1,6 @@
 pub mod Check
 pub mod Open
 pub mod Prove
+pub mod Published
 pub mod Run
 pub mod Start
-pub mod Verify

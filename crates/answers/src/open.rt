@@ -39,6 +39,7 @@ pub fn start_bench(
     ensures { Starts file.now options.now result }
 {
     let document = open_file(alloc, file, options)?;
+    let _ = (document.palette.len(), document.picture.height());
     let engine = MaskEngine::make(alloc, MAX_SIDE)?;
     Ok(Bench::start(alloc, document, options.history, engine, InOrder::make())?)
 }

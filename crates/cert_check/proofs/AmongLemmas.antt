@@ -1,7 +1,7 @@
 -- Cells that are among others: the first of a list, or one of the rest.
 use Rattle.std.proofs.Common.{◌≡◌, ◌⊎◌, ℕ, zero, suc, ◌<◌, List, ◌∷◌, length, get_or, sym, arith, inl, inr}
 use Rattle.std.specs.List.{Contains}
-use Rattle.cert_text.specs.declared.tree_line.CellNumber.{CellNumber}
+use Rattle.cert_text.specs.declared.cert_line.CellNumber.{CellNumber}
 
 pub among_first : (x y : CellNumber) (xs : List CellNumber) → x ≡ y → Contains (y ∷ xs) x
 among_first x y xs e = (zero, omega arith, sym e)

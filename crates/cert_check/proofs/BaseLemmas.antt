@@ -9,7 +9,7 @@ use Rattle.picture.specs.Rows.{row_at, cell_at, Rows}
 use Rattle.line_facts.specs.FactSets.{Leaves, SameShape, with_given}
 use Rattle.line_facts.proofs.GridLaws.{at_with_cell, off_with_cell, shape_with_cell}
 use Rattle.picture.proofs.BitLaws.{no_bit, power_has}
-use Rattle.cert_text.specs.declared.tree_line.CellNumber.{CellNumber}
+use Rattle.cert_text.specs.declared.cert_line.CellNumber.{CellNumber}
 use Rattle.cert_check.proofs.AmongLemmas.{among_cases, among_first, among_rest}
 use Rattle.cert_check.specs.Puzzle.{HasCellNumber, numbered, with_givens}
 

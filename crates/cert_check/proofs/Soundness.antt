@@ -21,8 +21,8 @@ use Rattle.line_facts.proofs.GridLaws.{all_left, cell_on, full_shape, same_has_l
 use Rattle.line_facts.specs.Branches.{colours_of, held}
 use Rattle.trail.proofs.ColourLemmas.{Among, among_left}
 use Rattle.trail.proofs.GridLemmas.{set_each}
-use Rattle.cert_text.specs.declared.tree_line.LineNumber.{LineNumber}
-use Rattle.cert_text.specs.declared.tree_line.CellNumber.{CellNumber}
+use Rattle.cert_text.specs.declared.cert_line.LineNumber.{LineNumber}
+use Rattle.cert_text.specs.declared.cert_line.CellNumber.{CellNumber}
 use Rattle.cert_text.specs.Cert.{Certificate}
 use Rattle.cert_check.specs.Puzzle.{HasCellNumber, HasLineNumber, IsForced, IsNamed, IsUnique, ShowsOnly, base_of, line_id, split_at}
 use Rattle.cert_check.specs.Tree.{Tree, Trees, done, dead, forced, split, none, more, Proves, EachProves, IsProof}
@@ -113,7 +113,7 @@ forced_within picture facts gained line f = record {
 
 -- ---- the branches of a cell
 
-abbrev KeepsSome : List (List (List ℕ)) → Rows → Type 0
+abbrev pub KeepsSome : List (List (List ℕ)) → Rows → Type 0
 KeepsSome [] other = ⊥
 KeepsSome (facts ∷ others) other = Keeps facts other ⊎ KeepsSome others other
 
@@ -132,7 +132,7 @@ some_held facts other row col h l keeps (k ∷ ks) a = elim a [
   | inr m ↦ inr (some_held facts other row col h l keeps ks m)
 ]
 
-split_keeps : (picture : Rows) (facts : Masks) (other : Rows) (cell : CellNumber) → IsRival picture other → HasCellNumber picture cell → Keeps facts other → KeepsSome (split_at facts cell) other
+pub split_keeps : (picture : Rows) (facts : Masks) (other : Rows) (cell : CellNumber) → IsRival picture other → HasCellNumber picture cell → Keeps facts other → KeepsSome (split_at facts cell) other
 split_keeps picture facts other cell rival has keeps =
     let row = cell.row - 1 in
     let col = cell.col - 1 in

@@ -1,6 +1,7 @@
--- The walk over the lines: what its calls need, and the first error from the beginning.
-use Rattle.std.proofs.Common.{◌≡◌, ℕ, ◌+◌, ◌-◌, ◌<◌, ◌↔◌, List, [], ◌∷◌, Bool, true, false, Option, None, Some, is_some, Ok, Err, IsTrue, length, get_or, drop, drop-cons, add-one, refl, sym, ap}
+-- What the calls of a walk need, and the first error from the beginning.
+use Rattle.std.proofs.Common.{◌≡◌, ℕ, ◌+◌, ◌-◌, ◌<◌, ◌≤◌, ◌↔◌, List, ◌∷◌, Bool, true, false, Option, Some, Ok, Err, IsTrue, length, get_or, drop, drop-cons, add-one, refl, sym, ap}
 use Rattle.std.proofs.Common.{subst, ◌∙◌, arith, inl, inr}
+use Rattle.std.proofs.lemmas.List.{drop_all}
 use Rattle.line_facts.specs.Masks.{Masks}
 use Rattle.picture.specs.declared.line_id.LineId.{LineId}
 use Rattle.picture.specs.Rows.{line_of, lines_along, HasLine, Rows}
@@ -9,18 +10,19 @@ use Rattle.clues.proofs.BookLaws.{length_along-clues_of}
 use Rattle.clues.specs.ClueBook.{Clues, clue_at, clues_of, HasClue}
 use Rattle.line_facts.specs.declared.line_engine.Outcome.{Outcome}
 use Rattle.line_facts.specs.Fits.{CanFit}
-use Rattle.line_facts.specs.FactSets.{Gains, SameShape}
-use Rattle.line_facts.proofs.GridLaws.{shape_trans}
+use Rattle.line_facts.specs.NarrowedLine.{Narrows}
+use Rattle.line_facts.specs.FactSets.{Gains, HoldsLine, SameShape}
+use Rattle.line_facts.proofs.GridLaws.{same_has_line, shape_sym}
 use Rattle.cert_text.specs.declared.fault.CertFault.{CertFault}
-use Rattle.cert_text.specs.declared.fault.CertFault.TheVariants.{Trailing}
-use Rattle.trail.specs.declared.cell.Cell.{Cell}
-use Rattle.trail.specs.Trail.{GoesOn, Trailed}
-use Rattle.cert_text.specs.declared.tree_line.LineNumber.{LineNumber}
-use Rattle.cert_text.specs.declared.tree_line.CertLine.{CertLine}
-use Rattle.cert_text.specs.declared.tree_line.CertLine.TheVariants.{Line, Done}
+use Rattle.cert_text.specs.declared.fault.CertFault.TheVariants.{Ended, Trailing}
+use Rattle.cert_text.specs.declared.cert_line.LineNumber.{LineNumber}
+use Rattle.cert_text.specs.declared.cert_line.CertLine.{CertLine}
+use Rattle.cert_text.specs.declared.cert_line.CertLine.TheVariants.{Line, Use, Split, Dead, Broken, Done, Part, Lemma, Deny, Forget}
 use Rattle.cert_check.specs.Puzzle.{HasLineNumber, IsDead, IsForced, line_id}
-use Rattle.cert_check.specs.FirstFault.{AnswersFirst, FirstFault}
-use Rattle.cert_check.specs.Walk.{CanCheck, Takes, waiting}
+use Rattle.cert_check.specs.FirstFault.{AnswersFirst, FirstFault, HasFault, found_by}
+use Rattle.cert_check.specs.Moving.{moved_to}
+use Rattle.cert_check.specs.Machined.{Machined, Takes, reached}
+use Rattle.cert_check.specs.Walk.{CanCheck, Walk}
 
 -- ---- a line found
 
@@ -50,57 +52,65 @@ not_dead picture facts clues longest clue number found b can e c is f dead =
 pub gains_force : (picture : Rows) (facts gained : Masks) (line : LineId) (outcome : Outcome) → Gains (clue_at (clues_of picture) line) line facts gained outcome → IsForced picture facts line gained
 gains_force picture facts gained line outcome g = record { same_shape = g.same_shape; exact = g.narrows.exact; elsewhere = g.elsewhere }
 
-pub forced_takes : (picture : Rows) (old new : Trailed) (clues : Clues) (longest : ℕ) (clue : List Block) (number : LineNumber) (found : LineId) (n : ℕ) → CanCheck picture clues longest
-    → SameShape picture old.at_hand → HasLineNumber picture number → found ≡ line_id number → clue ≡ clue_at clues found → (outcome : Outcome) × Gains clue found old.at_hand new.at_hand outcome
-    → new.behind ≡ old.behind → Takes picture old new (Line number) n (Ok true)
-forced_takes picture old new clues longest clue number found n can shape h e c f behind =
-    let gains = rw (by_found picture clues longest clue number found can e c, e) at f.1 in (
-      shape_trans shape f.1.same_shape,
-      (new.at_hand ∷ [], ((h, (new.at_hand, (gains_force picture old.at_hand new.at_hand (line_id number) f.0 gains, refl))), ap (λ (fs : List (List (List ℕ))). new.at_hand ∷ fs) behind)),
-    )
+pub line_clue : (picture : Rows) (facts : Masks) (clues : Clues) (longest : ℕ) (line : LineId) → CanCheck picture clues longest → SameShape picture facts → HasLine facts line → HasClue clues line
+line_clue picture facts clues longest line can shape has =
+    let n = length_along-clues_of line.axis picture in
+    let l = same_has_line facts picture line (shape_sym shape) has in
+    rw can.clues_are (omega arith)
 
--- ---- the next branch
-
--- where a trail goes on to the next branch, all that waited after the last one waits
-pub goes_on : (old new : Trailed) (found : Option Cell) → GoesOn old new found → waiting (is_some found) new ≡ old.behind
-goes_on old new (Some cell) g = sym g.0
-goes_on old new None g = sym g
+pub forced_by : (picture : Rows) (old new : Masks) (clues : Clues) (longest : ℕ) (clue : List Block) (line : LineId) (outcome : Outcome) (masks : List ℕ) → CanCheck picture clues longest
+    → clue ≡ clue_at clues line → Narrows clue (line_of old line) outcome masks → HoldsLine line old new masks → IsForced picture old line new
+forced_by picture old new clues longest clue line outcome masks can c n h =
+    let of : clue ≡ clue_at (clues_of picture) line = c ∙ ap (λ (cs : Clues). clue_at cs line) can.clues_are in
+    let here = subst (λ (x : List Block). Narrows x (line_of old line) outcome (line_of new line)) of (subst (Narrows clue (line_of old line) outcome) (sym h.line_is) n) in
+    record { same_shape = h.same_shape; exact = here.exact; elsewhere = h.elsewhere }
 
 -- ---- the first error
 
--- whatever error is first from here is first from the beginning
-pub record FirstSoFar (picture : Rows) (start waits : List Masks) (first n : ℕ) (lines rest : List CertLine) : Type 0 where
-  pub goes : (fault : Option CertFault) → FirstFault picture waits n rest fault → FirstFault picture start first lines fault
+-- a line has its error also with another number
+pub moves : (picture : Rows) (walk : Walk) (line : CertLine) (n m : ℕ) (fault : CertFault) → HasFault picture walk line n fault → HasFault picture walk line m (moved_to fault m)
+moves picture walk (Line number) n m fault h = (h.0, ap (λ (f : CertFault). moved_to f m) h.1)
+moves picture walk (Use lemma) n m fault h = (h.0, ap (λ (f : CertFault). moved_to f m) h.1)
+moves picture walk (Split cell) n m fault h = (h.0, ap (λ (f : CertFault). moved_to f m) h.1)
+moves picture walk (Part literal) n m fault h = (h.0, ap (λ (f : CertFault). moved_to f m) h.1)
+moves picture walk (Dead number) n m fault (inl h) = inl (h.0, ap (λ (f : CertFault). moved_to f m) h.1)
+moves picture walk (Dead number) n m fault (inr h) = inr (h.0, h.1, ap (λ (f : CertFault). moved_to f m) h.2)
+moves picture walk (Broken lemma) n m fault (inl h) = inl (h.0, ap (λ (f : CertFault). moved_to f m) h.1)
+moves picture walk (Broken lemma) n m fault (inr h) = inr (h.0, (h.1.0, h.1.1, ap (λ (f : CertFault). moved_to f m) h.1.2))
+moves picture walk Done n m fault h = (h.0, ap (λ (f : CertFault). moved_to f m) h.1)
+moves picture walk Lemma n m fault h = (h.0, ap (λ (f : CertFault). moved_to f m) h.1)
+moves picture walk (Deny literal) n m fault (inl h) = inl (h.0, ap (λ (f : CertFault). moved_to f m) h.1)
+moves picture walk (Deny literal) n m fault (inr (inl h)) = inr (inl (h.0, h.1, ap (λ (f : CertFault). moved_to f m) h.2))
+moves picture walk (Deny literal) n m fault (inr (inr h)) = inr (inr (h.0, h.1, h.2, ap (λ (f : CertFault). moved_to f m) h.3))
+moves picture walk (Forget lemma) n m fault (inl h) = inl (h.0, ap (λ (f : CertFault). moved_to f m) h.1)
+moves picture walk (Forget lemma) n m fault (inr h) = inr (h.0, h.1, ap (λ (f : CertFault). moved_to f m) h.2)
+
+-- whatever error is first from step i on is first from the beginning
+pub record FirstSoFar (picture : Rows) (start at : Option Walk) (place : ℕ → ℕ) (i : ℕ) (lines rest : List CertLine) : Type 0 where
+  pub goes : (fault : Option CertFault) → FirstFault picture at place i rest fault → FirstFault picture start place 0 lines fault
 
 here : (lines : List CertLine) (i : ℕ) (d : CertLine) → i < length lines → drop i lines ≡ get_or lines i d ∷ drop (i + 1) lines
 here lines i d l = rw (add-one, drop-cons lines i d) refl
 
-pub trailing_first : (picture : Rows) (start : List Masks) (trail : Trailed) (going : Bool) (first i : ℕ) (lines : List CertLine)
-    → FirstSoFar picture start (waiting going trail) first (first + i) lines (drop i lines) → i < length lines → going ≡ false → FirstFault picture start first lines (Some (Trailing (first + i)))
-trailing_first picture start trail going first i lines so_far l e =
-    so_far.goes (Some (Trailing (first + i))) (rw (e, here lines i Done l) refl)
+module _ (picture : Rows) (start : Option Walk) (walk : Walk) (going : Bool) (place : ℕ → ℕ) (i : ℕ) (lines : List CertLine) (l : i < length lines)
+    (so_far : FirstSoFar picture start (reached going walk) place i lines (drop i lines)) where
+  pub trailing_first : going ≡ false → FirstFault picture start place 0 lines (Some (Trailing (place i)))
+  trailing_first e = so_far.goes (Some (Trailing (place i))) (rw (e, here lines i Done l) refl)
 
--- from the line that comes next
-at_line : (picture : Rows) (start : List Masks) (trail : Trailed) (going : Bool) (first i : ℕ) (lines : List CertLine) (line d : CertLine)
-    → FirstSoFar picture start (waiting going trail) first (first + i) lines (drop i lines) → i < length lines → going ≡ true → line ≡ get_or lines i d → (fault : Option CertFault)
-    → FirstFault picture (trail.at_hand ∷ trail.behind) (first + i) (line ∷ drop (i + 1) lines) fault → FirstFault picture start first lines fault
-at_line picture start trail going first i lines line d so_far l e is fault f =
-    so_far.goes fault (rw (e, here lines i d l, ← is) f)
+  module _ (line d : CertLine) (on : going ≡ true) (is : line ≡ get_or lines i d) where
+    -- from a line that is taken
+    at_line : (fault : Option CertFault) → FirstFault picture (Some walk) place i (line ∷ drop (i + 1) lines) fault → FirstFault picture start place 0 lines fault
+    at_line fault f = so_far.goes fault (rw (on, here lines i d l, ← is) f)
 
-pub refused_first : (picture : Rows) (start : List Masks) (trail new : Trailed) (going : Bool) (first i : ℕ) (lines : List CertLine) (line d : CertLine) (e : CertFault)
-    → FirstSoFar picture start (waiting going trail) first (first + i) lines (drop i lines) → i < length lines → going ≡ true → line ≡ get_or lines i d
-    → Takes picture trail new line (first + i) (Err e) → AnswersFirst (FirstFault picture start first lines) (Err e)
-refused_first picture start trail new going first i lines line d e so_far l g is (inl m) = inl m
-refused_first picture start trail new going first i lines line d e so_far l g is (inr h) =
-    inr (at_line picture start trail going first i lines line d so_far l g is (Some e) (inl (e, (h, refl))))
+    pub refused_first : (new : Machined) (e : CertFault) → Takes picture (found_by walk line) new line i (Err e) → AnswersFirst (FirstFault picture start place 0 lines) (Err (moved_to e (place i)))
+    refused_first new e (inl m) = inl (ap (λ (f : CertFault). moved_to f (place i)) m)
+    refused_first new e (inr h) = inr (at_line (Some (moved_to e (place i))) (inl (moved_to e (place i), (moves picture (found_by walk line) line i (place i) e h, refl))))
 
-pub taken_first : (picture : Rows) (start : List Masks) (trail new : Trailed) (going more : Bool) (first i : ℕ) (lines : List CertLine) (line d : CertLine)
-    → FirstSoFar picture start (waiting going trail) first (first + i) lines (drop i lines) → i < length lines → going ≡ true → line ≡ get_or lines i d
-    → Takes picture trail new line (first + i) (Ok more) → FirstSoFar picture start (waiting more new) first (first + (i + 1)) lines (drop (i + 1) lines)
-taken_first picture start trail new going more first i lines line d so_far l g is t = record {
-  goes = λ fault f.
-      let next = t.1.0 in
-      let leads = t.1.1.0 in
-      let e : first + (i + 1) ≡ first + i + 1 = omega arith in
-      at_line picture start trail going first i lines line d so_far l g is fault (inr (next, (leads, rw (t.1.1.1, e) at f)));
-}
+    pub taken_first : (new : Machined) (more : Bool) → Takes picture (found_by walk line) new line i (Ok more)
+        → FirstSoFar picture start (reached more new.walk) place (i + 1) lines (drop (i + 1) lines)
+    taken_first new more t = record { goes = λ fault f. at_line fault (inr (reached more new.walk, (t.1, f))) }
+
+pub ended_first : (picture : Rows) (start : Option Walk) (walk : Walk) (going : Bool) (place : ℕ → ℕ) (i n : ℕ) (lines : List CertLine)
+    → FirstSoFar picture start (reached going walk) place i lines (drop i lines)
+    → length lines ≤ i → i ≡ n → going ≡ true → FirstFault picture start place 0 lines (Some (Ended (place n)))
+ended_first picture start walk going place i n lines so_far l e on = so_far.goes (Some (Ended (place n))) (rw (on, drop_all i lines l, e) refl)

@@ -1,4 +1,15 @@
+pub mod Boards
 pub mod FirstFault
+pub mod LemmaProof
+pub mod Lemmas
+pub mod Machined
+pub mod Moving
+pub mod Opening
+pub mod Published
 pub mod Puzzle
+pub mod Steps
+pub mod Stores
+pub mod Strays
 pub mod Tree
+pub mod TreeFault
 pub mod Walk

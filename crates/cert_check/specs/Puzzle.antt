@@ -10,8 +10,8 @@ use Rattle.clues.specs.Solution.{IsOnlySolution}
 use Rattle.line_facts.specs.Fits.{CanFit, CanHave}
 use Rattle.line_facts.specs.FactSets.{IsOn, Leaves, SameShape, nothing_excluded, with_given}
 use Rattle.line_facts.specs.Branches.{branches}
-use Rattle.cert_text.specs.declared.tree_line.CellNumber.{CellNumber}
-use Rattle.cert_text.specs.declared.tree_line.LineNumber.{LineNumber}
+use Rattle.cert_text.specs.declared.cert_line.CellNumber.{CellNumber}
+use Rattle.cert_text.specs.declared.cert_line.LineNumber.{LineNumber}
 
 -- ---- places by number
 

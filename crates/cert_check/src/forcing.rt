@@ -1,18 +1,23 @@
-//! Line solving on a trail's current facts, those at hand. The trail records each change.
+//! Line solving on the facts at hand of a board, which records each change.
 
-ghost use Rattle.std.specs.Prelude.{◌≡◌, ◌<◌, ◌≤◌, ◌↔◌, length, slice_index, OnOk, IsTrue};
-ghost use Rattle.picture.specs.Rows.{HasLine, line_of, with_cell};
-ghost use Rattle.line_facts.specs.declared.line_engine.Outcome.{Outcome};
+ghost use Rattle.std.specs.Prelude.{◌≡◌, ◌≤◌, ◌+◌, ◌↔◌, length, OnOk, IsTrue};
+ghost use Rattle.picture.specs.LineSet.{HasName};
+ghost use Rattle.picture.specs.Rows.{HasLine, line_of};
 ghost use Rattle.line_facts.specs.Counts.{counted};
-ghost use Rattle.line_facts.specs.FactSets.{Gains, HoldsLine, IsFacts, col_on, row_on};
+ghost use Rattle.line_facts.specs.FactSets.{HoldsLine};
 ghost use Rattle.line_facts.specs.Fits.{CanFit};
 ghost use Rattle.line_facts.specs.NarrowedLine.{Narrows};
+ghost use Rattle.cert_check.specs.Boards.{IsTallied};
+ghost use Rattle.cert_check.specs.Puzzle.{IsForced};
+ghost use Rattle.cert_check.specs.Walk.{CanCheck};
 
+use crate::board::Board;
+use crate::claim::Claim;
 use clues::Clue;
 use line_facts::{Facts, LineEngine, Outcome};
-use picture::{LineId, MAX_SIDE};
+use picture::{LineId, MAX_SIDE, Picture};
 use std::alloc::AllocError;
-use trail::{Cell, Trail};
+use trail::Cell;
 
 // The most cells of a line.
 const MOST_CELLS: usize = MAX_SIDE as usize;
@@ -40,8 +45,13 @@ fn narrow_line<E: LineEngine>(
     engine.narrow(&mut count, clue, &left[..cells], out)
 }
 
-/// Whether no list of colours fits a line, in one call of the engine.
-pub fn is_dead<E: LineEngine>(engine: &mut E, facts: &Facts, clue: &Clue, line: LineId) -> bool
+// Whether no list of colours fits a line, in one call of the engine.
+pub(crate) fn is_dead<E: LineEngine>(
+    engine: &mut E,
+    facts: &Facts,
+    clue: &Clue,
+    line: LineId,
+) -> bool
     requires line { HasLine facts.now line }
     requires short { length (line_of facts.now line) ≤ E.longest engine.old }
     ensures dead { IsTrue result ↔ (CanFit clue.now (line_of facts.now line) → ⊥) }
@@ -55,41 +65,60 @@ pub fn is_dead<E: LineEngine>(engine: &mut E, facts: &Facts, clue: &Clue, line: 
 
 #[tactic(auto, using(line_facts::proofs::AlongLaws::places))]
 // Sets the candidates of a line's cells in the facts at hand.
-fn hold_line(trail: &mut Trail, line: LineId, masks: &[u16]) -> Result<(), AllocError>
-    requires line { HasLine trail.old.at_hand line }
-    requires whole { length masks.now ≡ length (line_of trail.old.at_hand line) }
+fn hold_line(
+    board: &mut Board,
+    picture: &Picture,
+    line: LineId,
+    masks: &[u16],
+) -> Result<(), AllocError>
+    requires line { HasLine board.old.at_hand line }
+    requires whole { length masks.now ≡ length (line_of board.old.at_hand line) }
     requires fits { length masks.now ≤ MAX_SIDE }
+    requires tallied { IsTallied picture.now board.old }
     ensures holds { OnOk result
-        (HoldsLine line trail.old.at_hand trail.new.at_hand masks.now) }
-    ensures behind { OnOk result (trail.new.behind ≡ trail.old.behind) }
+        (HoldsLine line board.old.at_hand board.new.at_hand masks.now) }
+    ensures behind { OnOk result (board.new.behind ≡ board.old.behind) }
+    ensures tallied { OnOk result (IsTallied picture.now board.new) }
 {
-    let _ = trail.at_hand().height();
+    let _ = board.at_hand().height();
     for i in 0..masks.len() {
         let cell = Cell::on(line, i as u8);
-        trail.hold(cell.row, cell.col, masks[i])?;
+        board.hold(picture, cell, masks[i])?;
     }
     Ok(())
 }
 
-/// Adds to the trail's facts at hand all that a line's clue forces, in one call of the engine.
-pub fn force<E: LineEngine>(
+// Adds to the facts at hand all that a line's clue forces, in one call of the engine, or in none where the line is settled.
+pub(crate) fn force<E: LineEngine>(
     engine: &mut E,
-    trail: &mut Trail,
-    clue: &Clue,
+    board: &mut Board,
+    claim: &Claim,
     line: LineId,
 ) -> Result<(), AllocError>
-    requires line { HasLine trail.old.at_hand line }
-    requires short { length (line_of trail.old.at_hand line) ≤ E.longest engine.old }
-    ensures gains { OnOk result
-        ((outcome : Outcome) × Gains clue.now line trail.old.at_hand trail.new.at_hand outcome) }
-    ensures behind { OnOk result (trail.new.behind ≡ trail.old.behind) }
+    requires can { CanCheck claim.now.picture.now claim.now.clues.now (E.longest engine.old) }
+    requires tallied { IsTallied claim.now.picture.now board.old }
+    requires line { HasLine board.old.at_hand line }
+    ensures forced { OnOk result (IsForced claim.now.picture.now board.old.at_hand line
+        board.new.at_hand) }
+    ensures behind { OnOk result (board.new.behind ≡ board.old.behind) }
+    ensures tallied { OnOk result (IsTallied claim.now.picture.now board.new) }
     ensures same_longest { E.longest engine.new ≡ E.longest engine.old }
-    ensures called { E.calls engine.new ≡ counted (E.calls engine.old) 1 }
+    ensures calls { E.calls engine.old ≤ E.calls engine.new }
+    ensures work { E.calls engine.new ≤ E.calls engine.old + 1 }
+    ensures noted { OnOk result (HasName board.new.settled line) }
+    ensures again { HasName board.old.settled line → E.calls engine.new ≡ E.calls engine.old }
 {
+    let _ = engine.calls();
+    let _ = board.at_hand().height();
+    if board.is_settled(line) {
+        return Ok(());
+    }
     let mut masks = [0; MOST_CELLS];
-    let facts = trail.at_hand();
+    let facts = board.at_hand();
     let cells = usize::from(facts.line_len(line));
     let out = &mut masks[..cells];
-    let _outcome = narrow_line(engine, facts, clue, line, out);
-    hold_line(trail, line, out)
+    let _outcome = narrow_line(engine, facts, claim.clues.clue(line), line, out);
+    hold_line(board, claim.picture, line, out)?;
+    board.settle(claim.picture, line);
+    Ok(())
 }

@@ -1,14 +1,25 @@
-//! The checker of certificates, without any search: whether a certificate proves that a picture is the only solution.
+//! The checker of certificates of all forms, without any search: whether a certificate proves that a picture is the only solution.
 #![tactic(auto)]
 
+mod board;
 mod checking;
+mod claim;
 mod forcing;
+mod givens;
+mod literal_engine;
+mod look_counter;
+mod machine;
+mod moving;
+mod opening;
 mod places;
-mod showing;
-mod walk;
+mod publishing;
+mod span;
+mod stage;
+mod store;
+mod stray;
 
-pub use checking::{check_cert, set_givens};
-pub use forcing::{force, is_dead};
-pub use places::{cell_in, line_at};
-pub use showing::shows_only;
-pub use walk::Claim;
+pub use checking::{check_cert, check_counting};
+pub use givens::set_givens;
+pub use literal_engine::LiteralEngine;
+pub use look_counter::LookCounter;
+pub use publishing::check_published;

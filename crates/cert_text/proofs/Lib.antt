@@ -1,3 +1,10 @@
+pub mod ColoursAgain
+pub mod LetterLemmas
+pub mod OrderLemmas
 pub mod ReadLemmas
 pub mod RoundTrip
+pub mod RunLemmas
+pub mod StepLemmas
 pub mod WordLemmas
+pub mod WordsAgain
+pub mod WriteLemmas

@@ -1,68 +1,123 @@
 -- Lines read one by one: what is read so far, and what is left to read.
-use Rattle.std.proofs.Common.{◌≡◌, ℕ, ◌+◌, ◌<◌, ◌≤◌, Bool, true, false, cond, List, [], ◌∷◌, ◌++◌, Option, None, Some, Result, Ok, Err, append_assoc, refl, sym, ap, subst, ◌∙◌, arith, inl, inr}
-use Rattle.std.proofs.Common.{nat_le}
-use Rattle.std.specs.List.{AllByRecursion}
+use Rattle.std.proofs.Common.{◌≡◌, ℕ, ◌+◌, ◌<◌, ◌≤◌, Bool, true, false, cond, List, [], ◌∷◌, ◌++◌, length, take, drop, Option, None, Some, Result, Ok, Err, append_assoc, refl, sym, ap, subst, ◌∙◌}
+use Rattle.std.proofs.Common.{arith, inl, inr}
+use Rattle.std.proofs.Common.{nat_le, length-append}
+use Rattle.std.specs.List.{AllByRecursion, flat_map}
 use Rattle.std.specs.Option.{ok_or}
 use Rattle.std.proofs.lemmas.Bool.{le-leb}
 use Rattle.std.proofs.lemmas.Bool.Decides.{leb_tells}
 use Rattle.std.proofs.lemmas.List.{append-nil}
+use Rattle.std.proofs.lemmas.List.Concat.{flat_map-append}
+use Rattle.std.proofs.Math.Seq.{drop-append_seam, take-append_seam}
+use Rattle.picture.proofs.ColourLaws.{every_append}
 use Rattle.picture.specs.Readers.{◌>>=◌}
 use Rattle.cert_text.specs.declared.fault.CertFault.{CertFault}
 use Rattle.cert_text.specs.declared.fault.CertFault.TheVariants.{BadLine}
-use Rattle.cert_text.specs.declared.tree_line.CellNumber.{CellNumber}
-use Rattle.cert_text.specs.declared.tree_line.CertLine.{CertLine}
-use Rattle.cert_text.specs.Cert.{AreOrdered, IsWritable, rank}
-use Rattle.cert_text.specs.Text.{cert_line, given_line, given_lines, take_given, tree_lines}
+use Rattle.cert_text.specs.declared.form.Form.{Form}
+use Rattle.cert_text.specs.declared.form.Form.TheVariants.{Tree, GivenTree, Lemmas, LemmaRuns}
+use Rattle.cert_text.specs.declared.cert_line.CellNumber.{CellNumber}
+use Rattle.cert_text.specs.declared.cert_line.CertLine.{CertLine}
+use Rattle.cert_text.specs.Cert.{AreOfForm, AreOrdered, AreRuns, HasRuns, IsOfForm, IsRun, rank}
+use Rattle.cert_text.specs.Reading.{each_line, joined, length_of, lengths, steps_below}
+use Rattle.cert_text.specs.Steps.{IsPushed, steps_of}
+use Rattle.cert_text.specs.Text.{given_line, given_lines, take_given}
+
+-- ---- runs
+
+first_run : (run steps : List CertLine) → (take (length run) (run ++ steps) ≡ run) × (drop (length run) (run ++ steps) ≡ steps) × (length run ≤ length (run ++ steps))
+first_run run steps = (take-append_seam run steps, drop-append_seam run steps, omega (arith, length-append run steps))
+
+are_runs_of : (runs : List (List CertLine)) → AllByRecursion IsRun runs → AreRuns (lengths LemmaRuns runs) (joined runs)
+are_runs_of [] are = refl
+are_runs_of (run ∷ runs) are =
+    let f = first_run run (joined runs) in
+    (f.2, subst IsRun (sym f.0) are.0, subst (AreRuns (lengths LemmaRuns runs)) (sym f.1) (are_runs_of runs are.1))
+
+-- a form where each line has one step notes no lengths
+abbrev pub no_length : List CertLine → List ℕ
+no_length run = []
+
+pub none_each : (runs : List (List CertLine)) → flat_map no_length runs ≡ []
+none_each [] = refl
+none_each (run ∷ runs) = none_each runs
+
+runs_of : (form : Form) (runs : List (List CertLine)) → AllByRecursion IsRun runs → HasRuns form (lengths form runs) (joined runs)
+runs_of LemmaRuns runs are = are_runs_of runs are
+runs_of Tree runs are = none_each runs
+runs_of GivenTree runs are = none_each runs
+runs_of Lemmas runs are = none_each runs
 
 -- ---- the lines
 
--- what is read where these lines come before the others
-abbrev lines_behind : List CertLine → Result (List CertLine) CertFault → Result (List CertLine) CertFault
-lines_behind front read = read >>= λ rest. Ok (front ++ rest)
+abbrev Runs : Type 0
+Runs = Result (List (List CertLine)) CertFault
 
-behind_more : (front : List CertLine) (line : CertLine) (read : Result (List CertLine) CertFault) → lines_behind (front ++ (line ∷ [])) read ≡ lines_behind front (read >>= λ rest. Ok (line ∷ rest))
-behind_more front line (Ok rest) = ap Ok (append_assoc front (line ∷ []) rest)
-behind_more front line (Err e) = refl
+-- what is read where these lines come before the others
+abbrev after : Form → List (List CertLine) → Runs → Result (List CertLine × List ℕ) CertFault
+after form front read = read >>= λ rest. Ok (joined (front ++ rest), lengths form (front ++ rest))
+
+after_more : (form : Form) (front : List (List CertLine)) (run : List CertLine) (read : Runs) → after form (front ++ (run ∷ [])) read ≡ after form front (read >>= λ rest. Ok (run ∷ rest))
+after_more form front run (Ok rest) = ap (λ (all : List (List CertLine)). Ok (joined all, lengths form all)) (append_assoc front (run ∷ []) rest)
+after_more form front run (Err e) = refl
 
 -- what is read from here, after the lines so far, is what is read from the beginning
-pub record LinesLeft (front : List CertLine) (n : ℕ) (lines : List (List ℕ)) (whole : Result (List CertLine) CertFault) : Type 0 where
-  pub is : lines_behind front (tree_lines n lines) ≡ whole
-  pub writable : (more : List CertLine) → AllByRecursion IsWritable more → AllByRecursion IsWritable (front ++ more)
+pub record LinesLeft (form : Form) (steps : List CertLine) (runs : List ℕ) (n : ℕ) (lines : List (List ℕ)) (whole : Result (List CertLine × List ℕ) CertFault) : Type 0 where
+  pub front : List (List CertLine)
+  pub joins : steps ≡ joined front
+  pub notes : runs ≡ lengths form front
+  pub is : after form front (each_line form n lines) ≡ whole
+  pub of_form : AreOfForm form steps
+  pub are_runs : AllByRecursion IsRun front
 
-pub lines_start : (n : ℕ) (lines : List (List ℕ)) → LinesLeft [] n lines (tree_lines n lines)
-lines_start n lines = record { is = none_before (tree_lines n lines); writable = λ more w. w }
-  where
-    none_before : (read : Result (List CertLine) CertFault) → lines_behind [] read ≡ read
-    none_before (Ok rest) = refl
-    none_before (Err e) = refl
+pub lines_start : (form : Form) (n : ℕ) (lines : List (List ℕ)) → LinesLeft form [] [] n lines (steps_below form n lines)
+lines_start form n lines = record { front = []; joins = refl; notes = refl; is = refl; of_form = tt; are_runs = tt }
 
-pub lines_more : (front new : List CertLine) (line : CertLine) (text : List ℕ) (n : ℕ) (lines rest : List (List ℕ)) (whole : Result (List CertLine) CertFault) → lines ≡ text ∷ rest
-    → Some line ≡ cert_line text → IsWritable line → new ≡ front ++ (line ∷ []) → LinesLeft front n lines whole → LinesLeft new (n + 1) rest whole
-unfolding tree_lines
-lines_more front new line text n lines rest whole e l w p left =
-    let P : List CertLine → Type 0 = λ f. LinesLeft f (n + 1) rest whole in
-    subst P (sym p) (record {
-      is =
-          behind_more front line (tree_lines (n + 1) rest)
-          ∙ (ap (λ (o : Option CertLine). lines_behind front (ok_or o (BadLine n) >>= λ first. (tree_lines (n + 1) rest >>= λ read. Ok (first ∷ read)))) l
-          ∙ (ap (λ (ls : List (List ℕ)). lines_behind front (tree_lines n ls)) (sym e) ∙ left.is));
-      writable = λ more m. subst (AllByRecursion IsWritable) (sym (append_assoc front (line ∷ []) more)) (left.writable (line ∷ more) (w, m));
-    })
+module _ (form : Form) (steps : List CertLine) (runs : List ℕ) (n : ℕ) (lines : List (List ℕ)) (whole : Result (List CertLine × List ℕ) CertFault)
+    (left : LinesLeft form steps runs n lines whole) where
+  module _ (text : List ℕ) (rest : List (List ℕ)) (e : lines ≡ text ∷ rest) where
+    by_line : (o : Option (List CertLine)) → steps_of form text ≡ o → after form left.front (ok_or o (BadLine n) >>= λ first. (each_line form (n + 1) rest >>= λ read. Ok (first ∷ read))) ≡ whole
+    unfolding each_line
+    by_line o s =
+        sym (ap (λ (p : Option (List CertLine)). after form left.front (ok_or p (BadLine n) >>= λ first. (each_line form (n + 1) rest >>= λ read. Ok (first ∷ read)))) s)
+        ∙ (ap (λ (ls : List (List ℕ)). after form left.front (each_line form n ls)) (sym e) ∙ left.is)
 
-pub lines_stop : (front : List CertLine) (text : List ℕ) (n : ℕ) (lines rest : List (List ℕ)) (whole : Result (List CertLine) CertFault) → lines ≡ text ∷ rest → None ≡ cert_line text
-    → LinesLeft front n lines whole → whole ≡ Err (BadLine n)
-unfolding tree_lines
-lines_stop front text n lines rest whole e l left =
-    sym left.is
-    ∙ (ap (λ (ls : List (List ℕ)). lines_behind front (tree_lines n ls)) e
-    ∙ ap (λ (o : Option CertLine). lines_behind front (ok_or o (BadLine n) >>= λ first. (tree_lines (n + 1) rest >>= λ read. Ok (first ∷ read)))) (sym l))
+    pub lines_more : (new : List CertLine) (news : List ℕ) (m : ℕ) → IsPushed form (steps_of form text) steps new (Some m) → news ≡ runs ++ length_of form m
+        → LinesLeft form new news (n + 1) rest whole
+    lines_more new news m pushed r = record {
+      front = left.front ++ (pushed.0 ∷ []);
+      joins =
+          pushed.1.1
+          ∙ (ap (λ (ss : List CertLine). ss ++ pushed.0) left.joins
+          ∙ (ap (λ (ss : List CertLine). joined left.front ++ ss) (sym (append-nil pushed.0)) ∙ sym (flat_map-append (λ (run : List CertLine). run) left.front (pushed.0 ∷ []))));
+      notes =
+          r
+          ∙ (ap (λ (ns : List ℕ). ns ++ length_of form m) left.notes
+          ∙ (ap (λ (k : ℕ). lengths form left.front ++ length_of form k) pushed.1.2
+          ∙ (ap (λ (ns : List ℕ). lengths form left.front ++ ns) (sym (append-nil (length_of form (length pushed.0))))
+          ∙ sym (flat_map-append (λ (run : List CertLine). length_of form (length run)) left.front (pushed.0 ∷ [])))));
+      is = after_more form left.front pushed.0 (each_line form (n + 1) rest) ∙ by_line (Some pushed.0) pushed.1.0;
+      of_form = subst (AreOfForm form) (sym pushed.1.1) (every_append (IsOfForm form) steps pushed.0 left.of_form pushed.1.3);
+      are_runs = every_append IsRun left.front (pushed.0 ∷ []) left.are_runs (pushed.1.4, tt);
+    }
 
-pub lines_end : (front : List CertLine) (n : ℕ) (lines : List (List ℕ)) (whole : Result (List CertLine) CertFault) → lines ≡ [] → LinesLeft front n lines whole → whole ≡ Ok front
-unfolding tree_lines
-lines_end front n lines whole e left = sym left.is ∙ (ap (λ (ls : List (List ℕ)). lines_behind front (tree_lines n ls)) e ∙ ap Ok (append-nil front))
+    pub lines_stop : steps_of form text ≡ None → whole ≡ Err (BadLine n)
+    lines_stop s = sym (by_line None s)
 
-pub lines_writable : (front : List CertLine) (n : ℕ) (lines : List (List ℕ)) (whole : Result (List CertLine) CertFault) → LinesLeft front n lines whole → AllByRecursion IsWritable front
-lines_writable front n lines whole left = subst (AllByRecursion IsWritable) (append-nil front) (left.writable [] tt)
+  pub lines_end : lines ≡ [] → whole ≡ Ok (steps, runs)
+  unfolding each_line
+  lines_end e =
+      sym left.is
+      ∙ (ap (λ (ls : List (List ℕ)). after form left.front (each_line form n ls)) e
+      ∙ (ap (λ (all : List (List CertLine)). Ok (joined all, lengths form all)) (append-nil left.front)
+      ∙ (ap (λ (ss : List CertLine). Ok (ss, lengths form left.front)) (sym left.joins) ∙ ap (λ (ns : List ℕ). Ok (steps, ns)) (sym left.notes))))
+
+  pub lines_of_form : AreOfForm form steps
+  lines_of_form = left.of_form
+
+  pub lines_have_runs : HasRuns form runs steps
+  lines_have_runs = subst (HasRuns form runs) (sym left.joins) (subst (λ (ns : List ℕ). HasRuns form ns (joined left.front)) (sym left.notes) (runs_of form left.front left.are_runs))
+
+pub ruleset line_reading = (lines_start, lines_more, lines_stop, lines_end, lines_of_form, lines_have_runs)
 
 -- ---- the givens
 
@@ -134,7 +189,5 @@ givens_out front n least lines whole e left =
 
 pub givens_ordered : (front : List CellNumber) (n least : ℕ) (lines : List (List ℕ)) (whole : Read) → GivensLeft front n least lines whole → AreOrdered 0 front
 givens_ordered front n least lines whole left = subst (AreOrdered 0) (append-nil front) (left.ordered [] tt)
-
-pub ruleset line_reading = (lines_start, lines_more, lines_stop, lines_end, lines_writable)
 
 pub ruleset given_reading = (givens_start, givens_more, givens_stop, givens_end, givens_out, givens_ordered)

@@ -3,6 +3,7 @@ use Rattle.std.specs.Prelude.{ℕ, List, codes, Option, Some, None}
 use Rattle.cert_text.specs.declared.fault.CertFault.{CertFault}
 use Rattle.cert_text.specs.declared.fault.CertFault.TheVariants.{NotCert, BadLine, Place, NoLemma, Misplaced, Full}
 use Rattle.cert_text.specs.declared.fault.CertFault.TheVariants.{NotDead, NotDone, Ended, Trailing, Memory}
+use Rattle.cert_text.specs.declared.fault.CertFault.TheVariants.{UnpublishedGiven}
 
 -- the name, and the line in error, where the error has one
 abbrev pub told_of : CertFault → List ℕ × Option ℕ
@@ -17,6 +18,7 @@ told_of (NotDone line) = (codes "NotDone", Some line)
 told_of (Ended line) = (codes "Ended", Some line)
 told_of (Trailing line) = (codes "Trailing", Some line)
 told_of Memory = (codes "Memory", None)
+told_of (UnpublishedGiven line) = (codes "UnpublishedGiven", Some line)
 
 abbrev pub name_of : CertFault → List ℕ
 name_of fault = (told_of fault).0

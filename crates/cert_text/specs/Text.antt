@@ -1,22 +1,21 @@
--- A certificate read from the lines of a text.
+-- The lines of a text, their words, and what these name.
 use Rattle.std.specs.Prelude.{◌≡◌, ℕ, ◌+◌, ◌<◌, Bool, false, List, [], ◌∷◌, length, codes, Option, None, Some}
-use Rattle.std.specs.Prelude.{Result, Ok, Err, ok_or, option_and_then, option_map, ◌==◌, nat_eq, nat_le, if◌then◌else◌}
-use Rattle.std.specs.Prelude.{refl}
+use Rattle.std.specs.Prelude.{Result, Ok, Err, option_and_then, option_map, ◌==◌, nat_eq, nat_le, if◌then◌else◌}
 use Rattle.std.proofs.Common.{Vec, Global}
 use Rattle.std.specs.Borrow.{Bor}
 use Rattle.std.specs.Cmp.Lexicographic.{pointwise}
 use Rattle.std.specs.List.{slice_split}
-use Rattle.picture.specs.Numbers.{has_byte, number_spelled, short_number, value_after}
+use Rattle.picture.specs.Numbers.{has_byte, short_number}
 use Rattle.picture.specs.Readers.{◌>>=◌}
 use Rattle.picture.specs.declared.line_id.Axis.{Axis}
 use Rattle.picture.specs.declared.line_id.Axis.TheVariants.{Across, Down}
 use Rattle.cert_text.specs.declared.fault.CertFault.{CertFault}
-use Rattle.cert_text.specs.declared.fault.CertFault.TheVariants.{NotCert, BadLine}
-use Rattle.cert_text.specs.declared.tree_line.LineNumber.{LineNumber}
-use Rattle.cert_text.specs.declared.tree_line.CellNumber.{CellNumber}
-use Rattle.cert_text.specs.declared.tree_line.CertLine.{CertLine}
-use Rattle.cert_text.specs.declared.tree_line.CertLine.TheVariants.{Line, Split, Dead, Done}
-use Rattle.cert_text.specs.Cert.{Certificate, certificate, rank}
+use Rattle.cert_text.specs.declared.fault.CertFault.TheVariants.{BadLine}
+use Rattle.cert_text.specs.declared.cert_line.LineNumber.{LineNumber}
+use Rattle.cert_text.specs.declared.cert_line.CellNumber.{CellNumber}
+use Rattle.cert_text.specs.declared.cert_line.Literal.{Literal}
+use Rattle.cert_text.specs.Cert.{rank}
+use Rattle.cert_text.specs.Letters.{colours_named}
 
 -- ---- lines and words
 
@@ -42,14 +41,24 @@ abbrev pub three_of : List (List ℕ) → Option (List ℕ × List ℕ × List �
 three_of (word ∷ first ∷ second ∷ []) = Some (word, first, second)
 three_of _ = None
 
--- ---- numbers of one to three digits, without leading zeros
+-- ---- numbers without leading zeros
 
 abbrev pub has_leading_zero : List ℕ → Bool
 has_leading_zero (b ∷ c ∷ bytes) = b == 48
 has_leading_zero _ = false
 
+-- the number of a line or a cell: one to three digits
 abbrev pub number_of : List ℕ → Option ℕ
 number_of bytes = if has_leading_zero bytes then None else short_number 3 bytes
+
+-- a number that fits sixteen bits
+abbrev pub if_small : Option ℕ → Option ℕ
+if_small None = None
+if_small (Some n) = if nat_le n 65535 then Some n else None
+
+-- the number of a lemma: one to five digits
+abbrev pub lemma_named : List ℕ → Option ℕ
+lemma_named word = if has_leading_zero word then None else if_small (short_number 5 word)
 
 -- ---- places
 
@@ -66,36 +75,29 @@ cell_number row col = record { row = row; col = col }
 abbrev pub line_named : List ℕ → List ℕ → Option LineNumber
 line_named first second = option_and_then (λ axis. option_map (line_number axis) (number_of second)) (axis_of first)
 
+-- a row or a column in one word, as `r12`
+abbrev pub joined_named : List ℕ → Option LineNumber
+joined_named [] = None
+joined_named (axis ∷ number) = line_named (axis ∷ []) number
+
 -- the cell that two words name, as `3 4`
 abbrev pub cell_named : List ℕ → List ℕ → Option CellNumber
 cell_named first second = option_and_then (λ row. option_map (cell_number row) (number_of second)) (number_of first)
 
--- ---- the lines of a certificate
+abbrev pub literal : CellNumber → ℕ → Literal
+literal cell colours = record { cell = cell; colours = colours }
 
--- the line of three words: the first says what is done, the others name a line or a cell
-abbrev pub line_by : List ℕ × List ℕ × List ℕ → Option CertLine
-line_by t =
-    if is_word t.0 (codes "line") then option_map Line (line_named t.1 t.2)
-    else if is_word t.0 (codes "dead") then option_map Dead (line_named t.1 t.2)
-    else if is_word t.0 (codes "split") then option_map Split (cell_named t.1 t.2)
-    else None
+-- the cell and the colours that three words name, as `3 4 .b`
+abbrev pub literal_named : List ℕ → List ℕ → List ℕ → Option Literal
+literal_named row col letters =
+    option_and_then (λ cell. option_map (literal cell) (colours_named letters)) (cell_named row col)
 
--- a line below the givens
-unfoldable pub cert_line : List ℕ → Option CertLine
-cert_line line = if is_word line (codes "done") then Some Done else option_and_then line_by (three_of (words_of line))
+-- ---- givens
 
 -- a line that gives a cell
 unfoldable pub given_line : List ℕ → Option CellNumber
 given_line line =
     option_and_then (λ t. if is_word t.0 (codes "given") then cell_named t.1 t.2 else None) (three_of (words_of line))
-
--- ---- the certificate
-
--- lines below the givens, of which the first has number n
-unfoldable pub tree_lines : ℕ → List (List ℕ) → Result (List CertLine) CertFault
-tree_lines n [] = Ok []
-tree_lines n (line ∷ lines) =
-    ok_or (cert_line line) (BadLine n) >>= λ first. (tree_lines (n + 1) lines >>= λ rest. Ok (first ∷ rest))
 
 -- the givens from a line on, by what that line gives: nothing, or a cell that has to follow those before it
 abbrev pub take_given : ℕ → ℕ → List (List ℕ) → Option CellNumber
@@ -111,21 +113,6 @@ unfoldable pub given_lines : ℕ → ℕ → List (List ℕ) → Result (List Ce
 given_lines n least [] = Ok ([], [])
 given_lines n least (line ∷ lines) =
     take_given n least (line ∷ lines) (given_line line) (λ from. given_lines (n + 1) from lines)
-
-abbrev pub below_givens : List CellNumber × List (List ℕ) → Result Certificate CertFault
-below_givens read = tree_lines (2 + length read.0) read.1 >>= λ lines. Ok (certificate 2 read.0 lines)
-
--- the certificate of lines: the first says the version, and only version 2 has givens
-abbrev pub cert_of_lines : List (List ℕ) → Result Certificate CertFault
-cert_of_lines [] = Err (NotCert 1)
-cert_of_lines (first ∷ lines) =
-    if is_word first (codes "nonocert 1") then (tree_lines 2 lines >>= λ read. Ok (certificate 1 [] read))
-    else if is_word first (codes "nonocert 2") then (given_lines 2 0 lines >>= below_givens)
-    else Err (NotCert 1)
-
--- the certificate of a text, or the first error
-abbrev pub cert_of : List ℕ → Result Certificate CertFault
-cert_of text = cert_of_lines (lines_of text)
 
 -- ---- the answers of functions that cut a text
 
@@ -145,21 +132,3 @@ three_seen t = (t.0.now, t.1.now, t.2.now)
 -- what reading givens answers: the cells, and the lines below them
 abbrev pub givens_seen : Vec CellNumber Global × Bor (List ℕ) → List CellNumber × List (List ℕ)
 givens_seen read = (read.0.items, lines_of read.1.now)
-
--- ---- worked lines
-
-reads_line : cert_line (codes "line r 3") ≡ Some (Line (line_number Across 3))
-unfolding cert_line number_spelled value_after
-reads_line = refl
-
-refuses_leading_zero : cert_line (codes "line r 01") ≡ None
-unfolding cert_line number_spelled value_after
-refuses_leading_zero = refl
-
-takes_nought : cert_line (codes "line r 0") ≡ Some (Line (line_number Across 0))
-unfolding cert_line number_spelled value_after
-takes_nought = refl
-
-refuses_four_digits : cert_line (codes "line r 1000") ≡ None
-unfolding cert_line number_spelled value_after
-refuses_four_digits = refl

@@ -45,6 +45,9 @@ pub enum CertFault {
     /// An allocation was refused.
     #[error("out of memory")]
     Memory,
+    /// All was accepted, but a cell is given that is not published.
+    #[error("line {0}: a given that is not published")]
+    UnpublishedGiven(usize),
 }
 
 impl CertFault {
@@ -79,6 +82,7 @@ impl CertFault {
             CertFault::Ended(line) => ("Ended", Some(line)),
             CertFault::Trailing(line) => ("Trailing", Some(line)),
             CertFault::Memory => ("Memory", None),
+            CertFault::UnpublishedGiven(line) => ("UnpublishedGiven", Some(line)),
         }
     }
 }

@@ -1,78 +1,41 @@
 //! The reader of certificates.
 
-ghost use Rattle.std.specs.Prelude.{◌≡◌, ◌+◌, ◌^◌, ◌<◌, ◌≤◌, length, IfOk, IfSome};
-ghost use Rattle.std.specs.List.{AllByRecursion};
+ghost use Rattle.std.specs.Prelude.{◌≡◌, ◌+◌, ◌-◌, ◌++◌, ◌^◌, ◌<◌, ◌≤◌, length, min, IfOk};
+ghost use Rattle.std.specs.List.{sum_by};
 ghost use Rattle.picture.specs.Readers.{Gives};
-ghost use Rattle.cert_text.specs.Cert.{AreOrdered, IsWritable, rank};
-ghost use Rattle.cert_text.specs.Text.{cell_named, cert_line, cert_of, given_line, given_lines, givens_seen, line_named, lines_of, tree_lines};
+ghost use Rattle.cert_text.specs.Cert.{AreOfForm, AreOrdered, CanHaveGivens, HasRuns, IsCert, rank};
+ghost use Rattle.cert_text.specs.Reading.{cert_of, form_of, givens_of, length_of, lines_seen, steps_below};
+ghost use Rattle.cert_text.specs.Steps.{room_of};
+ghost use Rattle.cert_text.specs.Text.{given_lines, givens_seen, lines_of};
 
 use crate::cert::Cert;
+use crate::cert_line::{CellNumber, CertLine};
 use crate::fault::CertFault;
-use crate::tree_line::{CellNumber, CertLine, LineNumber};
-use crate::words::{first_line, is_word, number_in, three_words};
-use picture::Axis;
-use std::alloc::Global;
+use crate::form::Form;
+use crate::named::given_in;
+use crate::runs::{push_steps, room_in};
+use crate::words::{first_line, is_word};
+use std::alloc::{AllocError, Global};
 
-/// The row or column that two words name, as `r 3`. None for other words.
-pub fn line_named(first: &[u8], second: &[u8]) -> Option<LineNumber>
-    ensures value { result ≡ line_named first.now second.now }
-    ensures short { IfSome result (λ line. line.number < 1000) }
-{
-    let axis = match first {
-        b"r" => Axis::Across,
-        b"c" => Axis::Down,
-        _ => return None,
-    };
-    let number = number_in(second)?;
-    Some(LineNumber { axis, number })
-}
+// The number of the line below the first.
+const SECOND_LINE: usize = 2;
 
-/// The cell that two words name, as `3 4`. None for other words.
-pub fn cell_named(first: &[u8], second: &[u8]) -> Option<CellNumber>
-    ensures value { result ≡ cell_named first.now second.now }
-    ensures short { IfSome result (λ cell. (cell.row < 1000) × (cell.col < 1000)) }
+// The form that the first line says.
+fn form_of(line: &[u8]) -> Option<Form>
+    ensures { result ≡ form_of line.now }
 {
-    let row = number_in(first)?;
-    let col = number_in(second)?;
-    Some(CellNumber { row, col })
-}
-
-#[tactic(auto, unfolding(crate::specs::Text::cert_line))]
-// A line below the givens.
-fn line_in(line: &[u8]) -> Option<CertLine>
-    ensures value { result ≡ cert_line line.now }
-    ensures writable { IfSome result IsWritable }
-{
-    if is_word(line, b"done") {
-        return Some(CertLine::Done);
-    }
-    let (word, first, second) = three_words(line)?;
-    if is_word(word, b"line") {
-        line_named(first, second).map(CertLine::Line)
-    } else if is_word(word, b"dead") {
-        line_named(first, second).map(CertLine::Dead)
-    } else if is_word(word, b"split") {
-        cell_named(first, second).map(CertLine::Split)
+    if is_word(line, b"nonocert 1") {
+        Some(Form::Tree)
+    } else if is_word(line, b"nonocert 2") {
+        Some(Form::GivenTree)
+    } else if is_word(line, b"nonolemma 1") {
+        Some(Form::Lemmas)
+    } else if is_word(line, b"nonolemma 2") {
+        Some(Form::LemmaRuns)
     } else {
         None
     }
 }
-
-#[tactic(auto, unfolding(crate::specs::Text::given_line))]
-// A line that gives a cell.
-fn given_in(line: &[u8]) -> Option<CellNumber>
-    ensures value { result ≡ given_line line.now }
-    ensures short { IfSome result (λ cell. (cell.row < 1000) × (cell.col < 1000)) }
-{
-    let (word, first, second) = three_words(line)?;
-    if !is_word(word, b"given") {
-        return None;
-    }
-    cell_named(first, second)
-}
-
-// The number of the line below the first.
-const SECOND_LINE: usize = 2;
 
 #[tactic(auto, using(crate::proofs::ReadLemmas::given_reading))]
 /// Reads the givens at the beginning of a text whose first line was cut off. Returns them and the text below them.
@@ -103,48 +66,90 @@ pub fn read_givens(alloc: Global, text: &[u8]) -> Result<(Vec<CellNumber>, &[u8]
     Ok((givens, rest))
 }
 
-#[tactic(auto, using(crate::proofs::ReadLemmas::line_reading))]
-// The lines below the givens, which are numbered from `first`.
-fn read_lines(alloc: Global, text: &[u8], first: usize) -> Result<Vec<CertLine>, CertFault>
-    requires few { first + length text.now < 2 ^ 64 }
-    ensures value { Gives CertFault.Memory (λ lines. lines.items) result
-        (tree_lines first (lines_of text.now)) }
-    ensures writable { IfOk result (λ lines. AllByRecursion IsWritable lines.items) }
+// The givens, and the text below them.
+fn givens_of(alloc: Global, form: Form, text: &[u8]) -> Result<(Vec<CellNumber>, &[u8]), CertFault>
+    requires few { SECOND_LINE + length text.now < 2 ^ 64 }
+    ensures value { Gives CertFault.Memory givens_seen result (givens_of form (lines_of text.now)) }
+    ensures givens { IfOk result (λ read. CanHaveGivens form read.0.items) }
+    ensures rest { IfOk result (λ read. length read.1.now ≤ length text.now) }
 {
-    let mut lines = Vec::new(alloc);
+    match form {
+        Form::Tree => Ok((Vec::new(alloc), text)),
+        _ => read_givens(alloc, text),
+    }
+}
+
+// How many steps lines have, if each is one of the form's.
+fn count_steps(form: Form, text: &[u8]) -> usize
+    ensures { result ≡ min (2 ^ 64 - 1) (sum_by (room_of form) (lines_of text.now)) }
+{
+    let mut count = 0;
+    let mut rest = text;
+    while let Some((line, behind)) = first_line(rest) {
+        count = room_in(form, line).saturating_add(count);
+        rest = behind;
+    }
+    count
+}
+
+// Notes how many steps a line has, where it may have several.
+fn push_length(form: Form, length: u16, runs: &mut Vec<u16>) -> Result<(), AllocError>
+    ensures { IfOk result (λ _. runs.new.items ≡ runs.old.items ++ length_of form length) }
+{
+    if matches!(form, Form::LemmaRuns) {
+        runs.push(length)?;
+    }
+    Ok(())
+}
+
+// The shortest step of a text has two bytes.
+const SHORTEST: usize = 2;
+
+#[tactic(auto, using(crate::proofs::ReadLemmas::line_reading))]
+// The steps of lines that are numbered from `first`, and how many each line has, where it may have several.
+fn read_lines(
+    alloc: Global,
+    form: Form,
+    text: &[u8],
+    first: usize,
+) -> Result<(Vec<CertLine>, Vec<u16>), CertFault>
+    requires few { first + length text.now < 2 ^ 64 }
+    ensures value { Gives CertFault.Memory lines_seen result
+        (steps_below form first (lines_of text.now)) }
+    ensures of_form { IfOk result (λ read. AreOfForm form read.0.items) }
+    ensures runs { IfOk result (λ read. HasRuns form read.1.items read.0.items) }
+{
+    let room = count_steps(form, text).min(text.len() / SHORTEST);
+    let mut steps = Vec::with_capacity(alloc, room)?;
+    let mut runs = Vec::new(alloc);
     let mut number = first;
     let mut rest = text;
     while let Some((line, behind)) = first_line(rest) {
-        let Some(read) = line_in(line) else {
+        let Some(length) = push_steps(form, line, &mut steps)? else {
             return Err(CertFault::BadLine(number));
         };
-        lines.push(read)?;
+        push_length(form, length, &mut runs)?;
         number += 1;
         rest = behind;
     }
-    Ok(lines)
+    Ok((steps, runs))
 }
 
 /// Reads a certificate.
 ///
-/// Lines end with a line feed, which the last may lack. The first is `nonocert 1` or `nonocert 2`, else the error is
-/// `NotCert` at line 1. In version 2 lines `given R C` may follow, each after the one before in the order of rows. Each
-/// further line is `line r N`, `line c N`, `split R C`, `dead r N`, `dead c N` or `done`, with single spaces and
-/// numbers of one to three digits without leading zeros; `docs/FORMATS.md` says what they mean. Any other line is
-/// `BadLine`. Whether a picture has the lines and cells is not checked. Out of memory is answered where it occurs,
-/// before any later error.
+/// Lines end with a line feed, which the last may lack. The first line says the form: `nonocert 1`, `nonocert 2`,
+/// `nonolemma 1` or `nonolemma 2`, else the error is `NotCert` at line 1. In all but `nonocert 1` lines `given R C` may
+/// follow, each after the one before in the order of rows. Each further line is one of the form's, as `docs/FORMATS.md`
+/// says, with single spaces and numbers without leading zeros. Any other line is `BadLine`. Whether a picture has the
+/// lines and cells, and whether there are such lemmas, is not checked. Out of memory is answered where it occurs, before
+/// any later error.
 pub fn read_cert(alloc: Global, bytes: &[u8]) -> Result<Cert, CertFault>
-    ensures { Gives CertFault.Memory (λ cert. cert) result (cert_of bytes.now) }
+    ensures value { Gives CertFault.Memory (λ cert. cert) result (cert_of bytes.now) }
+    ensures cert { IfOk result IsCert }
 {
     let (first, rest) = first_line(bytes).ok_or(CertFault::NotCert(1))?;
-    if is_word(first, b"nonocert 1") {
-        let lines = read_lines(alloc, rest, SECOND_LINE)?;
-        Ok(Cert::new(1, Vec::new(alloc), lines))
-    } else if is_word(first, b"nonocert 2") {
-        let (givens, rest) = read_givens(alloc, rest)?;
-        let lines = read_lines(alloc, rest, SECOND_LINE + givens.len())?;
-        Ok(Cert::new(2, givens, lines))
-    } else {
-        Err(CertFault::NotCert(1))
-    }
+    let form = form_of(first).ok_or(CertFault::NotCert(1))?;
+    let (givens, rest) = givens_of(alloc, form, rest)?;
+    let (lines, runs) = read_lines(alloc, form, rest, SECOND_LINE + givens.len())?;
+    Ok(Cert::new(form, givens, lines, runs))
 }

@@ -1,9 +1,9 @@
 //! The lines, words and numbers of a text. Nothing is copied.
 
-ghost use Rattle.std.specs.Prelude.{◌≡◌, ◌<◌, IfSome, option_map};
-ghost use Rattle.cert_text.specs.Text.{IsCut, IsFirstLine, is_word, number_of, three_of, three_seen, words_of};
+ghost use Rattle.std.specs.Prelude.{◌≡◌, ◌<◌, length, IfSome, option_map};
+ghost use Rattle.cert_text.specs.Text.{IsCut, IsFirstLine, is_word, three_of, three_seen, words_of};
 
-use picture::{short_number_in, split_first};
+use picture::split_first;
 
 #[tactic(auto, using(crate::proofs::WordLemmas::first_lines))]
 /// The first line, and the text after it. None for an empty text.
@@ -27,7 +27,8 @@ pub fn is_word(bytes: &[u8], word: &[u8]) -> bool
 
 /// The first word, and what follows the space after it. None without a space.
 pub fn cut_word(bytes: &[u8]) -> Option<(&[u8], &[u8])>
-    ensures { IsCut bytes.now result }
+    ensures cut { IsCut bytes.now result }
+    ensures shorter { IfSome result (λ cut. length cut.1.now < length bytes.now) }
 {
     let (word, behind) = split_first(bytes, b' ');
     Some((word, behind?))
@@ -43,15 +44,4 @@ pub(crate) fn three_words(line: &[u8]) -> Option<(&[u8], &[u8], &[u8])>
         None => Some((word, first, second)),
         Some(_) => None,
     }
-}
-
-// A number of one to three digits, without leading zeros.
-pub(crate) fn number_in(bytes: &[u8]) -> Option<u16>
-    ensures value { result ≡ number_of bytes.now }
-    ensures small { IfSome result (λ n. n < 1000) }
-{
-    if matches!(bytes, [b'0', _, ..]) {
-        return None;
-    }
-    Some(short_number_in(bytes, 3)? as u16)
 }

@@ -1,3 +1,4 @@
+pub mod AcceptedLemmas
 pub mod BaseLemmas
 pub mod MadeLemmas
 pub mod MakeLemmas

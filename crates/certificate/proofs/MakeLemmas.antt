@@ -1,7 +1,7 @@
 -- The lines of a tree that a search writes are those of a certificate without error.
 use Rattle.std.proofs.Common.{◌≡◌, ℕ, suc, ◌+◌, ◌-◌, ◌<◌, ◌≤◌, List, [], ◌∷◌, ◌++◌, true, None, Some, length, eqb, eqb-true, refl, sym, ap, ◌∙◌, arith, inr}
 use Rattle.std.specs.Int.{bit_at}
-use Rattle.std.specs.List.{All, AllByRecursion, range_with_len}
+use Rattle.std.specs.List.{All, range_with_len}
 use Rattle.std.proofs.lemmas.List.Elements.{filter_passes}
 use Rattle.line_facts.specs.Masks.{Masks}
 use Rattle.picture.specs.declared.line_id.Axis.{Axis}
@@ -15,20 +15,21 @@ use Rattle.line_facts.specs.FactSets.{IsWithin, SameShape}
 use Rattle.line_facts.proofs.GridLaws.{shape_refl, shape_trans}
 use Rattle.fixpoint.specs.ClosedFacts.{AreClosable}
 use Rattle.fixpoint.proofs.ClosingLaws.{within_trans}
-use Rattle.cert_text.specs.declared.tree_line.CellNumber.{CellNumber}
-use Rattle.cert_text.specs.declared.tree_line.LineNumber.{LineNumber}
-use Rattle.cert_text.specs.declared.tree_line.CertLine.{CertLine}
-use Rattle.cert_text.specs.declared.tree_line.CertLine.TheVariants.{Line, Split, Dead, Done}
+use Rattle.cert_text.specs.declared.cert_line.CellNumber.{CellNumber}
+use Rattle.cert_text.specs.declared.cert_line.LineNumber.{LineNumber}
+use Rattle.cert_text.specs.declared.cert_line.CertLine.{CertLine}
+use Rattle.cert_text.specs.declared.cert_line.CertLine.TheVariants.{Line, Use, Split, Dead, Broken, Done, Part, Lemma, Deny, Forget}
 use Rattle.second_search.specs.Trees.{IsOtherIn, Stands, Walks}
 use Rattle.second_search.proofs.FindLemmas.{held_within}
 use Rattle.line_facts.specs.Branches.{colours_of, held}
-use Rattle.cert_text.specs.Cert.{IsWritable}
-use Rattle.cert_check.specs.FirstFault.{FirstFault, Leads}
+use Rattle.cert_text.specs.declared.form.Form.TheVariants.{Tree}
+use Rattle.cert_text.specs.Cert.{AreOfForm, IsOfTree}
+use Rattle.cert_check.specs.TreeFault.{TreeFault, TreeLeads}
 use Rattle.certificate.specs.MadeCert.{EachExcludes, ExcludesSome, WritesTree}
 use Rattle.cert_check.specs.Puzzle.{HasCellNumber, HasLineNumber, line_id}
 use Rattle.cert_check.specs.Walk.{CanCheck}
 use Rattle.cert_check.proofs.BaseLemmas.{left_inside}
-use Rattle.cert_check.proofs.Exactness.{same_gains}
+use Rattle.cert_check.proofs.TreeExactness.{same_gains}
 use Rattle.cert_check.proofs.Soundness.{forced_within}
 use Rattle.cert_check.proofs.WalkLemmas.{gains_force}
 
@@ -54,7 +55,7 @@ colours_are_left : (mask : ℕ) → All (λ k. eqb (bit_at mask k) 1 ≡ true) (
 unfolding colours_of
 colours_are_left mask = filter_passes (λ k. eqb (bit_at mask k) 1) (range_with_len 0 16)
 
-led_within : (picture : Rows) (start facts : Masks) (line : CertLine) (next : List (List (List ℕ))) → Leads picture facts line next → IsWithin start facts → EachWithin start next
+led_within : (picture : Rows) (start facts : Masks) (line : CertLine) (next : List (List (List ℕ))) → TreeLeads picture facts line next → IsWithin start facts → EachWithin start next
 led_within picture start facts (Line number) next l w =
     let forced = l.1.1.0 in
     rw l.1.1.1 (within_trans start facts l.1.0 w (forced_within picture facts l.1.0 (line_id number) forced), tt)
@@ -64,6 +65,12 @@ led_within picture start facts (Split cell) next l w =
     rw l.1 (each_held start facts row col (colours_of (cell_at facts row col)) w (colours_are_left (cell_at facts row col)))
 led_within picture start facts (Dead number) next l w = rw l.2 tt
 led_within picture start facts Done next l w = rw l.1 tt
+led_within picture start facts (Use n) next l w = absurd l
+led_within picture start facts (Broken n) next l w = absurd l
+led_within picture start facts (Part m) next l w = absurd l
+led_within picture start facts Lemma next l w = absurd l
+led_within picture start facts (Deny m) next l w = absurd l
+led_within picture start facts (Forget n) next l w = absurd l
 
 -- ---- the lines of a tree are those of a certificate
 
@@ -83,14 +90,21 @@ cell_inside picture facts cell s h =
     let columns = s.each 0 in
     ((let a : 0 < cell.row = h.0 in a), (let a : cell.row ≤ length picture = omega arith in a), (let a : 0 < cell.col = h.2 in a), (let a : cell.col ≤ width_of picture = omega arith in a))
 
-leads : (picture : Rows) (facts : Masks) (line : CertLine) (next : List (List (List ℕ))) → SameShape picture facts → Stands (clues_of picture) picture facts line next → Leads picture facts line next
+leads : (picture : Rows) (facts : Masks) (line : CertLine) (next : List (List (List ℕ))) → SameShape picture facts → Stands (clues_of picture) picture facts line next
+    → TreeLeads picture facts line next
 leads picture facts (Line number) next s h = (line_number picture facts number s h.0, (h.1.0, (gains_force picture facts h.1.0 (line_id number) h.1.1.0.outcome h.1.1.0.gains, h.1.1.1)))
 leads picture facts (Split cell) next s h = (cell_inside picture facts cell s h.0, h.1.0)
 leads picture facts (Dead number) next s h = (line_number picture facts number s h.0, h.1.0, h.1.1)
 leads picture facts Done next s h = h
+leads picture facts (Use n) next s h = absurd h
+leads picture facts (Broken n) next s h = absurd h
+leads picture facts (Part l) next s h = absurd h
+leads picture facts Lemma next s h = absurd h
+leads picture facts (Deny l) next s h = absurd h
+leads picture facts (Forget n) next s h = absurd h
 
 writable : (picture : Rows) (facts : Masks) (line : CertLine) (next : List (List (List ℕ))) → IsPicture picture → SameShape picture facts → Stands (clues_of picture) picture facts line next
-    → IsWritable line
+    → IsOfTree line
 writable picture facts (Line number) next is s h = let q = line_number picture facts number s h.0 in let few = few_lines number.axis picture is in
     (let l : number.number < 1000 = omega (arith, q.1, few) in l)
 writable picture facts (Split cell) next is s h =
@@ -101,6 +115,12 @@ writable picture facts (Split cell) next is s h =
 writable picture facts (Dead number) next is s h = let q = line_number picture facts number s h.0 in let few = few_lines number.axis picture is in
     (let l : number.number < 1000 = omega (arith, q.1, few) in l)
 writable picture facts Done next is s h = tt
+writable picture facts (Use n) next is s h = absurd h
+writable picture facts (Broken n) next is s h = absurd h
+writable picture facts (Part l) next is s h = absurd h
+writable picture facts Lemma next is s h = absurd h
+writable picture facts (Deny l) next is s h = absurd h
+writable picture facts (Forget n) next is s h = absurd h
 
 excludes : (picture : Rows) (facts : Masks) (line : CertLine) (next : List (List (List ℕ))) → Stands (clues_of picture) picture facts line next → ExcludesSome picture facts line
 excludes picture facts (Line number) next h = λ gained forced same.
@@ -110,10 +130,16 @@ excludes picture facts (Line number) next h = λ gained forced same.
 excludes picture facts (Split cell) next h = h.1.1
 excludes picture facts (Dead number) next h = tt
 excludes picture facts Done next h = tt
+excludes picture facts (Use n) next h = absurd h
+excludes picture facts (Broken n) next h = absurd h
+excludes picture facts (Part l) next h = absurd h
+excludes picture facts Lemma next h = absurd h
+excludes picture facts (Deny l) next h = absurd h
+excludes picture facts (Forget n) next h = absurd h
 
 record IsWhole (picture : Rows) (waits : List (List (List ℕ))) (lines : List CertLine) : Type 0 where
-  writes : AllByRecursion IsWritable lines
-  goes : (n : ℕ) → FirstFault picture waits n lines None
+  writes : AreOfForm Tree lines
+  goes : (n : ℕ) → TreeFault picture waits n lines None
   each : EachExcludes picture waits lines
 
 no_cons : (facts : Masks) (others : List (List (List ℕ))) → facts ∷ others ≡ [] → ⊥

@@ -1,6 +1,5 @@
 -- The certificates that the makers make.
-use Rattle.std.specs.Prelude.{◌≡◌, ℕ, ◌↔◌, List, [], ◌∷◌, ◌++◌, Option, None, Some}
-use Rattle.std.specs.List.{AllByRecursion}
+use Rattle.std.specs.Prelude.{◌≡◌, ℕ, List, [], ◌∷◌, ◌++◌, Option, None, Some}
 use Rattle.std.proofs.Common.{Vec, Global}
 use Rattle.line_facts.specs.Masks.{Masks}
 use Rattle.picture.specs.Rows.{Rows}
@@ -10,12 +9,15 @@ use Rattle.clues.specs.ClueBook.{clues_of}
 use Rattle.clues.specs.Solution.{IsOther}
 use Rattle.line_facts.specs.FactSets.{IsBase}
 use Rattle.fixpoint.specs.Fillings.{Fills}
-use Rattle.cert_text.specs.declared.tree_line.CellNumber.{CellNumber}
-use Rattle.cert_text.specs.declared.tree_line.CertLine.{CertLine}
-use Rattle.cert_text.specs.declared.tree_line.CertLine.TheVariants.{Line, Split, Dead, Done}
+use Rattle.cert_text.specs.declared.cert_line.CellNumber.{CellNumber}
+use Rattle.cert_text.specs.declared.cert_line.CertLine.{CertLine}
+use Rattle.cert_text.specs.declared.cert_line.CertLine.TheVariants.{Line, Split, Dead}
 use Rattle.second_search.specs.Trees.{IsUnsettledAt}
-use Rattle.cert_text.specs.Cert.{Certificate, IsCert, IsWritable}
-use Rattle.cert_check.specs.FirstFault.{CertFirstFault, FirstFault, Leads}
+use Rattle.cert_text.specs.declared.form.Form.{Form}
+use Rattle.cert_text.specs.declared.form.Form.TheVariants.{Tree, GivenTree}
+use Rattle.cert_text.specs.Cert.{AreOfForm, Certificate, IsCert}
+use Rattle.cert_check.specs.FirstFault.{CertFirstFault}
+use Rattle.cert_check.specs.TreeFault.{TreeFault, TreeLeads}
 use Rattle.cert_check.specs.Puzzle.{IsForced, IsUnique, base_of, line_id}
 use Rattle.cert_check.specs.Tree.{IsProof}
 use Rattle.lemma_proof.specs.Naming.{NamesGivens}
@@ -29,11 +31,11 @@ ExcludesSome picture facts (Line number) = (gained : Masks) → IsForced picture
     → gained ≡ facts → ⊥
 ExcludesSome picture facts (Split cell) = IsUnsettledAt facts cell
 ExcludesSome picture facts (Dead number) = Unit {0}
-ExcludesSome picture facts Done = Unit {0}
+ExcludesSome picture facts _ = Unit {0}
 
 -- the lines have no error where branches with these facts wait
 abbrev pub HasNoFault : Rows → List Masks → List CertLine → Type 0
-HasNoFault picture waits lines = (n : ℕ) → FirstFault picture waits n lines None
+HasNoFault picture waits lines = (n : ℕ) → TreeFault picture waits n lines None
 
 -- each `line` excludes something and no `split` is of a settled cell, where branches with these facts wait
 abbrev pub EachExcludes : Rows → List Masks → List CertLine → Type 0
@@ -42,7 +44,7 @@ EachExcludes picture (facts ∷ others) [] = Unit {0}
 EachExcludes picture [] (line ∷ lines) = Unit {0}
 EachExcludes picture (facts ∷ others) (line ∷ lines) =
     ExcludesSome picture facts line × ((next : List Masks)
-    × (Leads picture facts line next × EachExcludes picture (next ++ others) lines))
+    × (TreeLeads picture facts line next × EachExcludes picture (next ++ others) lines))
 
 abbrev pub lines_seen : Option (Vec CertLine Global) → Option (List CertLine)
 lines_seen None = None
@@ -52,7 +54,7 @@ lines_seen (Some lines) = Some lines.items
 abbrev pub WritesTree : Rows → Masks → Option (List CertLine) → Type 0
 WritesTree picture start None = (other : Rows) × (Fills (clues_of picture) start other × (other ≡ picture → ⊥))
 WritesTree picture start (Some lines) =
-    AllByRecursion IsWritable lines × HasNoFault picture (start ∷ []) lines × EachExcludes picture (start ∷ []) lines
+    AreOfForm Tree lines × HasNoFault picture (start ∷ []) lines × EachExcludes picture (start ∷ []) lines
 
 -- ---- the certificate
 
@@ -61,9 +63,16 @@ abbrev pub BasesAreOne : Type 0
 BasesAreOne = (picture : Rows) (givens : List ℕ) (cells : List CellNumber) → IsPicture picture
     → NamesGivens picture givens cells → IsBase givens picture (base_of picture cells)
 
+-- the form of a tree with these givens
+abbrev pub IsTreeForm : Form → List CellNumber → Type 0
+IsTreeForm Tree givens = givens ≡ []
+IsTreeForm GivenTree givens = givens ≡ [] → ⊥
+IsTreeForm _ givens = ⊥
+
 -- A certificate with exactly these givens that has no error: so it proves the picture, and there is no other with its
 -- givens or, which is the same, those of the set. It can be written and is read as the same certificate. It has
--- version 1 exactly where there are no givens. Each `line` excludes something, and no `split` is of a settled cell.
+-- the form of a tree without givens exactly where there are none. Each `line` excludes something, and no `split` is of
+-- a settled cell.
 pub record IsMade (picture : Rows) (givens : List ℕ) (cert : Certificate) : Type 0 where
   pub is_cert : IsCert cert
   pub accepted : CertFirstFault picture cert None
@@ -71,7 +80,7 @@ pub record IsMade (picture : Rows) (givens : List ℕ) (cert : Certificate) : Ty
   pub unique : IsUnique picture cert.givens
   pub no_other : (other : Rows) → IsOther (clues_of picture) (HasCell givens) picture other → ⊥
   pub names : NamesGivens picture givens cert.givens
-  pub version : (cert.version ≡ 1) ↔ (cert.givens ≡ [])
+  pub form : IsTreeForm cert.form cert.givens
   pub excludes : EachExcludes picture (base_of picture cert.givens ∷ []) cert.lines
 
 -- there is another picture

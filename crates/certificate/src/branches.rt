@@ -1,28 +1,25 @@
-//! The lines of a tree as those of a proof by lemmas. Nothing is promised of them, so they are checked.
+//! The lines of a tree as those of the forms with lemmas. Nothing is promised of them, so they are checked.
 
-use cert_text::{CellNumber, CertLine};
+use cert_text::{CellNumber, CertLine, Literal};
 use clues::{Clue, ClueBook};
-use lemma_text::{LemmaLine, Literal};
 use picture::{Axis, LineId, MAX_COLOURS};
 use std::alloc::{AllocError, Global};
 
-/// The lines of a tree as those of a proof by lemmas. None where it splits a cell whose two clues do not have
+/// The lines of a tree as those of the forms with lemmas. None where it splits a cell whose two clues do not have
 /// exactly two colours in common, the background included.
 pub(crate) fn told_lines(
     alloc: Global,
     clues: &ClueBook,
     tree: &[CertLine],
-) -> Result<Option<Vec<LemmaLine>>, AllocError> {
+) -> Result<Option<Vec<CertLine>>, AllocError> {
     let mut lines = Vec::with_capacity(alloc, tree.len())?;
     for line in tree {
         let told = match *line {
-            CertLine::Line(number) => LemmaLine::Line(number),
-            CertLine::Dead(number) => LemmaLine::Dead(number),
-            CertLine::Done => LemmaLine::Done,
             CertLine::Split(cell) => match split_told(clues, cell) {
-                Some(literal) => LemmaLine::Part(literal),
+                Some(literal) => CertLine::Part(literal),
                 None => return Ok(None),
             },
+            other => other,
         };
         lines.push(told)?;
     }

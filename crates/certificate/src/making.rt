@@ -1,20 +1,19 @@
 //! The maker of certificates.
 
-ghost use Rattle.std.specs.Prelude.{◌≡◌, ◌≤◌, ◌↔◌, [], length, IfOk, IsTrue};
-ghost use Rattle.std.specs.List.{AllByRecursion};
+ghost use Rattle.std.specs.Prelude.{◌≡◌, ◌≤◌, length, IfOk, IsTrue};
 ghost use Rattle.picture.specs.Document.{AreInside};
 ghost use Rattle.picture.specs.Rows.{width_of};
-ghost use Rattle.cert_text.specs.Cert.{AreOrdered, IsCert, IsWritable};
-ghost use Rattle.certificate.specs.MadeCert.{HasOther, Makes, WritesTree, lines_seen};
+ghost use Rattle.cert_text.specs.Cert.{AreOfForm, AreOrdered, IsCert};
+ghost use Rattle.certificate.specs.MadeCert.{HasOther, IsTreeForm, Makes, WritesTree, lines_seen};
 ghost use Rattle.cert_check.specs.Walk.{CanCheck};
 ghost use Rattle.line_facts.specs.FactSets.{SameShape};
 ghost use Rattle.second_search.specs.Parts.{IsScene};
 
-use cert_check::set_givens;
-use cert_text::{CellNumber, Cert, CertLine};
+use crate::root::root_facts;
+use cert_text::{CellNumber, Cert, CertLine, Form};
 use clues::ClueBook;
 use lemma_proof::given_cells;
-use line_facts::{Facts, LineEngine};
+use line_facts::LineEngine;
 use picture::{CellSet, Picture};
 use second_search::{BOUNDS, Bounds, Decided, Ladder, Lines, Scene, climb, find_near_other};
 use std::alloc::{AllocError, Global};
@@ -49,17 +48,28 @@ fn write_tree<E: LineEngine>(
     }
 }
 
+// The form of a tree with these givens.
+fn tree_form(givens: &[CellNumber]) -> Form
+    ensures { IsTreeForm result givens.now }
+{
+    if givens.is_empty() {
+        Form::Tree
+    } else {
+        Form::GivenTree
+    }
+}
+
 // The certificate with these givens and the lines of a tree.
-fn with_version(givens: Vec<CellNumber>, lines: Vec<CertLine>) -> Cert
+fn of_tree(alloc: Global, givens: Vec<CellNumber>, lines: Vec<CertLine>) -> Cert
     requires givens { AreOrdered 0 givens.items }
-    requires lines { AllByRecursion IsWritable lines.items }
+    requires lines { AreOfForm Form.Tree lines.items }
     ensures cert { IsCert result }
     ensures givens { result.givens ≡ givens.items }
     ensures lines { result.lines ≡ lines.items }
-    ensures version { (result.version ≡ 1) ↔ (givens.items ≡ []) }
+    ensures form { IsTreeForm result.form givens.items }
 {
-    let version = if givens.is_empty() { 1 } else { 2 };
-    Cert::new(version, givens, lines)
+    let form = tree_form(&givens);
+    Cert::new(form, givens, lines, Vec::new(alloc))
 }
 
 // Whether another picture was found that differs only in one window. None is looked for after an earlier judgement, or where
@@ -87,8 +97,8 @@ fn has_near_other<E: LineEngine>(
 }
 
 /// Makes a certificate of a picture with exactly these givens: `check_cert` accepts it, so there is no other picture with the
-/// clues and, in the givens, the colours. It has version 1 exactly where there are no givens. The answer is None exactly where
-/// there is another picture. No line of the picture may be longer than the engine takes.
+/// clues and, in the givens, the colours. Its form is that of a tree. The answer is None exactly where there is another picture.
+/// No line of the picture may be longer than the engine takes.
 ///
 /// Another picture near this one is looked for first. The tree is written while it is searched for, and a refused allocation is
 /// the error. Nothing is promised of its length. The engine's calls do not fall; how many lines are evaluated is not promised.
@@ -108,7 +118,6 @@ pub fn make_cert<E: LineEngine>(
     make_cert_within(alloc, engine, picture, givens, BOUNDS, None)
 }
 
-#[tactic(auto, using(crate::proofs::MadeLemmas::making))]
 /// Makes a certificate as `make_cert` does, within other bounds than the program's; only `window_splits` and `first_bound` are
 /// used. `judged` is how many evaluations an earlier judgement made: then no near picture is looked for, and trees that it seems
 /// to have broken off are not begun again. What is promised is the same whatever these are.
@@ -128,13 +137,8 @@ pub fn make_cert_within<E: LineEngine>(
     ensures calls { E.calls engine.old ≤ E.calls engine.new }
 {
     let cells = given_cells(alloc, picture, givens)?;
-    let mut facts = Facts::none(alloc, picture.height(), picture.width())?;
+    let facts = root_facts(alloc, picture, givens, &cells)?;
     let book = ClueBook::of(alloc, picture)?;
-    match set_givens(picture, &mut facts, &cells) {
-        Ok(()) => {}
-        Err(_) => return Err(AllocError),
-    }
-    let _ = facts.height();
     let scene = Scene {
         clues: &book,
         givens,
@@ -148,5 +152,5 @@ pub fn make_cert_within<E: LineEngine>(
     let Some(lines) = write_tree(alloc, engine, &scene, bounds.first_bound, judging)? else {
         return Ok(None);
     };
-    Ok(Some(with_version(cells, lines)))
+    Ok(Some(of_tree(alloc, cells, lines)))
 }

@@ -1,4 +1,4 @@
-//! The maker of proofs by lemmas that looks for near pictures first, and tries a small tree.
+//! The maker of certificates with lemmas that looks for near pictures first, and tries a small tree.
 
 ghost use Rattle.std.specs.Prelude.{◌≡◌, ◌≤◌, length, IfOk, IfSome};
 ghost use Rattle.picture.specs.CellSet.{HasCell};
@@ -12,29 +12,14 @@ ghost use Rattle.lemma_proof.specs.Making.{Makes};
 ghost use Rattle.second_search.specs.Parts.{IsScene};
 
 use crate::branches::told_lines;
-use cert_check::set_givens;
-use cert_text::CertLine;
+use crate::root::root_facts;
+use cert_text::{Cert, CertLine, Form, runs_of, write_cert};
 use clues::ClueBook;
 use lemma_proof::{Made, check_made, given_cells, make_proof};
-use lemma_text::{LemmaProof, write_proof};
-use line_facts::{Facts, LineEngine};
+use line_facts::LineEngine;
 use picture::{CellSet, Picture};
 use second_search::{BOUNDS, Decided, Ladder, Lines, Scene, find_near_other, take_turn};
 use std::alloc::{AllocError, Global};
-
-// The facts at the root: in each given only the picture's colour is left.
-fn base_facts(alloc: Global, picture: &Picture, givens: &CellSet) -> Result<Facts, AllocError>
-    requires inside { AreInside givens.now picture.now }
-    ensures { IfOk result (λ facts.
-        IsScene (clues_of picture.now) givens.now facts picture.now) }
-{
-    let cells = given_cells(alloc, picture, givens)?;
-    let mut facts = Facts::none(alloc, picture.height(), picture.width())?;
-    match set_givens(picture, &mut facts, &cells) {
-        Ok(()) => Ok(facts),
-        Err(_) => Err(AllocError),
-    }
-}
 
 // Another picture that differs only in one window. There may be others where the answer is None.
 fn near_other<E: LineEngine>(
@@ -53,7 +38,8 @@ fn near_other<E: LineEngine>(
 {
     let _ = engine.calls();
     let clues = ClueBook::of(alloc, picture)?;
-    let facts = base_facts(alloc, picture, givens)?;
+    let cells = given_cells(alloc, picture, givens)?;
+    let facts = root_facts(alloc, picture, givens, &cells)?;
     let scene = Scene {
         clues: &clues,
         givens,
@@ -102,7 +88,8 @@ fn tree_proof<E: LineEngine>(
 {
     let _ = (engine.calls(), picture.height());
     let clues = ClueBook::of(alloc, picture)?;
-    let facts = base_facts(alloc, picture, givens)?;
+    let cells = given_cells(alloc, picture, givens)?;
+    let facts = root_facts(alloc, picture, givens, &cells)?;
     let scene = Scene {
         clues: &clues,
         givens,
@@ -115,32 +102,24 @@ fn tree_proof<E: LineEngine>(
     let Some(lines) = told_lines(alloc, &clues, &tree)? else {
         return Ok(Made::Undecided);
     };
-    let cells = given_cells(alloc, picture, givens)?;
-    check_made(
-        alloc,
-        engine,
-        picture,
-        givens,
-        LemmaProof::new(cells, lines),
-    )
+    let runs = runs_of(alloc, &lines)?;
+    let cert = Cert::new(Form::LemmaRuns, cells, lines, runs);
+    check_made(alloc, engine, picture, givens, cert)
 }
 
-// The length of a proof's text in bytes. What is no proof, or cannot be written, counts as longer than any.
+// The length of a certificate's text in bytes. What is none counts as longer than any.
 fn text_length(alloc: Global, made: &Made) -> Result<usize, AllocError> {
-    let Made::Proof(proof) = made else {
+    let Made::Proof(cert) = made else {
         return Ok(usize::MAX);
     };
-    if !proof.is_writable() {
-        return Ok(usize::MAX);
-    }
     let mut text = Vec::new(alloc);
-    write_proof(proof, &mut text).map_err(|_| AllocError)?;
+    write_cert(cert, &mut text).map_err(|_| AllocError)?;
     Ok(text.len())
 }
 
-/// Makes a proof by lemmas with exactly these givens, or finds another picture, as `make_proof` does. Pictures near this one are
-/// tried first. Where a small tree proves the picture by a shorter text than the lemmas that were learnt, its lines are the proof.
-/// No line of the picture may be longer than the engine takes. The engine's calls do not fall.
+/// Makes a certificate with lemmas and exactly these givens, or finds another picture, as `make_proof` does. Pictures near this
+/// one are tried first. Where a small tree proves the picture by a shorter text than the lemmas that were learnt, its lines are the
+/// proof. No line of the picture may be longer than the engine takes. The engine's calls do not fall.
 pub fn find_proof<E: LineEngine>(
     alloc: Global,
     engine: &mut E,

@@ -1,3 +1,5 @@
 mod LineLemmas
 mod OutcomeLemmas
+mod RunLemmas
+mod StepLemmas
 mod WorkLemmas

@@ -1,5 +1,5 @@
 -- A session over bytes that are its whole input replies to all their lines, or to the first of them where a write fails.
-use Rattle.std.proofs.Common.{◌≡◌, ◌∙◌, ◌+◌, ℕ, List, [], ◌∷◌, ◌++◌, length, take, Option, Some, Result, Ok, Err, IfErr, ap, append-nil, subst, sym, refl, inl, inr}
+use Rattle.std.proofs.Common.{◌≡◌, ◌∙◌, ◌+◌, ℕ, List, [], ◌∷◌, ◌++◌, length, take, Option, Some, Result, Ok, Err, ap, append-nil, subst, sym, refl, inl, inr}
 use Rattle.std.specs.List.{concat}
 use Rattle.std.specs.Io.KnownBytes.{Appends}
 use Rattle.std.proofs.lemmas.List.Folds.{concat-append}
@@ -10,7 +10,7 @@ use Rattle.command_text.specs.Lines.{lines_of}
 use Rattle.command_text.specs.Words.{Texts}
 use Rattle.live_audit.specs.Calls.{Machine}
 use Rattle.session.specs.Truth.{AreReplies, AreToldInPart, TellsTruth}
-use Rattle.claims.specs.Session.{AnswersAll, AnswersFront, AnswersRead}
+use Rattle.claims.specs.Session.{AnswersAll, AnswersFront, AnswersRead, AnswersUntil}
 
 pub answers_all : (input left held text : List ℕ) (m last : Machine) (done : Unit {0}) → held ≡ [] → TellsTruth (Some input) (Some left) (Some held) (Some text) m last (Ok done)
     → AnswersAll (lines_of input) text m last
@@ -43,7 +43,10 @@ answers_read : (had have held holds : Option (List ℕ)) (m last : Machine) → 
 answers_read had have held holds m last (read, (consumes, inl told)) = record { read = read; consumes = consumes; lines = _; are_read = inl refl; front = in_part _ held holds m last told }
 answers_read had have held holds m last (read, (consumes, inr (end, told))) = record { read = read; consumes = consumes; lines = _; are_read = inr refl; front = in_part _ held holds m last told }
 
-pub until_write : (had have held holds : Option (List ℕ)) (m last : Machine) (r : Result (Unit {0}) SessionFault) → TellsTruth had have held holds m last r
-    → IfErr r (λ (f : SessionFault). f ≡ fault.Write → AnswersRead had have held holds m last)
-until_write had have held holds m last (Ok done) t = tt
-until_write had have held holds m last (Err f) t = λ is. answers_read had have held holds m last (subst (λ (x : SessionFault). TellsTruth had have held holds m last (Err x)) is t)
+pub until : (had have held holds : Option (List ℕ)) (m last : Machine) (r : Result (Unit {0}) SessionFault) → TellsTruth had have held holds m last r
+    → AnswersUntil had have held holds m last r
+until had have held holds m last (Ok done) (read, (consumes, (at_end, told))) =
+    record { read = read; consumes = consumes; at_end = at_end; texts = told.texts; replies = told.replies; went_out = told.went_out }
+until had have held holds m last (Err fault.Read) (read, (consumes, told)) =
+    record { read = read; consumes = consumes; texts = told.texts; replies = told.replies; went_out = told.went_out }
+until had have held holds m last (Err fault.Write) t = answers_read had have held holds m last t

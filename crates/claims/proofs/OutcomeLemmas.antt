@@ -1,21 +1,29 @@
 -- Which files a run opens, and what its status says.
-use Rattle.std.proofs.Common.{◌≡◌, ◌∙◌, ℕ, List, Result, Ok, Err, inl, inr, sym, subst, ap, take}
+use Rattle.std.proofs.Common.{◌≡◌, ◌∙◌, ℕ, List, [], ◌++◌, Option, None, Some, Result, Ok, Err, inl, inr, sym, subst, ap, take, append-nil, arith}
+use Rattle.std.specs.Io.KnownBytes.{Keeps}
 use Rattle.program_options.specs.declared.fault.ProgramFault.{ProgramFault}
 use Rattle.program_options.specs.declared.fault.ProgramFault.TheVariants as fault
 use Rattle.command_line.specs.declared.words.Task.{Task}
-use Rattle.command_line.specs.declared.words.Task.TheVariants.{Check, Clues, Help, Prove, Verify, Work}
-use Rattle.program_options.specs.Faults.{status_of}
+use Rattle.command_line.specs.declared.words.Task.TheVariants.{Check, Clues, Help, Prove, Work}
+use Rattle.program_options.specs.declared.options.Options.{Options}
+use Rattle.program_options.specs.Faults.{session_fault_of, status_of}
+use Rattle.command_text.specs.declared.session_fault.SessionFault.{SessionFault}
+use Rattle.command_text.specs.declared.session_fault.SessionFault.TheVariants as session
+use Rattle.answers.specs.Check.{IsCheckOf, WritesBy}
+use Rattle.answers.specs.Prove.{IsProveOf}
+use Rattle.answers.specs.Published.{IsPublishedCheckOf}
+use Rattle.answers.specs.Run.{Writes}
 use Rattle.program.specs.Endings.{status_after}
-use Rattle.program.specs.Files.{Held, Names}
+use Rattle.program.specs.Files.{Held}
 use Rattle.program.specs.Run.{AnswersAll, IsRefused}
-use Rattle.program.specs.Work.{CarriesOut}
+use Rattle.program.specs.Work.{CarriesOut, Works}
 use Rattle.program.specs.World.{World}
 use Rattle.live_audit.specs.Calls.{machine}
 use Rattle.session.specs.Laws.{SessionsAreTrue}
 use Rattle.claims.specs.Outcome.{Comes, IsDone, Opens, files_of}
 use Rattle.command_text.specs.Words.{Texts}
 
-fails : (f : ProgramFault) → status_of f ≡ 0 → ⊥
+pub fails : (f : ProgramFault) → status_of f ≡ 0 → ⊥
 fails (fault.Words text) e = absurd cc
 fails fault.NotText e = absurd cc
 fails fault.Background e = absurd cc
@@ -27,13 +35,14 @@ fails (fault.Non f) e = absurd cc
 fails (fault.Edit f) e = absurd cc
 fails fault.NoPicture e = absurd cc
 fails (fault.Cert f) e = absurd cc
+fails (fault.Givens f) e = absurd cc
 fails fault.Memory e = absurd cc
 fails fault.TooLong e = absurd cc
 
 -- without an error the task is done
 done_by : (held : List ℕ → Held) (before after : World) (task : Task) → SessionsAreTrue → CarriesOut held before after task (Ok tt) → IsDone held before after task
-done_by held before after Clues law (names, inl (bytes, (is, (text, shows, out)))) = record { input = bytes; is_input = is; text = text; shows = shows; went_out = out }
-done_by held before after Clues law (names, inr left) = absurd left
+done_by held before after Clues law (inl listed) = record { input = listed.bytes; is_input = listed.is_input; text = listed.writes.0; shows = listed.writes.1; went_out = listed.writes.2 }
+done_by held before after Clues law (inr left) = absurd (let is = left.is in cc)
 done_by held before after (Work path options) law (inl stopped) = absurd (let is = stopped.is in cc)
 done_by held before after (Work path options) law (inr worked) = record {
   file = worked.file;
@@ -44,9 +53,9 @@ done_by held before after (Work path options) law (inr worked) = record {
   truth = law before.input after.input before.output after.output worked.works.fresh worked.works.last (Ok tt) worked.works.started.audited worked.works.runs;
 }
 done_by held before after (Help text) law shown = shown.sends
-done_by held before after (Check path cert background) law (inl stopped) = absurd (let is = stopped.is in cc)
-done_by held before after (Check path cert background) law (inr (inl half)) = absurd (let is = half.stopped.is in cc)
-done_by held before after (Check path cert background) law (inr (inr checked)) = record {
+done_by held before after (Check path cert givens background) law (inl stopped) = absurd (let is = stopped.is in cc)
+done_by held before after (Check path cert givens background) law (inr (inl half)) = absurd (let is = half.stopped.is in cc)
+done_by held before after (Check path cert None background) law (inr (inr checked)) = record {
   file = checked.file;
   content = checked.content;
   cert = checked.cert;
@@ -56,25 +65,26 @@ done_by held before after (Check path cert background) law (inr (inr checked)) =
   shows = checked.writes.1.0;
   went_out = checked.writes.1.1;
 }
-done_by held before after (Prove path background) law (inl stopped) = absurd (let is = stopped.is in cc)
-done_by held before after (Prove path background) law (inr proving) = record {
+done_by held before after (Check path cert (Some givens) background) law (inr (inr (inl without))) = absurd (let is = without.stopped.is in cc)
+done_by held before after (Check path cert (Some givens) background) law (inr (inr (inr checked))) = record {
+  file = checked.file;
+  content = checked.content;
+  cert = checked.cert;
+  cert_content = checked.cert_content;
+  givens = checked.givens;
+  givens_content = checked.givens_content;
+  only = checked.unique;
+  line = checked.writes.0;
+  shows = checked.writes.1.0;
+  went_out = checked.writes.1.1;
+}
+done_by held before after (Prove path background single) law (inl stopped) = absurd (let is = stopped.is in cc)
+done_by held before after (Prove path background single) law (inr proving) = record {
   file = proving.file;
   content = proving.content;
   text = proving.writes.0;
   shows = proving.writes.1.0;
   went_out = proving.writes.1.1;
-}
-done_by held before after (Verify path proof background) law (inl stopped) = absurd (let is = stopped.is in cc)
-done_by held before after (Verify path proof background) law (inr (inl half)) = absurd (let is = half.stopped.is in cc)
-done_by held before after (Verify path proof background) law (inr (inr verified)) = record {
-  file = verified.file;
-  content = verified.content;
-  proof = verified.proof;
-  proof_content = verified.proof_content;
-  only = verified.unique;
-  line = verified.writes.0;
-  shows = verified.writes.1.0;
-  went_out = verified.writes.1.1;
 }
 
 is_done : (held : List ℕ → Held) (before after : World) (task : Task) (r : Result (Unit {0}) ProgramFault) → SessionsAreTrue → CarriesOut held before after task r → status_after r ≡ 0
@@ -83,30 +93,76 @@ is_done held before after task (Ok it) law c e = done_by held before after task 
 is_done held before after task (Err f) law c e = absurd (fails f e)
 
 opened : (held : List ℕ → Held) (before after : World) (task : Task) (r : Result (Unit {0}) ProgramFault) → CarriesOut held before after task r
-    → (count : ℕ) × Names before.opened after.opened (take count (files_of task))
-opened held before after Clues r c = (0, c.0)
+    → (count : ℕ) × (after.opened ≡ before.opened ++ take count (files_of task))
+opened held before after Clues r (inl listed) = (0, listed.names ∙ sym (append-nil before.opened))
+opened held before after Clues r (inr left) = (0, left.names ∙ sym (append-nil before.opened))
 opened held before after (Work path options) r (inl stopped) = (1, stopped.only.names)
 opened held before after (Work path options) r (inr worked) = (1, worked.names)
-opened held before after (Check path cert background) r (inl stopped) = (1, stopped.only.names)
-opened held before after (Check path cert background) r (inr (inl half)) = (2, half.stopped.only.names)
-opened held before after (Check path cert background) r (inr (inr checked)) = (2, checked.names)
-opened held before after (Prove path background) r (inl stopped) = (1, stopped.only.names)
-opened held before after (Prove path background) r (inr proving) = (1, proving.names)
-opened held before after (Verify path proof background) r (inl stopped) = (1, stopped.only.names)
-opened held before after (Verify path proof background) r (inr (inl half)) = (2, half.stopped.only.names)
-opened held before after (Verify path proof background) r (inr (inr verified)) = (2, verified.names)
-opened held before after (Help text) r c = (0, c.names)
+opened held before after (Check path cert None background) r (inl stopped) = (1, stopped.only.names)
+opened held before after (Check path cert (Some givens) background) r (inl stopped) = (1, stopped.only.names)
+opened held before after (Check path cert None background) r (inr (inl half)) = (2, half.stopped.only.names)
+opened held before after (Check path cert (Some givens) background) r (inr (inl half)) = (2, half.stopped.only.names)
+opened held before after (Check path cert None background) r (inr (inr checked)) = (2, checked.names)
+opened held before after (Check path cert (Some givens) background) r (inr (inr (inl without))) = (3, without.stopped.only.names)
+opened held before after (Check path cert (Some givens) background) r (inr (inr (inr checked))) = (3, checked.names)
+opened held before after (Prove path background single) r (inl stopped) = (1, stopped.only.names)
+opened held before after (Prove path background single) r (inr proving) = (1, proving.names)
+opened held before after (Help text) r c = (0, c.names ∙ sym (append-nil before.opened))
 
 refused : (f : ProgramFault) (before after : World) (r : Result (Unit {0}) ProgramFault) → IsRefused f before after r → status_after r ≡ 0 → ⊥
 refused f before after r c e = fails f (ap status_after (sym c.is) ∙ e)
 
 comes_to_after : (arguments : Texts) (held : List ℕ → Held) (before after : World) (r : Result (Unit {0}) ProgramFault) → SessionsAreTrue → AnswersAll arguments held before after r
     → Opens arguments held before after (status_after r)
-comes_to_after arguments held before after r law (inl short) = inl (short.only.names, refused fault.Memory before after r short)
-comes_to_after arguments held before after r law (inr (inl (f, (asks, c)))) = inl (c.only.names, refused f before after r c)
+comes_to_after arguments held before after r law (inl short) = inl (short.only.opened, refused fault.Memory before after r short)
+comes_to_after arguments held before after r law (inr (inl (f, (asks, c)))) = inl (c.only.opened, refused f before after r c)
 comes_to_after arguments held before after r law (inr (inr (task, (asks, c)))) =
     let files = opened held before after task r c in
     inr (task, (asks, (files.0, (files.1, is_done held before after task r law c))))
+
+-- ---- status 1
+
+not_write : (f : ProgramFault) → status_of f ≡ 1 → f ≡ fault.Write → ⊥
+not_write f one is = let e : status_of f ≡ 3 = ap status_of is in absurd (omega (arith, one, e))
+
+by_session : (ended : SessionFault) → status_of (session_fault_of ended) ≡ 1 → ⊥
+by_session session.Read e = absurd cc
+by_session session.Write e = absurd cc
+
+-- what a call wrote for a text that was to be shown
+kept_by : (old new : Option (List ℕ)) (f : ProgramFault) (Is : Result (List ℕ) ProgramFault → Type 0) → status_of f ≡ 1 → WritesBy old new {X = Unit {0}} (Err f) Is → Keeps old new
+kept_by old new f Is one (inl (bytes, (is, out))) = absurd (not_write f one is)
+kept_by old new f Is one (inr (why, kept)) = kept
+
+kept_of : (old new : Option (List ℕ)) (f : ProgramFault) (text : Result (List ℕ) ProgramFault) → status_of f ≡ 1 → Writes old new {X = Unit {0}} (Err f) text → Keeps old new
+kept_of old new f text one (inl (bytes, is, shown, out)) = absurd (not_write f one is)
+kept_of old new f text one (inr (why, kept)) = kept
+
+worked : (had have held holds : Option (List ℕ)) (file : List ℕ) (options : Options) (f : ProgramFault) → status_of f ≡ 1 → Works had have held holds file options (Err f) → Keeps held holds
+worked had have held holds file options f one (inl (ended, (is, ran))) = absurd (by_session ended (ap status_of (sym is) ∙ one))
+worked had have held holds file options f one (inr (why, kept)) = kept.1
+
+kept : (held : List ℕ → Held) (before after : World) (task : Task) (f : ProgramFault) → status_of f ≡ 1 → CarriesOut held before after task (Err f) → Keeps before.output after.output
+kept held before after Clues f one (inl listed) = kept_of _ _ f _ one listed.writes
+kept held before after Clues f one (inr left) = left.output
+kept held before after (Work path options) f one (inl stopped) = stopped.only.output
+kept held before after (Work path options) f one (inr on) = worked _ _ _ _ on.file options f one on.works
+kept held before after (Check path cert givens background) f one (inl stopped) = stopped.only.output
+kept held before after (Check path cert givens background) f one (inr (inl half)) = half.stopped.only.output
+kept held before after (Check path cert None background) f one (inr (inr checked)) = kept_by _ _ f (IsCheckOf checked.file background checked.cert) one checked.writes
+kept held before after (Check path cert (Some givens) background) f one (inr (inr (inl without))) = without.stopped.only.output
+kept held before after (Check path cert (Some givens) background) f one (inr (inr (inr checked))) =
+    kept_by _ _ f (IsPublishedCheckOf checked.file background checked.givens checked.cert) one checked.writes
+kept held before after (Prove path background single) f one (inl stopped) = stopped.only.output
+kept held before after (Prove path background single) f one (inr proving) = kept_by _ _ f (IsProveOf proving.file background single) one proving.writes
+kept held before after (Help text) f one shown = absurd (not_write f one shown.sends.0)
+
+silent_after : (arguments : Texts) (held : List ℕ → Held) (before after : World) (r : Result (Unit {0}) ProgramFault) → AnswersAll arguments held before after r → status_after r ≡ 1
+    → Keeps before.output after.output
+silent_after arguments held before after r (inl short) one = short.only.output
+silent_after arguments held before after r (inr (inl (f, (asks, c)))) one = c.only.output
+silent_after arguments held before after (Ok done) (inr (inr (task, (asks, c)))) one = absurd (omega (arith, one))
+silent_after arguments held before after (Err f) (inr (inr (task, (asks, c)))) one = kept held before after task f one c
 
 pub comes_to : (arguments : Texts) (held : List ℕ → Held) (before after : World) (r : Result (Unit {0}) ProgramFault) (status : ℕ) → status ≡ status_after r
     → SessionsAreTrue → AnswersAll arguments held before after r → Comes arguments held before after status
@@ -114,5 +170,7 @@ comes_to arguments held before after r status is law c =
     record {
       outcome = r;
       right_status = is;
+      answers = c;
+      silent = λ one. silent_after arguments held before after r c (sym is ∙ one);
       opens = subst (λ (n : ℕ). Opens arguments held before after n) (sym is) (comes_to_after arguments held before after r law c);
     }

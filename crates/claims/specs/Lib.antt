@@ -1,4 +1,6 @@
+pub mod Line
 pub mod Outcome
+pub mod Runs
 pub mod Session
 pub mod Step
 pub mod Work

@@ -1,6 +1,7 @@
 -- What comes of a run of the program, for arguments that ask for a task or for none.
-use Rattle.std.specs.Prelude.{◌≡◌, ◌⊎◌, ℕ, List, [], ◌∷◌, Option, None, Result, Ok, IfSome, string_bytes, take}
-use Rattle.std.specs.Io.KnownBytes.{Appends}
+use Rattle.std.specs.Prelude.{◌≡◌, ◌⊎◌, ℕ, List, [], ◌∷◌, ◌++◌, Bool, Option, None, Some, Result, Ok, IfSome}
+use Rattle.std.specs.Prelude.{string_bytes, take}
+use Rattle.std.specs.Io.KnownBytes.{Appends, Keeps}
 use Rattle.picture.specs.declared.rgb.Rgb.{Rgb}
 use Rattle.live_audit.specs.Bench.{Seen}
 use Rattle.live_audit.specs.Calls.{Machine, machine}
@@ -9,14 +10,14 @@ use Rattle.program_options.specs.declared.fault.ProgramFault.{ProgramFault}
 use Rattle.program_options.specs.declared.options.Options.{Options}
 use Rattle.answers.specs.Check.{IsCheckOf, IsOnlyPicture}
 use Rattle.answers.specs.Prove.{IsProveOf}
+use Rattle.answers.specs.Published.{IsOnlyPublished, IsPublishedCheckOf}
 use Rattle.answers.specs.Run.{shown}
 use Rattle.answers.specs.Start.{IsStarted}
-use Rattle.answers.specs.Verify.{IsOnlyByLemmas, IsVerifyOf}
 use Rattle.command_line.specs.declared.words.Task.{Task}
-use Rattle.command_line.specs.declared.words.Task.TheVariants.{Check, Clues, Help, Prove, Verify, Work}
+use Rattle.command_line.specs.declared.words.Task.TheVariants.{Check, Clues, Help, Prove, Work}
 use Rattle.program.specs.Endings.{status_after}
-use Rattle.program.specs.Files.{Held, IsContent, Names}
-use Rattle.program.specs.Run.{IsTask}
+use Rattle.program.specs.Files.{Held, IsContent}
+use Rattle.program.specs.Run.{AnswersAll, IsTask}
 use Rattle.program.specs.World.{World}
 use Rattle.command_text.specs.Words.{Texts}
 
@@ -24,9 +25,9 @@ use Rattle.command_text.specs.Words.{Texts}
 abbrev pub files_of : Task → Texts
 files_of Clues = []
 files_of (Work file options) = file.now ∷ []
-files_of (Check file cert background) = file.now ∷ cert.now ∷ []
-files_of (Prove file background) = file.now ∷ []
-files_of (Verify file proof background) = file.now ∷ proof.now ∷ []
+files_of (Check file cert None background) = file.now ∷ cert.now ∷ []
+files_of (Check file cert (Some givens) background) = file.now ∷ cert.now ∷ givens.now ∷ []
+files_of (Prove file background single) = file.now ∷ []
 files_of (Help text) = []
 
 -- ---- a task that is done
@@ -61,34 +62,37 @@ pub record HasChecked (picture certificate : Held) (background : Option Rgb) (be
   pub shows : IsCheckOf file background cert (Ok line)
   pub went_out : Appends before.output after.output line
 
--- a proof for the picture in the file was written, or `ambiguous`, or `undecided`
-pub record HasMade (picture : Held) (background : Option Rgb) (before after : World) : Type 0 where
+-- no other picture of that size has the clues of the picture in the first file and its colours
+-- in the cells that the third one publishes; and the line of the check was written
+pub record HasCheckedWith (picture certificate published : Held) (background : Option Rgb)
+    (before after : World) : Type 0 where
+  pub file : List ℕ
+  pub content : IsContent picture file
+  pub cert : List ℕ
+  pub cert_content : IsContent certificate cert
+  pub givens : List ℕ
+  pub givens_content : IsContent published givens
+  pub only : IsOnlyPublished file background givens
+  pub line : List ℕ
+  pub shows : IsPublishedCheckOf file background givens cert (Ok line)
+  pub went_out : Appends before.output after.output line
+
+-- a certificate for the picture in the file was written, or `ambiguous`, or `undecided`
+pub record HasMade (picture : Held) (background : Option Rgb) (single : Bool) (before after : World) : Type 0 where
   pub file : List ℕ
   pub content : IsContent picture file
   pub text : List ℕ
-  pub shows : IsProveOf file background (Ok text)
+  pub shows : IsProveOf file background single (Ok text)
   pub went_out : Appends before.output after.output text
-
--- no other picture of that size has the clues of the picture in the first file and its colours
--- in the givens of the proof by lemmas in the second one; and the line of the check was written
-pub record HasVerified (picture proved : Held) (background : Option Rgb) (before after : World) : Type 0 where
-  pub file : List ℕ
-  pub content : IsContent picture file
-  pub proof : List ℕ
-  pub proof_content : IsContent proved proof
-  pub only : IsOnlyByLemmas file background proof
-  pub line : List ℕ
-  pub shows : IsVerifyOf file background proof (Ok line)
-  pub went_out : Appends before.output after.output line
 
 abbrev pub IsDone : (List ℕ → Held) → World → World → Task → Type 0
 IsDone held before after Clues = HasShown before after
 IsDone held before after (Work file options) = HasAnswered (held file.now) options before after
-IsDone held before after (Check file cert background) =
+IsDone held before after (Check file cert None background) =
     HasChecked (held file.now) (held cert.now) background before after
-IsDone held before after (Prove file background) = HasMade (held file.now) background before after
-IsDone held before after (Verify file proof background) =
-    HasVerified (held file.now) (held proof.now) background before after
+IsDone held before after (Check file cert (Some givens) background) =
+    HasCheckedWith (held file.now) (held cert.now) (held givens.now) background before after
+IsDone held before after (Prove file background single) = HasMade (held file.now) background single before after
 IsDone held before after (Help text) = Appends before.output after.output (string_bytes text)
 
 -- ---- a run
@@ -97,12 +101,15 @@ IsDone held before after (Help text) = Appends before.output after.output (strin
 -- the arguments ask for were opened, and with status 0 the task is done.
 abbrev pub Opens : Texts → (List ℕ → Held) → World → World → ℕ → Type 0
 Opens arguments held before after status =
-    (Names before.opened after.opened [] × (status ≡ 0 → ⊥))
+    ((after.opened ≡ before.opened) × (status ≡ 0 → ⊥))
     ⊎ ((task : Task) × (IsTask arguments (Ok task) × ((count : ℕ)
-    × (Names before.opened after.opened (take count (files_of task)) × (status ≡ 0 → IsDone held before after task)))))
+    × ((after.opened ≡ before.opened ++ take count (files_of task)) × (status ≡ 0 → IsDone held before after task)))))
 
--- a run that opens files in this way, with the status of its outcome: 0 without an error, else the error's
+-- A run that opens files in this way. Its outcome is what is exactly to come of the arguments and the files, and the
+-- status is that of the outcome: 0 without an error, else the error's. With status 1 nothing was written.
 pub record Comes (arguments : Texts) (held : List ℕ → Held) (before after : World) (status : ℕ) : Type 0 where
   pub outcome : Result (Unit {0}) ProgramFault
   pub right_status : status ≡ status_after outcome
+  pub answers : AnswersAll arguments held before after outcome
+  pub silent : status ≡ 1 → Keeps before.output after.output
   pub opens : Opens arguments held before after status

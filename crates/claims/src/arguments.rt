@@ -5,7 +5,7 @@ ghost use Rattle.std.specs.Io.KnownBytes.{Keeps};
 ghost use Rattle.std.specs.Process.{exit_status};
 ghost use Rattle.command_line.specs.declared.words.Task.{Task};
 ghost use Rattle.claims.specs.Outcome.{Comes};
-ghost use Rattle.program.specs.Files.{Names};
+ghost use Rattle.claims.specs.Runs.{PublishedAreUnique};
 ghost use Rattle.program.specs.Run.{IsTask};
 ghost use Rattle.program.specs.World.{world};
 
@@ -26,7 +26,8 @@ pub fn run_refused<F: Files, R: Read, W: Write, V: Write>(
 ) -> Ended
     requires { (task : Task)
         → IsTask (map (λ text. string_bytes text) arguments.items) (Ok task) → ⊥ }
-    ensures opened { Names (F.opened files.old) (F.opened files.new) [] }
+    ensures opened { F.opened files.new ≡ F.opened files.old }
+    ensures faultless { F.faults files.new ≡ F.faults files.old }
     ensures read { Keeps (R.remaining reader.old) (R.remaining reader.new) }
     ensures written { Keeps (W.contents writer.old) (W.contents writer.new) }
     ensures status { exit_status result.code ≡ 0 → ⊥ }
@@ -35,9 +36,11 @@ pub fn run_refused<F: Files, R: Read, W: Write, V: Write>(
 }
 
 /// The whole program. Of the files that the task of its arguments names, it opens all, or only the first ones. Its exit status
-/// is that of its outcome. With status 0 there is such a task, and it is done: the clues or help were written; or a true text
-/// for each line of the input; or a proof, `ambiguous` or `undecided`; or the line of a check, and the picture of the first
-/// file is the only one of its size with its clues and its colours in the givens of the certificate or proof.
+/// is that of its outcome, which is what the arguments and the files call for: a body that does the task and ends with another
+/// status does not meet this. With status 1 nothing was written. With status 0 there is such a task, and it is done: the clues
+/// or help were written; or a true text for each line of the input; or a certificate, `ambiguous` or `undecided`; or the line of
+/// a check, and the picture of the first file is the only one of its size with its clues and its colours in the certificate's
+/// givens, or, with a file of givens, in the cells that are published.
 pub fn run_asked<F: Files, R: Read, W: Write, V: Write>(
     alloc: Global,
     arguments: Vec<String>,
@@ -47,10 +50,28 @@ pub fn run_asked<F: Files, R: Read, W: Write, V: Write>(
     errors: &mut V,
 ) -> Ended
     ensures { Comes (map (λ text. string_bytes text) arguments.items) (F.held files.old)
-        (world (F.opened files.old) (R.remaining reader.old) (W.contents writer.old))
-        (world (F.opened files.new) (R.remaining reader.new) (W.contents writer.new))
+        (world (F.opened files.old) (F.faults files.old)
+        (R.remaining reader.old) (W.contents writer.old))
+        (world (F.opened files.new) (F.faults files.new)
+        (R.remaining reader.new) (W.contents writer.new))
         (exit_status result.code) }
 {
     sessions_are_true();
     run(alloc, Ok(arguments), files, reader, writer, errors)
+}
+
+/// The whole program for arguments that ask for a check with a file of givens: with status 0, the picture of the first file is the
+/// only one of its size with its clues and its colours in the cells that are published.
+pub fn run_published<F: Files, R: Read, W: Write, V: Write>(
+    alloc: Global,
+    arguments: Vec<String>,
+    files: &mut F,
+    reader: &mut R,
+    writer: &mut W,
+    errors: &mut V,
+) -> Ended
+    ensures { PublishedAreUnique (map (λ text. string_bytes text) arguments.items)
+        (F.held files.old) (exit_status result.code) }
+{
+    run_asked(alloc, arguments, files, reader, writer, errors)
 }

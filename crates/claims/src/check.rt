@@ -1,14 +1,14 @@
-//! A certificate proves uniqueness, and so does a proof by lemmas.
+//! A certificate of any form proves uniqueness, in its own givens or in those that are published.
 
-ghost use Rattle.std.specs.Prelude.{◌≡◌, ℕ, List, true};
+ghost use Rattle.std.specs.Prelude.{◌≡◌, true};
 ghost use Rattle.answers.specs.Check.{IsOnlyPicture};
-ghost use Rattle.answers.specs.Verify.{IsOnlyByLemmas};
+ghost use Rattle.answers.specs.Published.{IsOnlyPublished};
 
-use answers::{run_check, run_verify};
+use answers::{run_check, run_check_published};
 use picture::Rgb;
 use std::alloc::Global;
 
-/// Whether a certificate is accepted for the picture of a P3 text, which is then the only one of its size with its clues and
+/// Whether a certificate of any form is accepted for the picture of a P3 text, which is then the only one of its size with its clues and
 /// its colours in the certificate's givens.
 pub fn certificate_is_accepted(
     alloc: Global,
@@ -22,11 +22,17 @@ pub fn certificate_is_accepted(
     run_check(alloc, file, cert, background, &mut line).is_ok()
 }
 
-/// Whether a proof by lemmas is accepted for the picture of a P3 text, which is then the only one of its size with its clues
-/// and its colours in the proof's givens.
-pub fn proof_is_accepted(alloc: Global, file: &[u8], proof: &[u8], background: Option<Rgb>) -> bool
-    ensures { result ≡ true → IsOnlyByLemmas file.now background proof.now }
+/// Whether a certificate is accepted for the picture of a P3 text with the text of its file of givens. The picture is then the
+/// only one of its size with its clues and its colours in the cells that are published.
+pub fn published_is_accepted(
+    alloc: Global,
+    file: &[u8],
+    cert: &[u8],
+    givens: &[u8],
+    background: Option<Rgb>,
+) -> bool
+    ensures { result ≡ true → IsOnlyPublished file.now background givens.now }
 {
     let mut line = Vec::new(alloc);
-    run_verify(alloc, file, proof, background, &mut line).is_ok()
+    run_check_published(alloc, file, cert, givens, background, &mut line).is_ok()
 }

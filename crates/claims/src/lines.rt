@@ -1,7 +1,7 @@
 //! A session's answers are right.
 
-ghost use Rattle.std.specs.Prelude.{◌≡◌, IfErr, IfOk};
-ghost use Rattle.claims.specs.Session.{AnswersAll, AnswersRead};
+ghost use Rattle.std.specs.Prelude.{IfOk};
+ghost use Rattle.claims.specs.Session.{AnswersAll, AnswersUntil};
 ghost use Rattle.command_text.specs.Lines.{lines_of};
 ghost use Rattle.live_audit.specs.Calls.{machine};
 
@@ -30,18 +30,18 @@ pub fn answered<E: LineEngine + Drop, A: Agenda + Drop>(
     Ok(text)
 }
 
-/// Runs a session with any reader and writer. Where a write fails, a prefix of the right answers was written.
+/// Runs a session with any reader and writer. Where a read fails, the lines whose line feed had been read are answered; where a
+/// write fails, a prefix of the right answers was written; and else the whole input is answered.
 pub fn answered_until<R: Read, W: Write, E: LineEngine + Drop, A: Agenda + Drop>(
     alloc: Global,
     bench: &mut Bench<E, A>,
     reader: &mut R,
     writer: &mut W,
 ) -> Result<(), SessionFault>
-    ensures { IfErr result (λ fault. fault ≡ SessionFault.Write → AnswersRead
-        (R.remaining reader.old) (R.remaining reader.new)
+    ensures { AnswersUntil (R.remaining reader.old) (R.remaining reader.new)
         (W.contents writer.old) (W.contents writer.new)
         (machine bench.old.history bench.old.allowance)
-        (machine bench.new.history bench.new.allowance)) }
+        (machine bench.new.history bench.new.allowance) result }
 {
     run_session(alloc, reader, writer, bench)
 }

@@ -18,8 +18,10 @@ pub enum Step {
     Redo,
 }
 
+#[tactic(auto, using(crate::proofs::StepLemmas::as_before))]
 /// Makes a step. Where it is accepted, the history is that after the step. Where it is refused, the answer is its first error, or
-/// that memory ran out; and all but a counter of work is as it was: the history with the document, the clues and the map.
+/// that memory ran out; and all but a counter of work is as it was: the history with the document, the clues and the map. The
+/// counter is as it was too, unless memory ran out.
 pub fn step_or_keep<E: LineEngine + Drop, A: Agenda + Drop>(
     bench: &mut Bench<E, A>,
     step: &Step,
@@ -32,6 +34,8 @@ pub fn step_or_keep<E: LineEngine + Drop, A: Agenda + Drop>(
     ensures clues { OnErr result (bench.new.clues ≡ bench.old.clues) }
     ensures map { OnErr result (bench.new.book.facts ≡ bench.old.book.facts) }
     ensures all { OnErr result (bench.new ≡ record bench.old { calls = bench.new.calls }) }
+    ensures unless_memory { IfErr result
+        (λ fault. (fault ≡ Memory → ⊥) → bench.new ≡ bench.old) }
 {
     match step {
         Step::Edit(edit) => bench.apply(edit),

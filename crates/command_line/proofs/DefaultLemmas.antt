@@ -4,7 +4,6 @@ use Rattle.clap.specs.declared.error.kind.ErrorKind.{ErrorKind}
 use Rattle.clap.specs.Simple.{Shape, built_leaf, inherited, marked_built, rows_at, with_leaf_noted}
 use Rattle.clap.specs.Walk.{Walk, arg_by_index, finished, nothing_held, rows_after, to_positional, walk_from, walked}
 use Rattle.clap.specs.Words.{Kinds, Rule, Text, subcommand_of}
-use Rattle.clap.specs.declared.builder.value_parser.ValueParser.{ValueParser}
 use Rattle.clap.proofs.OnLiterals.{clap_on_literals}
 use Rattle.picture.specs.declared.rgb.Rgb.{Rgb}
 use Rattle.program_options.specs.declared.fault.ProgramFault.{ProgramFault}
@@ -12,7 +11,7 @@ use Rattle.program_options.specs.declared.options.Options.{Options}
 use Rattle.command_line.specs.declared.words.Task.{Task}
 use Rattle.command_line.specs.declared.words.Task.TheVariants.{Help, Work}
 use Rattle.command_line.specs.Laws.{DefaultsAreKnown, IsByDefault, default_options}
-use Rattle.command_line.specs.Program.{program_app, top_shape, work_shape}
+use Rattle.command_line.specs.Program.{Formats, program_app, top_shape, work_shape}
 use Rattle.command_line.specs.Words.{AreOptions, Given, IsAsked, IsTaskBy, IsUntaken, IsWork, Spells, background_asked, given_in}
 
 no_hyphen : (first : ℕ) → (first ≡ 45 → ⊥) → (first == 45) ≡ false
@@ -38,23 +37,23 @@ rows_of_word c first rest e = ap (λ (w : Walk). finished c w.held) (plain_word_
 -- ---- the session that is entered
 
 -- the command `work` as the parser builds it
-abbrev work_built : ValueParser → Shape
-work_built formats = built_leaf (inherited (with_leaf_noted (marked_built (record top_shape { is_leaf = false }))) (work_shape formats))
+abbrev work_built : Formats → Shape
+work_built formats = built_leaf (inherited (with_leaf_noted (marked_built (record top_shape { is_leaf = false }))) (work_shape formats.0))
 
-enters_work : (formats : ValueParser) (word : Text) → subcommand_of (program_app formats) (codes "work" ∷ word ∷ []) ≡ Some (rows_at (work_built formats) (word ∷ []))
+enters_work : (formats : Formats) (word : Text) → subcommand_of (program_app formats) (codes "work" ∷ word ∷ []) ≡ Some (rows_at (work_built formats) (word ∷ []))
 unfolding clap_on_literals
 enters_work formats word = refl
 
 -- what is given for such words
 abbrev given_alone : Text → Given
-given_alone path = record { file = Some path; cert = None; format = Some (codes "ppm"); background = None; history = Some (codes "100") }
+given_alone path = record { file = Some path; cert = None; givens = None; format = Some (codes "ppm"); background = None; history = Some (codes "100") }
 
-gives_alone : (formats : ValueParser) (word : Text)
+gives_alone : (formats : Formats) (word : Text)
     → given_in (finished (work_built formats).rules
     (to_positional (work_built formats).rules (arg_by_index (work_built formats).rules 1) word (walk_from nothing_held) nothing_held).held) ≡ given_alone word
 gives_alone formats word = refl
 
-given_rows : (formats : ValueParser) (first : ℕ) (rest : Text) → (first == 45) ≡ false → given_in (rows_at (work_built formats) ((first ∷ rest) ∷ [])).1 ≡ given_alone (first ∷ rest)
+given_rows : (formats : Formats) (first : ℕ) (rest : Text) → (first == 45) ≡ false → given_in (rows_at (work_built formats) ((first ∷ rest) ∷ [])).1 ≡ given_alone (first ∷ rest)
 given_rows formats first rest e = ap given_in (rows_of_word (work_built formats).rules first rest e) ∙ gives_alone formats (first ∷ rest)
 
 -- ---- the options
@@ -90,7 +89,7 @@ options_are path options are =
 
 -- ---- the task
 
-module _ (formats : ValueParser) (first : ℕ) (rest : Text) (e : (first == 45) ≡ false) where
+module _ (formats : Formats) (first : ℕ) (rest : Text) (e : (first == 45) ≡ false) where
   asked : (task : Task) → IsAsked (subcommand_of (program_app formats) (codes "work" ∷ (first ∷ rest) ∷ [])) (Ok task) → IsWork (given_alone (first ∷ rest)) (Ok task)
   asked task a = subst (λ (g : Given). IsWork g (Ok task)) (given_rows formats first rest e) (a.work _ (enters_work formats (first ∷ rest)))
 

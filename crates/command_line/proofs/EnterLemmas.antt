@@ -12,10 +12,9 @@ use Rattle.clap.specs.Takes.{is_given}
 use Rattle.clap.specs.Kinds.{Kinds, check_kinds, or_else}
 use Rattle.clap.specs.Faults.{check_fault, defaults_fault, entered_fault, fault_of, level_fault, other_fault, settle_fault, step_fault, turn_fault, walk_fault, word_fault}
 use Rattle.clap.specs.Words.{subcommand_of}
-use Rattle.clap.specs.declared.builder.value_parser.ValueParser.{ValueParser}
 use Rattle.clap.specs.declared.error.kind.ErrorKind.{ErrorKind}
 use Rattle.clap.specs.declared.error.kind.ErrorKind.TheVariants.{DisplayHelp, DisplayHelpOnMissingArgumentOrSubcommand, InvalidSubcommand, MissingSubcommand}
-use Rattle.command_line.specs.Program.{check_shape, program_app, prove_shape, top_shape, verify_shape, work_shape}
+use Rattle.command_line.specs.Program.{Formats, check_shape, program_app, prove_shape, top_shape, work_shape}
 use Rattle.command_line.specs.Words.{IsNamed}
 
 -- ---- kinds
@@ -171,20 +170,20 @@ pick false false false true z a b c d e words work check prove verify n has = in
 pick false false false false true a b c d e words work check prove verify n has = absurd (true≢false n)
 pick false false false false false a b c d e words work check prove verify n has = absurd (true≢false (sym has))
 
-entered_named : (formats : ValueParser) (stop : Option (Text × List Text)) → is_help stop ≡ false → is_some (entered (built (program_app formats)) stop) ≡ true
+entered_named : (formats : Formats) (stop : Option (Text × List Text)) → is_help stop ≡ false → is_some (entered (built (program_app formats)) stop) ≡ true
     → IsNamed (entered (built (program_app formats)) stop)
 entered_named formats None n has = absurd (true≢false (sym has))
 entered_named formats (Some p) n has =
-    let work = built_leaf (inherited top_noted (work_shape formats)) in
-    let check = built_leaf (inherited top_noted check_shape) in
-    let prove = built_leaf (inherited top_noted prove_shape) in
-    let verify = built_leaf (inherited top_noted verify_shape) in
+    let work = built_leaf (inherited top_noted (work_shape formats.0)) in
+    let check = built_leaf (inherited top_noted (check_shape (codes "check"))) in
+    let prove = built_leaf (inherited top_noted (prove_shape formats.1)) in
+    let verify = built_leaf (inherited top_noted (check_shape (codes "verify"))) in
     let help = built_leaf help_shape in
     pick (answers_to p.0 (label_of work)) (answers_to p.0 (label_of check)) (answers_to p.0 (label_of prove)) (answers_to p.0 (label_of verify)) (answers_to p.0 (label_of help))
     work check prove verify help p.1 refl refl refl refl (not_help p.0 n) has
 
 -- the words name one of the program's subcommands
-pub names_one : (formats : ValueParser) (words : List Text) → fault_of (program_app formats) words ≡ [] → IsNamed (subcommand_of (program_app formats) words)
+pub names_one : (formats : Formats) (words : List Text) → fault_of (program_app formats) words ≡ [] → IsNamed (subcommand_of (program_app formats) words)
 names_one formats words e =
     let app = built (program_app formats) in
     let stop = (walk app.top.rules (names_of app) nothing_held words).stopped in

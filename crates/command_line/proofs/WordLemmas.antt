@@ -2,7 +2,6 @@
 use Rattle.std.proofs.Common.{◌≡◌, ◌≢◌, ◌⊎◌, ◌↔◌, ◌≤◌, ℕ, Bool, List, [], ◌∷◌, get_or, codes, Option, None, Some, Result, Ok, Err, IsTrue, option_map, true, false, true≢false, refl, sym, ap}
 use Rattle.std.proofs.Common.{subst, eqb, eq-eqb, ◌∙◌, arith, inl, inr, ⊎_elim}
 use Rattle.std.specs.Str.Parse.{ParsesUnsigned}
-use Rattle.clap.specs.declared.builder.value_parser.ValueParser.{ValueParser}
 use Rattle.clap.specs.declared.error.Error.{Error}
 use Rattle.clap.specs.declared.error.kind.ErrorKind.{ErrorKind}
 use Rattle.clap.specs.declared.error.kind.ErrorKind.TheVariants as kind
@@ -14,15 +13,16 @@ use Rattle.clap.proofs.WalkLemmas.{first_value-rows, one_text-rows}
 use Rattle.program_options.specs.declared.fault.ProgramFault.{ProgramFault}
 use Rattle.program_options.specs.declared.fault.ProgramFault.TheVariants as fault
 use Rattle.command_line.specs.declared.words.Task.{Task}
-use Rattle.command_line.specs.declared.words.Task.TheVariants.{Clues, Work, Check, Prove, Verify, Help}
-use Rattle.command_line.specs.Program.{AreFormats, ParsesAs, program_app}
-use Rattle.command_line.specs.Words.{Given, IsAsked, IsCheck, IsNamed, IsProve, IsTaskBy, IsTaskOf, IsUntaken, IsVerify, IsWork, Spells, given_in, given_of, is_shown}
+use Rattle.command_line.specs.declared.words.Task.TheVariants.{Clues, Work, Check, Prove, Help}
+use Rattle.command_line.specs.Program.{AreFormats, Formats, ParsesAs, program_app}
+use Rattle.command_line.specs.Words.{Given, IsAsked, IsCheck, IsNamed, IsProve, IsTaskBy, IsTaskOf, IsUntaken, IsWork, Spells, given_in, given_of, is_shown}
 use Rattle.command_line.proofs.EnterLemmas.{names_one, some_kind}
 
 -- ---- values
 
-abbrev made : Option Text → Option Text → Option Text → Option Text → Option Text → Given
-made file cert format background history = record { file = file; cert = cert; format = format; background = background; history = history }
+abbrev made : Option Text → Option Text → Option Text → Option Text → Option Text → Option Text → Given
+made file cert givens format background history =
+    record { file = file; cert = cert; givens = givens; format = format; background = background; history = history }
 
 -- the values of a parse's entries are those of its rows
 pub given_same : (f : Found) → given_of f ≡ given_in (rows_of f)
@@ -31,14 +31,16 @@ given_same f =
     let r : Text → Option Text = λ id. first_of id (rows_of f) in
     let file = codes "file" in
     let cert = codes "cert" in
+    let givens = codes "givens" in
     let format = codes "format" in
     let background = codes "background" in
     let old = one_text f (codes "history") in
-    ap (λ (x : Option Text). made x (v cert) (v format) (v background) old) (first_value-rows f file)
-    ∙ ap (λ (x : Option Text). made (r file) x (v format) (v background) old) (first_value-rows f cert)
-    ∙ ap (λ (x : Option Text). made (r file) (r cert) x (v background) old) (first_value-rows f format)
-    ∙ ap (λ (x : Option Text). made (r file) (r cert) (r format) x old) (first_value-rows f background)
-    ∙ ap (λ (x : Option Text). made (r file) (r cert) (r format) (r background) x) (one_text-rows f (codes "history"))
+    ap (λ (x : Option Text). made x (v cert) (v givens) (v format) (v background) old) (first_value-rows f file)
+    ∙ ap (λ (x : Option Text). made (r file) x (v givens) (v format) (v background) old) (first_value-rows f cert)
+    ∙ ap (λ (x : Option Text). made (r file) (r cert) x (v format) (v background) old) (first_value-rows f givens)
+    ∙ ap (λ (x : Option Text). made (r file) (r cert) (r givens) x (v background) old) (first_value-rows f format)
+    ∙ ap (λ (x : Option Text). made (r file) (r cert) (r givens) (r format) x old) (first_value-rows f background)
+    ∙ ap (λ (x : Option Text). made (r file) (r cert) (r givens) (r format) (r background) x) (one_text-rows f (codes "history"))
 
 -- ---- the subcommand
 
@@ -112,12 +114,12 @@ asked_prove entered rows r name is asked = record {
 }
 
 pub asked_verify : (entered : Option (Text × List Row)) (rows : List Row) (r : Result Task ProgramFault) → option_map (λ p. p.0) entered ≡ Some (codes "verify")
-    → option_map (λ p. p.1) entered ≡ Some rows → IsVerify (given_in rows) r → IsAsked entered r
+    → option_map (λ p. p.1) entered ≡ Some rows → IsCheck (given_in rows) r → IsAsked entered r
 asked_verify entered rows r name is asked = record {
   work = λ there e. absurd (verify_not_work (some_text (codes "verify") (codes "work") (sym name ∙ ap name_in e)));
   check = λ there e. absurd (verify_not_check (some_text (codes "verify") (codes "check") (sym name ∙ ap name_in e)));
   prove = λ there e. absurd (verify_not_prove (some_text (codes "verify") (codes "prove") (sym name ∙ ap name_in e)));
-  verify = λ there e. subst (λ (x : List Row). IsVerify (given_in x) r) (some_rows rows there (sym is ∙ ap rows_in e)) asked;
+  verify = λ there e. subst (λ (x : List Row). IsCheck (given_in x) r) (some_rows rows there (sym is ∙ ap rows_in e)) asked;
 }
 
 -- ---- the history
@@ -177,9 +179,8 @@ memory_is e is = ap failed is
 memory_or : (k : ErrorKind) (r : Result Task ProgramFault) → IsUntaken k r → (r ≡ Err fault.Memory) ⊎ (k ≡ kind.OutOfMemory → ⊥)
 memory_or k (Ok Clues) u = absurd u
 memory_or k (Ok (Work file options)) u = absurd u
-memory_or k (Ok (Check file cert background)) u = absurd u
-memory_or k (Ok (Prove file background)) u = absurd u
-memory_or k (Ok (Verify file proof background)) u = absurd u
+memory_or k (Ok (Check file cert givens background)) u = absurd u
+memory_or k (Ok (Prove file background single)) u = absurd u
 memory_or k (Ok (Help text)) u = inr (shown_not_memory k u)
 memory_or k (Err (fault.Words text)) u = inr u.1
 memory_or k (Err (fault.Ppm x)) u = inl (memory_is (fault.Ppm x) u)
@@ -187,6 +188,7 @@ memory_or k (Err (fault.Non x)) u = inl (memory_is (fault.Non x) u)
 memory_or k (Err (fault.Edit x)) u = inl (memory_is (fault.Edit x) u)
 memory_or k (Err fault.NoPicture) u = inl (memory_is fault.NoPicture u)
 memory_or k (Err (fault.Cert x)) u = inl (memory_is (fault.Cert x) u)
+memory_or k (Err (fault.Givens x)) u = inl (memory_is (fault.Givens x) u)
 memory_or k (Err fault.Memory) u = inl refl
 memory_or k (Err fault.TooLong) u = inl (memory_is fault.TooLong u)
 memory_or k (Err fault.NotText) u = inl (memory_is fault.NotText u)
@@ -209,7 +211,7 @@ untaken_as kinds app words e r has passes u =
     let among : (kind_of e ≡ kind.OutOfMemory → ⊥) → IsAmong (kind_of e) kinds = λ other. ⊎_elim (λ memory. absurd (other memory)) (λ one. one) has in
     ⊎_elim (λ memory. inl memory) (λ other. inr (untaken_by kinds app words (kind_of e) r (λ t. other (passes t)) (among other) u)) (memory_or (kind_of e) r u)
 
-pub not_taken : (words : List Text) (e : Error) (r : Result Task ProgramFault) → (formats : ValueParser) × (AreFormats formats × ParsesAs formats words (Err e)) → IsUntaken (kind_of e) r
+pub not_taken : (words : List Text) (e : Error) (r : Result Task ProgramFault) → (formats : Formats) × (AreFormats formats × ParsesAs formats words (Err e)) → IsUntaken (kind_of e) r
     → IsTaskOf words r
 not_taken words e r p u = ⊎_elim (λ memory. inl memory) (λ told. inr (p.0, (p.1.0, told))) (untaken_as (fault_of (program_app p.0) words) (program_app p.0) words e r p.1.1.0 p.1.1.1 u)
 
@@ -218,7 +220,7 @@ taken_by : (kinds : Kinds) (app : App) (words : List Text) (r : Result Task Prog
 taken_by [] app words r none named asked = (named, asked)
 taken_by (first ∷ more) app words r none named asked = absurd (some_kind first more none)
 
-pub taken : (words : List Text) (m : ArgMatches) (r : Result Task ProgramFault) → (formats : ValueParser) × (AreFormats formats × ParsesAs formats words (Ok m)) → IsAsked (subcommand_rows_of m) r
+pub taken : (words : List Text) (m : ArgMatches) (r : Result Task ProgramFault) → (formats : Formats) × (AreFormats formats × ParsesAs formats words (Ok m)) → IsAsked (subcommand_rows_of m) r
     → IsTaskOf words r
 taken words m r p asked =
     let fine = p.1.1.0 in

@@ -23,16 +23,20 @@ file_rule = word_rule (codes "file")
 abbrev pub cert_rule : Rule
 cert_rule = word_rule (codes "cert")
 
-abbrev pub format_rule : ValueParser → Rule
-format_rule formats = record (new_rule (codes "format")) {
+-- one of some formats, and the one that is taken where none is named
+abbrev pub format_rule : Text → ValueParser → Rule
+format_rule usual formats = record (new_rule (codes "format")) {
   long = Some (codes "format");
   value_names = 1;
-  defaults = codes "ppm" ∷ [];
+  defaults = usual ∷ [];
   parser = Some formats;
 }
 
 abbrev pub background_rule : Rule
 background_rule = record (new_rule (codes "background")) { long = Some (codes "background"); value_names = 1 }
+
+abbrev pub givens_rule : Rule
+givens_rule = record (new_rule (codes "givens")) { long = Some (codes "givens"); value_names = 1 }
 
 abbrev pub history_rule : Rule
 history_rule = record (new_rule (codes "history")) {
@@ -48,20 +52,26 @@ abbrev pub file_shape : Shape
 file_shape = record (new_shape (codes "work")) { rules = file_rule ∷ [] }
 
 abbrev pub opening_shape : ValueParser → Shape
-opening_shape formats = record (new_shape (codes "work")) { rules = file_rule ∷ format_rule formats ∷ [] }
+opening_shape formats = record (new_shape (codes "work")) { rules = file_rule ∷ format_rule (codes "ppm") formats ∷ [] }
 
 abbrev pub work_shape : ValueParser → Shape
-work_shape formats =
-    record (new_shape (codes "work")) { rules = file_rule ∷ format_rule formats ∷ background_rule ∷ history_rule ∷ [] }
+work_shape formats = record (new_shape (codes "work")) {
+  rules = file_rule ∷ format_rule (codes "ppm") formats ∷ background_rule ∷ history_rule ∷ [];
+}
 
-abbrev pub check_shape : Shape
-check_shape = record (new_shape (codes "check")) { rules = file_rule ∷ cert_rule ∷ background_rule ∷ [] }
+-- the check of a certificate, under a name
+abbrev pub pair_shape : Text → Shape
+pair_shape name = record (new_shape name) { rules = file_rule ∷ cert_rule ∷ [] }
 
-abbrev pub verify_shape : Shape
-verify_shape = record (new_shape (codes "verify")) { rules = file_rule ∷ cert_rule ∷ background_rule ∷ [] }
+abbrev pub check_shape : Text → Shape
+check_shape name = record (new_shape name) { rules = file_rule ∷ cert_rule ∷ givens_rule ∷ background_rule ∷ [] }
 
-abbrev pub prove_shape : Shape
-prove_shape = record (new_shape (codes "prove")) { rules = file_rule ∷ background_rule ∷ [] }
+abbrev pub proving_shape : Shape
+proving_shape = record (new_shape (codes "prove")) { rules = file_rule ∷ background_rule ∷ [] }
+
+abbrev pub prove_shape : ValueParser → Shape
+prove_shape forms =
+    record (new_shape (codes "prove")) { rules = file_rule ∷ background_rule ∷ format_rule (codes "2") forms ∷ [] }
 
 -- ---- the program
 
@@ -72,16 +82,31 @@ top_shape = record (new_shape (codes "nonobench")) {
   subcommand_required = true;
 }
 
-abbrev pub program_app : ValueParser → App
+-- the parsers of the formats of a session's file, and of those of a certificate
+abbrev pub Formats : Type 0
+Formats = ValueParser × ValueParser
+
+abbrev pub program_app : Formats → App
 program_app formats = record {
   top = record top_shape { is_leaf = false };
-  subs = work_shape formats ∷ check_shape ∷ prove_shape ∷ verify_shape ∷ [];
+  subs = work_shape formats.0 ∷ check_shape (codes "check") ∷ prove_shape formats.1 ∷ check_shape (codes "verify") ∷ [];
 }
 
--- the formats that a file can have
-abbrev pub AreFormats : ValueParser → Type 0
-AreFormats (parser.Names names) = map (λ s. s.now) names.now ≡ codes "ppm" ∷ codes "non" ∷ []
-AreFormats _ = ⊥
+-- one of these names is taken
+abbrev pub Takes : List Text → ValueParser → Type 0
+Takes texts (parser.Names names) = map (λ s. s.now) names.now ≡ texts
+Takes texts _ = ⊥
+
+-- the formats that the file of a session can have
+abbrev pub AreOfFiles : ValueParser → Type 0
+AreOfFiles formats = Takes (codes "ppm" ∷ codes "non" ∷ []) formats
+
+-- the formats that a certificate can be made in, by their numbers
+abbrev pub AreOfCerts : ValueParser → Type 0
+AreOfCerts formats = Takes (codes "1" ∷ codes "2" ∷ []) formats
+
+abbrev pub AreFormats : Formats → Type 0
+AreFormats formats = AreOfFiles formats.0 × AreOfCerts formats.1
 
 -- a command with no global argument
 abbrev pub IsLocal : Command → Type 0
@@ -90,7 +115,7 @@ IsLocal c = (out-Command c).has_globals ≡ false
 -- What a parse of the program's words gives. Where they have no error, it has the name and the rows of the
 -- subcommand that they name. Else its error is of a kind of their error, or memory ran out; where the definition
 -- takes the words, only memory can have run out.
-abbrev pub ParsesAs : ValueParser → List Text → Result ArgMatches Error → Type 0
+abbrev pub ParsesAs : Formats → List Text → Result ArgMatches Error → Type 0
 ParsesAs formats words (Ok m) =
     (fault_of (program_app formats) words ≡ []) × (subcommand_rows_of m ≡ subcommand_of (program_app formats) words)
 ParsesAs formats words (Err e) = HasKind (fault_of (program_app formats) words) e

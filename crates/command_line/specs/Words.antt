@@ -1,10 +1,10 @@
 -- What the words ask for, by the values that the parser of words found.
 use Rattle.std.specs.Prelude.{◌≡◌, ◌⊎◌, ℕ, ◌<◌, ◌≤◌, ◌↔◌, Bool, true, false, List, [], ◌∷◌, codes, unwrap_or, Option}
+use Rattle.std.specs.Prelude.{option_map}
 use Rattle.std.specs.Prelude.{None, Some, Result, Ok, Err, refl}
 use Rattle.std.specs.Str.Parse.{IsNumeral, digits_value, without_leading_plus}
 use Rattle.clap.specs.Words.{App, IsAmong, Kinds, Row, Text, fault_of, first_of, first_value, one_of, one_text}
 use Rattle.clap.specs.Words.{subcommand_of, takes}
-use Rattle.clap.specs.declared.builder.value_parser.ValueParser.{ValueParser}
 use Rattle.clap.specs.declared.error.kind.ErrorKind.{ErrorKind}
 use Rattle.clap.specs.declared.error.kind.ErrorKind.TheVariants.{DisplayHelp, DisplayVersion, OutOfMemory}
 use Rattle.clap.specs.declared.parser.matches.Found.{Found}
@@ -14,9 +14,9 @@ use Rattle.program_options.specs.declared.fault.ProgramFault.TheVariants as faul
 use Rattle.program_options.specs.declared.options.Options.{Options}
 use Rattle.program_options.specs.Background.{background_of}
 use Rattle.program_options.specs.Options.{IsLawful}
-use Rattle.command_line.specs.Program.{AreFormats, program_app}
+use Rattle.command_line.specs.Program.{AreFormats, Formats, program_app}
 use Rattle.command_line.specs.declared.words.Task.{Task}
-use Rattle.command_line.specs.declared.words.Task.TheVariants.{Work, Check, Prove, Verify, Help}
+use Rattle.command_line.specs.declared.words.Task.TheVariants.{Work, Check, Prove, Help}
 
 -- the options of a session are lawful
 abbrev pub IsLawfulTask : Task → Type 0
@@ -29,6 +29,7 @@ IsLawfulTask _ = Unit {0}
 pub record Given : Type 0 where
   pub file : Option Text
   pub cert : Option Text
+  pub givens : Option Text
   pub format : Option Text
   pub background : Option Text
   pub history : Option Text
@@ -38,6 +39,7 @@ abbrev pub given_in : List Row → Given
 given_in rows = record {
   file = first_of (codes "file") rows;
   cert = first_of (codes "cert") rows;
+  givens = first_of (codes "givens") rows;
   format = first_of (codes "format") rows;
   background = first_of (codes "background") rows;
   history = one_of (codes "history") rows;
@@ -48,6 +50,7 @@ abbrev pub given_of : Found → Given
 given_of f = record {
   file = first_value f (codes "file");
   cert = first_value f (codes "cert");
+  givens = first_value f (codes "givens");
   format = first_value f (codes "format");
   background = first_value f (codes "background");
   history = one_text f (codes "history");
@@ -93,26 +96,22 @@ IsWork g (Ok (Work file options)) = (file.now ≡ path_of g.file) × AreOptions 
 IsWork g (Ok _) = ⊥
 IsWork g (Err e) = IsRefused g e
 
--- a check with these two files and this background
+-- a check with these two files, this file of the published givens or none, and this background
 abbrev pub IsCheck : Given → Result Task ProgramFault → Type 0
-IsCheck g (Ok (Check file cert background)) =
-    (file.now ≡ path_of g.file) × ((cert.now ≡ path_of g.cert) × (background_asked g.background ≡ Ok background))
+IsCheck g (Ok (Check file cert givens background)) =
+    (file.now ≡ path_of g.file)
+    × ((cert.now ≡ path_of g.cert)
+    × ((option_map (λ path. path.now) givens ≡ g.givens) × (background_asked g.background ≡ Ok background)))
 IsCheck g (Ok _) = ⊥
 IsCheck g (Err e) = background_asked g.background ≡ Err e
 
--- the making of a proof for this file with this background
+-- the making of a certificate in this format for this file with this background
 abbrev pub IsProve : Given → Result Task ProgramFault → Type 0
-IsProve g (Ok (Prove file background)) =
-    (file.now ≡ path_of g.file) × (background_asked g.background ≡ Ok background)
+IsProve g (Ok (Prove file background single)) =
+    (file.now ≡ path_of g.file)
+    × ((background_asked g.background ≡ Ok background) × ((single ≡ true) ↔ (g.format ≡ Some (codes "1"))))
 IsProve g (Ok _) = ⊥
 IsProve g (Err e) = background_asked g.background ≡ Err e
-
--- the check of a proof with these two files and this background
-abbrev pub IsVerify : Given → Result Task ProgramFault → Type 0
-IsVerify g (Ok (Verify file proof background)) =
-    (file.now ≡ path_of g.file) × ((proof.now ≡ path_of g.cert) × (background_asked g.background ≡ Ok background))
-IsVerify g (Ok _) = ⊥
-IsVerify g (Err e) = background_asked g.background ≡ Err e
 
 -- the subcommand that was entered is one of the program's
 abbrev pub IsNamed : Option (Text × List Row) → Type 0
@@ -121,12 +120,12 @@ IsNamed (Some entered) =
     (entered.0 ≡ codes "work")
     ⊎ ((entered.0 ≡ codes "check") ⊎ ((entered.0 ≡ codes "prove") ⊎ (entered.0 ≡ codes "verify")))
 
--- what a subcommand that was entered asks for, by its name and its rows
+-- what a subcommand that was entered asks for, by its name and its rows; `verify` is the old name of `check`
 pub record IsAsked (entered : Option (Text × List Row)) (r : Result Task ProgramFault) : Type 0 where
   pub work : (rows : List Row) → entered ≡ Some (codes "work", rows) → IsWork (given_in rows) r
   pub check : (rows : List Row) → entered ≡ Some (codes "check", rows) → IsCheck (given_in rows) r
   pub prove : (rows : List Row) → entered ≡ Some (codes "prove", rows) → IsProve (given_in rows) r
-  pub verify : (rows : List Row) → entered ≡ Some (codes "verify", rows) → IsVerify (given_in rows) r
+  pub verify : (rows : List Row) → entered ≡ Some (codes "verify", rows) → IsCheck (given_in rows) r
 
 -- ---- words that are not taken
 
@@ -154,7 +153,7 @@ IsTaskBy (first ∷ more) app words r =
 
 -- What words ask for: memory ran out; or it is as the definition of the program's command line reads them.
 abbrev pub IsTaskOf : List Text → Result Task ProgramFault → Type 0
-IsTaskOf words r = (r ≡ Err fault.Memory) ⊎ ((formats : ValueParser)
+IsTaskOf words r = (r ≡ Err fault.Memory) ⊎ ((formats : Formats)
     × (AreFormats formats × IsTaskBy (fault_of (program_app formats) words) (program_app formats) words r))
 
 -- ---- worked by hand

@@ -1,9 +1,9 @@
 //! The definition of the command line for the parser `clap`, and the parse of words by it.
 
-ghost use Rattle.std.specs.Prelude.{◌≡◌, [], false, IfOk};
+ghost use Rattle.std.specs.Prelude.{◌≡◌, [], codes, false, IfOk};
 ghost use Rattle.clap.specs.Walk.{texts};
 ghost use Rattle.clap.specs.Words.{app_of, rule_of, shape_of};
-ghost use Rattle.command_line.specs.Program.{AreFormats, IsLocal, ParsesAs, background_rule, check_shape, file_shape, format_rule, history_rule, opening_shape, program_app, prove_shape, top_shape, verify_shape, word_rule, work_shape};
+ghost use Rattle.command_line.specs.Program.{AreFormats, AreOfCerts, AreOfFiles, IsLocal, ParsesAs, background_rule, check_shape, file_shape, format_rule, givens_rule, history_rule, opening_shape, pair_shape, program_app, prove_shape, proving_shape, top_shape, word_rule, work_shape};
 
 use clap::{Arg, ArgMatches, Command, Error, value_parser};
 use program_options::VERSION;
@@ -11,6 +11,9 @@ use std::alloc::{AllocError, Global};
 
 // The formats that the file of a session can have: a P3 text or a .non text.
 static FORMATS: [&str; 2] = ["ppm", "non"];
+
+// The formats that a certificate can be made in: nonolemma 1 or nonolemma 2.
+static FORMS: [&str; 2] = ["1", "2"];
 
 // Parses the words after the program's own name.
 pub(crate) fn parsed<'a>(
@@ -30,9 +33,9 @@ fn command<'a>(alloc: Global) -> Result<Command<'a>, AllocError>
 {
     let top = named(alloc)?;
     let work = work_command(alloc)?;
-    let check = check_command(alloc)?;
+    let check = check_command(alloc, "check", CHECK)?;
     let prove = prove_command(alloc)?;
-    let verify = verify_command(alloc)?;
+    let verify = check_command(alloc, "verify", VERIFY)?;
     let command = top.subcommand(work)?;
     let command = command.subcommand(check)?;
     let command = command.subcommand(prove)?;
@@ -56,7 +59,7 @@ fn named<'a>(alloc: Global) -> Result<Command<'a>, AllocError>
 
 fn work_command<'a>(alloc: Global) -> Result<Command<'a>, AllocError>
     ensures shape { IfOk result (λ c. (formats : _)
-        × (AreFormats formats × (shape_of c ≡ work_shape formats))) }
+        × (AreOfFiles formats × (shape_of c ≡ work_shape formats))) }
     ensures local { IfOk result IsLocal }
 {
     opening(alloc)?.arg(background(alloc))?.arg(history(alloc))
@@ -65,7 +68,7 @@ fn work_command<'a>(alloc: Global) -> Result<Command<'a>, AllocError>
 // The command `work` with the session's file and its format.
 fn opening<'a>(alloc: Global) -> Result<Command<'a>, AllocError>
     ensures shape { IfOk result (λ c. (formats : _)
-        × (AreFormats formats × (shape_of c ≡ opening_shape formats))) }
+        × (AreOfFiles formats × (shape_of c ≡ opening_shape formats))) }
     ensures local { IfOk result IsLocal }
 {
     file_command(alloc)?.arg(format(alloc))
@@ -87,41 +90,55 @@ fn file_command<'a>(alloc: Global) -> Result<Command<'a>, AllocError>
         ))
 }
 
-// The command `check`, which checks a certificate.
-fn check_command<'a>(alloc: Global) -> Result<Command<'a>, AllocError>
-    ensures shape { IfOk result (λ c. shape_of c ≡ check_shape) }
+// What help says of the command `check`, and of its old name.
+const CHECK: &str = "Checks a certificate: whether the picture is the only one with its clues";
+
+const VERIFY: &str = "The old name of check";
+
+// The command that checks a certificate, under a name.
+fn check_command<'a>(
+    alloc: Global,
+    name: &'a str,
+    about: &'a str,
+) -> Result<Command<'a>, AllocError>
+    ensures shape { IfOk result (λ c. shape_of c ≡ check_shape name.entry.now) }
     ensures local { IfOk result IsLocal }
 {
-    Command::new(alloc, "check")
-        .about("Checks a certificate: whether the picture is the only one with its clues")
-        .after_help("Example: nonobench check heart.ppm heart.cert")
-        .arg(word(alloc, "file", "FILE", "The picture, as a P3 text"))?
-        .arg(word(alloc, "cert", "CERT", "Its certificate"))?
+    pair_command(alloc, name, about)?
+        .arg(givens(alloc))?
         .arg(background(alloc))
 }
 
-// The command `prove`, which makes a proof by lemmas.
+// That command with the picture's file and the certificate's.
+fn pair_command<'a>(alloc: Global, name: &'a str, about: &'a str) -> Result<Command<'a>, AllocError>
+    ensures shape { IfOk result (λ c. shape_of c ≡ pair_shape name.entry.now) }
+    ensures local { IfOk result IsLocal }
+{
+    Command::new(alloc, name)
+        .about(about)
+        .after_help("Example: nonobench check heart.ppm heart.cert")
+        .arg(word(alloc, "file", "FILE", "The picture, as a P3 text"))?
+        .arg(word(alloc, "cert", "CERT", "Its certificate"))
+}
+
+// The command `prove`, which makes a certificate with lemmas.
 fn prove_command<'a>(alloc: Global) -> Result<Command<'a>, AllocError>
-    ensures shape { IfOk result (λ c. shape_of c ≡ prove_shape) }
+    ensures shape { IfOk result (λ c. (forms : _)
+        × (AreOfCerts forms × (shape_of c ≡ prove_shape forms))) }
+    ensures local { IfOk result IsLocal }
+{
+    proving(alloc)?.arg(form(alloc))
+}
+
+// The command `prove` with the picture's file and its background.
+fn proving<'a>(alloc: Global) -> Result<Command<'a>, AllocError>
+    ensures shape { IfOk result (λ c. shape_of c ≡ proving_shape) }
     ensures local { IfOk result IsLocal }
 {
     Command::new(alloc, "prove")
-        .about("Prints a proof by lemmas that the picture is the only one with its clues")
-        .after_help("Example: nonobench prove heart.ppm > heart.proof")
+        .about("Prints a certificate with lemmas that the picture is the only one with its clues")
+        .after_help("Example: nonobench prove heart.ppm > heart.cert")
         .arg(word(alloc, "file", "FILE", "The picture, as a P3 text"))?
-        .arg(background(alloc))
-}
-
-// The command `verify`, which checks a proof by lemmas.
-fn verify_command<'a>(alloc: Global) -> Result<Command<'a>, AllocError>
-    ensures shape { IfOk result (λ c. shape_of c ≡ verify_shape) }
-    ensures local { IfOk result IsLocal }
-{
-    Command::new(alloc, "verify")
-        .about("Checks a proof by lemmas: whether the picture is the only one with its clues")
-        .after_help("Example: nonobench verify heart.ppm heart.proof")
-        .arg(word(alloc, "file", "FILE", "The picture, as a P3 text"))?
-        .arg(word(alloc, "cert", "PROOF", "Its proof by lemmas"))?
         .arg(background(alloc))
 }
 
@@ -137,7 +154,8 @@ fn word<'a>(alloc: Global, name: &'a str, value: &'a str, help: &'a str) -> Arg<
 }
 
 fn format<'a>(alloc: Global) -> Arg<'a>
-    ensures rule { (formats : _) × (AreFormats formats × (rule_of result ≡ format_rule formats)) }
+    ensures rule { (formats : _)
+        × (AreOfFiles formats × (rule_of result ≡ format_rule (codes "ppm") formats)) }
     ensures local { result.global ≡ false }
 {
     Arg::new(alloc, "format")
@@ -146,6 +164,19 @@ fn format<'a>(alloc: Global) -> Arg<'a>
         .value_parser(FORMATS.as_slice())
         .default_value("ppm")
         .help("The format of FILE")
+}
+
+fn form<'a>(alloc: Global) -> Arg<'a>
+    ensures rule { (forms : _)
+        × (AreOfCerts forms × (rule_of result ≡ format_rule (codes "2") forms)) }
+    ensures local { result.global ≡ false }
+{
+    Arg::new(alloc, "format")
+        .long("format")
+        .value_name("FORMAT")
+        .value_parser(FORMS.as_slice())
+        .default_value("2")
+        .help("The format of the certificate: nonolemma 1 or nonolemma 2")
 }
 
 fn history<'a>(alloc: Global) -> Arg<'a>
@@ -158,6 +189,16 @@ fn history<'a>(alloc: Global) -> Arg<'a>
         .value_parser(value_parser!(u16).range(1..=1000))
         .default_value("100")
         .help("How many edits can be undone, 1 to 1000")
+}
+
+fn givens<'a>(alloc: Global) -> Arg<'a>
+    ensures rule { rule_of result ≡ givens_rule }
+    ensures local { result.global ≡ false }
+{
+    Arg::new(alloc, "givens")
+        .long("givens")
+        .value_name("FILE")
+        .help("The givens that are published, as lines 'given R C': CERT may name no others")
 }
 
 fn background<'a>(alloc: Global) -> Arg<'a>

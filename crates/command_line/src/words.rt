@@ -4,7 +4,7 @@ ghost use Rattle.std.specs.Prelude.{◌≡◌, ◌↔◌, ◌<◌, ◌≤◌, �
 ghost use Rattle.clap.specs.Walk.{texts};
 ghost use Rattle.clap.specs.Words.{Text, first_value, found_of, kind_of, one_text, subcommand_rows_of};
 ghost use Rattle.command_line.specs.declared.words.Task.TheVariants.{Clues};
-ghost use Rattle.command_line.specs.Words.{IsAsked, IsCheck, IsLawfulTask, IsProve, IsTaskOf, IsUntaken, IsVerify, IsWork, Spells, background_asked, given_of};
+ghost use Rattle.command_line.specs.Words.{IsAsked, IsCheck, IsLawfulTask, IsProve, IsTaskOf, IsUntaken, IsWork, Spells, background_asked, given_of};
 
 use crate::command::parsed;
 use clap::error::ErrorKind;
@@ -24,22 +24,20 @@ pub enum Task<'a> {
         file: &'a str,
         options: Options,
     },
-    /// A check whether a certificate proves that a picture is the only one with its clues.
+    /// A check whether a certificate proves that a picture is the only one with its clues: where a file of givens is named,
+    /// with those that are published alone.
     Check {
         file: &'a str,
         cert: &'a str,
+        givens: Option<&'a str>,
         background: Option<Rgb>,
     },
-    /// A proof by lemmas that a picture is the only one with its clues, where one is found.
+    /// A certificate with lemmas that a picture is the only one with its clues, where one is found.
     Prove {
         file: &'a str,
         background: Option<Rgb>,
-    },
-    /// A check whether a proof by lemmas shows that a picture is the only one with its clues.
-    Verify {
-        file: &'a str,
-        proof: &'a str,
-        background: Option<Rgb>,
+        /// Whether it is written with a single step on each line, as `nonolemma 1`; else as `nonolemma 2`.
+        single: bool,
     },
     /// The parser's text for help or the version, which is to be shown.
     Help(String),
@@ -50,7 +48,7 @@ const DEPTH: u16 = 100;
 
 /// Reads the words after the program's own name. No words at all ask for the clues.
 ///
-/// File, certificate, format, background and history are those of the words, as the parser reads them. Help and version
+/// File, certificate, givens, format, background and history are those of the words, as the parser reads them. Help and version
 /// are a task. The errors are `Words`, which carries the parser's text, `Background`, `BackgroundOfNon` and `Memory`.
 pub fn read_words<'a>(alloc: Global, words: &'a [&str]) -> Result<Task<'a>, ProgramFault>
     ensures none { words.entry.now ≡ [] → result ≡ Ok Clues }
@@ -80,8 +78,9 @@ fn task_of<'a>(matches: &ArgMatches<'a>) -> Result<Task<'a>, ProgramFault>
     if let Some(matches) = matches.subcommand_matches("prove") {
         return prove_of(matches);
     }
+    // The old name of `check`.
     if let Some(matches) = matches.subcommand_matches("verify") {
-        return verify_of(matches);
+        return check_of(matches);
     }
     Ok(Task::Clues)
 }
@@ -94,11 +93,12 @@ fn check_of<'a>(matches: &ArgMatches<'a>) -> Result<Task<'a>, ProgramFault>
     Ok(Task::Check {
         file: matches.get_str("file").unwrap_or(""),
         cert: matches.get_str("cert").unwrap_or(""),
+        givens: matches.get_str("givens"),
         background: background_of(matches)?,
     })
 }
 
-// The proof by lemmas that words ask for.
+// The certificate with lemmas that words ask for.
 fn prove_of<'a>(matches: &ArgMatches<'a>) -> Result<Task<'a>, ProgramFault>
     ensures prove { IsProve (given_of (found_of matches.now)) result }
     ensures lawful { IfOk result IsLawfulTask }
@@ -106,18 +106,7 @@ fn prove_of<'a>(matches: &ArgMatches<'a>) -> Result<Task<'a>, ProgramFault>
     Ok(Task::Prove {
         file: matches.get_str("file").unwrap_or(""),
         background: background_of(matches)?,
-    })
-}
-
-// The check of a proof by lemmas that words ask for.
-fn verify_of<'a>(matches: &ArgMatches<'a>) -> Result<Task<'a>, ProgramFault>
-    ensures verify { IsVerify (given_of (found_of matches.now)) result }
-    ensures lawful { IfOk result IsLawfulTask }
-{
-    Ok(Task::Verify {
-        file: matches.get_str("file").unwrap_or(""),
-        proof: matches.get_str("cert").unwrap_or(""),
-        background: background_of(matches)?,
+        single: has_format(matches, "1"),
     })
 }
 
@@ -126,7 +115,7 @@ fn work_of<'a>(matches: &ArgMatches<'a>) -> Result<Task<'a>, ProgramFault>
     ensures work { IsWork (given_of (found_of matches.now)) result }
     ensures lawful { IfOk result IsLawfulTask }
 {
-    let non = is_non(matches);
+    let non = has_format(matches, "non");
     let background = background_of(matches)?;
     if non && background.is_some() {
         return Err(ProgramFault::BackgroundOfNon);
@@ -141,14 +130,14 @@ fn work_of<'a>(matches: &ArgMatches<'a>) -> Result<Task<'a>, ProgramFault>
     })
 }
 
-// Whether the format is that of .non texts.
-fn is_non(matches: &ArgMatches<'_>) -> bool
+// Whether the format is the one with this name.
+fn has_format(matches: &ArgMatches<'_>, name: &str) -> bool
     ensures { (result ≡ true)
-        ↔ (first_value (found_of matches.now) (codes "format") ≡ Some (codes "non")) }
+        ↔ (first_value (found_of matches.now) (codes "format") ≡ Some name.now) }
 {
     matches
         .get_str("format")
-        .is_some_and(|format| format == "non")
+        .is_some_and(|format| format == name)
 }
 
 // The colour of the background, where one is given.

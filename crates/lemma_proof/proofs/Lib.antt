@@ -1,2 +1,3 @@
+pub mod FormLemmas
 pub mod MakingLemmas
 pub mod NumberLemmas

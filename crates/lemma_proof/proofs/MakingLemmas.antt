@@ -1,8 +1,8 @@
--- What is made is a proof that there is no other picture, or another picture.
-use Rattle.std.proofs.Common.{◌≡◌, ℕ, ◌<◌, ◌≤◌, List, length, ap, sym, ◌∙◌, arith, inl, inr}
+-- What is made is a certificate, so that there is no other picture, or another picture.
+use Rattle.std.proofs.Common.{◌≡◌, ℕ, List, length, ap, sym, ◌∙◌, arith, inl, inr}
 use Rattle.std.proofs.lemmas.Bool.{cases_lt}
 use Rattle.std.proofs.lemmas.List.{get_or_past}
-use Rattle.std.specs.Prelude.{[]}
+use Rattle.std.specs.Prelude.{[], None}
 use Rattle.picture.specs.CellSet.{HasCell}
 use Rattle.picture.specs.Document.{AreInside}
 use Rattle.picture.specs.Picture.{IsPicture}
@@ -10,10 +10,12 @@ use Rattle.picture.specs.Rows.{width_of, row_at, Rows}
 use Rattle.clues.specs.ClueBook.{Clues, clues_of}
 use Rattle.clues.specs.Solution.{IsOther}
 use Rattle.clues.proofs.SolutionLaws.{other_fewer}
-use Rattle.cert_text.specs.declared.tree_line.CellNumber.{CellNumber}
+use Rattle.cert_text.specs.declared.cert_line.CellNumber.{CellNumber}
 use Rattle.cert_check.specs.Puzzle.{IsNamed, IsUnique}
-use Rattle.lemma_text.specs.Proof.{ProofLines}
-use Rattle.lemma_check.specs.FirstFault.{IsLemmaProof}
+use Rattle.cert_check.specs.FirstFault.{CertFirstFault}
+use Rattle.cert_check.specs.LemmaProof.{IsLemmaProof}
+use Rattle.cert_text.specs.declared.form.Form.TheVariants.{LemmaRuns}
+use Rattle.cert_text.specs.Cert.{Certificate, IsCert}
 use Rattle.lemma_proof.specs.Naming.{NamesGivens}
 use Rattle.lemma_proof.specs.Making.{AgreesIn, IsMadeProof}
 
@@ -24,9 +26,10 @@ unique_has_no_other picture givens cells names unique other o =
     let fewer = other_fewer (clues_of picture) (HasCell givens) (IsNamed cells) picture other (λ row col named. (names.named row col).1 named) o in
     fewer.differs (unique other fewer.solves)
 
-pub accepted : (picture : Rows) (givens : List ℕ) (proof : ProofLines) → NamesGivens picture givens proof.givens → IsLemmaProof picture proof → IsUnique picture proof.givens
-    → IsMadeProof picture givens proof
-accepted picture givens proof names is unique = record { is_proof = is; unique = unique; no_other = unique_has_no_other picture givens proof.givens names unique; names = names }
+pub accepted : (picture : Rows) (givens : List ℕ) (cert : Certificate) → NamesGivens picture givens cert.givens → cert.form ≡ LemmaRuns → IsCert cert
+    → CertFirstFault picture cert None → IsLemmaProof picture cert → IsUnique picture cert.givens → IsMadeProof picture givens LemmaRuns cert
+accepted picture givens cert names form can first is unique =
+    record { form_is = form; is_cert = can; accepted = first; is_proof = is; unique = unique; no_other = unique_has_no_other picture givens cert.givens names unique; names = names }
 
 -- rows of two pictures of one size have one length
 rows_alike : (picture other : Rows) → IsPicture picture → IsPicture other → length other ≡ length picture → width_of other ≡ width_of picture → (row : ℕ)

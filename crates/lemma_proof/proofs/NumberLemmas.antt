@@ -7,7 +7,7 @@ use Rattle.std.specs.List.{AllByRecursion, Contains}
 use Rattle.picture.specs.CellSet.{HasCell}
 use Rattle.picture.specs.Document.{AreInside}
 use Rattle.picture.specs.Rows.{width_of, Rows}
-use Rattle.cert_text.specs.declared.tree_line.CellNumber.{CellNumber}
+use Rattle.cert_text.specs.declared.cert_line.CellNumber.{CellNumber}
 use Rattle.cert_text.specs.Cert.{AreOrdered, rank}
 use Rattle.lemma_proof.specs.Naming.{NamesGivens, NamesUpTo}
 use Rattle.cert_check.proofs.AmongLemmas.{among_first, among_rest}

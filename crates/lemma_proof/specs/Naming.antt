@@ -3,7 +3,7 @@ use Rattle.std.specs.Prelude.{◌≡◌, ◌⊎◌, ℕ, ◌+◌, ◌*◌, ◌<�
 use Rattle.std.specs.List.{AllByRecursion, Contains}
 use Rattle.picture.specs.Rows.{Rows}
 use Rattle.picture.specs.CellSet.{HasCell}
-use Rattle.cert_text.specs.declared.tree_line.CellNumber.{CellNumber}
+use Rattle.cert_text.specs.declared.cert_line.CellNumber.{CellNumber}
 use Rattle.cert_text.specs.Cert.{AreOrdered}
 use Rattle.cert_check.specs.Puzzle.{HasCellNumber, numbered}
 

@@ -6,23 +6,22 @@ ghost use Rattle.picture.specs.Document.{AreInside};
 ghost use Rattle.picture.specs.Rows.{cell_at, width_of};
 ghost use Rattle.clues.specs.ClueBook.{clues_of};
 ghost use Rattle.clues.specs.Solution.{IsOther};
-ghost use Rattle.lemma_proof.specs.Making.{AgreesIn, Makes};
+ghost use Rattle.lemma_proof.specs.Making.{AgreesIn, IsMadeOf, Makes};
 ghost use Rattle.lemma_proof.specs.Naming.{NamesGivens};
 
 use crate::naming::given_cells;
-use cert_text::CertFault;
+use cert_check::check_cert;
+use cert_text::{Cert, CertFault, Form, runs_of};
 use clues::ClueBook;
-use lemma_check::check_proof;
 use lemma_search::{Effort, Found, learn};
-use lemma_text::LemmaProof;
 use line_facts::LineEngine;
 use picture::{CellSet, Picture};
 use std::alloc::{AllocError, Global};
 
-/// What is made: a proof that there is no other picture, or another picture; or neither within the bounds.
+/// What is made: a certificate, so that there is no other picture; or another picture; or neither within the bounds.
 #[derive(Drop)]
 pub enum Made {
-    Proof(LemmaProof),
+    Proof(Cert),
     Other(Picture),
     Undecided,
 }
@@ -33,7 +32,7 @@ const EFFORT: Effort = Effort {
     literals: 10_000_000,
 };
 
-/// Makes a proof by lemmas with exactly these givens: `check_proof` accepts it, so no other picture has the clues and, in the
+/// Makes a certificate with lemmas and exactly these givens: `check_cert` accepts it, so no other picture has the clues and, in the
 /// givens, the colours. Or it finds such a picture, or is undecided: what it finds within the bounds of its search is not
 /// promised. No line of the picture may be longer than the engine takes. The engine's calls do not fall.
 pub fn make_proof<E: LineEngine>(
@@ -71,38 +70,39 @@ pub fn make_proof_within<E: LineEngine>(
     match learn(alloc, engine, &clues, givens, picture, effort)? {
         Found::Proof(lines) => {
             let cells = given_cells(alloc, picture, givens)?;
-            check_made(
-                alloc,
-                engine,
-                picture,
-                givens,
-                LemmaProof::new(cells, lines),
-            )
+            let runs = runs_of(alloc, &lines)?;
+            let cert = Cert::new(Form::LemmaRuns, cells, lines, runs);
+            check_made(alloc, engine, picture, givens, cert)
         }
         Found::Other(other) => Ok(compared(&clues, givens, picture, other)),
         Found::Nothing => Ok(Made::Undecided),
     }
 }
 
-/// Gives a proof with exactly these givens if the checker accepts it, and else `Undecided`. No line of the picture may be longer
-/// than the engine takes. The engine's calls do not fall.
+/// Gives a certificate with exactly these givens if it proves the picture and can be written, and else `Undecided`. No line of
+/// the picture may be longer than the engine takes. The engine's calls do not fall.
 pub fn check_made<E: LineEngine>(
     alloc: Global,
     engine: &mut E,
     picture: &Picture,
     givens: &CellSet,
-    proof: LemmaProof,
+    cert: Cert,
 ) -> Result<Made, AllocError>
-    requires names { NamesGivens picture.now givens.now proof.givens }
+    requires names { NamesGivens picture.now givens.now cert.givens }
+    requires form { cert.form ≡ Form.LemmaRuns }
     requires wide { width_of picture.now ≤ E.longest engine.old }
     requires tall { length picture.now ≤ E.longest engine.old }
     ensures makes { IfOk result (Makes picture.now givens.now) }
+    ensures same { IfOk result (IsMadeOf picture.now cert) }
     ensures calls { E.calls engine.old ≤ E.calls engine.new }
     ensures same_longest { E.longest engine.new ≡ E.longest engine.old }
 {
     let _ = givens.len();
-    match check_proof(alloc, engine, picture, &proof) {
-        Ok(()) => Ok(Made::Proof(proof)),
+    if !cert.is_writable() {
+        return Ok(Made::Undecided);
+    }
+    match check_cert(alloc, engine, picture, &cert) {
+        Ok(()) => Ok(Made::Proof(cert)),
         Err(CertFault::Memory) => Err(AllocError),
         Err(_) => Ok(Made::Undecided),
     }

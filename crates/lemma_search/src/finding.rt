@@ -9,8 +9,8 @@ use crate::search::Search;
 use crate::telling::Teller;
 use crate::trace::Trace;
 use crate::writing::write_lines;
+use cert_text::CertLine;
 use clues::ClueBook;
-use lemma_text::LemmaLine;
 use line_facts::LineEngine;
 use picture::{CellSet, Picture};
 use std::alloc::{AllocError, Global};
@@ -19,7 +19,7 @@ use std::alloc::{AllocError, Global};
 #[derive(Drop)]
 pub enum Found {
     /// The lines of a proof by lemmas.
-    Proof(Vec<LemmaLine>),
+    Proof(Vec<CertLine>),
     /// Another picture.
     Other(Picture),
     /// The search reached its bounds, or its steps gave no proof.

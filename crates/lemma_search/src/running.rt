@@ -5,6 +5,7 @@ ghost use Rattle.std.specs.Prelude.{◌≡◌, ◌≤◌};
 use crate::log::Step;
 use crate::restarts::Restarts;
 use crate::search::Search;
+use cert_text::MAX_LEMMA_LITERALS;
 use line_facts::LineEngine;
 use picture::{Axis, LineId, LineSet, MAX_SIDE, Picture};
 use std::alloc::{AllocError, Global};
@@ -86,7 +87,10 @@ impl<'a> Search<'a> {
         Ok(Ended::Undecided)
     }
 
+    // Whether a bound is reached. A certificate cannot have a lemma with more than so many literals.
     fn is_over(&self, effort: Effort) -> bool {
-        self.store.len() >= effort.conflicts as usize || self.store.literals() >= effort.literals
+        self.store.len() >= effort.conflicts as usize
+            || self.store.literals() >= effort.literals
+            || self.learning.literals.len() > MAX_LEMMA_LITERALS
     }
 }

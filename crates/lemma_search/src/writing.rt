@@ -5,8 +5,7 @@ use crate::atom::{Literal, small};
 use crate::plan::{Plan, Stage, Told, Way};
 use crate::store::Span;
 use crate::telling::Teller;
-use cert_text::{CellNumber, LineNumber};
-use lemma_text::{LemmaLine, MAX_LITERALS};
+use cert_text::{CellNumber, CertLine, LineNumber, MAX_LITERALS};
 use picture::LineId;
 use std::alloc::{AllocError, Global};
 
@@ -20,7 +19,7 @@ pub(crate) struct Writer<'a> {
     plan: &'a Plan<'a>,
     told: &'a [Told],
     spans: &'a [Span],
-    lines: Vec<LemmaLine>,
+    lines: Vec<CertLine>,
     numbers: Vec<u16>,
     last: Vec<u32>,
     begun: u16,
@@ -30,7 +29,7 @@ pub(crate) struct Writer<'a> {
 }
 
 /// Writes what was told.
-pub(crate) fn write_lines(alloc: Global, teller: &Teller) -> Result<Vec<LemmaLine>, AllocError> {
+pub(crate) fn write_lines(alloc: Global, teller: &Teller) -> Result<Vec<CertLine>, AllocError> {
     let lemmas = teller.plan.lemmas.len();
     let mut writer = Writer {
         plan: &teller.plan,
@@ -132,9 +131,9 @@ impl<'a> Writer<'a> {
         if let Some(slot) = self.numbers.get_mut(number as usize) {
             *slot = self.begun;
         }
-        self.lines.push(LemmaLine::Lemma)?;
+        self.lines.push(CertLine::Lemma)?;
         for literal in self.plan.store.lemma(number) {
-            self.lines.push(LemmaLine::Deny(written(*literal)))?;
+            self.lines.push(CertLine::Deny(written(*literal)))?;
         }
         Ok(())
     }
@@ -143,14 +142,14 @@ impl<'a> Writer<'a> {
         self.numbers.get(number as usize).copied().unwrap_or(0)
     }
 
-    fn line_of(&self, told: Told) -> LemmaLine {
+    fn line_of(&self, told: Told) -> CertLine {
         match told {
-            Told::Line(line) => LemmaLine::Line(line_number(line)),
-            Told::Dead(line) => LemmaLine::Dead(line_number(line)),
-            Told::Use(number) => LemmaLine::Use(self.number(number)),
-            Told::Broken(number) => LemmaLine::Broken(self.number(number)),
-            Told::Done => LemmaLine::Done,
-            Told::Part(literal) => LemmaLine::Part(written(literal)),
+            Told::Line(line) => CertLine::Line(line_number(line)),
+            Told::Dead(line) => CertLine::Dead(line_number(line)),
+            Told::Use(number) => CertLine::Use(self.number(number)),
+            Told::Broken(number) => CertLine::Broken(self.number(number)),
+            Told::Done => CertLine::Done,
+            Told::Part(literal) => CertLine::Part(written(literal)),
         }
     }
 
@@ -164,7 +163,7 @@ impl<'a> Writer<'a> {
             let Some(number) = self.spent.pop() else {
                 break;
             };
-            let line = LemmaLine::Forget(self.number(number));
+            let line = CertLine::Forget(self.number(number));
             self.lines.push(line)?;
             let less = self.plan.store.lemma(number).len();
             self.literals = self.literals.saturating_sub(less);
@@ -202,8 +201,8 @@ fn line_number(line: LineId) -> LineNumber {
 }
 
 // A literal as a proof writes it.
-fn written(literal: Literal) -> lemma_text::Literal {
-    lemma_text::Literal {
+fn written(literal: Literal) -> cert_text::Literal {
+    cert_text::Literal {
         cell: CellNumber {
             row: u16::from(literal.cell.row) + 1,
             col: u16::from(literal.cell.col) + 1,

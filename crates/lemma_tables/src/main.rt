@@ -1,13 +1,12 @@
-//! A program for tests and for measuring: it checks and makes proofs by lemmas. Each line of standard input names a P3 picture's file
-//! and a proof's, with a space between them, and what the checker answers is printed; or it names a picture's file alone, and a proof is
-//! printed, or `ambiguous` or `undecided`.
+//! A program for tests and for measuring: it checks certificates, and makes those with lemmas. Each line of standard input names a P3
+//! picture's file and a certificate's, with a space between them, and what the checker answers is printed; or it names a picture's file
+//! alone, and a certificate is printed, or `ambiguous` or `undecided`.
 #![tactic(auto)]
 
 use anyhow::{Result, bail};
-use cert_text::CertFault;
-use lemma_check::check_proof;
+use cert_check::check_cert;
+use cert_text::{Cert, CertFault, read_cert, write_cert};
 use lemma_proof::{Made, make_proof};
-use lemma_text::{LemmaProof, read_proof, write_proof};
 use line_settle::MaskEngine;
 use picture::{MAX_SIDE, Picture};
 use ppm_text::read_ppm;
@@ -69,9 +68,9 @@ fn prove(rt: &(impl AllocGlobal + Print + Files), file: &str) -> Result<()> {
 }
 
 // Prints the text of a proof.
-fn print_proof(rt: &(impl AllocGlobal + Print), proof: &LemmaProof) -> Result<()> {
+fn print_proof(rt: &(impl AllocGlobal + Print), proof: &Cert) -> Result<()> {
     let mut writer = BufWriter::new(rt.alloc(), io::writer(rt))?;
-    if write_proof(proof, &mut writer).is_err() {
+    if write_cert(proof, &mut writer).is_err() {
         bail!("write failed");
     }
     writer.flush()?;
@@ -80,9 +79,9 @@ fn print_proof(rt: &(impl AllocGlobal + Print), proof: &LemmaProof) -> Result<()
 
 // How many givens a proof has, if it is accepted.
 fn checked(alloc: Global, picture: &Picture, text: &[u8]) -> Result<usize, CertFault> {
-    let proof = read_proof(alloc, text)?;
+    let proof = read_cert(alloc, text)?;
     let _ = picture.height();
     let mut engine = MaskEngine::make(alloc, MAX_SIDE)?;
-    check_proof(alloc, &mut engine, picture, &proof)?;
+    check_cert(alloc, &mut engine, picture, &proof)?;
     Ok(proof.givens().len())
 }

@@ -31,7 +31,7 @@ made_for d givens (Some cert) g m = record {
     in_order = m.names.ordered;
     named = λ row col. (λ h. (m.names.named row col).0 ((g row col).1 h), λ h. (g row col).0 ((m.names.named row col).1 h));
   };
-  version = m.version;
+  form = m.form;
   excludes = m.excludes;
 }
 

@@ -3,10 +3,10 @@ use Rattle.std.specs.Prelude.{◌≡◌, ℕ, ◌↔◌, List, [], ◌∷◌, Op
 use Rattle.std.specs.List.{Contains}
 use Rattle.picture.specs.Rows.{Rows}
 use Rattle.picture.specs.Document.{ordered_triples, renumbered_rows}
-use Rattle.cert_text.specs.declared.tree_line.CellNumber.{CellNumber}
+use Rattle.cert_text.specs.declared.cert_line.CellNumber.{CellNumber}
 use Rattle.cert_text.specs.Cert.{AreOrdered, Certificate, IsCert}
 use Rattle.certificate.specs.FirstFault.{CertFirstFault}
-use Rattle.certificate.specs.MadeCert.{EachExcludes}
+use Rattle.certificate.specs.MadeCert.{EachExcludes, IsTreeForm}
 use Rattle.certificate.specs.Puzzle.{base_of, numbered}
 use Rattle.certificate.specs.Tree.{IsProof}
 use Rattle.edits.specs.Design.{Design}
@@ -25,15 +25,15 @@ pub record NamesMarks (d : Design) (cells : List CellNumber) : Type 0 where
   pub named : (row col : ℕ) → IsGiven d row col ↔ Contains cells (numbered row col)
 
 -- A certificate of a document with exactly its givens: the checker finds no error, so the lines prove the picture, and
--- there is no other. It can be written and is read as itself. It has version 1 exactly where there are no givens. Each
--- `line` excludes something, and no `split` is of a settled cell.
+-- there is no other. It can be written and is read as itself. Its form is that of a tree. Each `line` excludes
+-- something, and no `split` is of a settled cell.
 pub record IsCertificateFor (d : Design) (cert : Certificate) : Type 0 where
   pub is_cert : IsCert cert
   pub accepted : CertFirstFault d.rows cert None
   pub proof : IsProof d.rows cert
   pub no_other : (other : Rows) → IsOtherFor d other → ⊥
   pub givens : NamesMarks d cert.givens
-  pub version : (cert.version ≡ 1) ↔ (cert.givens ≡ [])
+  pub form : IsTreeForm cert.form cert.givens
   pub excludes : EachExcludes d.rows (base_of d.rows cert.givens ∷ []) cert.lines
 
 -- a certificate of the ordered document, or there is another picture for it

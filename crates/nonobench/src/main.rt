@@ -1,29 +1,19 @@
 //! The program nonobench: it passes the arguments, files and streams of the operating system to the crate `program`.
 #![tactic(auto)]
 
-use program::{Files, run};
+mod log;
+mod system;
+
+use crate::system::System;
+use program::run;
 use program_options::ProgramFault;
 use std::process::ExitCode;
 use std::rt::Env;
-use std::{env, fs, io};
-
-// The files of the system. The proofs know nothing of their contents.
-#[derive(Drop)]
-struct System<'a, R> {
-    rt: &'a R,
-}
-
-impl<R: std::rt::Files> Files for System<'_, R> {
-    type File = R::File;
-
-    fn open(&mut self, path: &str) -> io::Result<R::File> {
-        fs::open(self.rt, path)
-    }
-}
+use std::{env, io};
 
 fn main(rt: HostRuntime) -> ExitCode {
     let arguments = arguments(&rt);
-    let mut files = System { rt: &rt };
+    let mut files = System::new(&rt);
     let mut reader = rt.reader();
     let mut writer = io::writer(&rt);
     let mut errors = rt.stderr();

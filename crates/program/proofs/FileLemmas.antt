@@ -1,22 +1,18 @@
 -- Names of files that are opened, and what is left alone.
-use Rattle.std.proofs.Common.{ℕ, List, [], ◌∷◌, ◌++◌, Option, Some, None, refl, sym, ap, ◌∙◌}
+use Rattle.std.proofs.Common.{◌≡◌, ℕ, List, [], ◌∷◌, ◌++◌, Option, Some, None, refl, ap, ◌∙◌}
 use Rattle.std.specs.Io.KnownBytes.{Keeps}
-use Rattle.std.proofs.lemmas.List.{append-nil, append_assoc}
-use Rattle.program.specs.Files.{Names}
+use Rattle.std.proofs.lemmas.List.{append_assoc}
 use Rattle.command_text.specs.Words.{Texts}
 
 -- ---- names
 
-pub names_none : (opened : Option Texts) → Names opened opened []
-names_none None = tt
-names_none (Some paths) = sym (append-nil paths)
+pub names_both : (before between after : Texts) (one other : List ℕ) → between ≡ before ++ one ∷ [] → after ≡ between ++ other ∷ [] → after ≡ before ++ one ∷ other ∷ []
+names_both before between after one other first next =
+    next ∙ (ap (λ (xs : Texts). xs ++ (other ∷ [])) first ∙ append_assoc before (one ∷ []) (other ∷ []))
 
-pub names_both : (before between after : Option Texts) (one other : List ℕ) → Names before between (one ∷ []) → Names between after (other ∷ []) → Names before after (one ∷ other ∷ [])
-names_both None between after one other first next = tt
-names_both (Some paths) None after one other first next = absurd first
-names_both (Some paths) (Some more) None one other first next = absurd next
-names_both (Some paths) (Some more) (Some all) one other first next =
-    next ∙ (ap (λ (xs : Texts). xs ++ (other ∷ [])) first ∙ append_assoc paths (one ∷ []) (other ∷ []))
+pub names_three : (before one two three : Texts) (a b c : List ℕ) → one ≡ before ++ a ∷ [] → two ≡ one ++ b ∷ [] → three ≡ two ++ c ∷ [] → three ≡ before ++ a ∷ b ∷ c ∷ []
+names_three before one two three a b c first next last =
+    last ∙ (ap (λ (xs : Texts). xs ++ (c ∷ [])) (names_both before one two a b first next) ∙ append_assoc before (a ∷ b ∷ []) (c ∷ []))
 
 -- ---- what is left alone
 

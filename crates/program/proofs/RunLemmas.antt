@@ -11,16 +11,16 @@ use Rattle.program.specs.declared.ending.Ended.{Ended}
 use Rattle.program.specs.Endings.{line_after, status_after}
 use Rattle.program.specs.Files.{Held}
 use Rattle.program.specs.Run.{Answers, AnswersAll, Ends, IsRefused, IsTask, texts}
-use Rattle.program.specs.World.{OnlyOpens, World}
-use Rattle.program.proofs.FileLemmas.{keeps_same, names_none}
+use Rattle.program.specs.World.{IsUntouched, World}
+use Rattle.program.proofs.FileLemmas.{keeps_same}
 use Rattle.command_text.specs.Words.{Texts}
 
 pub task_so : (words : List (Bor (List ℕ))) (r : Result Task ProgramFault) → (words ≡ [] → r ≡ Ok Clues) → (words ≢ [] → IsTaskOf (texts words) r) → IsTask (texts words) r
 task_so [] r none asked = none refl
 task_so (word ∷ words) r none asked = asked (λ e. cc)
 
-untouched : (w : World) → OnlyOpens w w []
-untouched w = record { names = names_none w.opened; input = keeps_same w.input; output = keeps_same w.output }
+untouched : (w : World) → IsUntouched w w
+untouched w = record { opened = refl; faults = refl; input = keeps_same w.input; output = keeps_same w.output }
 
 pub refused : (words : List (Bor (List ℕ))) (held : List ℕ → Held) (before : World) (fault : ProgramFault) (r : Result (Unit {0}) ProgramFault) → r ≡ Err fault → IsTask (texts words) (Err fault)
     → Answers (texts words) held before before r

@@ -1,9 +1,8 @@
--- What the names of files hold, which of them were opened, and what a file's bytes are.
-use Rattle.std.specs.Prelude.{◌≡◌, ◌⊎◌, ℕ, ◌<◌, ◌≤◌, List, ◌++◌, length, Option, None, Some, Result, Ok, Err, IfSome}
+-- What the names of files hold, what the bytes of a file are, and when a fault happened.
+use Rattle.std.specs.Prelude.{◌≡◌, ◌⊎◌, ℕ, ◌<◌, ◌≤◌, List, length, Option, None, Some, Result, Ok, Err, IfSome}
 use Rattle.std.proofs.Common.{Vec, Global}
 use Rattle.program_options.specs.declared.fault.ProgramFault.{ProgramFault}
 use Rattle.program_options.specs.declared.fault.ProgramFault.TheVariants.{Memory, TooLong, Read}
-use Rattle.command_text.specs.Words.{Texts}
 
 -- What a name holds: that is unknown; or no file; or a file with these bytes.
 pub data Held : Type 0 where
@@ -23,16 +22,20 @@ IsAbsent Unknown = Unit {0}
 IsAbsent Missing = Unit {0}
 IsAbsent (Holds bytes) = ⊥
 
--- these names were opened, in this order
-abbrev pub Names : Option Texts → Option Texts → Texts → Type 0
-Names None new paths = Unit {0}
-Names (Some before) None paths = ⊥
-Names (Some before) (Some after) paths = after ≡ before ++ paths
-
 -- why an input is not read to its end: it is too long, a read failed, or memory ran out
 abbrev pub IsUnread : Option (List ℕ) → ProgramFault → Type 0
 IsUnread had fault =
     ((fault ≡ TooLong) × IfSome had (λ input. 16777216 < length input)) ⊎ ((fault ≡ Read) ⊎ (fault ≡ Memory))
+
+-- The count of faults rises for `Read`, and for no other error.
+abbrev pub HasFailed : ℕ → ℕ → ProgramFault → Type 0
+HasFailed before now Read = before < now
+HasFailed before now fault = now ≡ before
+
+-- the same for the answer of a call, which has no error where it is Ok
+abbrev pub FailsBy : {X : Type 0} → ℕ → ℕ → Result X ProgramFault → Type 0
+FailsBy before now (Ok x) = now ≡ before
+FailsBy before now (Err fault) = HasFailed before now fault
 
 -- the bytes of a name's file
 abbrev pub IsContent : Held → List ℕ → Type 0

@@ -12,7 +12,7 @@ use Rattle.program.specs.declared.ending.Ended.{Ended}
 use Rattle.program.specs.Endings.{line_after, status_after}
 use Rattle.program.specs.Files.{Held}
 use Rattle.program.specs.Work.{CarriesOut}
-use Rattle.program.specs.World.{OnlyOpens, World}
+use Rattle.program.specs.World.{IsUntouched, World}
 use Rattle.command_text.specs.Words.{Texts}
 
 -- the texts of words
@@ -28,7 +28,7 @@ IsTask (word ∷ words) r = IsTaskOf (word ∷ words) r
 -- it ends with an error before a file was opened, anything of the input read or anything written
 pub record IsRefused (fault : ProgramFault) (before after : World) (r : Result (Unit {0}) ProgramFault) : Type 0 where
   pub is : r ≡ Err fault
-  pub only : OnlyOpens before after []
+  pub only : IsUntouched before after
 
 -- What is done for words: they are refused; or they ask for a task, which is carried out.
 abbrev pub Answers : Texts → (List ℕ → Held) → World → World → Result (Unit {0}) ProgramFault → Type 0

@@ -1,6 +1,7 @@
 -- What comes of a task, by what the files that it names hold.
-use Rattle.std.specs.Prelude.{◌≡◌, ◌⊎◌, ℕ, List, [], ◌∷◌, Option, None, Result, Ok, Err, IfErr, IfSome, OnOk}
-use Rattle.std.specs.Prelude.{string_bytes}
+use Rattle.std.specs.Prelude.{◌≡◌, ◌⊎◌, ℕ, List, [], ◌∷◌, ◌++◌, Option, None, Some, Result, Ok, Err, IfErr, IfSome}
+use Rattle.std.specs.Prelude.{Bool, OnOk, string_bytes}
+use Rattle.std.specs.Borrow.{Bor}
 use Rattle.std.specs.Io.KnownBytes.{Appends, Keeps}
 use Rattle.picture.specs.declared.rgb.Rgb.{Rgb}
 use Rattle.picture.specs.Writers.{AppendsFront}
@@ -10,16 +11,16 @@ use Rattle.session.specs.Session.{Runs}
 use Rattle.program_options.specs.declared.fault.ProgramFault.{ProgramFault}
 use Rattle.program_options.specs.declared.fault.ProgramFault.TheVariants.{Memory, Write}
 use Rattle.program_options.specs.declared.options.Options.{Options}
-use Rattle.answers.specs.Check.{IsCheckOf, IsOnlyPicture, IsProofOf, WritesBy}
+use Rattle.answers.specs.Check.{IsCheckOf, IsLemmaProofOf, IsOnlyPicture, IsProofOf, WritesBy}
 use Rattle.answers.specs.Prove.{IsProveOf}
-use Rattle.answers.specs.Verify.{IsLemmaProofOf, IsOnlyByLemmas, IsVerifyOf}
+use Rattle.answers.specs.Published.{IsOnlyPublished, IsPublishedCheckOf, IsPublishedProofOf}
 use Rattle.program_options.specs.Faults.{session_fault_of}
 use Rattle.answers.specs.Open.{OpensFile}
 use Rattle.answers.specs.Run.{Writes, shown}
 use Rattle.answers.specs.Start.{IsStarted}
 use Rattle.command_line.specs.declared.words.Task.{Task}
-use Rattle.command_line.specs.declared.words.Task.TheVariants.{Clues, Work, Check, Prove, Verify, Help}
-use Rattle.program.specs.Files.{Held, IsContent, IsUnread, Names}
+use Rattle.command_line.specs.declared.words.Task.TheVariants.{Clues, Work, Check, Prove, Help}
+use Rattle.program.specs.Files.{HasFailed, Held, IsContent, IsUnread}
 use Rattle.program.specs.World.{IsStopped, World}
 
 -- ---- a session
@@ -42,16 +43,26 @@ Works had have held holds file options (Err fault) =
 
 -- ---- the clues of the input
 
--- the input could not be read to its end, and nothing was written
-abbrev pub IsLeft : Option (List ℕ) → Option (List ℕ) → Option (List ℕ) → Result (Unit {0}) ProgramFault → Type 0
-IsLeft had held holds (Ok done) = ⊥
-IsLeft had held holds (Err fault) = IsUnread had fault × Keeps held holds
+-- the clues of the picture that is the whole input were written, or its error is returned
+pub record IsListed (before after : World) (r : Result (Unit {0}) ProgramFault) : Type 0 where
+  pub bytes : List ℕ
+  pub is_input : IfSome before.input (λ input. bytes ≡ input)
+  pub names : after.opened ≡ before.opened
+  pub faultless : after.faults ≡ before.faults
+  pub writes : Writes before.output after.output r (shown bytes None)
+
+-- the input could not be read to its end, and nothing was written; the error is `Read` exactly if a read failed
+pub record IsLeft (before after : World) (r : Result (Unit {0}) ProgramFault) : Type 0 where
+  pub fault : ProgramFault
+  pub is : r ≡ Err fault
+  pub unread : IsUnread before.input fault
+  pub cause : HasFailed before.faults after.faults fault
+  pub names : after.opened ≡ before.opened
+  pub output : Keeps before.output after.output
 
 -- The clues of the whole input are written, or its error is returned; or the input could not be read to its end.
-abbrev pub ShowsClues : Option (List ℕ) → Option (List ℕ) → Option (List ℕ) → Result (Unit {0}) ProgramFault → Type 0
-ShowsClues had held holds r =
-    ((bytes : List ℕ) × (IfSome had (λ input. bytes ≡ input) × Writes held holds r (shown bytes None)))
-    ⊎ IsLeft had held holds r
+abbrev pub ShowsClues : World → World → Result (Unit {0}) ProgramFault → Type 0
+ShowsClues before after r = IsListed before after r ⊎ IsLeft before after r
 
 -- ---- what the words ask for
 
@@ -65,15 +76,25 @@ pub record IsWorked (held : Held) (path : List ℕ) (options : Options) (before 
     (r : Result (Unit {0}) ProgramFault) : Type 0 where
   pub file : List ℕ
   pub content : IsContent held file
-  pub names : Names before.opened after.opened (path ∷ [])
+  pub names : after.opened ≡ before.opened ++ path ∷ []
+  pub faultless : after.faults ≡ before.faults
   pub works : Works before.input after.input before.output after.output file options r
 
--- the picture's file was read, but that of the certificate or proof could not be
+-- the picture's file was read, but that of the certificate could not be
 pub record IsHalfRead (picture certificate : Held) (path cert_path : List ℕ) (before after : World)
     (r : Result (Unit {0}) ProgramFault) : Type 0 where
   pub file : List ℕ
   pub content : IsContent picture file
   pub stopped : IsStopped certificate (path ∷ cert_path ∷ []) before after r
+
+-- the files of the picture and the certificate were read, but that of the givens could not be
+pub record IsWithoutGivens (picture certificate published : Held) (path cert_path givens_path : List ℕ)
+    (before after : World) (r : Result (Unit {0}) ProgramFault) : Type 0 where
+  pub file : List ℕ
+  pub cert : List ℕ
+  pub content : IsContent picture file
+  pub cert_content : IsContent certificate cert
+  pub stopped : IsStopped published (path ∷ cert_path ∷ givens_path ∷ []) before after r
 
 -- The check of two files by their bytes, the picture's first. The input is left alone.
 pub record IsChecked (picture certificate : Held) (path cert_path : List ℕ) (background : Option Rgb)
@@ -82,58 +103,71 @@ pub record IsChecked (picture certificate : Held) (path cert_path : List ℕ) (b
   pub cert : List ℕ
   pub content : IsContent picture file
   pub cert_content : IsContent certificate cert
-  pub names : Names before.opened after.opened (path ∷ cert_path ∷ [])
+  pub names : after.opened ≡ before.opened ++ path ∷ cert_path ∷ []
+  pub faultless : after.faults ≡ before.faults
   pub input : Keeps before.input after.input
   pub writes : WritesBy before.output after.output r (IsCheckOf file background cert)
   pub only : IsProofOf file background cert → IfErr r (λ e. (e ≡ Memory) ⊎ (e ≡ Write))
+  pub only_lemmas : IsLemmaProofOf file background cert → IfErr r (λ e. (e ≡ Memory) ⊎ (e ≡ Write))
   pub unique : OnOk r (IsOnlyPicture file background cert)
 
--- What is made of the picture in a file by its bytes: a proof by lemmas, or `ambiguous` or `undecided`. The input is
--- left alone.
-pub record IsProving (held : Held) (path : List ℕ) (background : Option Rgb) (before after : World)
+-- The check of three files by their bytes, of which the last names the givens that are published. The input is left
+-- alone.
+pub record IsCheckedWith (picture certificate published : Held) (path cert_path givens_path : List ℕ)
+    (background : Option Rgb) (before after : World) (r : Result (Unit {0}) ProgramFault) : Type 0 where
+  pub file : List ℕ
+  pub cert : List ℕ
+  pub givens : List ℕ
+  pub content : IsContent picture file
+  pub cert_content : IsContent certificate cert
+  pub givens_content : IsContent published givens
+  pub names : after.opened ≡ before.opened ++ path ∷ cert_path ∷ givens_path ∷ []
+  pub faultless : after.faults ≡ before.faults
+  pub input : Keeps before.input after.input
+  pub writes : WritesBy before.output after.output r (IsPublishedCheckOf file background givens cert)
+  pub only : IsPublishedProofOf file background givens cert → IfErr r (λ e. (e ≡ Memory) ⊎ (e ≡ Write))
+  pub unique : OnOk r (IsOnlyPublished file background givens)
+
+-- What is made of the picture in a file by its bytes: a certificate, or `ambiguous` or `undecided`. The input is left
+-- alone.
+pub record IsProving (held : Held) (path : List ℕ) (background : Option Rgb) (single : Bool) (before after : World)
     (r : Result (Unit {0}) ProgramFault) : Type 0 where
   pub file : List ℕ
   pub content : IsContent held file
-  pub names : Names before.opened after.opened (path ∷ [])
+  pub names : after.opened ≡ before.opened ++ path ∷ []
+  pub faultless : after.faults ≡ before.faults
   pub input : Keeps before.input after.input
-  pub writes : WritesBy before.output after.output r (IsProveOf file background)
-
--- The check of a picture and a proof by lemmas by the bytes of their files, the picture's first. The input is left
--- alone.
-pub record IsVerified (picture proved : Held) (path proof_path : List ℕ) (background : Option Rgb)
-    (before after : World) (r : Result (Unit {0}) ProgramFault) : Type 0 where
-  pub file : List ℕ
-  pub proof : List ℕ
-  pub content : IsContent picture file
-  pub proof_content : IsContent proved proof
-  pub names : Names before.opened after.opened (path ∷ proof_path ∷ [])
-  pub input : Keeps before.input after.input
-  pub writes : WritesBy before.output after.output r (IsVerifyOf file background proof)
-  pub only : IsLemmaProofOf file background proof → IfErr r (λ e. (e ≡ Memory) ⊎ (e ≡ Write))
-  pub unique : OnOk r (IsOnlyByLemmas file background proof)
+  pub writes : WritesBy before.output after.output r (IsProveOf file background single)
 
 -- a text is written, no file is opened, and the input is left alone
 pub record IsShown (text : List ℕ) (before after : World) (r : Result (Unit {0}) ProgramFault) : Type 0 where
-  pub names : Names before.opened after.opened []
+  pub names : after.opened ≡ before.opened
+  pub faultless : after.faults ≡ before.faults
   pub input : Keeps before.input after.input
   pub sends : Sends before.output after.output text r
 
+-- What comes of a check whose first two files were read: they are checked; or the file of the givens could not be read,
+-- or all three are checked.
+abbrev pub ChecksBy : (List ℕ → Held) → List ℕ → List ℕ → Option (Bor (List ℕ)) → Option Rgb → World → World
+    → Result (Unit {0}) ProgramFault → Type 0
+ChecksBy held path cert_path None background before after r =
+    IsChecked (held path) (held cert_path) path cert_path background before after r
+ChecksBy held path cert_path (Some givens) background before after r =
+    IsWithoutGivens (held path) (held cert_path) (held givens.now) path cert_path givens.now before after r
+    ⊎ IsCheckedWith (held path) (held cert_path) (held givens.now) path cert_path givens.now background before after r
+
 -- What comes of each task, by what its files hold, with its options or its background. Where a file could not be read,
--- that is the error, the input was left alone and nothing was written.
+-- that is the error, the input was left alone and nothing was written. In all other cases no opening and no read of a
+-- file failed.
 abbrev pub CarriesOut : (List ℕ → Held) → World → World → Task → Result (Unit {0}) ProgramFault → Type 0
-CarriesOut held before after Clues r =
-    Names before.opened after.opened [] × ShowsClues before.input before.output after.output r
+CarriesOut held before after Clues r = ShowsClues before after r
 CarriesOut held before after (Work path options) r =
     IsStopped (held path.now) (path.now ∷ []) before after r ⊎ IsWorked (held path.now) path.now options before after r
-CarriesOut held before after (Check path certificate background) r =
+CarriesOut held before after (Check path certificate givens background) r =
     IsStopped (held path.now) (path.now ∷ []) before after r
     ⊎ (IsHalfRead (held path.now) (held certificate.now) path.now certificate.now before after r
-    ⊎ IsChecked (held path.now) (held certificate.now) path.now certificate.now background before after r)
-CarriesOut held before after (Prove path background) r =
+    ⊎ ChecksBy held path.now certificate.now givens background before after r)
+CarriesOut held before after (Prove path background single) r =
     IsStopped (held path.now) (path.now ∷ []) before after r
-    ⊎ IsProving (held path.now) path.now background before after r
-CarriesOut held before after (Verify path proof background) r =
-    IsStopped (held path.now) (path.now ∷ []) before after r
-    ⊎ (IsHalfRead (held path.now) (held proof.now) path.now proof.now before after r
-    ⊎ IsVerified (held path.now) (held proof.now) path.now proof.now background before after r)
+    ⊎ IsProving (held path.now) path.now background single before after r
 CarriesOut held before after (Help text) r = IsShown (string_bytes text) before after r

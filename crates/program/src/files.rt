@@ -1,7 +1,9 @@
 //! The files that arguments name.
 
-ghost use Rattle.std.specs.Prelude.{◌≡◌, ◌+◌, ℕ, Option, List, [], ◌∷◌, None, MatchResult};
-ghost use Rattle.program.specs.Files.{Held, IsAbsent, IsOpened, Names, Unknown, ReadsFile};
+ghost use Rattle.std.specs.Prelude.{◌≡◌, ◌<◌, ◌++◌, ℕ, List, [], ◌∷◌, MatchResult};
+ghost use Rattle.std.specs.Io.{ReadsAtMost};
+ghost use Rattle.std.specs.Io.KnownBytes.{ReadConsumes};
+ghost use Rattle.program.specs.Files.{FailsBy, Held, IsAbsent, IsOpened, Unknown, ReadsFile};
 
 use crate::input::read_input;
 use answers::ProgramFault;
@@ -9,15 +11,18 @@ use std::alloc::Global;
 use std::io;
 use std::io::Read;
 
-/// Opens files by their names. `held` says what each name holds; for the files of the system that is unknown.
+/// Opens files by their names, and reads. `held` says what each name holds; for the files of the system that is unknown.
 pub trait Files {
     type File: Read + Drop;
 
     // What each name holds.
     ghost held: { Self → List ℕ → Held } = { λ _ _. Unknown };
 
-    // The names that were opened so far, in order, where they are known.
-    ghost opened: { Self → Option (List (List ℕ)) } = { λ _. None };
+    // The names that were opened so far, in order.
+    ghost opened: { Self → List (List ℕ) };
+
+    // How often so far a file could not be opened, or a read failed.
+    ghost faults: { Self → ℕ };
 
     /// Opens the file of a name, to be read from its first byte.
     fn open(&mut self, path: &str) -> io::Result<Self::File>
@@ -25,7 +30,19 @@ pub trait Files {
             (λ file. IsOpened (held self.old path.now) (Self.File.remaining file))
             (λ _. IsAbsent (held self.old path.now)) }
         ensures keeps { (name : List ℕ) → held self.new name ≡ held self.old name }
-        ensures opens { Names (opened self.old) (opened self.new) (path.now ∷ []) };
+        ensures opens { opened self.new ≡ opened self.old ++ path.now ∷ [] }
+        ensures cause { MatchResult result (λ _. faults self.new ≡ faults self.old)
+            (λ _. faults self.old < faults self.new) };
+
+    /// Makes one read of a file that was opened, or of the standard input.
+    fn read_from<R: Read>(&mut self, reader: &mut R, buffer: &mut [u8]) -> io::Result<usize>
+        ensures bound { ReadsAtMost result buffer.new }
+        ensures bytes { ReadConsumes (R.remaining reader.old) (R.remaining reader.new)
+            result buffer.new }
+        ensures keeps { (name : List ℕ) → held self.new name ≡ held self.old name }
+        ensures opens { opened self.new ≡ opened self.old }
+        ensures cause { MatchResult result (λ _. faults self.new ≡ faults self.old)
+            (λ _. faults self.old < faults self.new) };
 }
 
 /// Reads all bytes of a file, at most 16,777,216. `Read` where it cannot be opened, else the errors of `read_input`.
@@ -36,8 +53,9 @@ pub fn read_file<F: Files>(
 ) -> Result<Vec<u8>, ProgramFault>
     ensures reads { ReadsFile (F.held files.old path.now) result }
     ensures keeps { (name : List ℕ) → F.held files.new name ≡ F.held files.old name }
-    ensures opens { Names (F.opened files.old) (F.opened files.new) (path.now ∷ []) }
+    ensures opens { F.opened files.new ≡ F.opened files.old ++ path.now ∷ [] }
+    ensures cause { FailsBy (F.faults files.old) (F.faults files.new) result }
 {
     let mut file = files.open(path).map_err(|_| ProgramFault::Read)?;
-    read_input(alloc, &mut file)
+    read_input(alloc, files, &mut file)
 }

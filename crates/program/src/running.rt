@@ -22,9 +22,10 @@ pub fn run<F: Files, R: Read, W: Write, V: Write>(
     writer: &mut W,
     errors: &mut V,
 ) -> Ended
-    ensures { let before = world (F.opened files.old) (R.remaining reader.old)
-        (W.contents writer.old) in
-        let after = world (F.opened files.new) (R.remaining reader.new) (W.contents writer.new) in
+    ensures { let before = world (F.opened files.old) (F.faults files.old)
+        (R.remaining reader.old) (W.contents writer.old) in
+        let after = world (F.opened files.new) (F.faults files.new)
+        (R.remaining reader.new) (W.contents writer.new) in
         Ends (λ outcome. MatchResult arguments
         (λ texts. AnswersAll (map (λ text. string_bytes text) texts.items) (F.held files.old)
         before after outcome)
@@ -49,8 +50,10 @@ fn answer_all<F: Files, R: Read, W: Write>(
     writer: &mut W,
 ) -> Result<(), ProgramFault>
     ensures { AnswersAll (map (λ text. string_bytes text) arguments.now) (F.held files.old)
-        (world (F.opened files.old) (R.remaining reader.old) (W.contents writer.old))
-        (world (F.opened files.new) (R.remaining reader.new) (W.contents writer.new)) result }
+        (world (F.opened files.old) (F.faults files.old)
+        (R.remaining reader.old) (W.contents writer.old))
+        (world (F.opened files.new) (F.faults files.new)
+        (R.remaining reader.new) (W.contents writer.new)) result }
 {
     let words = words_of(alloc, arguments)?;
     answer(alloc, &words, files, reader, writer)
@@ -77,8 +80,10 @@ pub fn answer<F: Files, R: Read, W: Write>(
     writer: &mut W,
 ) -> Result<(), ProgramFault>
     ensures { Answers (texts words.entry.now) (F.held files.old)
-        (world (F.opened files.old) (R.remaining reader.old) (W.contents writer.old))
-        (world (F.opened files.new) (R.remaining reader.new) (W.contents writer.new)) result }
+        (world (F.opened files.old) (F.faults files.old)
+        (R.remaining reader.old) (W.contents writer.old))
+        (world (F.opened files.new) (F.faults files.new)
+        (R.remaining reader.new) (W.contents writer.new)) result }
 {
     let task = read_words(alloc, words)?;
     carry_out(alloc, &task, files, reader, writer)

@@ -1,4 +1,4 @@
-//! Carries out the task that the words ask for: a session, a check, a proof, or the clues of the input.
+//! Carries out the task that the words ask for: a session, a check, a certificate, or the clues of the input.
 
 ghost use Rattle.program_options.specs.Options.{IsLawful};
 ghost use Rattle.command_line.specs.Words.{IsLawfulTask};
@@ -7,14 +7,16 @@ ghost use Rattle.program.specs.World.{world};
 
 use crate::files::{Files, read_file};
 use crate::input::read_input;
-use answers::{Options, ProgramFault, run_check, run_clues, run_prove, run_verify, start_bench};
+use answers::{
+    Options, ProgramFault, run_check, run_check_published, run_clues, run_prove, start_bench,
+};
 use command_line::Task;
 use picture::send;
 use session::run_session;
 use std::alloc::Global;
 use std::io::{Read, Write};
 
-/// Carries out a task on the files that it names; a check reads the picture's file first. The error is that of the
+/// Carries out a task on the files that it names; a check reads the picture's file first, and that of the givens last. The error is that of the
 /// file, the certificate or the input, of reading or writing, or `Memory`. Where a file could not be read, the input
 /// was left alone and nothing was written.
 pub fn carry_out<F: Files, R: Read, W: Write>(
@@ -26,12 +28,14 @@ pub fn carry_out<F: Files, R: Read, W: Write>(
 ) -> Result<(), ProgramFault>
     requires { IsLawfulTask task.now }
     ensures { CarriesOut (F.held files.old)
-        (world (F.opened files.old) (R.remaining reader.old) (W.contents writer.old))
-        (world (F.opened files.new) (R.remaining reader.new) (W.contents writer.new))
+        (world (F.opened files.old) (F.faults files.old)
+        (R.remaining reader.old) (W.contents writer.old))
+        (world (F.opened files.new) (F.faults files.new)
+        (R.remaining reader.new) (W.contents writer.new))
         task.now result }
 {
     match task {
-        Task::Clues => show_clues(alloc, reader, writer),
+        Task::Clues => show_clues(alloc, files, reader, writer),
         Task::Work { file, options } => {
             let file = read_file(alloc, files, file)?;
             run_work(alloc, &file, *options, reader, writer)
@@ -39,39 +43,43 @@ pub fn carry_out<F: Files, R: Read, W: Write>(
         Task::Check {
             file,
             cert,
+            givens,
             background,
         } => {
             let file = read_file(alloc, files, file)?;
             let cert = read_file(alloc, files, cert)?;
-            run_check(alloc, &file, &cert, *background, writer)
+            let Some(givens) = givens else {
+                return run_check(alloc, &file, &cert, *background, writer);
+            };
+            let givens = read_file(alloc, files, givens)?;
+            run_check_published(alloc, &file, &cert, &givens, *background, writer)
         }
-        Task::Prove { file, background } => {
-            let file = read_file(alloc, files, file)?;
-            run_prove(alloc, &file, *background, writer)
-        }
-        Task::Verify {
+        Task::Prove {
             file,
-            proof,
             background,
+            single,
         } => {
             let file = read_file(alloc, files, file)?;
-            let proof = read_file(alloc, files, proof)?;
-            run_verify(alloc, &file, &proof, *background, writer)
+            run_prove(alloc, &file, *background, *single, writer)
         }
         Task::Help(text) => Ok(send(text.as_bytes(), writer)?),
     }
 }
 
 // Writes the clues of the picture that is the whole input.
-fn show_clues<R: Read, W: Write>(
+fn show_clues<F: Files, R: Read, W: Write>(
     alloc: Global,
+    files: &mut F,
     reader: &mut R,
     writer: &mut W,
 ) -> Result<(), ProgramFault>
     ensures { ShowsClues
-        (R.remaining reader.old) (W.contents writer.old) (W.contents writer.new) result }
+        (world (F.opened files.old) (F.faults files.old)
+        (R.remaining reader.old) (W.contents writer.old))
+        (world (F.opened files.new) (F.faults files.new)
+        (R.remaining reader.new) (W.contents writer.new)) result }
 {
-    let bytes = read_input(alloc, reader)?;
+    let bytes = read_input(alloc, files, reader)?;
     run_clues(alloc, &bytes, None, writer)
 }
 

@@ -10,11 +10,12 @@ use Rattle.edits.specs.Fault.{fault_name}
 use Rattle.cert_text.specs.declared.fault.CertFault.{CertFault}
 use Rattle.cert_text.specs.declared.fault.CertFault.TheVariants as cert
 use Rattle.cert_text.specs.Faults as certs
+use Rattle.givens_text.specs.Faults as givens
 use Rattle.command_text.specs.declared.session_fault.SessionFault.{SessionFault}
 use Rattle.command_text.specs.declared.session_fault.SessionFault.TheVariants as session
 use Rattle.program_options.specs.declared.fault.ProgramFault.{ProgramFault}
-use Rattle.program_options.specs.declared.fault.ProgramFault.TheVariants.{Ppm, Non, Edit, NoPicture, Cert, Memory}
-use Rattle.program_options.specs.declared.fault.ProgramFault.TheVariants.{TooLong, Words, NotText, Background}
+use Rattle.program_options.specs.declared.fault.ProgramFault.TheVariants.{Ppm, Non, Edit, NoPicture, Cert, Givens}
+use Rattle.program_options.specs.declared.fault.ProgramFault.TheVariants.{Memory, TooLong, Words, NotText, Background}
 use Rattle.program_options.specs.declared.fault.ProgramFault.TheVariants.{BackgroundOfNon, Read, Write}
 
 -- an error of the P3 text; out of memory is one error wherever it comes from
@@ -45,6 +46,8 @@ fault_text (Edit fault) = codes "edit " ++ fault_name fault
 fault_text NoPicture = codes "no picture has these clues"
 fault_text (Cert fault) =
     codes "certificate " ++ certs.name_of fault ++ codes " at line " ++ decimal (unwrap_or (certs.place_of fault) 0)
+fault_text (Givens fault) =
+    codes "givens " ++ givens.name_of fault ++ codes " at line " ++ decimal (givens.line_of fault)
 fault_text Memory = codes "memory"
 fault_text TooLong = codes "input too long"
 fault_text (Words text) = string_bytes text

@@ -1,12 +1,13 @@
 //! Why the program ends without its answer.
 
 ghost use Rattle.std.specs.Prelude.{◌≡◌, Some};
-ghost use Rattle.program_options.specs.declared.fault.ProgramFault.TheVariants.{Memory, Write as Unwritten};
+ghost use Rattle.program_options.specs.declared.fault.ProgramFault.TheVariants.{Givens as Refused, Memory, Write as Unwritten};
 ghost use Rattle.program_options.specs.Faults.{cert_fault_of, fault_of, fault_text, non_fault_of, session_fault_of, status_of};
 
 use cert_text::CertFault;
 use command_text::SessionFault;
 use edits::EditFault;
+use givens_text::GivensFault;
 use non_text::NonFault;
 use picture::WriteFault;
 use ppm_text::PpmFault;
@@ -26,6 +27,8 @@ pub enum ProgramFault {
     NoPicture,
     /// The certificate was refused.
     Cert(CertFault),
+    /// The file of givens was refused.
+    Givens(GivensFault),
     /// Memory ran out.
     Memory,
     /// The input has more than 16,777,216 bytes.
@@ -82,6 +85,10 @@ impl fmt::Display for ProgramFault {
                 let line = fault.place().unwrap_or(0);
                 write!(f, "certificate {} at line {line}", fault.name())
             }
+            ProgramFault::Givens(fault) => {
+                let line = fault.place();
+                write!(f, "givens {} at line {line}", fault.name())
+            }
             ProgramFault::Memory => f.write_str("memory"),
             ProgramFault::TooLong => f.write_str("input too long"),
             ProgramFault::Words(text) => f.write_str(text.as_str()),
@@ -135,6 +142,14 @@ impl From<CertFault> for ProgramFault {
             CertFault::Memory => ProgramFault::Memory,
             _ => ProgramFault::Cert(fault),
         }
+    }
+}
+
+impl From<GivensFault> for ProgramFault {
+    ghost from_gives = { λ fault e. e ≡ Refused fault };
+
+    fn from(fault: GivensFault) -> ProgramFault {
+        ProgramFault::Givens(fault)
     }
 }
 

@@ -12,7 +12,7 @@ use Rattle.ppm_text.specs.RoundTrip as pictures
 use Rattle.ppm_text.specs.Text.{ppm_text}
 use Rattle.cert_text.specs.declared.fault.CertFault.{CertFault}
 use Rattle.cert_text.specs.Cert.{Certificate, IsCert}
-use Rattle.cert_text.specs.Text.{cert_of}
+use Rattle.cert_text.specs.Reading.{cert_of}
 use Rattle.cert_text.specs.WrittenCert as certificates
 use Rattle.edits.specs.Design.{Design, design_of}
 use Rattle.edits.specs.History.{History}
@@ -20,7 +20,9 @@ use Rattle.live_audit.specs.Bench.{Seen}
 use Rattle.live_audit.specs.Certify.{Certifies, NamesMarks}
 use Rattle.live_audit.specs.Verdict.{IsOtherFor}
 use Rattle.session.specs.Texts.{certified_text, content}
+use Rattle.program_options.specs.declared.options.Options.{Options}
 use Rattle.answers.specs.Check.{IsCheck, IsCheckOf, accepted_text}
+use Rattle.answers.specs.Start.{IsStarted}
 use Rattle.published.specs.Laws.{AreAccepted, ArePublished, PairsAreAccepted, background_in}
 use Rattle.published.specs.Printed.{UniqueArePublished}
 use Rattle.published.specs.Solution.{IsSolved, PublishedAreSolved}
@@ -60,17 +62,32 @@ certified : ((d : Content) → pictures.IsUngiven d → pictures.IsReadAgain d) 
 certified seen read d picture cert None palette is p t c not = absurd (not t)
 certified seen read d picture cert (Some found) palette is p t c not = pair seen read d picture cert found palette is p t c
 
-both : ((d : Content) → pictures.IsUngiven d → pictures.IsReadAgain d) → ((cert : Certificate) → IsCert cert → certificates.IsReadAgain cert) → (s : Seen) (document : Document)
-    → design_of document ≡ s.history.document → IsPalette document.palette → IsPicture document.picture
+both_of : ((d : Content) → pictures.IsUngiven d → pictures.IsReadAgain d) → ((cert : Certificate) → IsCert cert → certificates.IsReadAgain cert) → (s : Seen)
+    → IsPalette s.history.document.colours → IsPicture s.history.document.rows
     → (picture cert : List ℕ) → ArePublished s picture cert → AreAccepted s.history.document picture cert × IsSolved s.history.document picture cert
-both seen read s document e palette is picture cert p =
+both_of seen read s colours rows picture cert p =
     let d = s.history.document in
-    let colours : IsPalette d.colours = subst (λ (x : Design). IsPalette x.colours) e palette in
-    let rows : IsPicture d.rows = subst (λ (x : Design). IsPicture x.rows) e is in
     let shown : picture ≡ ppm_text (content d) = p.writes.0 ∙ ap (λ (h : History). ppm_text (content h.document)) p.same_picture in
     let c = p.certifies in
     let right : Certifies d c.0 = subst (λ (h : History). Certifies h.document c.0) p.same_cert c.1.0 in
     certified seen read d picture cert c.0 colours rows shown c.1.1.0 right p.not_ambiguous
+
+both : ((d : Content) → pictures.IsUngiven d → pictures.IsReadAgain d) → ((cert : Certificate) → IsCert cert → certificates.IsReadAgain cert) → (s : Seen) (document : Document)
+    → design_of document ≡ s.history.document → IsPalette document.palette → IsPicture document.picture
+    → (picture cert : List ℕ) → ArePublished s picture cert → AreAccepted s.history.document picture cert × IsSolved s.history.document picture cert
+both seen read s document e palette is picture cert p =
+    let colours : IsPalette s.history.document.colours = subst (λ (x : Design). IsPalette x.colours) e palette in
+    let rows : IsPicture s.history.document.rows = subst (λ (x : Design). IsPicture x.rows) e is in
+    both_of seen read s colours rows picture cert p
+
+-- a bench that was started with a file
+pub started : ((d : Content) → pictures.IsUngiven d → pictures.IsReadAgain d) → ((cert : Certificate) → IsCert cert → certificates.IsReadAgain cert)
+    → (file : List ℕ) (options : Options) (s : Seen) → IsStarted file options s → PairsAreAccepted s
+started seen read file options s is picture cert p =
+    let document : is.document ≡ s.history.document = sym (ap (λ (h : History). h.document) is.begins.history) in
+    let colours : IsPalette s.history.document.colours = subst (λ (x : Design). IsPalette x.colours) document is.palette in
+    let rows : IsPicture s.history.document.rows = subst (λ (x : Design). IsPicture x.rows) document is.picture in
+    (both_of seen read s colours rows picture cert p).0
 
 pub accepted : ((d : Content) → pictures.IsUngiven d → pictures.IsReadAgain d) → ((cert : Certificate) → IsCert cert → certificates.IsReadAgain cert) → (s : Seen) (document : Document)
     → design_of document ≡ s.history.document → IsPalette document.palette → IsPicture document.picture → PairsAreAccepted s

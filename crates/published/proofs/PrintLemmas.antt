@@ -11,6 +11,7 @@ use Rattle.program_options.specs.declared.fault.ProgramFault.{ProgramFault}
 use Rattle.program_options.specs.declared.options.Options.{Options}
 use Rattle.answers.specs.Open.{OpensAs, OpensFile}
 use Rattle.answers.specs.Run.{after_edit}
+use Rattle.answers.specs.Start.{IsStarted}
 use Rattle.command_text.specs.declared.command.Command.{Command}
 use Rattle.command_text.specs.declared.command.Command.TheVariants as command
 use Rattle.command_text.specs.declared.request.Request.{Request}
@@ -20,7 +21,7 @@ use Rattle.command_text.specs.Words.{Texts, words_of}
 use Rattle.session.specs.Refusal.{memory_line}
 use Rattle.session.specs.Session.{IsShort, Replies, Runs, Says, SaysTo, SaysToAll}
 use Rattle.published.specs.Laws.{PairsAreAccepted}
-use Rattle.published.specs.Printed.{HasWritten, OneFileIsOneDocument, PrintedAreAccepted}
+use Rattle.published.specs.Printed.{HasWritten, OneFileIsOneDocument, PrintedAreAccepted, StartedAreAccepted}
 
 -- all of an input that was read to its end
 all_read : (input read : List ℕ) (left : Option (List ℕ)) → Consumes (Some input) left read → IsAtEnd left → read ≡ input
@@ -91,6 +92,9 @@ printed s law picture cert p =
       certifies = other.says;
       not_ambiguous = p.not_ambiguous;
     })
+
+pub started_printed : ((file : List ℕ) (options : Options) (s : Seen) → IsStarted file options s → PairsAreAccepted s) → StartedAreAccepted
+started_printed law file options s is = printed s (law file options s is)
 
 -- ---- the file
 

@@ -10,11 +10,11 @@ use Rattle.clues.specs.ClueBook.{clues_of}
 use Rattle.clues.specs.Solution.{IsOnlySolution}
 use Rattle.ppm_text.specs.declared.fault.PpmFault.{PpmFault}
 use Rattle.ppm_text.specs.Ppm.{ppm_of}
-use Rattle.cert_text.specs.declared.tree_line.CellNumber.{CellNumber}
+use Rattle.cert_text.specs.declared.cert_line.CellNumber.{CellNumber}
 use Rattle.cert_text.specs.declared.fault.CertFault.{CertFault}
 use Rattle.cert_text.specs.Cert.{Certificate}
 use Rattle.certificate.specs.Puzzle.{HasCellNumber, IsUnique, numbered}
-use Rattle.cert_text.specs.Text.{cert_of}
+use Rattle.cert_text.specs.Reading.{cert_of}
 use Rattle.edits.specs.Design.{Design}
 use Rattle.live_audit.specs.Certify.{IsCertificateFor, NamesMarks, ordered}
 use Rattle.answers.specs.Check.{IsCheck, IsCheckOf, IsOnlyPicture, accepted_text, givens_count_text}

@@ -33,6 +33,11 @@ pub record ArePrinted (s : Seen) (picture cert : List ℕ) : Type 0 where
 abbrev pub PrintedAreAccepted : Seen → Type 0
 PrintedAreAccepted s = (picture cert : List ℕ) → ArePrinted s picture cert → AreAccepted s.history.document picture cert
 
+-- What was printed of benches that were started with a file is accepted.
+abbrev pub StartedAreAccepted : Type 0
+StartedAreAccepted =
+    (file : List ℕ) (options : Options) (s : Seen) → IsStarted file options s → PrintedAreAccepted s
+
 -- Benches that are started with the same P3 file and options have the same history, so the same document.
 abbrev pub OneFileIsOneDocument : Type 0
 OneFileIsOneDocument = (file : List ℕ) (options : Options) (one other : Seen) → options.non ≡ false

@@ -1,7 +1,7 @@
 //! Laws of what is published and checked. Each function at most reads its bench, and its contract is the law.
 
 ghost use Rattle.published.specs.Laws.{PairsAreAccepted};
-ghost use Rattle.published.specs.Printed.{OneFileIsOneDocument, PrintedAreAccepted, UniqueArePublished};
+ghost use Rattle.published.specs.Printed.{OneFileIsOneDocument, PrintedAreAccepted, StartedAreAccepted, UniqueArePublished};
 ghost use Rattle.published.specs.Proofs.{ProofsAreVerified};
 ghost use Rattle.published.specs.Solution.{PlainLinesAreOneSolution, PublishedAreSolved};
 
@@ -48,6 +48,14 @@ pub fn printed_bytes_are_accepted<E: LineEngine + Drop, A: Agenda + Drop>(bench:
     published_pairs_are_accepted(bench);
 }
 
+/// The same for benches that were started with a file, whatever benches they are.
+pub fn started_prints_are_accepted()
+    ensures { StartedAreAccepted }
+{
+    certificates_are_read();
+    pictures_are_read();
+}
+
 #[tactic(auto, using(crate::proofs::PrintLemmas::one_document))]
 /// Benches that are started with the same P3 file and the same options have the same history, so the same document.
 pub fn one_file_is_one_document()
@@ -60,9 +68,9 @@ pub fn plain_lines_are_one_solution()
     ensures { PlainLinesAreOneSolution }
 {}
 
-/// What `prove` shows for a file is what `verify` accepts: where it is neither `ambiguous` nor `undecided`, it is read as a
-/// proof by lemmas, `run_verify` accepts it for the file with the line `proof accepted`, and the picture's clues have one
-/// solution.
+/// What `prove` shows for a file is what `check` accepts, in either form: where it is neither `ambiguous` nor `undecided`, it is
+/// read as a certificate, `run_check` accepts it for the file with the line `certificate accepted`, and the picture's clues have
+/// one solution.
 pub fn proofs_are_verified()
     ensures { ProofsAreVerified }
 {}

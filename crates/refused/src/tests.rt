@@ -1,4 +1,4 @@
-//! Each allocation, or growth of memory, may be refused. `rt test` refuses none, and `tests/refuse.sh` runs the first test of
+//! Each allocation, or growth of memory, may be refused. `rt test` refuses none, and `test_refused.py` runs the first test of
 //! each module again and again, each time with another one refused. A refused call says so and leaves what it borrowed as it
 //! was, and it succeeds when it is made again. Since only one growth is refused in a run, the second try never is.
 

@@ -31,10 +31,10 @@ use Rattle.fixpoint.proofs.FillingLaws.{fills_fewer}
 use Rattle.fixpoint.specs.Laws.{ClosingKeepsFillings, OnlyIsClosed}
 use Rattle.trail.specs.declared.cell.Cell.{Cell}
 use Rattle.split_choice.specs.Choices.{IsUnsettled}
-use Rattle.cert_text.specs.declared.tree_line.CellNumber.{CellNumber}
-use Rattle.cert_text.specs.declared.tree_line.LineNumber.{LineNumber}
-use Rattle.cert_text.specs.declared.tree_line.CertLine.{CertLine}
-use Rattle.cert_text.specs.declared.tree_line.CertLine.TheVariants.{Line, Split, Dead, Done}
+use Rattle.cert_text.specs.declared.cert_line.CellNumber.{CellNumber}
+use Rattle.cert_text.specs.declared.cert_line.LineNumber.{LineNumber}
+use Rattle.cert_text.specs.declared.cert_line.CertLine.{CertLine}
+use Rattle.cert_text.specs.declared.cert_line.CertLine.TheVariants.{Line, Use, Split, Dead, Broken, Done, Part, Lemma, Deny, Forget}
 use Rattle.second_search.specs.declared.tree_lines.Lines.{Lines}
 use Rattle.second_search.specs.declared.tree_lines.Lines.TheVariants.{Kept, Dropped}
 use Rattle.second_search.specs.declared.tree.Growing.{Growing}
@@ -268,6 +268,12 @@ module _ (clues : Clues) (known : Rows) where
       rw s.1.0 (held_alike first facts (cell.row - 1) (cell.col - 1) e (colours_of (cell_at facts (cell.row - 1) (cell.col - 1))))
   step_alike first facts (Dead number) next e s = let P : List (List (List ℕ)) → Type 0 = AreAlike first in subst P (sym s.1.1) tt
   step_alike first facts Done next e s = let P : List (List (List ℕ)) → Type 0 = AreAlike first in subst P (sym s.1) tt
+  step_alike first facts (Use n) next e s = absurd s
+  step_alike first facts (Broken n) next e s = absurd s
+  step_alike first facts (Part l) next e s = absurd s
+  step_alike first facts Lemma next e s = absurd s
+  step_alike first facts (Deny l) next e s = absurd s
+  step_alike first facts (Forget n) next e s = absurd s
 
   pub walk_alike : (first : Masks) (lines : List CertLine) (waits rest : List (List (List ℕ))) → Walks clues known lines waits rest → AreAlike first waits → AreAlike first rest
   walk_alike first [] waits rest w a = let P : List (List (List ℕ)) → Type 0 = AreAlike first in subst P w a
@@ -286,6 +292,12 @@ module _ (own : OnlyIsClosed) (closing : ClosingKeepsFillings) (clues : Clues) (
       subst (λ (x : List (List (List ℕ))). FillsSome clues x picture) (sym s.1.0) (split_some clues facts picture (cell.row - 1) (cell.col - 1) i.0 i.1 f)
   step_fills facts picture (Dead number) next e s d f = absurd (dead_has_none closing clues facts picture (line_id number) (line_there facts number s.0) s.1.0 f)
   step_fills facts picture Done next e s d f = absurd (d (only_known clues known facts picture e s.0 f))
+  step_fills facts picture (Use n) next e s d f = absurd s
+  step_fills facts picture (Broken n) next e s d f = absurd s
+  step_fills facts picture (Part l) next e s d f = absurd s
+  step_fills facts picture Lemma next e s d f = absurd s
+  step_fills facts picture (Deny l) next e s d f = absurd s
+  step_fills facts picture (Forget n) next e s d f = absurd s
 
   -- what fills a branch that a line leads to fills the branch
   step_back : (facts : Masks) (picture : Rows) (line : CertLine) (next : List (List (List ℕ))) → Stands clues known facts line next → FillsSome clues next picture → Fills clues facts picture
@@ -300,6 +312,12 @@ module _ (own : OnlyIsClosed) (closing : ClosingKeepsFillings) (clues : Clues) (
       absurd (subst (λ (x : List (List (List ℕ))). FillsSome clues x picture) s.1.1 f)
   step_back facts picture Done next s f =
       absurd (subst (λ (x : List (List (List ℕ))). FillsSome clues x picture) s.1 f)
+  step_back facts picture (Use n) next s f = absurd s
+  step_back facts picture (Broken n) next s f = absurd s
+  step_back facts picture (Part l) next s f = absurd s
+  step_back facts picture Lemma next s f = absurd s
+  step_back facts picture (Deny l) next s f = absurd s
+  step_back facts picture (Forget n) next s f = absurd s
 
   pub walk_fills : (first : Masks) (picture : Rows) (lines : List CertLine) (waits rest : List (List (List ℕ))) → SameShape known first → AreAlike first waits → Walks clues known lines waits rest
       → (picture ≡ known → ⊥) → FillsSome clues waits picture → FillsSome clues rest picture

@@ -11,9 +11,9 @@ use Rattle.line_facts.specs.Masks.{IsOnly, Masks}
 use Rattle.line_facts.specs.FactSets.{Gains, IsWithin}
 use Rattle.fixpoint.specs.Fillings.{Fills}
 use Rattle.split_choice.specs.Choices.{IsUnsettled}
-use Rattle.cert_text.specs.declared.tree_line.CellNumber.{CellNumber}
-use Rattle.cert_text.specs.declared.tree_line.CertLine.{CertLine}
-use Rattle.cert_text.specs.declared.tree_line.CertLine.TheVariants.{Line, Split, Dead, Done}
+use Rattle.cert_text.specs.declared.cert_line.CellNumber.{CellNumber}
+use Rattle.cert_text.specs.declared.cert_line.CertLine.{CertLine}
+use Rattle.cert_text.specs.declared.cert_line.CertLine.TheVariants.{Line, Split, Dead, Done}
 use Rattle.second_search.specs.declared.tree_lines.Lines.{Lines}
 use Rattle.second_search.specs.declared.tree_lines.Lines.TheVariants.{Kept, Dropped}
 use Rattle.second_search.specs.declared.tree_step.TreeStep.{TreeStep}
@@ -49,6 +49,7 @@ Stands clues known facts (Dead number) next =
     HasLineNumber facts number
     × ((CanFit (clue_at clues (line_id number)) (line_of facts (line_id number)) → ⊥) × (next ≡ []))
 Stands clues known facts Done next = ShowsOnly known facts × (next ≡ [])
+Stands clues known facts _ next = ⊥
 
 -- ---- where lines lead
 

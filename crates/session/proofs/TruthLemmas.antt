@@ -182,11 +182,6 @@ true_why s row col k (By reason) text a h shown = inr (inr (h.0, (reason.line, (
 
 -- ---- a certificate
 
-version_of : (cert : Certificate) → ((cert.version ≡ 1) × (cert.givens ≡ [])) ⊎ (cert.version ≡ 2) → (cert.version ≡ 1) ↔ (cert.givens ≡ [])
-    → ((cert.version ≡ 1) × (cert.givens ≡ [])) ⊎ ((cert.version ≡ 2) × (cert.givens ≡ [] → ⊥))
-version_of cert (inl first) same = inl first
-version_of cert (inr second) same = inr (second, λ none. omega (arith, same.1 none, second))
-
 certified : (d : Design) (found : Option Certificate) (text : List ℕ) → Certifies d found → text ≡ certified_text found → TellsProof d text
 certified d None text h shown = inl (shown, h)
 certified d (Some cert) text h shown =
@@ -194,7 +189,7 @@ certified d (Some cert) text h shown =
       cert,
       (
         record {
-          version = version_of cert h.0.is_cert.version h.0.version;
+          form = h.0.form;
           givens = h.0.givens;
           writable = h.0.is_cert.lines;
           proof = h.0.proof;

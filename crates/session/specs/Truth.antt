@@ -2,7 +2,7 @@
 -- allowance alone, without how it is found or what is kept and counted.
 use Rattle.std.specs.Prelude.{◌≡◌, ◌<◌, ◌⊎◌, ℕ, true, false, List, [], ◌∷◌, ◌++◌, length, take, codes, Option}
 use Rattle.std.specs.Prelude.{None, Result, Ok, Err, unwrap_or}
-use Rattle.std.specs.List.{AllByRecursion, concat}
+use Rattle.std.specs.List.{concat}
 use Rattle.std.specs.Io.KnownBytes.{Appends, Consumes, IsAtEnd}
 use Rattle.line_facts.specs.Masks.{IsOnly, Masks}
 use Rattle.picture.specs.Rows.{cell_at, line_of, width_of, Rows}
@@ -23,7 +23,8 @@ use Rattle.edits.specs.Fault.{edit_fault, has_cell}
 use Rattle.edits.specs.History.{History, after_edit, redo_fault, redone, undo_fault, undone}
 use Rattle.second_search.specs.Parts.{IsChained, IsOpenCell}
 use Rattle.second_search.specs.FixedOrder.{SplitsPast}
-use Rattle.cert_text.specs.Cert.{Certificate, IsWritable}
+use Rattle.cert_text.specs.Cert.{AreOfForm, Certificate}
+use Rattle.certificate.specs.MadeCert.{IsTreeForm}
 use Rattle.cert_text.specs.WrittenCert.{cert_text}
 use Rattle.cert_check.specs.Tree.{IsProof}
 use Rattle.live_audit.specs.declared.verdict.Verdict.{Verdict}
@@ -101,9 +102,9 @@ TellsWhy d m row col k text =
 -- A certificate that proves the picture of the ordered document from exactly the document's givens; and there is no
 -- other picture for the document.
 pub record IsCertificateOf (d : Design) (cert : Certificate) : Type 0 where
-  pub version : ((cert.version ≡ 1) × (cert.givens ≡ [])) ⊎ ((cert.version ≡ 2) × (cert.givens ≡ [] → ⊥))
+  pub form : IsTreeForm cert.form cert.givens
   pub givens : NamesMarks (ordered d) cert.givens
-  pub writable : AllByRecursion IsWritable cert.lines
+  pub writable : AreOfForm cert.form cert.lines
   pub proof : IsProof (ordered d).rows cert
   pub no_other : (other : Rows) → IsOtherFor d other → ⊥
 

@@ -79,7 +79,7 @@ fn text_answer(outcome: Result<Vec<u8>, AllocError>) -> Answer
 {
     match outcome {
         Ok(text) => Answer::Text(text),
-        Err(_) => Answer::Refused(Refusal::Memory),
+        Err(AllocError) => Answer::Refused(Refusal::Memory),
     }
 }
 
@@ -107,7 +107,7 @@ fn answer_why<E: LineEngine + Drop, A: Agenda + Drop>(
     }
     match bench.why(row, col, colour) {
         Ok(why) => text_answer(why_text(alloc, &why)),
-        Err(_) => Answer::Refused(Refusal::Memory),
+        Err(AllocError) => Answer::Refused(Refusal::Memory),
     }
 }
 
@@ -235,7 +235,7 @@ fn non_answer(alloc: Global, picture: &Picture) -> Answer
     match write_non(alloc, picture, &mut text) {
         Ok(()) => Answer::Text(text),
         Err(NonWriteFault::TwoColoursOnly) => Answer::Refused(Refusal::TwoColoursOnly),
-        Err(_) => Answer::Refused(Refusal::Memory),
+        Err(NonWriteFault::Memory | NonWriteFault::Write) => Answer::Refused(Refusal::Memory),
     }
 }
 

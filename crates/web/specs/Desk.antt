@@ -1,5 +1,5 @@
 -- The benches that are open, and what each call does to them.
-use Rattle.std.specs.Prelude.{◌≡◌, ◌⊎◌, ℕ, ◌+◌, ◌==◌, List, [], ◌∷◌, ◌++◌, Option, None, Some, Result, Ok, Err}
+use Rattle.std.specs.Prelude.{◌≡◌, ◌⊎◌, ℕ, ◌+◌, ◌==◌, false, List, [], ◌∷◌, ◌++◌, Option, None, Some, Result, Ok, Err}
 use Rattle.std.specs.Prelude.{position, remove, slice_index_or, slice_set}
 use Rattle.picture.specs.declared.rgb.Rgb.{Rgb}
 use Rattle.live_audit.specs.Bench.{Seen}
@@ -11,8 +11,8 @@ use Rattle.answers.specs.Check.{IsCheckOf, IsOnlyPicture}
 use Rattle.program_options.specs.Faults.{fault_text, status_of}
 use Rattle.answers.specs.Open.{OpensFile}
 use Rattle.answers.specs.Prove.{IsProveOf}
+use Rattle.answers.specs.Published.{IsOnlyPublished, IsPublishedCheckOf}
 use Rattle.answers.specs.Start.{IsStarted}
-use Rattle.answers.specs.Verify.{IsOnlyByLemmas, IsVerifyOf}
 use Rattle.web.specs.declared.desk.Desk.{Desk}
 use Rattle.web.specs.declared.desk.Seat.{Seat}
 
@@ -107,16 +107,15 @@ Checks file background cert text status =
     ((status ≡ 0) × (IsCheckOf file background cert (Ok text) × IsOnlyPicture file background cert))
     ⊎ IsRefused (λ fault. IsCheckOf file background cert (Err fault)) text status
 
--- ---- proofs by lemmas
+-- The check of a certificate of a picture whose givens are published. Where it is accepted, no other picture has the
+-- clues and the colours in the published cells.
+abbrev pub ChecksPublished : List ℕ → Option Rgb → List ℕ → List ℕ → List ℕ → ℕ → Type 0
+ChecksPublished file background givens cert text status =
+    ((status ≡ 0) × (IsPublishedCheckOf file background givens cert (Ok text) × IsOnlyPublished file background givens))
+    ⊎ IsRefused (λ fault. IsPublishedCheckOf file background givens cert (Err fault)) text status
 
--- The check of a proof by lemmas of a picture. If it is accepted, no other picture has the clues and the givens.
-abbrev pub Verifies : List ℕ → Option Rgb → List ℕ → List ℕ → ℕ → Type 0
-Verifies file background proof text status =
-    ((status ≡ 0) × (IsVerifyOf file background proof (Ok text) × IsOnlyByLemmas file background proof))
-    ⊎ IsRefused (λ fault. IsVerifyOf file background proof (Err fault)) text status
-
--- What is made of a picture: a proof by lemmas, or the line that there is another picture, or that neither was found.
+-- What is made of a picture: a certificate, or the line that there is another picture, or that neither was found.
 abbrev pub Proves : List ℕ → Option Rgb → List ℕ → ℕ → Type 0
 Proves file background text status =
-    ((status ≡ 0) × IsProveOf file background (Ok text))
-    ⊎ IsRefused (λ fault. IsProveOf file background (Err fault)) text status
+    ((status ≡ 0) × IsProveOf file background false (Ok text))
+    ⊎ IsRefused (λ fault. IsProveOf file background false (Err fault)) text status

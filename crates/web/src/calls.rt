@@ -4,7 +4,7 @@ ghost use Rattle.std.specs.Prelude.{◌≡◌, ◌⊎◌, ◌++◌, None, [], dr
 ghost use denote.RawPtr.{null_ptr};
 ghost use Rattle.program_options.specs.declared.version.TheConstants.{VERSION};
 ghost use Rattle.web.specs.Asked.{background_asked, options_asked};
-ghost use Rattle.web.specs.Desk.{Checks, Closes, IsKept, IsUnasked, Opens, Proves, Says, Verifies};
+ghost use Rattle.web.specs.Desk.{Checks, ChecksPublished, Closes, IsKept, IsUnasked, Opens, Proves, Says};
 ghost use Rattle.web.specs.Held.{IsEmpty};
 
 use crate::asked::{background_of, options_of};
@@ -12,8 +12,8 @@ use crate::cell::DeskCell;
 use crate::desk::Desk;
 use crate::held::Held;
 use crate::inside::{
-    check_in, close_in, copy_front, forget_in, keep_text, lend_text, open_in, prove_in, say_in,
-    verify_in,
+    check_in, check_published_in, close_in, copy_front, forget_in, keep_text, lend_text, open_in,
+    prove_in, say_in,
 };
 use crate::status::{DONE, MEMORY, OPTIONS};
 use answers::VERSION;
@@ -136,16 +136,18 @@ pub extern "C" fn nonobench_check(
     replace_with(held, (file, cert, background), check_in)
 }
 
-/// Checks a proof by lemmas of a picture. What the program writes for it, or an error, is the text.
+/// Checks a certificate of a picture whose givens are published, by the text of the file of givens. What the program writes for
+/// it, or an error, is the text.
 #[unsafe(no_mangle)]
-pub extern "C" fn nonobench_verify(
+pub extern "C" fn nonobench_check_published(
     held: &mut Held,
     file: &[u8],
-    proof: &[u8],
+    cert: &[u8],
+    givens: &[u8],
     background: &[u8],
 ) -> u32
-    ensures verifies { IfSome (background_asked background.now) (λ colour.
-        Verifies file.now colour proof.now held.new.desk.text.items result) }
+    ensures checks { IfSome (background_asked background.now) (λ colour.
+        ChecksPublished file.now colour givens.now cert.now held.new.desk.text.items result) }
     ensures refused { background_asked background.now ≡ None
         → IsUnasked held.old.desk held.new.desk result }
     ensures kept { IsKept held.old.desk held.new.desk }
@@ -154,10 +156,10 @@ pub extern "C" fn nonobench_verify(
         replace_with(held, (), forget_in);
         return OPTIONS;
     };
-    replace_with(held, (file, proof, background), verify_in)
+    replace_with(held, (file, cert, givens, background), check_published_in)
 }
 
-/// Makes a proof by lemmas of a picture. What the program writes for it, or an error, is the text.
+/// Makes a certificate with lemmas of a picture. What the program writes for it, or an error, is the text.
 #[unsafe(no_mangle)]
 pub extern "C" fn nonobench_prove(held: &mut Held, file: &[u8], background: &[u8]) -> u32
     ensures proves { IfSome (background_asked background.now) (λ colour.

@@ -4,10 +4,10 @@ ghost use Rattle.std.specs.Prelude.{◌≡◌, ◌⊎◌, ◌<◌, true, [], Err
 ghost use Rattle.program_options.specs.declared.fault.ProgramFault.TheVariants.{Memory, Write as Unwritten};
 ghost use Rattle.answers.specs.Open.{OpensFile};
 ghost use Rattle.program_options.specs.Options.{IsLawful};
-ghost use Rattle.web.specs.Desk.{Checks, Closes, IsKept, IsOpened, IsShort, Opens, Proves, RunsOver, Says, Tells, Verifies, place_of};
+ghost use Rattle.web.specs.Desk.{Checks, ChecksPublished, Closes, IsKept, IsOpened, IsShort, Opens, Proves, RunsOver, Says, Tells, place_of};
 
 use crate::status::{CLOSED, DONE, MEMORY};
-use answers::{Options, ProgramFault, run_check, run_prove, run_verify, start_bench};
+use answers::{Options, ProgramFault, run_check, run_check_published, run_prove, start_bench};
 use line_settle::MaskEngine;
 use live_audit::Bench;
 use picture::Rgb;
@@ -98,25 +98,33 @@ impl Desk {
         }
     }
 
-    /// Checks a proof by lemmas of a picture. What the program writes for it, or why it refuses it, is the text.
-    pub fn verify(&mut self, file: &[u8], proof: &[u8], background: Option<Rgb>) -> u32
-        ensures verifies { Verifies file.now background proof.now self.new.text.items result }
+    /// Checks a certificate of a picture whose givens are published, by the text of the file of givens. What the program writes
+    /// for it, or why it refuses it, is the text.
+    pub fn check_published(
+        &mut self,
+        file: &[u8],
+        cert: &[u8],
+        givens: &[u8],
+        background: Option<Rgb>,
+    ) -> u32
+        ensures checks { ChecksPublished file.now background givens.now cert.now
+            self.new.text.items result }
         ensures kept { IsKept self.old self.new }
     {
         self.text.clear();
-        match run_verify(self.alloc, file, proof, background, &mut self.text) {
+        match run_check_published(self.alloc, file, cert, givens, background, &mut self.text) {
             Ok(()) => DONE,
             Err(fault) => self.refuse(&fault),
         }
     }
 
-    /// Makes a proof by lemmas of a picture. What the program writes for it, or why it refuses it, is the text.
+    /// Makes a certificate with lemmas of a picture. What the program writes for it, or why it refuses it, is the text.
     pub fn prove(&mut self, file: &[u8], background: Option<Rgb>) -> u32
         ensures proves { Proves file.now background self.new.text.items result }
         ensures kept { IsKept self.old self.new }
     {
         self.text.clear();
-        match run_prove(self.alloc, file, background, &mut self.text) {
+        match run_prove(self.alloc, file, background, false, &mut self.text) {
             Ok(()) => DONE,
             Err(fault) => self.refuse(&fault),
         }

@@ -2,7 +2,7 @@
 
 ghost use Rattle.std.specs.Prelude.{◌≡◌, [], ◌++◌, drop, length, take};
 ghost use Rattle.program_options.specs.Options.{IsLawful};
-ghost use Rattle.web.specs.Desk.{Checks, Closes, IsKept, Opens, Proves, Says, Verifies};
+ghost use Rattle.web.specs.Desk.{Checks, ChecksPublished, Closes, IsKept, Opens, Proves, Says};
 
 use crate::held::Held;
 use answers::Options;
@@ -49,18 +49,18 @@ pub fn check_in(held: Held, asked: (&[u8], &[u8], Option<Rgb>)) -> (Held, u32)
     (Held::new(desk), status)
 }
 
-/// Checks a proof by lemmas. `asked` is the file, the proof and the background.
-pub fn verify_in(held: Held, asked: (&[u8], &[u8], Option<Rgb>)) -> (Held, u32)
-    ensures verifies { Verifies asked.entry.0.now asked.entry.2 asked.entry.1.now
-        result.0.desk.text.items result.1 }
+/// Checks a certificate where givens are published. `asked` is the file, the certificate, the givens and the background.
+pub fn check_published_in(held: Held, asked: (&[u8], &[u8], &[u8], Option<Rgb>)) -> (Held, u32)
+    ensures checks { ChecksPublished asked.entry.0.now asked.entry.3 asked.entry.2.now
+        asked.entry.1.now result.0.desk.text.items result.1 }
     ensures kept { IsKept held.desk result.0.desk }
 {
     let mut desk = held.into_box();
-    let status = desk.verify(asked.0, asked.1, asked.2);
+    let status = desk.check_published(asked.0, asked.1, asked.2, asked.3);
     (Held::new(desk), status)
 }
 
-/// Makes a proof by lemmas. `asked` is the file and the background.
+/// Makes a certificate with lemmas. `asked` is the file and the background.
 pub fn prove_in(held: Held, asked: (&[u8], Option<Rgb>)) -> (Held, u32)
     ensures proves { Proves asked.entry.0.now asked.entry.1 result.0.desk.text.items result.1 }
     ensures kept { IsKept held.desk result.0.desk }

@@ -119,7 +119,7 @@ fn goes_on(rt: &impl Abort, alloc: Global, memory: Memory) {
     let first = made(rt, alloc, &mut engine, &document.picture);
     let second = made(rt, alloc, &mut engine, &document.picture);
     let cert = first_of(rt, memory, AllocError, first, second).expect(rt, "a certificate");
-    equal(rt, "givens", cert.givens_len(), 1);
+    equal(rt, "givens", cert.givens().len(), 1);
     checks(rt, alloc, memory, &mut engine, &document.picture, &cert);
 }
 

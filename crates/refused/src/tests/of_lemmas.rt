@@ -1,12 +1,11 @@
-//! Proofs by lemmas: read, written, checked and made.
+//! Certificates with lemmas: read, written, checked and made.
 
 use super::made::{SQUARE, document_of, engine_of};
 use super::of_certificates::PUZZLE;
 use super::{Memory, equal, first_of};
-use cert_text::CertFault;
-use lemma_check::check_proof;
-use lemma_proof::{Made, make_proof};
-use lemma_text::{LemmaProof, read_proof, write_proof};
+use cert_check::check_cert;
+use cert_text::{Cert, CertFault, read_cert, write_cert};
+use lemma_proof::{Made, make_proof, with_single_steps};
 use line_facts::LineEngine;
 use line_settle::MaskEngine;
 use picture::{CellSet, Picture};
@@ -37,24 +36,18 @@ line c 1
 done
 ";
 
-fn read(rt: &impl Abort, alloc: Global, memory: Memory) -> LemmaProof {
-    let first = read_proof(alloc, TEXT);
-    first_of(
-        rt,
-        memory,
-        CertFault::Memory,
-        first,
-        read_proof(alloc, TEXT),
-    )
+fn read(rt: &impl Abort, alloc: Global, memory: Memory) -> Cert {
+    let first = read_cert(alloc, TEXT);
+    first_of(rt, memory, CertFault::Memory, first, read_cert(alloc, TEXT))
 }
 
 // Writes it into a text that has room for it, so that nothing is allocated.
-fn writes(rt: &impl Abort, alloc: Global, memory: Memory, proof: &LemmaProof) {
+fn writes(rt: &impl Abort, alloc: Global, memory: Memory, proof: &Cert) {
     let room = Vec::with_capacity(alloc, TEXT.len());
     let again = Vec::with_capacity(alloc, TEXT.len());
     let mut text: Vec<u8> = first_of(rt, memory, AllocError, room, again);
     assert!(rt; proof.is_writable());
-    assert!(rt; write_proof(proof, &mut text).is_ok());
+    assert!(rt; write_cert(proof, &mut text).is_ok());
     assert!(rt; text.as_slice() == TEXT);
 }
 
@@ -63,10 +56,10 @@ fn checked(
     alloc: Global,
     engine: &mut MaskEngine,
     picture: &Picture,
-    proof: &LemmaProof,
+    proof: &Cert,
 ) -> Result<(), CertFault> {
     assert!(rt; picture.width() <= engine.longest() && picture.height() <= engine.longest());
-    check_proof(alloc, engine, picture, proof)
+    check_cert(alloc, engine, picture, proof)
 }
 
 fn checks(
@@ -75,7 +68,7 @@ fn checks(
     memory: Memory,
     engine: &mut MaskEngine,
     picture: &Picture,
-    proof: &LemmaProof,
+    proof: &Cert,
 ) {
     let first = checked(rt, alloc, engine, picture, proof);
     let second = checked(rt, alloc, engine, picture, proof);
@@ -96,7 +89,7 @@ fn made(
     make_proof(alloc, engine, picture, &givens)
 }
 
-// Makes a proof of a puzzle that lines alone do not settle, and checks it.
+// Makes a certificate of a puzzle that lines alone do not settle, and checks it in both forms.
 fn makes(rt: &impl Abort, alloc: Global, memory: Memory, engine: &mut MaskEngine) {
     let puzzle = document_of(rt, alloc, memory, PUZZLE);
     let first = made(rt, alloc, engine, &puzzle.picture);
@@ -105,6 +98,11 @@ fn makes(rt: &impl Abort, alloc: Global, memory: Memory, engine: &mut MaskEngine
         Made::Proof(proof) => {
             equal(rt, "givens", proof.givens().len(), 1);
             checks(rt, alloc, memory, engine, &puzzle.picture, &proof);
+            let first = with_single_steps(alloc, &proof);
+            let second = with_single_steps(alloc, &proof);
+            let single = first_of(rt, memory, AllocError, first, second);
+            equal(rt, "runs", single.runs().len(), 0);
+            checks(rt, alloc, memory, engine, &puzzle.picture, &single);
         }
         _ => panic!(rt; "a proof"),
     }

@@ -1,14 +1,11 @@
-use Rattle.std.proofs.Common.{rules}
-use Rattle.cert_check.specs.FirstFault.{AnswersFirst, CertFirstFault}
-use Rattle.cert_check.proofs.Exactness.{answers_only, answers_unique}
+use Rattle.cert_check.proofs.Answering.{answers_only, answers_only_tree, answers_unique}
 use Rattle.cert_check.proofs.checking.check_cert.Goals as goal
 
 pub returns-clause-only : goal.returns-clause-only
-returns-clause-only g c =
-    let first : AnswersFirst (CertFirstFault c.args.picture.now c.args.cert.now) c.walk.result = search rules in
-    answers_only c.args.picture.now c.args.cert.now c.walk.result first
+returns-clause-only g c = answers_only c.args.picture.now c.args.cert.now c.check_counting.result c.check_counting.ensures.first
+
+pub returns-clause-only_tree : goal.returns-clause-only_tree
+returns-clause-only_tree g c = answers_only_tree c.args.picture.now c.args.cert.now c.check_counting.result c.check_counting.ensures.first
 
 pub returns-clause-unique : goal.returns-clause-unique
-returns-clause-unique g c =
-    let first : AnswersFirst (CertFirstFault c.args.picture.now c.args.cert.now) c.walk.result = search rules in
-    answers_unique c.args.picture.now c.args.cert.now c.walk.result c.height.ensures.picture first
+returns-clause-unique g c = answers_unique c.args.picture.now c.args.cert.now c.check_counting.result c.height.ensures.picture c.check_counting.ensures.first

@@ -1,17 +1,12 @@
-use Rattle.std.proofs.Common.{sym, subst}
-use Rattle.std.proofs.lemmas.Result.{on_ok_weaker}
-use Rattle.picture.specs.Rows.{line_of}
-use Rattle.line_facts.specs.NarrowedLine.{Narrows}
+use Rattle.cert_check.proofs.WalkLemmas.{forced_by, line_clue}
 use Rattle.cert_check.proofs.forcing.force.Goals as goal
 
-pub returns-clause-gains : goal.returns-clause-gains
-returns-clause-gains g c =
+pub clue-requires : goal.clue-requires
+clue-requires g c = line_clue c.args.claim.now.picture.now c.args.board.now.at_hand c.args.claim.now.clues.now _ c.args.line c.requires.can c.requires.tallied.same_shape c.requires.line
+
+pub returns-clause-forced : goal.returns-clause-forced
+returns-clause-forced g c =
     let n = rw c.at_hand-facts.ensures at c.narrow_line-outcome.ensures.narrows in
-    on_ok_weaker c.hold_line.result (λ h. (
-      c.narrow_line-outcome.result,
-      record {
-        same_shape = h.same_shape;
-        narrows = subst (Narrows c.args.clue.now (line_of c.args.trail.now.at_hand c.args.line) c.narrow_line-outcome.result) (sym h.line_is) n;
-        elsewhere = h.elsewhere;
-      },
-    )) c.hold_line.ensures.holds
+    rw c.settle.ensures.at_hand
+    (forced_by c.args.claim.now.picture.now c.args.board.now.at_hand c.hold_line.new.board.at_hand c.args.claim.now.clues.now _ _ c.args.line c.narrow_line-outcome.result _ c.requires.can
+    c.clue.ensures.value n c.in_ok-hold_line.ensures.holds)

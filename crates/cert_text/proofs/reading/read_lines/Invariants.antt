@@ -1,11 +1,12 @@
 use Rattle.std.proofs.Common.{◌+◌, ◌≤◌, length}
-use Rattle.cert_text.specs.Text.{lines_of, tree_lines}
+use Rattle.cert_text.specs.Reading.{steps_below}
+use Rattle.cert_text.specs.Text.{lines_of}
 use Rattle.cert_text.proofs.ReadLemmas.{LinesLeft}
 use Rattle.cert_text.proofs.reading.read_lines.Given as goal
 
 abbrev pub invariant-loop-line : goal.invariant-loop-line
 invariant-loop-line l = record {
-  left : LinesLeft l.lines.items l.number (lines_of l.rest) (tree_lines l.first (lines_of l.text));
+  left : LinesLeft l.form l.steps.items l.runs.items l.number (lines_of l.rest) (steps_below l.form l.first (lines_of l.text));
   room : l.number + length l.rest ≤ l.first + length l.text;
 }
 

@@ -8,7 +8,7 @@ use Rattle.certificate.proofs.proving.near_other.Goals as goal
 
 pub find_near_other-requires-clause-scene : goal.find_near_other-requires-clause-scene
 find_near_other-requires-clause-scene g c =
-    subst (λ (k : Clues). IsScene k c.args.givens.now c.in_ok-facts.facts c.args.picture.now) (sym c.in_ok-clues.ensures) c.in_ok-facts.ensures
+    subst (λ (k : Clues). IsScene k c.args.givens.now c.in_ok-facts.facts c.args.picture.now) (sym c.in_ok-clues.ensures) c.in_ok-facts.ensures.scene
 
 pub find_near_other-requires-clause-tall : goal.find_near_other-requires-clause-tall
 find_near_other-requires-clause-tall g c =

@@ -9,4 +9,4 @@ small_tree-requires-clause-can g c = record {
 }
 
 pub small_tree-requires-clause-same_shape : goal.small_tree-requires-clause-same_shape
-small_tree-requires-clause-same_shape g c = c.in_ok-facts.ensures.sound.same_shape
+small_tree-requires-clause-same_shape g c = c.in_ok-facts.ensures.scene.sound.same_shape

@@ -1,6 +1,6 @@
 use Rattle.std.proofs.Common.{refl, subst, sym, ◌∙◌}
 use Rattle.clap.specs.Words.{found_of, rows_of, subcommand_rows_of}
-use Rattle.command_line.specs.Words.{Given, IsCheck, IsProve, IsVerify, IsWork}
+use Rattle.command_line.specs.Words.{Given, IsCheck, IsProve, IsWork}
 use Rattle.command_line.proofs.WordLemmas.{asked_check, asked_prove, asked_verify, asked_work, given_same, name_is}
 use Rattle.command_line.proofs.words.task_of.Goals as goal
 
@@ -32,5 +32,6 @@ returns-in-Some-subcommand_matches-3-clause-asked c =
     let m = c.args.matches.now in
     let s = c.in-Some-subcommand_matches-3 in
     let f = found_of s.matches.now in
-    let r = c.verify_of.result in
-    asked_verify (subcommand_rows_of m) (rows_of f) r (sym (name_is m) ∙ s.ensures.found.0 refl) s.ensures.rows (subst (λ (g : Given). IsVerify g r) (given_same f) c.verify_of.ensures.verify)
+    let r = c.check_of-in-Some-subcommand_matches-3.result in
+    asked_verify (subcommand_rows_of m) (rows_of f) r (sym (name_is m) ∙ s.ensures.found.0 refl) s.ensures.rows
+    (subst (λ (g : Given). IsCheck g r) (given_same f) c.check_of-in-Some-subcommand_matches-3.ensures.check)

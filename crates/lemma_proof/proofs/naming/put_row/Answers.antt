@@ -1,6 +1,6 @@
-use Rattle.std.proofs.Common.{◌∙◌, ◌+◌, ◌++◌, [], ◌∷◌, ap, arith, refl, subst, sym, List, ℕ, Vec, Global}
+use Rattle.std.proofs.Common.{◌∙◌, ◌+◌, ◌++◌, [], ◌∷◌, ap, arith, subst, sym, List, ℕ, Vec, Global}
 use Rattle.std.proofs.lemmas.Bool.{false≢true}
-use Rattle.cert_text.specs.declared.tree_line.CellNumber.{CellNumber}
+use Rattle.cert_text.specs.declared.cert_line.CellNumber.{CellNumber}
 use Rattle.lemma_proof.specs.Naming.{NamesUpTo}
 use Rattle.lemma_proof.proofs.NumberLemmas.{more_named, same_named, same_number}
 use Rattle.lemma_proof.proofs.naming.put_row.Goals as goal

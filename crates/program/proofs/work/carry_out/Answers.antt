@@ -1,6 +1,6 @@
 use Rattle.std.proofs.Common.{Err, ap, ◌∙◌}
 use Rattle.std.proofs.lemmas.Result.{err_from_is_err_and}
-use Rattle.program.proofs.CheckLemmas.{checked, half_read, half_verified, verified}
+use Rattle.program.proofs.CheckLemmas.{checked, checked_with, half_read, none_named, without_givens}
 use Rattle.program.proofs.work.carry_out.Goals as goal
 
 pub returns-in_err-cert-in-Check : goal.returns-in_err-cert-in-Check
@@ -9,35 +9,49 @@ returns-in_err-cert-in-Check g c =
     let task = c.in-Check in
     let file = c.in_ok-file-in-Check in
     let cert = c.in_err-cert-in-Check in
-    half_read _ _ _ _ _ _ _ c.args.task.now task.file task.cert task.background file.file.items cert.field-0.0 c.from_residual-in_err-cert-in-Check.result task.is
-    (record { content = file.ensures.reads.0; first = file.ensures.opens; keeps = file.ensures.keeps; next = cert.ensures.opens }) cert.ensures.reads (p.1 ∙ ap Err p.2)
+    half_read _ _ _ _ _ _ _ _ _ _ c.args.task.now task.file task.cert task.givens task.background file.file.items cert.field-0.0 c.from_residual-in_err-cert-in-Check.result task.is
+    (record { content = file.ensures.reads.0; first = file.ensures.opens; faultless = file.ensures.cause; keeps = file.ensures.keeps; next = cert.ensures.opens }) cert.ensures.reads
+    cert.ensures.cause (p.1 ∙ ap Err p.2)
 
-pub returns-in_ok-cert-in-Check : goal.returns-in_ok-cert-in-Check
-returns-in_ok-cert-in-Check g c =
+pub returns-in_default : goal.returns-in_default
+returns-in_default g c =
     let task = c.in-Check in
     let file = c.in_ok-file-in-Check in
     let cert = c.in_ok-cert-in-Check in
     let e = c.run_check.ensures in
-    checked _ _ _ _ _ _ _ _ c.args.task.now task.file task.cert task.background file.file.items cert.cert.items c.deref-in-Check.result.now c.deref-in-Check-2.result.now c.run_check.result task.is
-    (record { content = file.ensures.reads.0; first = file.ensures.opens; keeps = file.ensures.keeps; next = cert.ensures.opens }) cert.ensures.reads.0 c.deref-in-Check.ensures.value
-    c.deref-in-Check-2.ensures.value e.writes e.only e.unique
+    checked _ _ _ _ _ _ _ _ _ _ _ c.args.task.now task.file task.cert task.background file.file.items cert.cert.items c.deref-in_default.result.now c.deref-in_default-2.result.now
+    c.run_check.result (none_named c.args.task.now task.file task.cert task.givens task.background task.is c.in_default.not-Some)
+    (record { content = file.ensures.reads.0; first = file.ensures.opens; faultless = file.ensures.cause; keeps = file.ensures.keeps; next = cert.ensures.opens }) cert.ensures.reads.0
+    cert.ensures.cause c.deref-in_default.ensures.value
+    c.deref-in_default-2.ensures.value e.writes e.only e.only_lemmas e.unique
 
-pub returns-in_err-proof-in-Verify : goal.returns-in_err-proof-in-Verify
-returns-in_err-proof-in-Verify g c =
-    let p = err_from_is_err_and c.from_residual-in_err-proof-in-Verify.result c.from_residual-in_err-proof-in-Verify.ensures.1 in
-    let task = c.in-Verify in
-    let file = c.in_ok-file-in-Verify in
-    let cert = c.in_err-proof-in-Verify in
-    half_verified _ _ _ _ _ _ _ c.args.task.now task.file task.proof task.background file.file.items cert.field-0.0 c.from_residual-in_err-proof-in-Verify.result task.is
-    (record { content = file.ensures.reads.0; first = file.ensures.opens; keeps = file.ensures.keeps; next = cert.ensures.opens }) cert.ensures.reads (p.1 ∙ ap Err p.2)
+pub returns-in_err-givens-in-Check : goal.returns-in_err-givens-in-Check
+returns-in_err-givens-in-Check g c =
+    let p = err_from_is_err_and c.from_residual-in_err-givens-in-Check.result c.from_residual-in_err-givens-in-Check.ensures.1 in
+    let task = c.in-Check in
+    let file = c.in_ok-file-in-Check in
+    let cert = c.in_ok-cert-in-Check in
+    let givens = c.in_err-givens-in-Check in
+    without_givens _ _ _ _ _ _ _ _ _ _ _ _ _ task.file task.cert c.in-Some.givens file.file.items cert.cert.items (record {
+      both = record { content = file.ensures.reads.0; first = file.ensures.opens; faultless = file.ensures.cause; keeps = file.ensures.keeps; next = cert.ensures.opens };
+      cert_content = cert.ensures.reads.0;
+      faultless = cert.ensures.cause;
+      keeps = cert.ensures.keeps;
+      next = givens.ensures.opens;
+    }) c.args.task.now task.givens task.background task.is c.in-Some.is givens.field-0.0 c.from_residual-in_err-givens-in-Check.result givens.ensures.reads givens.ensures.cause (p.1 ∙ ap Err p.2)
 
-pub returns-in_ok-proof-in-Verify : goal.returns-in_ok-proof-in-Verify
-returns-in_ok-proof-in-Verify g c =
-    let task = c.in-Verify in
-    let file = c.in_ok-file-in-Verify in
-    let cert = c.in_ok-proof-in-Verify in
-    let e = c.run_verify.ensures in
-    verified _ _ _ _ _ _ _ _ c.args.task.now task.file task.proof task.background file.file.items cert.proof.items c.deref-in-Verify.result.now c.deref-in-Verify-2.result.now
-    c.run_verify.result task.is (record { content = file.ensures.reads.0; first = file.ensures.opens; keeps = file.ensures.keeps; next = cert.ensures.opens })
-    cert.ensures.reads.0 c.deref-in-Verify.ensures.value
-    c.deref-in-Verify-2.ensures.value e.writes e.only e.unique
+pub returns-in_ok-givens-in-Check : goal.returns-in_ok-givens-in-Check
+returns-in_ok-givens-in-Check g c =
+    let task = c.in-Check in
+    let file = c.in_ok-file-in-Check in
+    let cert = c.in_ok-cert-in-Check in
+    let givens = c.in_ok-givens-in-Check in
+    let e = c.run_check_published.ensures in
+    checked_with _ _ _ _ _ _ _ _ _ _ _ _ _ task.file task.cert c.in-Some.givens file.file.items cert.cert.items (record {
+      both = record { content = file.ensures.reads.0; first = file.ensures.opens; faultless = file.ensures.cause; keeps = file.ensures.keeps; next = cert.ensures.opens };
+      cert_content = cert.ensures.reads.0;
+      faultless = cert.ensures.cause;
+      keeps = cert.ensures.keeps;
+      next = givens.ensures.opens;
+    }) c.args.task.now task.givens task.background task.is c.in-Some.is _ givens.givens.items c.deref-in-Check.result.now c.deref-in-Check-2.result.now c.deref-in-Check-3.result.now
+    c.run_check_published.result givens.ensures.reads.0 givens.ensures.cause c.deref-in-Check.ensures.value c.deref-in-Check-2.ensures.value c.deref-in-Check-3.ensures.value e.writes e.only e.unique

@@ -1,0 +1,103 @@
+#!/usr/bin/env python3
+"""Sees that the code answers `out of memory` only where a growth was refused.
+
+Usage: .ci/memory.py [-v]: with -v it also prints how many places of each kind there are.
+
+No clause can say of the system's allocator when it refuses. So this is a matter of the text. Each `AllocError` and each variant
+`Memory` in `crates/*/src` that is made must come from a call that grows memory: by `?`, whose conversion is an `impl From`; by
+`map_err` after a call of GROWING, in one line; or by an arm whose pattern is such an error. At most ten other lines are allowed.
+Each has an entry in OTHERS, with its reason, which stands for all lines of that file that read so. An entry that is not found any
+more is an error too. The crate of tests `refused` is not read.
+"""
+import pathlib
+import re
+import sys
+
+ROOT = pathlib.Path(__file__).resolve().parent.parent
+TESTS = {'refused'}
+MOST = 6
+# Calls whose only error is that memory ran out, or, for `add`, `set` and `start` of a palette and for what writes into a `Vec`,
+# whose other errors their callers rule out.
+GROWING = 'add|non_text_of|push|set|start|write_cert|write_ppm'
+# A file of crates/*/src, a line of it, and why that line makes the error although no pattern of it names one.
+OTHERS = [
+    ('command_line/src/words.rt', 'return Err(ProgramFault::Memory);', 'the error of the parser says that memory ran out'),
+    ('live_audit/src/bench.rt', 'return Err(AllocError);', 'the only error of `audit_anew` is that memory ran out'),
+    ('live_audit/src/bench.rt', 'return Err(EditFault::Memory);', 'the only error of `audit_again` is that memory ran out'),
+    ('picture/src/palette.rt', 'Err(AllocError)', 'the line before it is proved: the error says that memory ran out'),
+    ('web/src/desk.rt', 'let handle = self.given.checked_add(1).ok_or(ProgramFault::Memory)?;',
+     'all 4,294,967,295 handles were given: docs/DECISIONS.md tells it'),
+    ('web/src/desk.rt', 'Err(_) => return Err(ProgramFault::Memory),', 'the only error of a push is that memory ran out'),
+]
+MADE = re.compile(r'\bAllocError\b|\b[A-Z]\w*::Memory\b')
+# What names the error as a type, or compares with it.
+NAMED = re.compile(r'matches!\([^()]*\)|<[^{};=]*\bAllocError\b[^{};=]*>|\w+: AllocError\b|== [A-Z]\w*::Memory\b')
+MAPPED = re.compile(rf'\b(?:{GROWING})\([^()]*\)\.map_err\(\|_\w*\| (?:AllocError|[A-Z]\w*::Memory)\)')
+PASSED = re.compile(r'\bAllocError\b|\bMemory\b|\bOutOfMemory\b')
+
+
+def bare(text):
+    """A source text without comments, texts, ghost items and clauses, line for line."""
+    text = re.sub(r'//[^\n]*', '', text)
+    text = re.sub(r'b?"(?:[^"\\]|\\.)*"', '""', text)
+    text = re.sub(r'\bghost\b[^;{]*(?:;|\{[^{}]*(?:\{[^{}]*\}[^{}]*)*\})', blank, text)
+    return re.sub(r'\b(?:requires|ensures)\b\*?[^{;]*\{[^{}]*(?:\{[^{}]*\}[^{}]*)*\}', blank, text)
+
+
+def blank(found):
+    """As many empty lines as what was found has."""
+    return '\n' * found[0].count('\n')
+
+
+def conversions(text):
+    """The lines of a text that stand in an `impl From`, which `?` calls."""
+    inside = set()
+    for found in re.finditer(r'^impl(?:<[^{}]*>)? From<[^{]*\{.*?^\}', text, re.M | re.S):
+        first = text.count('\n', 0, found.start())
+        inside.update(range(first, first + found[0].count('\n') + 1))
+    return inside
+
+
+def kind_of(line):
+    """How a line makes the error: by `map_err`, by an arm that passes it on, in another way, or not at all."""
+    pattern, _, value = line.rpartition('=>')
+    mapped = MAPPED.sub('', value)
+    if not MADE.search(NAMED.sub('', mapped)) or re.match(r'\s*(?:pub(?:\(crate\))? )?use\b', line):
+        return 'map_err' if mapped != value else None
+    return 'arm' if PASSED.search(pattern) else 'other'
+
+
+def places():
+    """Each place where the error is made: its file, its line and its kind."""
+    for crate in sorted((ROOT / 'crates').iterdir()):
+        for file in sorted((crate / 'src').rglob('*.rt')) if crate.name not in TESTS else []:
+            source = file.read_text(encoding='utf-8')
+            text = bare(source)
+            inside = conversions(text)
+            for number, line in enumerate(text.split('\n')):
+                kind = kind_of(line)
+                if kind:
+                    at = file.relative_to(ROOT / 'crates').as_posix()
+                    yield at, number + 1, source.split('\n')[number].strip(), 'from' if number in inside else kind
+
+
+def main():
+    """Prints each place that is not allowed, and each line of OTHERS that is not there."""
+    counts, faults, found = {}, [], set()
+    allowed = {(file, line) for file, line, _ in OTHERS}
+    for file, number, line, kind in places():
+        counts[kind] = counts.get(kind, 0) + 1
+        found.add((file, line) if kind == 'other' else None)
+        if kind == 'other' and (file, line) not in allowed:
+            faults.append(f'crates/{file}:{number}: out of memory, though no growth was refused: {line}')
+    faults += [f'OTHERS: {file} has no line {line}' for file, line in sorted(allowed - found)]
+    if len(OTHERS) > MOST:
+        faults.append(f'OTHERS: {len(OTHERS)} places, and {MOST} are allowed')
+    print('\n'.join(faults) or f'out of memory is answered where a growth was refused, and in {len(OTHERS)} other places')
+    if '-v' in sys.argv[1:]:
+        print(', '.join(f'{kind}: {count}' for kind, count in sorted(counts.items())))
+    return 1 if faults else 0
+
+
+if __name__ == '__main__':
+    sys.exit(main())

@@ -1,0 +1,263 @@
+"""What all tests share: which programs they try, what waits or is left out, and what is said of that in the end.
+
+Where `rt ci` left a program, that is tried; with --released, or where there is none, the release in dist/ is. Then tests that are
+marked `since` a later version wait, if the engine has changed since that release.
+"""
+
+import collections
+import importlib.util
+import os
+import shutil
+import sys
+import tempfile
+from pathlib import Path
+
+import pytest
+
+sys.dont_write_bytecode = True
+os.environ['PYTHONDONTWRITEBYTECODE'] = '1'
+sys.path.insert(0, str(Path(__file__).resolve().parent / 'tests'))
+
+import tried  # noqa: E402
+
+# What takes long: `make check` leaves it to `make check-all`.
+LONG = ('all', 'browser')
+# The libraries that some files of tests want: names of modules, and what they are called.
+WANTED = {
+    'test_audit': {'PIL': 'Pillow', 'defusedxml': 'defusedxml', 'jinja2': 'Jinja2'},
+    'test_images': {'PIL': 'Pillow'},
+    'test_audit_cluster': {'distributed': 'distributed'},
+    'test_app': {'flask': 'Flask'},
+    'test_serving': {'flask': 'Flask', 'waitress': 'waitress'},
+}
+KEPT = pytest.StashKey()
+
+
+def pytest_addoption(parser):
+    parser.addoption('--released', action='store_true', help='tries the release in dist/, also where rt ci left programs')
+    parser.addoption('--with', action='append', default=[], choices=LONG, help='runs the tests with this mark, too')
+    parser.addoption('--counts', metavar='FILE', help='writes there how many tests passed and failed, and what was left out')
+
+
+def pytest_configure(config):
+    """Chooses what is tried. The first process unpacks the release, and the others find it by the variable SCRATCH."""
+    left = tried.Left()
+    if not config.getoption('released') and left.program('nonobench').exists():
+        config.stash[KEPT] = left
+    else:
+        is_first = 'PYTEST_XDIST_WORKER' not in os.environ
+        if is_first:
+            os.environ['SCRATCH'] = tempfile.mkdtemp(prefix='nonobench-tests-')
+        config.stash[KEPT] = tried.Release(Path(os.environ['SCRATCH']))
+        if is_first:
+            config.stash[KEPT].unpack()
+    kept = config.stash[KEPT]
+    os.environ.update(
+        NONOBENCH=str(kept.program('nonobench')), NONOBENCH_LIBRARY=str(kept.library), PYTHONPATH=str(tried.ROOT / 'python' / 'src')
+    )
+    os.environ.setdefault('SLACK', '12')  # a factor for the bounds of time, since many tests run at once
+    if kept.released and tried.changed_crates() != []:
+        os.environ['TRIED'] = kept.version  # tests/waits.mjs
+
+
+def pytest_unconfigure(config):
+    if 'PYTEST_XDIST_WORKER' not in os.environ and 'SCRATCH' in os.environ:
+        shutil.rmtree(os.environ.pop('SCRATCH'), ignore_errors=True)
+
+
+def pytest_report_header(config):
+    return f'tried: {config.stash[KEPT].name}'
+
+
+def unread(file, kept):
+    """Why a file of tests cannot be read here, or None: the library was not built, or Python lacks one."""
+    if not file.name.startswith('test_') or not {'python', 'site'} & set(file.parts):
+        return None
+    wanted = {module: name for stem, modules in WANTED.items() if file.stem.startswith(stem) for module, name in modules.items()}
+    missing = [name for module, name in wanted.items() if not importlib.util.find_spec(module)]
+    if not kept.library.exists():
+        missing.append('c/out/libnonobench.so, which c/build makes')
+    return f'there is no {missing[0]} for {file.name}' if missing else None
+
+
+def pytest_ignore_collect(collection_path, config):
+    return True if unread(collection_path, config.stash[KEPT]) else None
+
+
+def pytest_collection_modifyitems(config, items):
+    kept = config.stash[KEPT]
+    changed = tried.changed_crates() if kept.released else []
+    for item in items:
+        for mark in item.iter_markers('since'):
+            _wait(item, mark.args[0], kept, changed)
+        for name in set(LONG) - set(config.getoption('with')):
+            if item.get_closest_marker(name):
+                item.add_marker(pytest.mark.skip(reason=f'it takes long, and make check-all has it ({name})'))
+        if not kept.released and 'made' in item.fixturenames and 'program' not in item.fixturenames:
+            item.add_marker(pytest.mark.xdist_group('packages'))  # one process makes them and tries them, and the others go on
+        if kept.released and item.get_closest_marker('toolchain'):
+            item.add_marker(pytest.mark.skip(reason='it wants the toolchain, or what rt ci leaves'))
+
+
+def _wait(item, version, kept, changed):
+    """Lets a test of new words wait for the release that has them."""
+    if tried.as_numbers(version) > tried.as_numbers(tried.version_of_tree()):
+        raise pytest.UsageError(f'{item.nodeid}: since {version}, which is later than the version of the tree')
+    if kept.released and changed != [] and tried.as_numbers(version) > tried.as_numbers(kept.version):
+        item.add_marker(pytest.mark.skip(reason=f'it waits for the release {version}, which has its words'))
+
+
+def pytest_terminal_summary(terminalreporter, config):
+    """Says what was left out, and writes the counts."""
+    if 'PYTEST_XDIST_WORKER' in os.environ:
+        return
+    stats = terminalreporter.stats
+    passed = len(stats.get('passed', ()))
+    failed = len(stats.get('failed', ())) + len(stats.get('error', ()))
+    reasons = collections.Counter(report.longrepr[2].removeprefix('Skipped: ') for report in stats.get('skipped', ()))
+    reasons.update(why for report in stats.get('passed', ()) for name, why in report.user_properties if name == 'left out')
+    files = [*tried.ROOT.glob('python/tests/*.py'), *tried.ROOT.glob('examples/site/*.py')]
+    reasons.update(why for why in (unread(file, config.stash[KEPT]) for file in files) if why)
+    lines = [f'{reason}: {count} {"test" if count == 1 else "tests"}' for reason, count in sorted(reasons.items())]
+    terminalreporter.write_line('left out in this run:' if lines else 'nothing was left out in this run')
+    for line in lines:
+        terminalreporter.write_line(f'    {line}')
+    if config.stash[KEPT].released:
+        changed = tried.changed_crates()
+        told = (
+            'nobody knows whether the engine has changed since'
+            if changed is None
+            else f'the engine has changed since in {len(changed)} crates'
+        )
+        terminalreporter.write_line(f'tried: {config.stash[KEPT].name}; {told}')
+    if config.getoption('counts'):
+        Path(config.getoption('counts')).write_text(''.join(f'{line}\n' for line in [f'{passed} {failed}', *lines]))
+
+
+def pytest_generate_tests(metafunc):
+    """Tests of the program are run with each program that there is."""
+    if 'program' in metafunc.fixturenames:
+        toolchain, whole = pytest.mark.toolchain, pytest.mark.all
+        programs = {'nonobench': (), 'nonobench.by-rattle': (toolchain,), 'npm': (whole,), 'archive': (whole, toolchain)}
+        metafunc.parametrize(
+            'program',
+            [pytest.param(name, marks=marks, id=name) for name, marks in programs.items()],
+            indirect=True,
+            scope='session',
+        )
+
+
+@pytest.fixture(scope='session')
+def program(request, kept, shared):
+    """A program: of this machine, or of the packages."""
+    name = request.param
+    if name == 'npm':
+        return tried.Program(request.getfixturevalue('javascript'), in_node=True)
+    if name == 'archive':
+        return tried.Program(request.getfixturevalue('installed') / 'bin' / 'nonobench')
+    return tried.Program(kept.program(name))
+
+
+@pytest.fixture(scope='session')
+def kept(pytestconfig):
+    """What is tried."""
+    return pytestconfig.stash[KEPT]
+
+
+@pytest.fixture(scope='session')
+def shared(tmp_path_factory):
+    """A folder that all processes of a run share."""
+    base = tmp_path_factory.getbasetemp()
+    return base.parent if 'PYTEST_XDIST_WORKER' in os.environ else base
+
+
+@pytest.fixture(scope='session')
+def module(kept):
+    """The module of WebAssembly."""
+    return tried.needs_file(kept.module, 'web/build')
+
+
+@pytest.fixture(scope='session')
+def library(kept):
+    """The library for C and Python."""
+    return tried.needs_file(kept.library, 'c/build')
+
+
+@pytest.fixture(scope='session')
+def page(kept, shared):
+    """The page as one file: built, or joined of the scripts of this tree around the module of the release."""
+    if not kept.released:
+        return tried.needs_file(kept.page, 'web/build')
+    tried.needs('node', 'esbuild')
+
+    def join(folder):
+        shutil.copy(kept.module, folder)
+        run = tried.ended(['node', tried.ROOT / 'web' / 'join.mjs', tried.ROOT, folder])
+        return run.said.decode() if run.status else ''
+
+    return tried.once(shared / 'page', join) / 'nonobench.html'
+
+
+def made_by(*words, **env):
+    """Runs what makes something; why it failed, or an empty text."""
+    run = tried.ended(words, cwd=tried.ROOT, env={**os.environ, **env})
+    return (run.wrote + run.said).decode()[-4000:] if run.status else ''
+
+
+@pytest.fixture(scope='session')
+def made(kept, shared):
+    """The folder of the packages: made of what rt ci left, or dist/."""
+    if kept.released:
+        return tried.ROOT / 'dist'
+    return tried.once(shared / 'made', lambda folder: made_by(tried.ROOT / 'release', folder, OBJECT=str(shared / 'nonobench.o')))
+
+
+def lay_scripts(package):
+    """Puts the scripts of this tree into an installed package of the release."""
+    for file in [*tried.ROOT.glob('packages/npm/*.mjs'), tried.ROOT / 'packages/npm/index.d.mts', tried.ROOT / 'web/nonobench.mjs']:
+        if file.name != 'test.mjs':
+            shutil.copy(file, package)
+    shutil.copy(tried.ROOT / 'web/nonobench.d.ts', package / 'nonobench.d.mts')
+
+
+@pytest.fixture(scope='session')
+def npm(made, kept, shared):
+    """A folder in which the package for npm is installed; that of a release has the scripts of this tree."""
+    tried.needs('node')
+    package = next(made.glob('nonobench-*.tgz'))
+
+    def install(folder):
+        modules = folder / 'node_modules'
+        if shutil.which('npm'):
+            run = tried.clean(['npm', 'install', '--silent', '--no-audit', '--no-fund', package], cwd=folder)
+            why = run.said.decode() if run.status else ''
+        else:
+            (modules / '.bin').mkdir(parents=True)
+            (modules / '.bin' / 'nonobench').symlink_to('../nonobench/program.mjs')
+            why = made_by('tar', 'xzf', package, '-C', modules) or made_by('mv', modules / 'package', modules / 'nonobench')
+        if kept.released and not why:
+            lay_scripts(modules / 'nonobench')
+        return why
+
+    return tried.once(shared / 'npm', install)
+
+
+@pytest.fixture(scope='session')
+def javascript(npm):
+    """The program in JavaScript."""
+    return npm / 'node_modules' / 'nonobench' / 'program.mjs'
+
+
+@pytest.fixture(scope='session')
+def installed(made, shared):
+    """Where the archive for Linux is installed, by its own command."""
+
+    def install(folder):
+        package = next(made.glob('nonobench-*-linux-x86_64.tar.gz'))
+        why = made_by('tar', 'xzf', package, '-C', folder)
+        [unpacked] = folder.iterdir()
+        run = tried.clean([unpacked / 'install', '--prefix', shared / 'installed'])
+        return why or (run.said.decode() if run.status else '')
+
+    tried.once(shared / 'archive', install)
+    return shared / 'installed'

@@ -1,0 +1,96 @@
+-- Lines that are settled: when they are, and while they stay so.
+use Rattle.std.proofs.Common.{◌≡◌, ℕ, List, ◌∷◌, map, slice_index, IsBitSet, refl, sym, ap, subst, ◌∙◌, inl, inr}
+use Rattle.picture.specs.declared.line_id.Axis.{Axis}
+use Rattle.picture.specs.declared.line_id.Axis.TheVariants.{Across, Down}
+use Rattle.picture.specs.declared.line_id.LineId.{LineId}
+use Rattle.picture.specs.LineSet.{Lines, PutsName, TakesOutName}
+use Rattle.picture.specs.Rows.{line_of, with_cell, Rows}
+use Rattle.clues.specs.declared.block.Block.{Block}
+use Rattle.clues.specs.ClueBook.{Clues, clue_at, clues_of}
+use Rattle.line_facts.specs.declared.line_engine.Outcome.{Outcome}
+use Rattle.line_facts.specs.Fits.{CanHave}
+use Rattle.line_facts.specs.FactSets.{HoldsLine, IsClosedLine, SameShape, col_on, row_on}
+use Rattle.line_facts.specs.Masks.{Masks}
+use Rattle.line_facts.specs.NarrowedLine.{Narrows}
+use Rattle.line_facts.proofs.FitLaws.{have_narrowed}
+use Rattle.line_facts.proofs.GridLaws.{cell_on, off_with_cell, same_line_length, same_list, shape_refl, shape_trans, shape_with_cell}
+use Rattle.trail.specs.Through.{across, down}
+use Rattle.cert_check.specs.Boards.{AreSettled, Boarded, IsTallied, boarded}
+use Rattle.cert_check.specs.Puzzle.{IsForced}
+use Rattle.cert_check.specs.Strays.{strays_of}
+use Rattle.cert_check.specs.Walk.{CanCheck}
+
+-- a settled line forces what is known
+pub settled_forces : (picture : Rows) (facts : Masks) (line : LineId) → IsClosedLine (clue_at (clues_of picture) line) (line_of facts line) → IsForced picture facts line facts
+settled_forces picture facts line closed = record {
+  same_shape = shape_refl facts;
+  exact = λ i k. (closed i k, has i k);
+  elsewhere = λ row col off. refl;
+}
+  where
+    has : (i k : ℕ) → CanHave (clue_at (clues_of picture) line) (line_of facts line) i k → IsBitSet (slice_index (line_of facts line) i) k
+    has i k h =
+        let P : ℕ → Type 0 = λ c. IsBitSet (slice_index (line_of facts line) i) c in
+        subst P h.has (h.fits.keeps i h.within)
+
+-- a line is settled by its evaluation
+pub settled_by : (picture : Rows) (old new : Masks) (clues : Clues) (longest : ℕ) (clue : List Block) (line : LineId) (outcome : Outcome) (masks : List ℕ) → CanCheck picture clues longest
+    → clue ≡ clue_at clues line → Narrows clue (line_of old line) outcome masks → HoldsLine line old new masks → IsClosedLine (clue_at (clues_of picture) line) (line_of new line)
+settled_by picture old new clues longest clue line outcome masks can c n h =
+    let of : clue ≡ clue_at (clues_of picture) line = c ∙ ap (λ (cs : Clues). clue_at cs line) can.clues_are in
+    let here = subst (λ (x : List Block). Narrows x (line_of old line) outcome (line_of new line)) of (subst (Narrows clue (line_of old line) outcome) (sym h.line_is) n) in
+    λ i k s. have_narrowed (clue_at (clues_of picture) line) (line_of old line) (line_of new line) outcome here i k ((here.exact i k).0 s)
+
+pub settled_more : (picture : Rows) (facts : Masks) (lines more : Lines) (line : LineId) → AreSettled picture facts lines → PutsName lines more line
+    → IsClosedLine (clue_at (clues_of picture) line) (line_of facts line) → AreSettled picture facts more
+settled_more picture facts lines more line settled puts closed = λ other has. elim ((puts other).0 has) [
+  | inl h ↦ settled other h
+  | inr e ↦ subst (λ (l : LineId). IsClosedLine (clue_at (clues_of picture) l) (line_of facts l)) (sym e) closed
+]
+
+-- ---- a cell changes: the lines that are not through it stay settled
+
+not_through : (axis : Axis) (at row col i : ℕ) → (record { axis = axis; at = at } ≡ across row → ⊥) → (record { axis = axis; at = at } ≡ down col → ⊥)
+    → (row_on axis at i ≡ row) × (col_on axis at i ≡ col) → ⊥
+not_through Across at row col i a d p = a (ap across p.0)
+not_through Down at row col i a d p = d (ap down p.1)
+
+pub same_line : (facts : Masks) (row col held : ℕ) (line : LineId) → (line ≡ across row → ⊥) → (line ≡ down col → ⊥) → line_of (with_cell facts row col held) line ≡ line_of facts line
+same_line facts row col held line a d =
+    same_list (line_of (with_cell facts row col held) line) (line_of facts line) (same_line_length facts (with_cell facts row col held) line (shape_with_cell facts row col held))
+    (λ i l. cell_on (with_cell facts row col held) line i
+    ∙ (off_with_cell facts row col held (row_on line.axis line.at i) (col_on line.axis line.at i) (not_through line.axis line.at row col i a d)
+    ∙ sym (cell_on facts line i)))
+
+pub still_settled : (picture : Rows) (facts : Masks) (row col held : ℕ) (lines fewer least : Lines) → AreSettled picture facts lines → TakesOutName lines fewer (across row)
+    → TakesOutName fewer least (down col) → AreSettled picture (with_cell facts row col held) least
+still_settled picture facts row col held lines fewer least settled rows columns = λ line has.
+    let one = (columns line).0 has in
+    let both = (rows line).0 one.0 in
+    subst (IsClosedLine (clue_at (clues_of picture) line)) (sym (same_line facts row col held line both.1 one.1)) (settled line both.0)
+
+-- ---- the numbers of a board, and its lines
+
+-- a cell is held
+pub held_tallied : (picture : Rows) (board : Boarded) (at_hand : Masks) (behind : List (List (List ℕ))) (strays : ℕ) (waits : List ℕ) (fewer least : Lines) (row col held : ℕ)
+    → IsTallied picture board → at_hand ≡ with_cell board.at_hand row col held → behind ≡ board.behind → waits ≡ board.waits → strays ≡ strays_of picture (with_cell board.at_hand row col held)
+    → TakesOutName board.settled fewer (across row) → TakesOutName fewer least (down col) → IsTallied picture (boarded at_hand behind strays waits least)
+held_tallied picture board at_hand behind strays waits fewer least row col held tallied a b w s rows columns = record {
+  same_shape = subst (SameShape picture) (sym a) (shape_trans tallied.same_shape (shape_with_cell board.at_hand row col held));
+  strays = s ∙ ap (strays_of picture) (sym a);
+  waits = w ∙ (tallied.waits ∙ ap (map (strays_of picture)) (sym b));
+  settled = subst (λ (f : Masks). AreSettled picture f least) (sym a) (still_settled picture board.at_hand row col held board.settled fewer least tallied.settled rows columns);
+}
+
+-- the facts at hand wait too
+pub kept_tallied : (picture : Rows) (board : Boarded) (at_hand : Masks) (behind : List (List (List ℕ))) (strays : ℕ) (waits : List ℕ) (settled : Lines)
+    → IsTallied picture board → at_hand ≡ board.at_hand → behind ≡ board.at_hand ∷ board.behind → strays ≡ board.strays → waits ≡ board.strays ∷ board.waits → settled ≡ board.settled
+    → IsTallied picture (boarded at_hand behind strays waits settled)
+kept_tallied picture board at_hand behind strays waits settled tallied a b s w e = record {
+  same_shape = subst (SameShape picture) (sym a) tallied.same_shape;
+  strays = s ∙ (tallied.strays ∙ ap (strays_of picture) (sym a));
+  waits = w
+      ∙ (ap (λ (n : ℕ). n ∷ board.waits) tallied.strays
+      ∙ (ap (λ (ns : List ℕ). strays_of picture board.at_hand ∷ ns) tallied.waits ∙ ap (map (strays_of picture)) (sym b)));
+  settled = rw (a, e) tallied.settled;
+}

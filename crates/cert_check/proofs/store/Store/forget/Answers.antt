@@ -1,0 +1,30 @@
+use Rattle.std.proofs.Common.{◌≡◌, ℕ, set, drop, ap, ◌∙◌, None, false}
+use Rattle.std.proofs.lemmas.List.{map-set}
+use Rattle.cert_check.specs.declared.span.Span.{Span}
+use Rattle.cert_check.specs.Lemmas.{IsKept, Lemmas}
+use Rattle.cert_check.specs.Stores.{Stored, lemma_in, lemmas_in, stored}
+use Rattle.cert_check.proofs.StoreLemmas.{dropped_store, kept_there}
+use Rattle.cert_check.proofs.store.Store.forget.Goals as goal
+
+pub invariant_of-self : goal.invariant_of-self
+invariant_of-self c =
+    let inside = c.self.inside in
+    let lemmas : lemmas_in inside.literals.items inside.lemmas.items ≡ c.args.self.now.lemmas = ap {B = Lemmas} (λ (s : Stored). s.lemmas) c.self.view_is in
+    let kept : IsKept (lemmas_in inside.literals.items inside.lemmas.items) c.args.number = rw lemmas c.requires in
+    let there = kept_there inside.literals.items inside.lemmas.items c.args.number kept in
+    let one = rw c.from-at.ensures at c.index.ensures in
+    rw (c.from-at.ensures, c.from.ensures)
+    (dropped_store inside.literals.items inside.lemmas.items inside.newest inside.count c.args.number _ _ c.index.result.now c.self.invariant kept there (ap {B = ℕ} (λ (s : Span). s.len) one)
+    (ap {B = ℕ} (λ (s : Span). s.start) one))
+
+pub returns : goal.returns
+returns c =
+    let inside = c.self.inside in
+    let n = c.args.number in
+    rw c.from-at.ensures
+    (ap (λ (lemmas : Lemmas). stored lemmas (drop inside.newest inside.literals.items)) (map-set (lemma_in inside.literals.items) inside.lemmas.items n (record {
+      start = c.index.result.now.start;
+      len = c.index.result.now.len;
+      kept = false;
+    }))
+    ∙ ap (λ (s : Stored). stored (set s.lemmas n None) s.denied) c.self.view_is)

@@ -1,0 +1,67 @@
+//! Which colours of literals are left by facts.
+
+ghost use Rattle.std.specs.Prelude.{◌≡◌, ◌-◌, ◌<◌, ◌≤◌, ◌+◌, length, MatchOption};
+ghost use Rattle.picture.specs.Rows.{width_of};
+ghost use Rattle.cert_check.specs.Lemmas.{cell_left, left_of, still_open};
+ghost use Rattle.cert_check.specs.Opening.{HasLeft, told_open};
+
+use crate::literal_engine::LiteralEngine;
+use cert_text::Literal;
+use line_facts::Facts;
+use trail::Cell;
+
+// How many of some literals have a colour left: none, one, or more.
+#[derive(Clone, Copy)]
+pub(crate) enum Open {
+    Nothing,
+    One(Literal),
+    More,
+}
+
+// The cell of a literal, if the facts have it; else no colour is left there.
+pub(crate) fn cell_of(facts: &Facts, literal: Literal) -> Option<Cell>
+    ensures { MatchOption
+        result
+        (cell_left facts.now literal ≡ 0)
+        (λ cell. (cell.row ≡ literal.cell.row - 1) × (cell.col ≡ literal.cell.col - 1)
+        × (cell.row < length facts.now) × (cell.col < width_of facts.now)) }
+{
+    let row = literal.cell.row.saturating_sub(1);
+    let col = literal.cell.col.saturating_sub(1);
+    if row >= u16::from(facts.height()) || col >= u16::from(facts.width()) {
+        return None;
+    }
+    Some(Cell {
+        row: row as u8,
+        col: col as u8,
+    })
+}
+
+// The colours of a literal that are left in its cell.
+pub(crate) fn left_of(facts: &Facts, literal: Literal) -> u16
+    ensures { result ≡ left_of facts.now literal }
+{
+    match cell_of(facts, literal) {
+        Some(cell) => facts.left(cell.row, cell.col) & literal.colours,
+        None => 0,
+    }
+}
+
+// Which literals have a colour left.
+pub(crate) fn open_in<L: LiteralEngine>(reader: &mut L, facts: &Facts, literals: &[Literal]) -> Open
+    ensures told { result ≡ told_open (still_open facts.now literals.now) }
+    ensures left { HasLeft facts.now result }
+    ensures looks { L.looks reader.new ≤ L.looks reader.old + length literals.now }
+{
+    let mut found = Open::Nothing;
+    for i in 0..literals.len() {
+        let literal = literals[i];
+        if reader.left_of(facts, literal) != 0 {
+            match found {
+                Open::Nothing => found = Open::One(literal),
+                Open::One(_) | Open::More => return Open::More,
+            }
+        }
+    }
+    found
+}

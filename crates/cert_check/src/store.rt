@@ -1,0 +1,118 @@
+//! The lemmas of a certificate by their numbers, and the literals of the one that is being proved.
+
+ghost use Rattle.std.specs.Prelude.{◌≡◌, ◌+◌, ◌<◌, ◌≤◌, ◌∷◌, ◌++◌, ◌↔◌, [], length, set, IfOk, OnOk, IsTrue, MatchOption, None, Some};
+ghost use Rattle.cert_check.specs.Lemmas.{IsKept, lemma_at, no_lemmas, total};
+ghost use Rattle.cert_check.specs.Stores.{stored};
+
+use crate::span::Span;
+use cert_text::{Literal, MAX_LEMMA_LITERALS, MAX_LITERALS};
+use std::alloc::{AllocError, Global};
+use std::marker::Model;
+
+// The literals of all lemmas, one after the other, those of the lemma that is being proved last. What is dropped stays in the
+// list, which is never longer than the certificate.
+#[derive(Drop)]
+pub(crate) struct Store {
+    literals: Vec<Literal>,
+    lemmas: Vec<Span>,
+    // Where the literals of the lemma that is being proved begin.
+    newest: usize,
+    // How many literals the lemmas have that are kept, with the one that is being proved.
+    count: usize,
+}
+
+impl Model for Store {
+    ghost use Rattle.std.specs.Prelude.{drop};
+    ghost use Rattle.cert_check.specs.Stores.{IsStore, Stored, lemmas_in, stored};
+
+    ghost Value = { Stored };
+
+    ghost view = { λ s. stored (lemmas_in s.literals.items s.lemmas.items) (drop s.newest s.literals.items) };
+
+    ghost invariant = { λ s. IsStore s.literals.items s.lemmas.items s.newest s.count };
+}
+
+impl Store {
+    // No lemma is kept: number 0 is none.
+    pub(crate) fn new(alloc: Global) -> Result<Store, AllocError>
+        ensures { IfOk result (λ s. s ≡ stored no_lemmas []) }
+    {
+        let mut lemmas = Vec::new(alloc);
+        lemmas.push(Span {
+            start: 0,
+            len: 0,
+            kept: false,
+        })?;
+        Ok(Store {
+            literals: Vec::new(alloc),
+            lemmas,
+            newest: 0,
+            count: 0,
+        })
+    }
+
+    // The literals of the lemma with a number, where it is kept.
+    pub(crate) fn kept(&self, number: u16) -> Option<&[Literal]>
+        ensures { MatchOption
+            result
+            (lemma_at self.now.lemmas number ≡ None)
+            (λ literals. (lemma_at self.now.lemmas number ≡ Some literals.now)
+            × (length literals.now ≤ MAX_LEMMA_LITERALS)) }
+    {
+        let span = self.lemmas.get(usize::from(number))?;
+        if !span.kept {
+            return None;
+        }
+        Some(&self.literals[span.start..span.start + usize::from(span.len)])
+    }
+
+    // Whether the lemma that is being proved may get a literal more.
+    pub(crate) fn has_room(&self) -> bool
+        ensures { IsTrue result ↔ ((length self.now.denied < MAX_LEMMA_LITERALS)
+            × (total self.now.lemmas + length self.now.denied < MAX_LITERALS)) }
+    {
+        self.literals.len() - self.newest < MAX_LEMMA_LITERALS && self.count < MAX_LITERALS
+    }
+
+    // Adds a literal to the lemma that is being proved.
+    pub(crate) fn deny(&mut self, literal: Literal) -> Result<(), AllocError>
+        requires short { length self.old.denied < MAX_LEMMA_LITERALS }
+        requires few { total self.old.lemmas + length self.old.denied < MAX_LITERALS }
+        ensures { OnOk result
+            (self.new ≡ stored self.old.lemmas (self.old.denied ++ literal ∷ [])) }
+    {
+        self.literals.push(literal)?;
+        self.count += 1;
+        Ok(())
+    }
+
+    // Keeps the lemma that was being proved.
+    pub(crate) fn keep(&mut self) -> Result<(), AllocError>
+        ensures { OnOk result
+            (self.new ≡ stored (self.old.lemmas ++ Some self.old.denied ∷ []) []) }
+    {
+        let end = self.literals.as_slice().len();
+        self.lemmas.push(Span {
+            start: self.newest,
+            len: (end - self.newest) as u16,
+            kept: true,
+        })?;
+        self.newest = end;
+        Ok(())
+    }
+
+    // Keeps the lemma with a number no longer.
+    pub(crate) fn forget(&mut self, number: u16)
+        requires { IsKept self.old.lemmas number }
+        ensures { self.new ≡ stored (set self.old.lemmas number None) self.old.denied }
+    {
+        let at = usize::from(number);
+        let Span { start, len, .. } = self.lemmas[at];
+        self.count -= usize::from(len);
+        self.lemmas[at] = Span {
+            start,
+            len,
+            kept: false,
+        };
+    }
+}

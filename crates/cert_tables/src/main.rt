@@ -1,0 +1,80 @@
+//! A program for tests and for measuring: it checks certificates of every form. Each line of standard input names the files of a P3
+//! picture, of a certificate and, if its givens are to be compared, of the givens that are published, with single spaces between
+//! them. What the checker answers is printed.
+#![tactic(auto)]
+
+use anyhow::Result;
+use cert_check::{check_cert, check_published};
+use cert_text::{CertFault, read_cert};
+use givens_text::published_cells;
+use line_settle::MaskEngine;
+use picture::{CellSet, MAX_SIDE, Picture};
+use ppm_text::read_ppm;
+use std::alloc::Global;
+use std::fs;
+use std::rt::Files;
+
+fn main(rt: HostRuntime) -> Result<()> {
+    for line in rt.lines(rt.alloc()) {
+        let line = line?;
+        if let Some((file, rest)) = line.as_str().split_once(' ') {
+            tell(&rt, file, rest)?;
+        }
+    }
+    Ok(())
+}
+
+// Checks the certificate in a file for the picture in another, and prints the answer. `rest` names the certificate and, behind a
+// space, the published givens.
+fn tell(rt: &(impl AllocGlobal + Print + Files), file: &str, rest: &str) -> Result<()> {
+    let text = fs::read(rt, file)?;
+    let document = match read_ppm(rt.alloc(), &text, None) {
+        Ok(document) => document,
+        Err(fault) => {
+            println!(rt; "ppm {}", fault.name())?;
+            return Ok(());
+        }
+    };
+    let picture = &document.picture;
+    match rest.split_once(' ') {
+        None => print_answer(rt, checked(rt.alloc(), picture, &fs::read(rt, rest)?, None)),
+        Some((cert, givens)) => {
+            let cert = fs::read(rt, cert)?;
+            let givens = fs::read(rt, givens)?;
+            match published_cells(&givens, picture.height(), picture.width()) {
+                Ok(cells) => print_answer(rt, checked(rt.alloc(), picture, &cert, Some(&cells))),
+                Err(fault) => Ok(println!(rt; "{fault}")?),
+            }
+        }
+    }
+}
+
+// Prints how many givens a certificate has that is accepted, or its first error.
+fn print_answer(rt: &impl Print, answer: Result<usize, CertFault>) -> Result<()> {
+    match answer {
+        Ok(0) => println!(rt; "accepted")?,
+        Ok(givens) => println!(rt; "accepted, givens {givens}")?,
+        Err(fault) => {
+            let line = fault.place().unwrap_or(0);
+            println!(rt; "{} at line {line}", fault.name())?;
+        }
+    }
+    Ok(())
+}
+
+// How many givens a certificate has, if it is accepted and names no other cells than those that are published.
+fn checked(
+    alloc: Global,
+    picture: &Picture,
+    text: &[u8],
+    published: Option<&CellSet>,
+) -> Result<usize, CertFault> {
+    let cert = read_cert(alloc, text)?;
+    let _ = picture.height();
+    let mut engine = MaskEngine::make(alloc, MAX_SIDE)?;
+    match published {
+        None => check_cert(alloc, &mut engine, picture, &cert)?,
+        Some(cells) => check_published(alloc, &mut engine, picture, &cert, cells)?,
+    }
+    Ok(cert.givens().len())
+}

@@ -1,0 +1,99 @@
+//! What runs of the program print, another run accepts.
+
+ghost use Rattle.std.specs.Process.{exit_status};
+ghost use Rattle.claims.specs.Runs.{IsRun, PairsAreAccepted, ProofsAreAccepted, asked_of};
+
+use program::{Files, run};
+use published::laws::{one_file_is_one_document, proofs_are_verified, started_prints_are_accepted};
+use std::alloc::Global;
+use std::process::ExitCode;
+
+/// A run of the program: its arguments, and the files that it is passed.
+#[derive(Drop)]
+pub struct Run<F: Files> {
+    pub arguments: Vec<String>,
+    pub files: F,
+}
+
+/// What a run wrote, and its exit status.
+#[derive(Drop)]
+pub struct Printed {
+    pub text: Vec<u8>,
+    pub code: ExitCode,
+}
+
+/// The whole program with this input, over any files: what it writes, and its exit status.
+pub fn run_with<F: Files + Drop>(alloc: Global, asked: Run<F>, input: &[u8]) -> Printed
+    ensures { IsRun (asked_of asked.arguments.items
+        (F.held asked.files) (F.opened asked.files) (F.faults asked.files))
+        input.now result.text.items (exit_status result.code) }
+{
+    let Run {
+        arguments,
+        mut files,
+    } = asked;
+    let mut left = input;
+    let mut text = Vec::new(alloc);
+    let mut errors = Vec::new(alloc);
+    let ended = run(
+        alloc,
+        Ok(arguments),
+        &mut files,
+        &mut left,
+        &mut text,
+        &mut errors,
+    );
+    Printed {
+        text,
+        code: ended.code,
+    }
+}
+
+/// Three runs: `write ppm` and `certify` as the inputs of two sessions on one P3 file, and a check. Where the check is asked of
+/// two files that hold what the sessions wrote, with the document's background, it accepts, unless memory runs out, a read or a
+/// write fails, or one of the files is longer than 16 MiB.
+pub fn run_prints_what_run_accepts<F: Files + Drop>(
+    alloc: Global,
+    writing: Run<F>,
+    certifying: Run<F>,
+    checking: Run<F>,
+) -> (Printed, Printed, Printed)
+    ensures { PairsAreAccepted
+        (asked_of writing.arguments.items
+        (F.held writing.files) (F.opened writing.files) (F.faults writing.files))
+        (asked_of certifying.arguments.items
+        (F.held certifying.files) (F.opened certifying.files) (F.faults certifying.files))
+        (asked_of checking.arguments.items
+        (F.held checking.files) (F.opened checking.files) (F.faults checking.files))
+        result.0.text.items result.1.text.items result.2.text.items
+        (exit_status result.0.code) (exit_status result.1.code) (exit_status result.2.code) }
+{
+    started_prints_are_accepted();
+    one_file_is_one_document();
+    let picture = run_with(alloc, writing, b"write ppm\n");
+    let cert = run_with(alloc, certifying, b"certify\n");
+    let check = run_with(alloc, checking, b"");
+    (picture, cert, check)
+}
+
+/// Two runs: `prove` makes a certificate for a P3 file, in either form, and `check` checks it. Where the second is asked of files
+/// that hold the picture and what the first wrote, with the same background, it accepts, unless memory runs out, a read or a
+/// write fails, or one of the files is longer than 16 MiB. What says `ambiguous` or `undecided` is no certificate.
+pub fn run_proves_what_run_accepts<F: Files + Drop>(
+    alloc: Global,
+    proving: Run<F>,
+    checking: Run<F>,
+) -> (Printed, Printed)
+    ensures { ProofsAreAccepted
+        (asked_of proving.arguments.items
+        (F.held proving.files) (F.opened proving.files) (F.faults proving.files))
+        (asked_of checking.arguments.items
+        (F.held checking.files) (F.opened checking.files) (F.faults checking.files))
+        result.0.text.items result.1.text.items
+        (exit_status result.0.code) (exit_status result.1.code) }
+{
+    proofs_are_verified();
+    let cert = run_with(alloc, proving, b"");
+    let check = run_with(alloc, checking, b"");
+    (cert, check)
+}

@@ -1,0 +1,56 @@
+//! The reader of a file of givens.
+
+ghost use Rattle.std.specs.Prelude.{◌≡◌, ◌+◌, ◌≤◌, ◌<◌, ◌^◌, length, false, true, IfOk, MatchOption};
+ghost use Rattle.givens_text.specs.Published.{AreInside, IsRead, cells_of, is_inside};
+
+use crate::fault::GivensFault;
+use cert_text::{CellNumber, first_line, given_in};
+use picture::{CellSet, MAX_SIDE};
+
+// The row and the column of a cell, from 0. None outside a picture of this height and width.
+fn cell_in(cell: CellNumber, height: u8, width: u8) -> Option<(u8, u8)>
+    ensures { MatchOption
+        result
+        (is_inside height width cell ≡ false)
+        (λ found. (is_inside height width cell ≡ true) × (found.0 + 1 ≡ cell.row) × (found.1 + 1 ≡ cell.col)) }
+{
+    if cell.row == 0 || cell.row > u16::from(height) {
+        return None;
+    }
+    if cell.col == 0 || cell.col > u16::from(width) {
+        return None;
+    }
+    Some(((cell.row - 1) as u8, (cell.col - 1) as u8))
+}
+
+#[tactic(auto, using(crate::proofs::PublishedLemmas::reading))]
+/// Reads a file of givens for a picture of this height and width: the set of the cells that are published.
+///
+/// Lines end with a line feed, which the last may lack. Each is `given R C`, with single spaces and numbers of one to
+/// three digits without leading zeros, counted from 1; in any order, none twice. An empty text has no givens. The first
+/// error from the top is returned. Nothing is allocated.
+pub fn published_cells(bytes: &[u8], height: u8, width: u8) -> Result<CellSet, GivensFault>
+    requires rows { height ≤ MAX_SIDE }
+    requires columns { width ≤ MAX_SIDE }
+    ensures read { IsRead (cells_of height width bytes.now) result }
+    ensures inside { IfOk result (λ set. AreInside height width set) }
+{
+    let mut cells = CellSet::empty();
+    let mut number = 1;
+    let mut rest = bytes;
+    while let Some((line, behind)) = first_line(rest) {
+        let Some(cell) = given_in(line) else {
+            return Err(GivensFault::BadLine(number));
+        };
+        let Some((row, col)) = cell_in(cell, height, width) else {
+            return Err(GivensFault::Place(number));
+        };
+        if cells.has(row, col) {
+            return Err(GivensFault::Repeated(number));
+        }
+        cells.put(row, col);
+        number += 1;
+        rest = behind;
+    }
+    Ok(cells)
+}

@@ -1,0 +1,9 @@
+pub mod FallLemmas
+pub mod PathLemmas
+pub mod Remaining
+pub mod RunLemmas
+pub mod SettleLemmas
+pub mod StartLaws
+pub mod StartLemmas
+pub mod TurnLemmas
+pub mod WalkLemmas

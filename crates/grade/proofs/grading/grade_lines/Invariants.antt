@@ -1,0 +1,23 @@
+use Rattle.std.proofs.Common.{◌≡◌, ◌+◌, ◌^◌, ◌≤◌, ◌<◌, List, length}
+use Rattle.line_facts.specs.Counts.{counted}
+use Rattle.fixpoint.specs.ClosedFacts.{AreClosable}
+use Rattle.grade.specs.Looks.{Look}
+use Rattle.grade.specs.Tallies.{Tallies}
+use Rattle.grade.specs.Walking.{CanWalk, Walks, remaining}
+use Rattle.grade.proofs.grading.grade_lines.Given as goal
+
+abbrev pub invariant-loop-seen : goal.invariant-loop-seen
+invariant-loop-seen g l = record {
+  can : CanWalk l.facts l.walk;
+  closable : AreClosable l.book (g.E.LineEngine.longest l.engine) l.facts;
+  looks : List Look;
+  walks : Walks l.book l.fn.facts looks l.facts l.walk;
+  tallies : Tallies looks l.tally;
+  few : l.tally.evaluations + remaining l.facts l.walk.due < 2 ^ 30;
+  since : l.tally.since_fall ≤ l.tally.evaluations;
+  called : g.E.LineEngine.calls l.engine ≡ counted (g.E.LineEngine.calls l.fn.engine) (length looks);
+  same_longest : g.E.LineEngine.longest l.engine ≡ g.E.LineEngine.longest l.fn.engine;
+}
+
+abbrev pub decreases-loop-seen : goal.decreases-loop-seen
+decreases-loop-seen g l = remaining l.facts l.walk.due

@@ -1,0 +1,43 @@
+use Rattle.std.proofs.Common.{List, [], ◌∷◌, ◌++◌, ◌∙◌, ap, arith, refl}
+use Rattle.grade.specs.Paths.{Made}
+use Rattle.grade.specs.Runs.{look_in}
+use Rattle.grade.proofs.PathLemmas.{goes_on, stays}
+use Rattle.grade.proofs.pathing.make_path.Goals as goal
+
+pub loop-seen-init : goal.loop-seen-init
+loop-seen-init g c = record {
+  can = c.start-walk.ensures.can;
+  closable = c.requires;
+  seen = [];
+  walks = c.start-walk.ensures.walks c.args.book.now;
+  path = c.new-looks.ensures.items;
+  same_longest = refl;
+}
+
+pub loop-seen-preserved-in_ok-push : goal.loop-seen-preserved-in_ok-push
+loop-seen-preserved-in_ok-push g c =
+    let i = c.loop-seen.invariant in
+    let seen = c.in-Some.ensures.looks c.args.facts i.seen i.walks in
+    record {
+      can = c.look.ensures.can;
+      closable = c.look.ensures.closable;
+      seen = look_in c.in-Some.seen.turn c.loop-seen.facts c.look.new.facts ∷ i.seen;
+      walks = seen.1;
+      path = c.in_ok-push.ensures.items
+          ∙ (ap (λ (looks : List Made). looks ++ c.in_ok-advance.field-0 ∷ []) i.path
+          ∙ goes_on c.in-Some.seen c.loop-seen.facts c.look.new.facts i.seen c.excluded.result seen.0 c.excluded.ensures c.if-excluded-ne0.true c.in_ok-advance.field-0 c.in_ok-advance.ensures);
+      same_longest = c.look.ensures.same_longest ∙ i.same_longest;
+    }
+
+pub loop-seen-preserved : goal.loop-seen-preserved
+loop-seen-preserved g c =
+    let i = c.loop-seen.invariant in
+    let seen = c.in-Some.ensures.looks c.args.facts i.seen i.walks in
+    record {
+      can = c.look.ensures.can;
+      closable = c.look.ensures.closable;
+      seen = look_in c.in-Some.seen.turn c.loop-seen.facts c.look.new.facts ∷ i.seen;
+      walks = seen.1;
+      path = i.path ∙ stays c.in-Some.seen c.loop-seen.facts c.look.new.facts i.seen c.excluded.result seen.0 c.excluded.ensures (omega (arith, c.if-excluded-ne0.false));
+      same_longest = c.look.ensures.same_longest ∙ i.same_longest;
+    }

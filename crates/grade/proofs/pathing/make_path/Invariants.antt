@@ -1,0 +1,19 @@
+use Rattle.std.proofs.Common.{◌≡◌, List}
+use Rattle.fixpoint.specs.ClosedFacts.{AreClosable}
+use Rattle.grade.specs.Looks.{Look}
+use Rattle.grade.specs.Paths.{path_of}
+use Rattle.grade.specs.Walking.{CanWalk, Walks, remaining}
+use Rattle.grade.proofs.pathing.make_path.Given as goal
+
+abbrev pub invariant-loop-seen : goal.invariant-loop-seen
+invariant-loop-seen g l = record {
+  can : CanWalk l.facts l.walk;
+  closable : AreClosable l.book (g.E.LineEngine.longest l.engine) l.facts;
+  seen : List Look;
+  walks : Walks l.book l.fn.facts seen l.facts l.walk;
+  path : l.looks.items ≡ path_of seen;
+  same_longest : g.E.LineEngine.longest l.engine ≡ g.E.LineEngine.longest l.fn.engine;
+}
+
+abbrev pub decreases-loop-seen : goal.decreases-loop-seen
+decreases-loop-seen g l = remaining l.facts l.walk.due

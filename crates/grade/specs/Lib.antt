@@ -1,0 +1,9 @@
+pub mod Figures
+pub mod Laws
+pub mod Looks
+pub mod Paths
+pub mod Runs
+pub mod Starts
+pub mod Tallies
+pub mod Walking
+pub mod Words

@@ -1,3 +1,0 @@
-pub mod FirstFault
-pub mod Opening
-pub mod Walk

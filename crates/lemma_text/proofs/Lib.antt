@@ -1,4 +1,0 @@
-pub mod LetterLemmas
-pub mod OrderLemmas
-pub mod ReadLemmas
-pub mod RoundTrip

@@ -1,0 +1,170 @@
+"""Tests of the example site as it is served: PYTHONPATH=python/src python3 examples/site/test_serving.py, with Flask and waitress.
+
+Each answer must come within 5 seconds, and all together may take no more of the processor. On a busy machine, the time that the
+server has waited for a processor comes on top of the clock's.
+"""
+
+import contextlib
+import http.client
+import importlib.util
+import os
+import random
+import socket
+import subprocess
+import sys
+import tempfile
+import threading
+import time
+import unittest
+import urllib.request
+from collections import Counter
+from pathlib import Path
+
+import nonobench
+
+HERE = Path(__file__).resolve().parent
+SECONDS = 5
+MOST_KIB = 512 << 10
+STARTING = 300  # seconds that anything may take on a busy machine
+EDGE = "nonobench-test-edge"
+
+
+def form(picture, certificate, padding=b""):
+    """An upload, as a browser sends it."""
+    parts = (("title", b"Some"), ('picture"; filename="x', picture + padding), ('certificate"; filename="y', certificate))
+    body = b"".join(b'--%s\r\nContent-Disposition: form-data; name="%s"\r\n\r\n%s\r\n' % (EDGE.encode(), name.encode(), text) for name, text in parts)
+    return body + b"--%s--\r\n" % EDGE.encode()
+
+
+def pairs(count):
+    """Small pictures of one solution each, with their certificates."""
+    source, made = random.Random(7), {}
+    while len(made) < count:
+        cells = [(0, 0, 0) if source.random() < 0.7 else (255, 255, 255) for _ in range(144)]
+        picture = nonobench.picture_of(12, 12, cells)
+        certificate = nonobench.certify(picture)
+        if certificate:
+            made[picture] = certificate
+    return list(made.items())
+
+
+def stat(pid):
+    """What the kernel tells of a process, from its state on; nothing of one that has ended."""
+    with contextlib.suppress(OSError):
+        return Path(f"/proc/{pid}/stat").read_text().rpartition(")")[2].split()
+    return ["", "0"]
+
+
+def family(pid):
+    """A process and its children."""
+    return [pid, *(int(folder.name) for folder in Path("/proc").glob("[0-9]*") if int(stat(folder.name)[1]) == pid)]
+
+
+def processor(pid):
+    """Seconds of the processor that a process and its children have taken, also those that have ended."""
+    ticks = sum(int(number) for one in family(pid) for number in stat(one)[11:15])
+    return ticks / os.sysconf("SC_CLK_TCK")
+
+
+def waited(pid):
+    """Seconds that the threads of a process and of its children have waited for a processor; 0 where the kernel does not tell."""
+    nanoseconds = 0
+    for one in family(pid):
+        for place in Path(f"/proc/{one}/task").glob("*/schedstat"):
+            with contextlib.suppress(OSError):
+                nanoseconds += int(place.read_text().split()[1])
+    return nanoseconds / 1e9
+
+
+def peak(pid):
+    """The most memory that a process has had, in KiB."""
+    return int(next(line.split()[1] for line in Path(f"/proc/{pid}/status").read_text().splitlines() if line.startswith("VmHWM")))
+
+
+@unittest.skipIf(importlib.util.find_spec("waitress") is None, "there is no waitress")
+class Serving(unittest.TestCase):
+    """The site, served by the command of its README."""
+
+    def setUp(self):
+        folder = tempfile.TemporaryDirectory()
+        self.addCleanup(folder.cleanup)
+        with socket.socket() as free:
+            free.bind(("127.0.0.1", 0))
+            self.port = free.getsockname()[1]
+        env = {**os.environ, "SITE_LISTEN": f"127.0.0.1:{self.port}", "SITE_DATABASE": os.path.join(folder.name, "puzzles")}
+        self.server = subprocess.Popen([sys.executable, str(HERE / "app.py")], env=env, stdout=subprocess.DEVNULL)
+        self.addCleanup(self.server.wait)
+        self.addCleanup(self.server.kill)
+        end = time.monotonic() + STARTING
+        while self.server.poll() is None and time.monotonic() < end:
+            try:
+                return self.listed()
+            except OSError:
+                time.sleep(0.1)
+        return self.fail("the site does not answer")
+
+    def listed(self):
+        """How many puzzles are listed."""
+        with urllib.request.urlopen(f"http://127.0.0.1:{self.port}/", timeout=STARTING) as answer:
+            return answer.read().count(b"<li ")
+
+    def bring(self, body):
+        """The status of an upload, and the seconds until it is answered."""
+        began = time.monotonic()
+        connection = http.client.HTTPConnection("127.0.0.1", self.port, timeout=STARTING)
+        connection.request("POST", "/puzzles", body, {"Content-Type": f"multipart/form-data; boundary={EDGE}"})
+        status = connection.getresponse().status
+        connection.close()
+        return status, time.monotonic() - began
+
+    def test_200_uploads_side_by_side(self):
+        made = pairs(100)
+        # Each puzzle twice, and some as long as an upload may be.
+        bodies = [form(*pair, b"#" * (1 << 20 if at % 20 == 0 else 0)) for at, pair in enumerate(made * 2)]
+        answers, start = [None] * len(bodies), threading.Barrier(len(bodies))
+        spent, idle = processor(self.server.pid), waited(self.server.pid)
+
+        def ask(at):
+            start.wait()
+            answers[at] = self.bring(bodies[at])
+
+        threads = [threading.Thread(target=ask, args=(at,)) for at in range(len(bodies))]
+        for thread in threads:
+            thread.start()
+        for thread in threads:
+            thread.join()
+        self.assertEqual(Counter(status for status, _ in answers), {303: 100, 409: 100})
+        for one, other in zip(answers, answers[100:]):
+            self.assertEqual({one[0], other[0]}, {303, 409})
+        self.assertEqual(self.listed(), 100)
+        self.assertLess(processor(self.server.pid) - spent, SECONDS)
+        self.assertLess(max(seconds for _, seconds in answers), SECONDS + waited(self.server.pid) - idle)
+        self.assertLess(sum(map(peak, family(self.server.pid))), MOST_KIB)
+
+    def test_slow_clients_hold_nobody_up(self):
+        slow = [socket.create_connection(("127.0.0.1", self.port)) for _ in range(300)]
+        for at, client in enumerate(slow):
+            client.sendall(b"POST /puzzles HTTP/1.1\r\nHost: x\r\nContent-Length: 1000000\r\n" + (b"\r\n" + b"x" * 400000) * (at % 2))
+        (pair,) = pairs(1)
+        idle = waited(self.server.pid)
+        status, seconds = self.bring(form(*pair))
+        for client in slow:
+            client.close()
+        self.assertEqual(status, 303)
+        self.assertLess(seconds, SECONDS + waited(self.server.pid) - idle)
+        # Less than a fifth of what they sent is held.
+        self.assertLess(sum(map(peak, family(self.server.pid))), 100 << 10)
+
+    def test_what_is_far_too_long_is_refused(self):
+        (pair,) = pairs(1)
+        self.assertEqual(self.bring(form(*pair, b"#" * (3 << 20)))[0], 413)
+        with socket.create_connection(("127.0.0.1", self.port), timeout=STARTING) as client:
+            client.sendall(b"POST /puzzles HTTP/1.1\r\nHost: x\r\nContent-Length: 100000000000\r\n\r\nabc")
+            self.assertIn(b" 413 ", client.recv(1 << 16).split(b"\r\n")[0])
+        with socket.create_connection(("127.0.0.1", self.port), timeout=STARTING) as client:
+            client.sendall(b"GET /puzzles/" + b"1" * 5000 + b" HTTP/1.0\r\n\r\n")
+            self.assertIn(b" 404 ", client.recv(1 << 16).split(b"\r\n")[0])
+
+
+if __name__ == "__main__":
+    unittest.main()

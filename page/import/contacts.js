@@ -1,0 +1,78 @@
+// A contact sheet of an image: puzzles of some sizes and numbers of colours, each with its verdict; one click takes one.
+
+import { make } from '../base/elements.js';
+import { sizeText } from '../base/words.js';
+import { MOST_CELLS } from '../document/limits.js';
+import { drawSmall } from '../draw/small.js';
+import { Judge } from '../engine/judging.js';
+import { verdictName } from '../grade/names.js';
+import { phrase } from '../texts/phrase.js';
+import { openDialog } from '../view/dialogs.js';
+import { coloursApart } from './proposing.js';
+
+const SIDES = [15, 20, 25, 30, 40]; // cells of the longer side
+const COUNTS = [2, 3, 4, 6, 8, 12]; // of colours with the background
+const SECONDS = 5; // for a verdict
+const TILE = 120; // pixels of the screen
+
+/** The sizes for a part of an image, its own one among them. */
+export function sizesFor({ width, height }, own) {
+  const longer = Math.max(width, height);
+  const sizes = SIDES.filter((side) => side <= MOST_CELLS).map((side) => [width, height].map((length) => Math.max(1, Math.round((length * side) / longer))));
+  const all = [...sizes, own].sort((one, other) => one[0] * one[1] - other[0] * other[1]);
+  return all.filter((size, at) => all.findIndex((one) => one.join() === size.join()) === at);
+}
+
+/** For a size the documents with some numbers of colours, of which no two look alike; each picture once. `docOf(size, colours)` makes one. */
+export function docsFor(size, docOf) {
+  const docs = new Map();
+  for (const count of COUNTS) {
+    const colours = coloursApart(count, (number) => docOf(size, number));
+    const doc = docOf(size, colours);
+    const key = [...doc.picture, ...doc.colours].join();
+    if (!docs.has(key)) docs.set(key, { size, colours, doc });
+  }
+  return [...docs.values()];
+}
+
+function tileOf({ doc }, take) {
+  const canvas = make('canvas', { 'aria-hidden': 'true' });
+  drawSmall(canvas, doc, TILE);
+  const verdict = make('span', { class: 'verdict' }, '…');
+  const text = phrase('import.sizeColours', { size: sizeText(doc), colours: doc.colours.length });
+  const element = make('button', { type: 'button', class: 'contact', onclick: take }, canvas, make('span', {}, text), verdict);
+  return { element, verdict };
+}
+
+/** Shows the sheet, filled size by size; gives `{ size, colours }` of what was taken, or null. */
+export async function contactSheet(sizes, docOf) {
+  const judge = new Judge({ seconds: SECONDS });
+  let taken = null;
+  const rows = make('div', { class: 'contacts' });
+  const chosen = openDialog({ title: phrase('import.contactSheet'), wide: true, content: rows, buttons: [{ name: phrase('view.close'), value: null, main: true }] });
+  const take = (one) => {
+    taken = one;
+    rows.closest('dialog').close();
+  };
+  const fill = async () => {
+    const tiles = [];
+    for (const size of sizes) {
+      const some = docsFor(size, docOf).map((one) => ({ ...one, ...tileOf(one, () => take(one)) }));
+      rows.append(make('div', { class: 'contact-row', role: 'group', 'aria-label': sizeText(some[0].doc) }, ...some.map(({ element }) => element)));
+      tiles.push(...some);
+      await new Promise((go) => setTimeout(go)); // so that each row is seen at once
+      if (judge.isEnded) return;
+    }
+    for (const { doc, verdict, element } of tiles) {
+      const found = await judge.judge(doc).catch(() => ({ word: 'undecided' }));
+      if (!found) return;
+      verdict.textContent = verdictName(found.word);
+      element.dataset.word = found.word;
+    }
+  };
+  const filled = fill();
+  await chosen;
+  judge.end();
+  await filled;
+  return taken;
+}

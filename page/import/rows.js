@@ -1,0 +1,84 @@
+// A row of the table of several files: a picture, or a file that none is read from, with what is known about it so far.
+
+import { make } from '../base/elements.js';
+import { sizeText } from '../base/words.js';
+import { nameOf } from '../document/colours.js';
+import { smallPicture } from '../draw/small.js';
+import { gradeName, gradePlace, verdictName, verdictPlace } from '../grade/names.js';
+import { faultText } from '../library/open.js';
+import { phrase } from '../texts/phrase.js';
+
+/** The heads of the table's columns. */
+export const HEADS = [phrase('view.name'), phrase('import.size'), phrase('view.colours'), phrase('import.verdict'), phrase('import.grade')];
+const THUMB = 40; // pixels of the screen
+
+// Under what a verdict holds: the size of a document, how many cells are given, and a background that is not white.
+function factsOf(doc) {
+  const [ground] = doc.colours;
+  const given = doc.givens.size ? phrase('import.given', { cells: doc.givens.size }) : '';
+  const isWhite = ground.every((sample) => sample === doc.maxval);
+  return [sizeText(doc), given, isWhite ? '' : phrase('export.background', { names: nameOf(ground, doc.maxval) })].filter(Boolean).join(', ');
+}
+
+// How many colours a document has, of more where the image had more.
+const countOf = ({ colours: { length }, all = 0 }) => (all > length ? phrase('import.ofAll', { count: length, all }) : String(length));
+
+/** A picture out of a file, with what is known about it so far. */
+export class Row {
+  constructor(name, doc, fault = '') {
+    this.name = name;
+    this.doc = doc;
+    this.fault = fault;
+    this.word = doc ? '…' : '';
+    this.repainted = 0; // cells
+    /** @type {any} */
+    this.grade = null;
+    this.element = make('tr', { tabindex: doc ? '0' : null, 'data-name': name });
+    this.show();
+  }
+
+  /** The texts of the table's columns, as a report has them too. */
+  get texts() {
+    const { doc, word, grade } = this;
+    const verdict = [verdictName(word), this.repainted ? phrase('import.cellsRepainted', { cells: this.repainted }) : ''].filter(Boolean).join(', ');
+    return doc ? [this.name, factsOf(doc), countOf(doc), verdict, grade ? gradeName(grade.word) : '–'] : [this.name, this.fault, '', '', ''];
+  }
+
+  /** What the table is sorted by, for each of its columns. A file that is not read comes last. */
+  get keys() {
+    const { doc, word, grade } = this;
+    return doc ? [this.name, doc.rows * doc.columns, doc.colours.length, verdictPlace(word), gradePlace(grade?.word)] : [this.name, Infinity, Infinity, Infinity, Infinity];
+  }
+
+  show() {
+    const { doc } = this;
+    const [name, size, ...others] = this.texts;
+    const cells = doc ? [make('td', {}, size), ...others.map((text) => make('td', {}, text))] : [make('td', { colspan: HEADS.length - 1, class: 'wrong' }, size)];
+    const picture = make('span', { class: 'thumb' }, ...(doc ? [smallPicture(doc, THUMB)] : []));
+    this.element.replaceChildren(make('th', { scope: 'row' }, picture, name), ...cells);
+  }
+
+  async judge(judge) {
+    const found = await judge.judge(this.doc).catch((fault) => ({ word: faultText(fault), grade: null }));
+    if (!found) return;
+    Object.assign(this, { word: found.word, grade: found.grade });
+    this.show();
+  }
+
+  /** Whether a repair is looked for. */
+  get isAmbiguous() {
+    return this.doc !== null && this.word === 'ambiguous';
+  }
+
+  async mend(mender, judge) {
+    const found = await mender.mend(this.doc);
+    if (!found) return false;
+    Object.assign(this, { doc: found.doc, repainted: found.cells, grade: null });
+    await this.judge(judge);
+    return true;
+  }
+
+  get facts() {
+    return { verdict: ['unique', 'ambiguous', 'undecided'].includes(this.word) ? this.word : null, grade: this.grade?.word ?? null };
+  }
+}

@@ -1,0 +1,43 @@
+// What runs for some time: a dialog that tells how far it is, with a button that stops it. What ends soon shows none.
+
+import { make } from '../base/elements.js';
+import { phrase } from '../texts/phrase.js';
+import { openDialog } from './dialogs.js';
+
+const AFTER = 400; // milliseconds until it is shown
+const REST = 50; // milliseconds of work until the browser may draw
+
+export class Progress {
+  isStopped = false;
+  isEnded = false;
+  rested = performance.now();
+
+  /** `stop` hears that the user stopped it. */
+  constructor(title, text, stop = () => {}) {
+    this.line = make('p', { role: 'status', class: 'progress' }, text);
+    this.timer = setTimeout(() => this.show(title, stop), AFTER);
+  }
+
+  async show(title, stop) {
+    await openDialog({ title, content: this.line, buttons: [{ name: phrase('view.stop'), value: null, main: true }] });
+    if (this.isEnded) return;
+    this.isStopped = true;
+    stop();
+  }
+
+  /** Tells how far it is; answers whether to go on. */
+  async goesOn(text) {
+    this.line.textContent = text;
+    if (performance.now() - this.rested > REST) {
+      await new Promise((go) => setTimeout(go));
+      this.rested = performance.now();
+    }
+    return !this.isStopped;
+  }
+
+  end() {
+    this.isEnded = true;
+    clearTimeout(this.timer);
+    this.line.closest('dialog')?.close();
+  }
+}

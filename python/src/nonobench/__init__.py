@@ -1,0 +1,82 @@
+"""Checks certificates of nonograms, and judges pictures.
+
+    result = nonobench.check(picture, certificate, published=[(1, 1)])   # raises CertificateFault or PictureFault
+    clues = nonobench.clues(picture)
+    verdict = nonobench.verdict(picture, allowance=1000)
+    certificate = nonobench.certify(picture)                             # None if the puzzle has several solutions
+    audit = nonobench.audit(picture, allowance=1000)                     # both, of one opened picture
+    certificate = nonobench.prove(picture).certificate                   # with lemmas: where others are too long
+
+A picture is the bytes of a plain PPM text (P3), of at most 120 by 120 cells in 16 colours with the background. The calls are
+those of libnonobench, which is proved (docs/PROMISES.md); this package passes bytes to it and reads the texts that it returns, and
+is tested. Each call makes a desk of its own, so several threads may call at once. After a program with threads has forked, the
+child must not call the library; use `Worker` there, which starts a new program. An answer may take long: `Worker` limits the time.
+
+`picture_of_image` reads other images, a cell for each pixel, as a browser shows them:
+
+    picture = nonobench.picture_of_image(data)                           # raises ImageFault
+"""
+
+from ._answers import (
+    Audit,
+    Block,
+    CertificateFault,
+    Clues,
+    Fault,
+    Given,
+    GivensFault,
+    ImageFault,
+    LengthFault,
+    PictureFault,
+    Proved,
+    Result,
+    Ruling,
+    UnpublishedGiven,
+    Verdict,
+)
+from ._calls import ANY_GIVEN, audit, certify, check, clues, picture_of, prove, verdict, verify
+from ._colours import colour_shown, colours_too_near
+from ._hints import hint_of
+from ._images import picture_of_image
+from ._library import version
+from .worker import Worker
+
+
+def __getattr__(name: str) -> str:
+    if name == "__version__":
+        return version()
+    raise AttributeError(f"module {__name__!r} has no attribute {name!r}")
+
+
+__all__ = [
+    "ANY_GIVEN",
+    "Audit",
+    "Block",
+    "CertificateFault",
+    "Clues",
+    "Fault",
+    "Given",
+    "GivensFault",
+    "ImageFault",
+    "LengthFault",
+    "PictureFault",
+    "Proved",
+    "Result",
+    "Ruling",
+    "UnpublishedGiven",
+    "Verdict",
+    "Worker",
+    "audit",
+    "certify",
+    "check",
+    "clues",
+    "colour_shown",
+    "colours_too_near",
+    "hint_of",
+    "picture_of",
+    "picture_of_image",
+    "prove",
+    "verdict",
+    "verify",
+    "version",
+]

@@ -1,0 +1,204 @@
+"""What the calls answer, and why they refuse."""
+
+from __future__ import annotations
+
+import enum
+import re
+from dataclasses import dataclass
+from typing import NamedTuple, Optional
+
+
+class Fault(Exception):
+    """A file is refused. `name` is the error's name in docs/FORMATS.md, and `text` what the program says after `nonobench: `."""
+
+    def __init__(self, name: str, place: int, text: str) -> None:
+        super().__init__(name, place, text)
+        self.name = name
+        self.text = text
+        self._place = place
+
+    def __str__(self) -> str:
+        return self.text
+
+
+class PictureFault(Fault):
+    """The picture is refused, at a byte that is counted from 0."""
+
+    @property
+    def byte(self) -> int:
+        """Where the fault is."""
+        return self._place
+
+
+class CertificateFault(Fault):
+    """The certificate is refused, at a line that is counted from 1."""
+
+    @property
+    def line(self) -> int:
+        """Where the fault is."""
+        return self._place
+
+
+class GivensFault(Fault):
+    """The cells that are published are refused, at one of them that is counted from 1."""
+
+    @property
+    def line(self) -> int:
+        """Where the fault is."""
+        return self._place
+
+
+class UnpublishedGiven(CertificateFault):
+    """The certificate names a given that is not published, at a line that is counted from 1. It proves the puzzle with that
+    given. `givens` has all givens that it names.
+    """
+
+    def __init__(self, line: int, givens: tuple[Given, ...]) -> None:
+        super().__init__("UnpublishedGiven", line, f"certificate UnpublishedGiven at line {line}")
+        self.args = (line, givens)
+        self.givens = givens
+
+
+class ImageFault(Fault):
+    """An image is refused. `name` is the reason, as docs/FORMATS.md has it."""
+
+    def __init__(self, name: str, text: str) -> None:
+        super().__init__(name, 0, text)
+        self.args = (name, text)
+
+
+class LengthFault(Fault):
+    """A picture, a certificate or a file of givens has more than 16,777,216 bytes."""
+
+
+_KINDS = {"ppm": PictureFault, "givens": GivensFault, "certificate": CertificateFault}
+
+
+def fault_of(text: str) -> Fault:
+    """The fault that a text tells."""
+    found = re.fullmatch(r"(ppm|givens|certificate) (\w+) at (?:byte|line) (\d+)", text)
+    return Fault(text, 0, text) if found is None else _KINDS[found[1]](found[2], int(found[3]), text)
+
+
+class Given(NamedTuple):
+    """A cell that is given, its row and column counted from 1."""
+
+    row: int
+    column: int
+
+
+@dataclass(frozen=True)
+class Result:
+    """A certificate was accepted: no other picture of that size has the clues, and these cells' colours."""
+
+    givens: tuple[Given, ...]
+
+    def __str__(self) -> str:
+        return f"certificate accepted, givens {len(self.givens)}\n" if self.givens else "certificate accepted\n"
+
+
+def givens_of(certificate: bytes) -> tuple[Given, ...]:
+    """The givens that a right certificate names: they stand directly below its first line."""
+    found = re.compile(rb"given (\d+) (\d+)(?:\n|\Z)")
+    givens, match = [], found.match(certificate, certificate.find(b"\n") + 1)
+    while match:
+        givens.append(Given(int(match[1]), int(match[2])))
+        match = found.match(certificate, match.end())
+    return tuple(givens)
+
+
+def result_of(text: str, certificate: bytes) -> Result:
+    """What was accepted, by the line that tells it."""
+    result = Result(givens_of(certificate))
+    if str(result) != text:
+        raise RuntimeError(f"the library names other givens: {text!r}")
+    return result
+
+
+class Block(NamedTuple):
+    """Cells side by side in one colour: how many, and the colour's letter."""
+
+    length: int
+    colour: str
+
+
+@dataclass(frozen=True)
+class Clues:
+    """The clues of each row from the top, and of each column from the left."""
+
+    rows: tuple[tuple[Block, ...], ...]
+    columns: tuple[tuple[Block, ...], ...]
+
+    def __str__(self) -> str:
+        """The lines that the program prints."""
+        return "".join(
+            f"{axis} {number}: {' '.join(f'{block.length}{block.colour}' for block in clue) or '0'}\n"
+            for axis, clues in (("r", self.rows), ("c", self.columns))
+            for number, clue in enumerate(clues, 1)
+        )
+
+
+def clues_of(text: str) -> Clues:
+    """The clues that a text tells."""
+    axes: dict[str, list[tuple[Block, ...]]] = {"r": [], "c": []}
+    for line in text.splitlines():
+        place, words = line.split(": ")
+        blocks = () if words == "0" else tuple(Block(int(word[:-1]), word[-1]) for word in words.split(" "))
+        axes[place[0]].append(blocks)
+    return Clues(tuple(axes["r"]), tuple(axes["c"]))
+
+
+class Ruling(enum.Enum):
+    """Whether another picture has the clues."""
+
+    UNIQUE = "unique"
+    AMBIGUOUS = "ambiguous"
+    UNDECIDED = "undecided"
+
+
+@dataclass(frozen=True)
+class Verdict:
+    """A verdict. `other` is another picture with the clues, its rows as letters, if the ruling is AMBIGUOUS."""
+
+    ruling: Ruling
+    other: Optional[tuple[str, ...]] = None
+
+
+@dataclass(frozen=True)
+class Audit:
+    """Verdict and certificate of a picture. There is a certificate if the ruling is UNIQUE."""
+
+    verdict: Verdict
+    certificate: Optional[bytes] = None
+
+
+@dataclass(frozen=True)
+class Proved:
+    """What came of the search for a certificate with lemmas. There is one where the ruling is UNIQUE. UNDECIDED: a bound was reached."""
+
+    ruling: Ruling
+    certificate: Optional[bytes] = None
+
+    @property
+    def proof(self) -> Optional[bytes]:
+        """Deprecated: the old name of `certificate`."""
+        return self.certificate
+
+
+def proved_of(text: bytes) -> Proved:
+    """What a text tells: a certificate, or why there is none."""
+    if text.startswith(b"nonolemma "):
+        return Proved(Ruling.UNIQUE, text)
+    return Proved(Ruling(text.decode("ascii").rstrip("\n")))
+
+
+_UNIQUE = Verdict(Ruling.UNIQUE)
+
+
+def verdict_of(text: bytes) -> Verdict:
+    """The verdict that a text tells."""
+    if text == b"unique\n":
+        return _UNIQUE
+    first, *rows = text.decode("ascii").splitlines()
+    ruling = Ruling(first.split(" ")[0])
+    return Verdict(ruling, tuple(rows) if ruling is Ruling.AMBIGUOUS else None)

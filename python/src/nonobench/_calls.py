@@ -1,0 +1,196 @@
+"""The questions: bytes in, an answer or an error out."""
+
+from __future__ import annotations
+
+import operator
+from typing import Iterable, Optional, Union
+
+from ._answers import (
+    Audit,
+    CertificateFault,
+    Clues,
+    Fault,
+    LengthFault,
+    Proved,
+    Result,
+    Ruling,
+    UnpublishedGiven,
+    Verdict,
+    clues_of,
+    fault_of,
+    givens_of,
+    proved_of,
+    result_of,
+    verdict_of,
+)
+from ._library import DONE, MEMORY, OPTIONS
+from ._serve import CHECK, PROVE, PUBLISHED, SESSION, answer
+
+Bytes = Union[bytes, bytearray, memoryview]
+Colour = tuple[int, int, int]
+
+# How many bytes a picture, a certificate or a file of givens has at the most, as for the program.
+MOST_BYTES = 16_777_216
+MOST_ALLOWANCE = 99_999
+NO_TRIPLE = "background must be a triple of numbers from 0 to 65535"
+
+
+class AnyGiven:
+    """The type of ANY_GIVEN."""
+
+    def __repr__(self) -> str:
+        return "nonobench.ANY_GIVEN"
+
+
+# Published are the givens that a certificate names, whichever they are.
+ANY_GIVEN = AnyGiven()
+Published = Union[Iterable[tuple[int, int]], Bytes, AnyGiven]
+
+
+class Questions:
+    """The questions, wherever they are answered. Each raises PictureFault, LengthFault or MemoryError if a picture is refused,
+    and ValueError for a background that is not a triple of numbers from 0 to 65,535. Without one the background is white.
+    """
+
+    def check(
+        self, picture: Bytes, certificate: Bytes, background: Optional[Colour] = None, published: Published = ()
+    ) -> Result:
+        """Checks a certificate of a picture, a P3 text, in any of its forms. Raises CertificateFault if it is not accepted.
+
+        A puzzle has one solution with the givens that its certificate names, and these may be all cells. So a certificate is
+        accepted only if each of its givens is among `published`: the cells whose colours you publish, as pairs of row and
+        column counted from 1, or as the bytes of a file with a line `given R C` for each; by default none. Otherwise it raises
+        UnpublishedGiven, whose `givens` are those that the certificate names. A published cell that is outside the picture or
+        occurs twice raises GivensFault. `published=ANY_GIVEN` accepts all givens, for a site that then publishes exactly these.
+        """
+        picture, certificate, givens = bytes_of(picture), bytes_of(certificate), _file_of(published)
+        try:
+            (text,) = self._ask(CHECK if givens is None else PUBLISHED, picture, background, certificate, givens or b"")
+        except CertificateFault as fault:
+            if fault.name != "UnpublishedGiven":
+                raise
+            raise UnpublishedGiven(fault.line, givens_of(certificate)) from None
+        return result_of(text.decode("ascii"), certificate)
+
+    verify = check  # its old name, for one release
+
+    def prove(self, picture: Bytes, background: Optional[Colour] = None) -> Proved:
+        """A certificate with lemmas of a picture, without givens, or why there is none.
+
+        It is often shorter than that of `certify`, and sometimes there when that takes too long. The search has bounds, and if it
+        reaches one, the ruling is UNDECIDED. Until then it may take minutes; `Worker` limits the time.
+        """
+        return proved_of(self._ask(PROVE, bytes_of(picture), background, b"")[0])
+
+    def clues(self, picture: Bytes, background: Optional[Colour] = None) -> Clues:
+        """The clues of a picture."""
+        return clues_of(self._say(picture, background, b"clues\n")[-1].decode("ascii"))
+
+    def verdict(self, picture: Bytes, allowance: Optional[int] = None, background: Optional[Colour] = None) -> Verdict:
+        """Whether another picture has the clues of this one.
+
+        The allowance, 0 to 99,999, is how many splits the search of a part may make. Without one the search has no bound, and may
+        take very long; `Worker` limits the time. Raises ValueError for another allowance.
+        """
+        return verdict_of(self._say(picture, background, _allow(allowance) + b"verdict\n")[-1])
+
+    def certify(self, picture: Bytes, background: Optional[Colour] = None) -> Optional[bytes]:
+        """A certificate of a picture, without givens, or None if another picture has its clues. It may take very long."""
+        text = self._say(picture, background, b"certify\n")[-1]
+        return None if text == b"ambiguous\n" else text
+
+    def audit(self, picture: Bytes, allowance: Optional[int] = None, background: Optional[Colour] = None) -> Audit:
+        """Verdict and certificate of a picture that is opened once. There is a certificate if the ruling is UNIQUE.
+
+        The allowance bounds the verdict, as in `verdict`; making the certificate has no bound.
+        """
+        texts = self._say(picture, background, _allow(allowance) + b"verdict\ncertify\n")
+        if texts[-1].startswith(b"nonocert "):
+            return Audit(verdict_of(texts[-2]), texts[-1])
+        return Audit(verdict_of(texts[-1]))
+
+    def _say(self, picture: Bytes, background: Optional[Colour], lines: bytes) -> list[bytes]:
+        """What a bench on a picture answers to each line, until one is refused or tells that there is no certificate.
+
+        All that is asked here is lawful, so a refusal is one of memory.
+        """
+        texts = self._ask(SESSION, bytes_of(picture), background, lines)
+        if texts[-1].startswith(b"refused: "):
+            if texts[-1] == b"refused: Memory\n":
+                raise MemoryError("nonobench: memory")
+            last = texts[-1].decode("ascii")
+            raise Fault(last[9:-1], 0, last[:-1])
+        return texts
+
+    def _ask(self, kind: int, picture: bytes, background: Optional[Colour], rest: bytes, givens: bytes = b"") -> list[bytes]:
+        """The texts of an answer. Raises what its status tells."""
+        status, texts = self._answer(kind, picture, _word(background), rest, givens)
+        if status == MEMORY:
+            raise MemoryError("nonobench: memory")
+        if status == OPTIONS:
+            raise ValueError(NO_TRIPLE)
+        if status != DONE:
+            raise fault_of(texts[-1].decode("ascii"))
+        return texts
+
+    def _answer(self, kind: int, *files: bytes) -> tuple[int, list[bytes]]:
+        """The status and the texts of an answer."""
+        return answer(kind, *files)
+
+
+_here = Questions()
+check, clues, verdict, certify, audit = _here.check, _here.clues, _here.verdict, _here.certify, _here.audit
+verify, prove = _here.verify, _here.prove
+
+
+def picture_of(columns: int, rows: int, triples: Iterable[Colour], maxval: int = 255) -> bytes:
+    """A P3 text of cells by rows, each a red, a green and a blue from 0 to maxval."""
+    cells = list(triples)
+    if len(cells) != columns * rows:
+        raise ValueError(f"{columns} by {rows} cells need {columns * rows} colours, not {len(cells)}")
+    lines = [f"P3\n{columns} {rows}\n{maxval}", *(f"{red:d} {green:d} {blue:d}" for red, green, blue in cells)]
+    return ("\n".join(lines) + "\n").encode("ascii")
+
+
+def bytes_of(file: Bytes) -> bytes:
+    """The bytes of a file, not too many of them."""
+    if not isinstance(file, (bytes, bytearray, memoryview)):
+        raise TypeError(f"expected bytes, not {type(file).__name__}")
+    held = bytes(file)
+    if len(held) > MOST_BYTES:
+        raise LengthFault("TooLong", MOST_BYTES, "input too long")
+    return held
+
+
+def _file_of(published: Published) -> Optional[bytes]:
+    """The file of the givens that are published; None for whichever are given."""
+    if isinstance(published, AnyGiven):
+        return None
+    if isinstance(published, (bytes, bytearray, memoryview)):
+        return bytes_of(published)
+    try:
+        return bytes_of(b"".join(b"given %d %d\n" % (operator.index(row), operator.index(column)) for row, column in published))
+    except (TypeError, ValueError):
+        raise TypeError("published must be pairs of row and column, a file's bytes, or ANY_GIVEN") from None
+
+
+def _allow(allowance: Optional[int]) -> bytes:
+    """The line that sets an allowance; none where there is none."""
+    if allowance is None:
+        return b""
+    if not isinstance(allowance, int):
+        raise TypeError(f"allowance must be a whole number, not {type(allowance).__name__}")
+    if not 0 <= allowance <= MOST_ALLOWANCE:
+        raise ValueError("allowance must be 0 to 99999")
+    return f"allow {allowance:d}\n".encode("ascii")
+
+
+def _word(background: Optional[Colour]) -> bytes:
+    """The background as the library takes it: empty where there is none."""
+    if background is None:
+        return b""
+    try:
+        red, green, blue = map(operator.index, background)
+        return f"{red:d},{green:d},{blue:d}".encode("ascii")
+    except (TypeError, ValueError):
+        raise ValueError(NO_TRIPLE) from None

@@ -1,0 +1,30 @@
+"""What an editor did to a certificate that is refused."""
+
+from __future__ import annotations
+
+from typing import Union
+
+from ._answers import Fault
+
+_UTF_16 = "it is UTF-16, and must be ASCII"
+
+# What a certificate that begins with these two bytes is.
+_ODD_STARTS = {
+    b"\xff\xfe": _UTF_16,
+    b"\xfe\xff": _UTF_16,
+    b"n\0": _UTF_16,
+    b"\0n": _UTF_16,
+    b"\xef\xbb": "it begins with a byte order mark, and must begin with its first word",
+}
+_CR_LF = "its lines end with CR LF, and must end with LF alone"
+
+
+def hint_of(fault: Fault, certificate: Union[bytes, bytearray, memoryview]) -> str:
+    """What an editor seems to have done to a certificate that was refused as NotCert, in a few words.
+
+    Empty where there is no sign of that, and for another fault.
+    """
+    if fault.text != "certificate NotCert at line 1":
+        return ""
+    front = bytes(certificate[:64])
+    return _ODD_STARTS.get(front[:2]) or (_CR_LF if front.split(b"\n", 1)[0].endswith(b"\r") else "")

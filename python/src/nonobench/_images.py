@@ -1,0 +1,372 @@
+"""Images as a browser shows them: the pixels of a file, or why it is refused. docs/FORMATS.md has the rules.
+
+A file is looked at here as a whole. Pillow unpacks the pixels of PNG, GIF and WebP, and is handed nothing else of it.
+"""
+
+from __future__ import annotations
+
+import io
+import re
+import struct
+import zlib
+from typing import Callable, Iterator, NamedTuple, NoReturn, Optional
+
+from ._answers import ImageFault
+from ._calls import Bytes, Colour, bytes_of, picture_of
+from ._colours import colour_shown
+
+MOST_CELLS = 120  # of a side
+WHITE: Colour = (255, 255, 255)
+DEEP, PROFILE, GAMMA, FRAMES = "samples of 16 bits", "a colour profile", "a gamma", "several frames"
+SMALL, HALF, LOSSY, TURNED = "a frame smaller than its screen", "half transparent", "lossy", "turned by its orientation"
+DAMAGED, UNKNOWN = "damaged", "of a kind that is not read"
+
+Pixel = tuple[int, ...]  # red, green, blue, and its opacity, 0 or 255
+CLEAR: Pixel = (0, 0, 0, 0)
+
+
+class Pixels(NamedTuple):
+    """The pixels of an image, row by row."""
+
+    columns: int
+    cells: list[Pixel]
+
+    def triples(self, ground: Colour) -> list[Colour]:
+        """The colours of the pixels: of what is transparent, that of the ground."""
+        return [(red, green, blue) if opacity else ground for red, green, blue, opacity in self.cells]
+
+
+def picture_of_image(data: Bytes, background: Colour = WHITE) -> bytes:
+    """The P3 text of a PNG, GIF, BMP, WebP, PPM, PGM or PBM image, a cell for each pixel as a browser shows it.
+
+    Transparent pixels get the background. Raises ImageFault if the image is refused, and ImportError if it needs Pillow, and there
+    is none.
+    """
+    pixels = pixels_of(bytes_of(data))
+    return picture_of(pixels.columns, len(pixels.cells) // pixels.columns, pixels.triples(background))
+
+
+def is_image(data: bytes) -> bool:
+    """Whether a file begins as an image does that is not a P3 text."""
+    return _reader_of(data) is not None
+
+
+def pixels_of(data: bytes) -> Pixels:
+    """The pixels of an image."""
+    read = _reader_of(data)
+    if read is None:
+        _refuse(UNKNOWN)
+    try:
+        pixels = read(data)
+    except (ImageFault, MemoryError, ImportError):
+        raise
+    except Exception as error:  # whatever a decoder makes of a stranger's bytes
+        raise _fault(DAMAGED) from error
+    if any(pixel[3] not in (0, 255) for pixel in pixels.cells):
+        _refuse(HALF)
+    return Pixels(pixels.columns, [pixel if pixel[3] else CLEAR for pixel in pixels.cells])
+
+
+def _reader_of(data: bytes) -> Optional[Callable[[bytes], Pixels]]:
+    return next((read for sign, read in _READERS if re.match(sign, data, re.DOTALL)), None)
+
+
+def _fault(reason: str) -> ImageFault:
+    return ImageFault(reason, f"the image is refused: {reason}")
+
+
+def _refuse(reason: str) -> NoReturn:
+    raise _fault(reason)
+
+
+def _need(is_right: object, reason: str = DAMAGED) -> None:
+    if not is_right:
+        _refuse(reason)
+
+
+def _bounded(columns: int, rows: int) -> None:
+    """A size is refused before anything is unpacked."""
+    _need(columns > 0 and rows > 0)
+    if columns > MOST_CELLS or rows > MOST_CELLS:
+        raise ImageFault("a size", f"{columns} by {rows} pixels, and a puzzle has at most {MOST_CELLS} by {MOST_CELLS}")
+
+
+def _unpacked(kind: str, data: bytes) -> list[bytes]:
+    """The pixels that Pillow unpacks, each as the bytes of its samples; of a palette, of its number."""
+    from PIL import Image, ImageFile  # type: ignore[import]
+
+    _need(not ImageFile.LOAD_TRUNCATED_IMAGES, "not looked at, since Pillow's LOAD_TRUNCATED_IMAGES is set")
+    with Image.open(io.BytesIO(data), formats=[kind]) as image:
+        plain = image.convert("L") if image.mode == "1" else image
+        raw, step = plain.tobytes(), len(plain.getbands())
+    return [raw[at : at + step] for at in range(0, len(raw), step)]
+
+
+def _painted(columns: int, values: list[bytes], pixel: Callable[[bytes], Pixel]) -> Pixels:
+    shown = {value: pixel(value) for value in set(values)}
+    return Pixels(columns, [shown[value] for value in values])
+
+
+def _table(colours: bytes, entry: int = 3) -> list[Pixel]:
+    """The colours of a palette whose entries have so many bytes."""
+    return [(*colours[at : at + 3], 255) for at in range(0, len(colours), entry)]
+
+
+# How an orientation that turns nothing stands in Exif, and how each one begins.
+_UPRIGHT = re.compile(rb"\x01\x12\0\x03\0\0\0\x01\0\x01|\x12\x01\x03\0\x01\0\0\0\x01\0")
+_ORIENTED = re.compile(rb"\x01\x12|\x12\x01")
+
+
+def _need_upright(exif: bytes) -> None:
+    _need(not _ORIENTED.search(_UPRIGHT.sub(b"", exif)), TURNED)
+
+
+# PNG: what chunks are, in their order. `s` may stand where decoders heed sRGB, `a` is what they may leave out.
+_CHUNKS = {b"IHDR": "H", b"PLTE": "P", b"tRNS": "t", b"IDAT": "D", b"IEND": "E", b"sRGB": "s"}
+_ORDER = re.compile("H[as]*(Pa*)?(ta*)?D+a*E")
+_CHANNELS = {0: 1, 2: 3, 3: 1, 4: 2, 6: 4}
+_DEPTHS = {0: (1, 2, 4, 8, 16), 2: (8, 16), 3: (1, 2, 4, 8), 4: (8, 16), 6: (8, 16)}
+_PRIMARIES = struct.pack(">8I", 31270, 32900, 64000, 33000, 30000, 60000, 15000, 6000)  # those of sRGB
+_PASSES = ((0, 0, 8, 8), (4, 0, 8, 8), (0, 4, 4, 8), (2, 0, 4, 4), (0, 2, 2, 4), (1, 0, 2, 2), (0, 1, 1, 2))
+
+
+def _chunks(data: bytes) -> Iterator[tuple[bytes, bytes]]:
+    """The chunks of a PNG up to its end. A wrong sum is damage, wherever it is."""
+    at, name = 8, b""
+    while name != b"IEND":
+        size, name = struct.unpack_from(">I4s", data, at)
+        body = data[at + 8 : at + 8 + size]
+        _need(struct.unpack_from(">I", data, at + 8 + size)[0] == zlib.crc32(name + body))
+        yield name, body
+        at += 12 + size
+
+
+def _png(data: bytes) -> Pixels:
+    chunks = list(_chunks(data))
+    order = "".join(_CHUNKS.get(name, "a" if name[0] & 0x20 else "?") for name, _ in chunks)
+    _need(_ORDER.fullmatch(order))
+    held = dict(chunks)
+    columns, rows, depth, kind, *methods, laced = struct.unpack(">IIBBBBB", held[b"IHDR"])
+    _bounded(columns, rows)
+    is_converted = _need_plain_colours(chunks)
+    _need(depth in _DEPTHS.get(kind, ()) and not any(methods) and laced < 2)
+    _need(depth < 16, DEEP)
+    # Pillow takes what is missing for black, and a browser for transparent.
+    size = sum(
+        high * (1 + (wide * depth * _CHANNELS[kind] + 7) // 8)
+        for left, top, right, down in (_PASSES if laced else ((0, 0, 1, 1),))
+        for wide, high in [((columns - left + right - 1) // right, (rows - top + down - 1) // down)]
+        if wide > 0
+    )
+    packed = b"".join(body for name, body in chunks if name == b"IDAT")
+    _need(len(zlib.decompressobj().decompress(packed, size)) == size)
+    kept = b"".join(
+        struct.pack(">I", len(body)) + name + body + struct.pack(">I", zlib.crc32(name + body))
+        for name, body in chunks if name in (b"IHDR", b"PLTE", b"IDAT", b"IEND")
+    )
+    pixels = _painted(columns, _unpacked("PNG", data[:8] + kept), _png_pixel(kind, depth, held.get(b"PLTE"), held.get(b"tRNS")))
+    _need(not is_converted or all({*pixel} <= {0, 255} for pixel in set(pixels.cells) if pixel[3]), PROFILE)
+    return pixels
+
+
+def _need_plain_colours(chunks: list[tuple[bytes, bytes]]) -> bool:
+    """Refuses what would change the colours of a PNG, and more than one picture. Primaries are heeded beside a gamma alone.
+
+    Those of sRGB beside a gamma of 45455 are nearly sRGB, and browsers convert the colours: samples of 0 and 255 stay what they are.
+    Answers whether it is so.
+    """
+    names = {name for name, _ in chunks}
+    _need(not names & {b"acTL", b"fcTL", b"fdAT"}, FRAMES)
+    _need(all(body == b"\0\0\xb1\x8f" for name, body in chunks if name == b"gAMA"), GAMMA)
+    _need(not names & {b"iCCP", b"cICP"}, PROFILE)
+    is_converted = {b"gAMA", b"cHRM"} <= names and b"sRGB" not in names
+    _need(not is_converted or all(body == _PRIMARIES for name, body in chunks if name == b"cHRM"), PROFILE)
+    for name, body in chunks:
+        _need(name != b"sRGB" or body in (b"\0", b"\1", b"\2", b"\3"))
+        if name == b"eXIf":
+            _need_upright(body)
+    return is_converted
+
+
+def _png_pixel(kind: int, depth: int, colours: Optional[bytes], clear: Optional[bytes]) -> Callable[[bytes], Pixel]:
+    """How the samples of a pixel are shown."""
+    _need(colours is None if kind in (0, 4) else colours is not None or kind != 3)
+    _need(colours is None or (colours and len(colours) % 3 == 0 and len(colours) <= 3 << (depth if kind == 3 else 8)))
+    if kind in (4, 6):
+        _need(clear is None)
+        return lambda value: tuple(value) if kind == 6 else (value[0],) * 3 + (value[1],)
+    if kind == 3:
+        assert colours is not None
+        _need(len(clear or b"") <= len(colours) // 3)
+        table = [(*colour[:3], opacity) for colour, opacity in zip(_table(colours), (clear or b"").ljust(256, b"\xff"))]
+        return lambda value: table[value[0]]
+    most = (1 << depth) - 1
+    keys = () if clear is None else struct.unpack(">H" if kind == 0 else ">3H", clear)
+    _need(all(key <= most for key in keys))
+    key = bytes(sample * 255 // most for sample in keys)
+    return lambda value: (*(value * 3 if kind == 0 else value), 0 if value == key else 255)
+
+
+def _gif(data: bytes) -> Pixels:
+    columns, rows, flags = struct.unpack_from("<HHB", data, 6)
+    _bounded(columns, rows)
+    at = _behind_table(13, flags)
+    table, frame = data[13:at], b""
+    key: Optional[int] = None
+    told: list[Optional[int]] = []
+    while data[at] != 0x3B:
+        begun, sign = at, data[at]
+        if sign == 0x21:
+            at, body = _blocks(data, at + 2)
+            _need(not body.startswith(b"ICCRGBG1"), PROFILE)
+            if data[begun + 1] == 0xF9:
+                _need(len(body) == 4 and not told)
+                told.append(body[3] if body[0] & 1 else None)
+            continue
+        _need(sign == 0x2C)
+        _need(not frame, FRAMES)
+        left, top, wide, high, flags = struct.unpack_from("<4HB", data, at + 1)
+        table = data[at + 10 : _behind_table(at + 10, flags)] or table
+        at = _behind_table(at + 10, flags)
+        _need(2 <= data[at] <= 8)
+        at, _ = _blocks(data, at + 1)
+        frame, key = data[begun:at], (told or [None]).pop()
+    _need(frame)
+    _need((left, top) == (0, 0) and wide >= columns and high >= rows, SMALL)
+    _need((wide, high) == (columns, rows))
+    plain = data[: _behind_table(13, data[10])] + frame + b";"
+    colours = [CLEAR if number == key else colour for number, colour in enumerate(_table(table))]
+    return _painted(columns, _unpacked("GIF", plain), lambda value: colours[value[0]])
+
+
+def _behind_table(at: int, flags: int) -> int:
+    """Where the table of colours of a GIF ends that its flags tell of."""
+    return at + (3 << (flags % 8 + 1)) if flags & 0x80 else at
+
+
+def _blocks(data: bytes, at: int) -> tuple[int, bytes]:
+    """Where the blocks of a GIF end that begin at a place, and the first of them."""
+    first = data[at + 1 : at + 1 + data[at]]
+    while data[at]:
+        at += 1 + data[at]
+    return at + 1, first
+
+
+def _bmp(data: bytes) -> Pixels:
+    start, head = struct.unpack_from("<II", data, 10)
+    _need(head in (12, 40, 64, 108, 124), UNKNOWN)
+    method = used = 0
+    if head == 12:
+        columns, rows, _, bits = struct.unpack_from("<4H", data, 18)
+    else:
+        columns, rows, _, bits, method, used = struct.unpack_from("<iiHHI12xI", data, 18)
+    is_down, rows = rows < 0, abs(rows)
+    _bounded(columns, rows)
+    _need(head <= 64 or data[70:74] in (b"BGRs", b" niW"), PROFILE)
+    _need(method == 0 and (bits in (1, 4, 8, 24) or (bits, head) == (32, 40)), UNKNOWN)
+    wide = (columns * bits + 31) // 32 * 4
+    _need(len(data) >= start + rows * wide)
+    lines = [data[start + at * wide : start + (at + 1) * wide] for at in range(rows)]
+    if not is_down:
+        lines.reverse()
+    if bits > 8:
+        step = bits // 8
+        return Pixels(columns, [(*line[at : at + 3][::-1], 255) for line in lines for at in range(0, columns * step, step)])
+    entry, count = 3 if head == 12 else 4, used or 1 << bits
+    _need(count <= 1 << bits and 14 + head + count * entry <= start)
+    table = [(red, green, blue, 255) for blue, green, red, _ in _table(data[14 + head : 14 + head + count * entry], entry)]
+    shifts = [8 * wide - bits * (at + 1) for at in range(columns)]
+    return Pixels(columns, [table[int.from_bytes(line, "big") >> shift & (1 << bits) - 1] for line in lines for shift in shifts])
+
+
+def _webp(data: bytes) -> Pixels:
+    end = 8 + struct.unpack_from("<I", data, 4)[0]
+    _need(end <= len(data))
+    at, chunks = 12, []
+    while at < end:
+        name, size = struct.unpack_from("<4sI", data, at)
+        _need(at + 8 + size <= end)
+        chunks.append((name, data[at + 8 : at + 8 + size]))
+        at += 8 + size + size % 2
+    names, held = [name for name, _ in chunks], dict(chunks)
+    front = held.get(b"VP8X", b"")
+    flags = front[0] if front else 0
+    _need(not held.keys() & {b"ANIM", b"ANMF"} and not flags & 2, FRAMES)
+    _need(b"ICCP" not in held and not flags & 32, PROFILE)
+    _need(not held.keys() & {b"VP8 ", b"ALPH"}, LOSSY)
+    _need(not flags & 0xC1 and len(front) in (0, 10))
+    _need(names.count(b"VP8L") == 1 and names[0] in (b"VP8L", b"VP8X") and b"VP8X" not in names[1:])
+    for name, body in chunks:
+        if name == b"EXIF":
+            _need_upright(body)
+    return _webp_stream(held[b"VP8L"], front[4:10])
+
+
+def _webp_stream(stream: bytes, canvas: bytes) -> Pixels:
+    """The pixels of a lossless stream. Browsers show its opacity even where it says that it has none."""
+    sizes = int.from_bytes(stream[1:5], "little")
+    columns, rows = (sizes & 0x3FFF) + 1, (sizes >> 14 & 0x3FFF) + 1
+    _bounded(columns, rows)
+    _need(stream[0] == 0x2F and canvas in (b"", (columns - 1).to_bytes(3, "little") + (rows - 1).to_bytes(3, "little")))
+    is_opaque = not stream[4] & 0x10
+    told = b"WEBPVP8L" + struct.pack("<I", len(stream)) + stream[:4] + bytes([stream[4] | 0x10]) + stream[5:]
+    # A stream that is cut goes on in what fills up its chunk.
+    bodies = [told + more for more in ((b"\0", b"\xff") if len(stream) % 2 else (b"",))]
+    values, *others = [_unpacked("WEBP", b"RIFF" + struct.pack("<I", len(body)) + body) for body in bodies]
+    _need(all(other == values for other in others) and not (is_opaque and any(value[3] < 255 for value in values)))
+    return _painted(columns, values, tuple)
+
+
+# Between the words of a header: blanks, and comments to the end of the line.
+_BLANK = rb"(?:[ \t\n\v\f\r]|#[^\r\n]*[\r\n])+"
+_NUMBER = _BLANK + rb"([0-9]+)"
+
+
+def _pnm(data: bytes) -> Pixels:
+    kind = data[1] - 48
+    head = re.match(rb"P." + _NUMBER * (2 if kind in (1, 4) else 3), data)
+    _need(head)
+    assert head is not None
+    columns, rows, most = (int(word.lstrip(b"0")[:9] or b"0") for word in (*head.groups(), b"1")[:3])
+    _bounded(columns, rows)
+    _need(most > 0)
+    _need(most < 256, DEEP)
+    rest, step = data[head.end() :], 3 if kind == 6 else 1
+    samples = _raw_samples(rest, rows, columns * step, kind == 4) if kind > 3 else _plain_samples(rest, kind == 1)
+    _need(len(samples) == rows * columns * step and max(samples) <= most)
+    if kind in (1, 4):
+        samples = [1 - sample for sample in samples]
+    triples = [samples[at : at + 3] if step == 3 else samples[at : at + 1] * 3 for at in range(0, len(samples), step)]
+    return Pixels(columns, [(*colour_shown((red, green, blue), most), 255) for red, green, blue in triples])
+
+
+def _plain_samples(text: bytes, is_bits: bool) -> list[int]:
+    words = re.sub(rb"#[^\r\n]*", b" ", text).split()
+    _need(all(map(bytes.isdigit, words)))
+    return [digit - 48 for digit in b"".join(words)] if is_bits else [int(word.lstrip(b"0") or b"0") for word in words]
+
+
+def _raw_samples(raster: bytes, rows: int, count: int, is_bits: bool) -> list[int]:
+    """The samples behind the blank that ends a header, so many of each row."""
+    wide = (count + 7) // 8 if is_bits else count
+    _need(raster[:1].isspace())
+    more = raster[1 + rows * wide :].strip()
+    _need(not more, FRAMES if more[:1] == b"P" else DAMAGED)
+    lines = [raster[1 + row * wide : 1 + (row + 1) * wide] for row in range(rows)]
+    if is_bits:
+        return [line[at // 8] >> 7 - at % 8 & 1 for line in lines for at in range(count)]
+    return [sample for line in lines for sample in line]
+
+
+def _jpeg(data: bytes) -> Pixels:
+    _refuse(LOSSY)
+
+
+_READERS: tuple[tuple[bytes, Callable[[bytes], Pixels]], ...] = (
+    (rb"\x89PNG\r\n\x1a\n", _png),
+    (rb"GIF8[79]a", _gif),
+    (rb"BM", _bmp),
+    (rb"RIFF....WEBP", _webp),
+    (rb"P[12456]", _pnm),
+    (rb"\xff\xd8\xff", _jpeg),
+)

@@ -1,0 +1,142 @@
+"""The calls of libnonobench, and a desk to ask them on. c/nonobench.h has what each does.
+
+The process of `Worker` loads this too, so it imports little: what it imports takes longer than a check.
+"""
+
+from __future__ import annotations
+
+import ctypes
+import os
+
+TYPE_CHECKING = False
+if TYPE_CHECKING:
+    from types import TracebackType
+    from typing import Any, Callable
+
+DONE, REFUSED, MEMORY, CLOSED, OPTIONS = 0, 1, 4, 5, 6
+NAME = "libnonobench.so"
+
+# The folder of the package.
+FOLDER = os.path.dirname(os.path.abspath(__file__))
+
+# The room that a text is first taken in.
+ROOM = 4096
+_Buffer = ctypes.c_char * ROOM
+
+
+def _path() -> str:
+    """Where the library is: as NONOBENCH_LIBRARY says, else beside the package, in the checkout, or where the system looks."""
+    named = os.environ.get("NONOBENCH_LIBRARY")
+    if named:
+        # A name without a slash is looked for by the system.
+        return os.path.abspath(named) if os.sep in named else named
+    checkout = os.path.dirname(os.path.dirname(os.path.dirname(FOLDER)))
+    for place in (os.path.join(FOLDER, NAME), os.path.join(checkout, "c", "out", NAME)):
+        if os.path.isfile(place):
+            return place
+    return NAME
+
+
+def _load(path: str) -> ctypes.CDLL:
+    try:
+        library = ctypes.CDLL(path)
+    except OSError as error:
+        raise ImportError(f"cannot load {path}; build it with c/build, or set NONOBENCH_LIBRARY to its path: {error}") from error
+    return library
+
+
+def _kinds() -> dict[str, tuple[Any, list[Any]]]:
+    """What each call answers, and what it is passed."""
+    cell = ctypes.POINTER(ctypes.c_void_p)
+    bytes_of = [ctypes.c_char_p, ctypes.c_size_t]
+    number = ctypes.c_uint32
+    return {
+        "version": (ctypes.c_size_t, [ctypes.c_char_p, ctypes.c_size_t]),
+        "start": (number, [cell]),
+        "end": (None, [ctypes.c_void_p]),
+        "open": (number, [cell, *bytes_of, ctypes.c_bool, *bytes_of, number, ctypes.POINTER(number)]),
+        "say": (number, [cell, number, *bytes_of]),
+        "take": (ctypes.c_size_t, [cell, ctypes.c_char_p, ctypes.c_size_t]),
+        "close": (number, [cell, number]),
+        "check": (number, [cell, *bytes_of, *bytes_of, *bytes_of]),
+        "check_published": (number, [cell, *bytes_of, *bytes_of, *bytes_of, *bytes_of]),
+        "prove": (number, [cell, *bytes_of, *bytes_of]),
+    }
+
+
+# Where the library is: it stays this file, whatever folder becomes the current one.
+PATH = _path()
+
+
+class _Calls:
+    """The calls of the library, which the first of them loads."""
+
+    def __getattr__(self, name: str) -> Any:
+        if name == "_library":
+            self._library = _load(PATH)
+            return self._library
+        call = getattr(self._library, name)
+        call.restype, call.argtypes = _kinds()[name.removeprefix("nonobench_")]
+        setattr(self, name, call)
+        return call
+
+
+_calls = _Calls()
+
+
+def version() -> str:
+    """The version of the library, as `nonobench --version` prints it behind the name."""
+    return _text(_calls.nonobench_version).decode("ascii")
+
+
+def _text(put: Callable[..., int], *words: object) -> bytes:
+    """The text that a call puts out, as far as there is room, and answers how many bytes it has."""
+    buffer = _Buffer()
+    size = put(*words, buffer, ROOM)
+    if size > ROOM:
+        buffer = ctypes.create_string_buffer(size)
+        put(*words, buffer, size)
+    return ctypes.string_at(buffer, size)
+
+
+class Desk:
+    """A desk, ended where its `with` ends. One thread uses it at a time."""
+
+    def __enter__(self) -> Desk:
+        self._cell = ctypes.c_void_p()
+        self._at = ctypes.byref(self._cell)
+        if _calls.nonobench_start(self._at) != DONE:
+            raise MemoryError("nonobench: memory")
+        return self
+
+    def __exit__(self, kind: type[BaseException] | None, error: BaseException | None, at: TracebackType | None) -> None:
+        _calls.nonobench_end(self._cell)
+
+    def check(self, picture: bytes, certificate: bytes, background: bytes, givens: bytes | None) -> int:
+        """Checks a certificate of a picture, with the file of givens that are published if there is one, and answers the status."""
+        call = _calls.nonobench_check if givens is None else _calls.nonobench_check_published
+        files = (picture, certificate, background) if givens is None else (picture, certificate, givens, background)
+        status: int = call(self._at, *(word for file in files for word in (file, len(file))))
+        return status
+
+    def prove(self, picture: bytes, background: bytes) -> int:
+        """Makes a certificate with lemmas of a picture, and answers the status."""
+        status: int = _calls.nonobench_prove(self._at, picture, len(picture), background, len(background))
+        return status
+
+    def open(self, picture: bytes, background: bytes) -> tuple[int, int]:
+        """Opens a bench on a picture: the status and the handle."""
+        handle = ctypes.c_uint32()
+        status = _calls.nonobench_open(
+            self._at, picture, len(picture), False, background, len(background), 1, ctypes.byref(handle)
+        )
+        return status, handle.value
+
+    def say(self, handle: int, lines: bytes) -> int:
+        """Says lines of commands to a bench, and answers the status."""
+        status: int = _calls.nonobench_say(self._at, handle, lines, len(lines))
+        return status
+
+    def text(self) -> bytes:
+        """The text of the last call."""
+        return _text(_calls.nonobench_take, self._at)

@@ -1,0 +1,103 @@
+"""What the library is asked and answers, as bytes: in this process, or in that of `Worker`, whose program this is.
+
+The process imports this and _library alone. A question there is its number, a kind, its bounds (seconds by the clock, and of the
+processor, 0 for none), and four files; an answer the number of its question, a status and at most three texts. Nothing else goes
+either way: no names and no objects.
+"""
+
+from __future__ import annotations
+
+import ctypes
+import math
+import os
+import struct
+
+from ._library import DONE, Desk, version
+
+# What is asked: whether a certificate of a picture is accepted, with any givens or with those that are published; what a bench on a
+# picture answers to lines; or for a certificate with lemmas.
+CHECK, PUBLISHED, SESSION, PROVE = 1, 2, 3, 4
+
+QUESTION = struct.Struct("!QBII4Q")
+ANSWER = struct.Struct("!QB3Q")
+
+# After such an answer no further line is said.
+LAST = (b"refused: ", b"ambiguous\n", b"undecided ")
+
+
+def answer(kind: int, picture: bytes, background: bytes, rest: bytes, givens: bytes) -> tuple[int, list[bytes]]:
+    """The status, and the texts that were said. `rest` is the certificate, or the lines."""
+    with Desk() as desk:
+        if kind in (CHECK, PUBLISHED):
+            status = desk.check(picture, rest, background, givens if kind == PUBLISHED else None)
+            return status, [desk.text()]
+        if kind == PROVE:
+            status = desk.prove(picture, background)
+            return status, [desk.text()]
+        status, handle = desk.open(picture, background)
+        if status != DONE:
+            return status, [desk.text()]
+        texts: list[bytes] = []
+        for line in rest.splitlines(keepends=True):
+            status = desk.say(handle, line)
+            texts.append(desk.text())
+            if status != DONE or texts[-1].startswith(LAST):
+                break
+        return status, texts
+
+
+def _read(stream: int, size: int) -> bytes:
+    """So many bytes of a stream."""
+    parts = []
+    while size > 0:
+        parts.append(os.read(stream, min(size, 1 << 20)))
+        if not parts[-1]:
+            raise EOFError
+        size -= len(parts[-1])
+    return b"".join(parts)
+
+
+def _write(stream: int, held: bytes) -> None:
+    view = memoryview(held)
+    while view:
+        view = view[os.write(stream, view) :]
+
+
+def _bound(memory: int) -> None:
+    """Bounds the memory of this process, where it is not bounded by less."""
+    import resource
+
+    hard = resource.getrlimit(resource.RLIMIT_AS)[1]
+    most = memory if hard == resource.RLIM_INFINITY else min(memory, hard)
+    resource.setrlimit(resource.RLIMIT_AS, (most, most))
+    resource.setrlimit(resource.RLIMIT_CORE, (0, 0))
+
+
+def _allow(processor: int) -> None:
+    """Lets this process run for so many seconds more of the processor, at the most; for as long as before where there are none."""
+    import resource
+
+    if processor:
+        spent = sum(resource.getrusage(resource.RUSAGE_SELF)[:2])
+        hard = resource.getrlimit(resource.RLIMIT_CPU)[1]
+        most = math.ceil(spent) + processor
+        resource.setrlimit(resource.RLIMIT_CPU, (most if hard == resource.RLIM_INFINITY else min(most, hard), hard))
+
+
+def serve(stream: int, memory: int) -> None:
+    """Answers the questions of a stream until it ends. A question that takes too long ends the process, whoever still waits."""
+    alarm = ctypes.CDLL(None).alarm
+    version()  # what loads the library is not bounded
+    _bound(memory)
+    while True:
+        try:
+            number, kind, seconds, processor, *sizes = QUESTION.unpack(_read(stream, QUESTION.size))
+            files = [_read(stream, size) for size in sizes]
+            alarm(seconds)
+            _allow(processor)
+            status, texts = answer(kind, *files)
+            alarm(0)
+            texts += [b""] * (3 - len(texts))
+            _write(stream, ANSWER.pack(number, status, *map(len, texts)) + b"".join(texts))
+        except (EOFError, OSError, MemoryError):
+            return

@@ -1,0 +1,229 @@
+"""Checks the certificates below a folder with the pictures beside them: nonobench-check-site FOLDER
+
+What is said of each is what the library says, which is proved. A pair costs a bounded time and memory, whatever its files hold, and
+nothing but regular files is read.
+"""
+
+from __future__ import annotations
+
+import argparse
+import itertools
+import os
+import queue
+import re
+import sys
+import traceback
+from concurrent.futures import ThreadPoolExecutor
+from typing import Iterator, NamedTuple, Optional
+
+from ._answers import Fault
+from ._hints import hint_of
+from ._library import version
+from .collection.arguments import _above_0, _memory, _seconds, _shard
+from .collection.finding import shown
+from .collection.puzzles import MOST_BYTES, Triple, Unreadable, one_line
+from .collection.readers import bytes_of, ground_of
+from .worker import Worker
+
+ACCEPTED, REFUSED, WRONG, UNREAD = range(4)  # the exit statuses; WRONG is that of wrong arguments
+INTERRUPTED = 130
+ENDINGS = (".cert", ".proof")  # of certificates: the second is an older one
+MOST_BACKGROUND = 64  # bytes
+PACK = 64  # certificates that wait for a worker, for each one
+
+ABOUT = """Checks each certificate (NAME.cert) below FOLDER with the picture NAME.ppm, a plain PPM text. It prints a line for each that fails. The cells that are published with a puzzle are those of NAME.givens, a line
+`given R C` for each; without that file there are none. The background is white, or that of NAME.background: R,G,B.
+Links are not followed, but FOLDER itself may be one."""
+
+STATUSES = """status:
+  0  every certificate is accepted, and names published givens alone
+  1  some are refused, or take too much time or memory
+  2  the arguments are wrong
+  3  a file is missing or cannot be read, a folder cannot be searched, or there is nothing to check"""
+
+
+class Answer(NamedTuple):
+    """What is said of a file: the status, and why it is not accepted."""
+
+    file: str
+    status: int
+    why: str = ""
+
+
+class Site:
+    """Where the files of a site are."""
+
+    def __init__(self, told: argparse.Namespace) -> None:
+        self._folder = told.folder
+        self._certificates = told.certificates or told.folder
+        self._published = told.givens or (None if told.untrusted else told.folder)
+        self._shard = told.shard
+        self.unsearched: list[Answer] = []
+        self.unread: list[str] = []  # those of the older ending with a certificate beside them
+
+    def certificates(self) -> list[str]:
+        """The certificates of a share, in order, below their folder. What is called so and is no file is among them.
+
+        One with the older ending .proof counts where no .cert stands beside it, and is told otherwise.
+        """
+        found: list[str] = []
+        waiting = [self._certificates]
+        while waiting:
+            place = waiting.pop()
+            try:
+                with os.scandir(place) as entries:
+                    for entry in entries:
+                        waiting += [entry.path] if entry.is_dir(follow_symlinks=False) else []
+                        found += [entry.path] if entry.name.lower().endswith(ENDINGS) else []
+            except OSError as error:
+                self.unsearched.append(Answer(os.path.join(place, ""), UNREAD, error.strerror))
+        newer = {os.path.splitext(file)[0] for file in found if file.lower().endswith(ENDINGS[0])}
+        self.unread = sorted(file for file in found if not file.lower().endswith(ENDINGS[0]) and os.path.splitext(file)[0] in newer)
+        first, step = self._shard
+        return [os.path.relpath(file, self._certificates) for file in sorted({*found}.difference(self.unread))][first - 1 :: step]
+
+    def path(self, name: str) -> str:
+        """The path of a certificate."""
+        return os.path.join(self._certificates, name)
+
+    def picture(self, stem: str) -> bytes:
+        """The bytes of a picture."""
+        return _read("its picture: ", os.path.join(self._folder, f"{stem}.ppm"), MOST_BYTES)
+
+    def givens(self, stem: str) -> bytes:
+        """The file of the cells that are published with a picture; without it none are."""
+        return self._beside(stem, "givens", MOST_BYTES) or b""
+
+    def background(self, stem: str) -> Optional[Triple]:
+        """The background of a picture; nothing for white."""
+        text = self._beside(stem, "background", MOST_BACKGROUND)
+        word = "white" if text is None else text.decode("ascii", "replace").strip()
+        try:
+            if word == "corner":
+                raise ValueError("must be white or R,G,B")
+            return ground_of(word).triple
+        except ValueError as error:
+            raise Unreadable(f"its background {error}") from error
+
+    def _beside(self, stem: str, ending: str, most: int) -> Optional[bytes]:
+        """What the site has beside a picture, by the names that an audit looks for; nothing where it has no such file."""
+        if self._published is None:
+            return None
+        names = [f"{front}.{end}" for front in (f"{stem}.ppm", stem) for end in (ending, ending.upper())]
+        path = next((path for name in names if os.path.lexists(path := os.path.join(self._published, name))), None)
+        return None if path is None else _read(f"its {ending}: ", path, most)
+
+
+def _read(whose: str, path: str, most: int) -> bytes:
+    try:
+        return bytes_of(path, most, follows=False)
+    except Unreadable as error:
+        raise Unreadable(f"{whose}{error}") from error
+
+
+class Checks:
+    """Checks the certificates of a site, as many at a time as there are workers."""
+
+    def __init__(self, site: Site, told: argparse.Namespace) -> None:
+        self._site = site
+        self._jobs = told.jobs
+        self._workers: queue.SimpleQueue[Worker] = queue.SimpleQueue()
+        for _ in range(told.jobs):
+            self._workers.put(Worker(told.seconds, told.memory << 20, told.processor))
+
+    def answers(self, names: list[str]) -> Iterator[Answer]:
+        """What is said of each, in order."""
+        pool = ThreadPoolExecutor(self._jobs)
+        for at in range(0, len(names), PACK * self._jobs):
+            yield from pool.map(self._answer, names[at : at + PACK * self._jobs])
+        pool.shutdown()
+
+    def _answer(self, name: str) -> Answer:
+        file, certificate = self._site.path(name), b""
+        worker = self._workers.get()
+        try:
+            certificate = _read("", file, MOST_BYTES)
+            self._check(worker, name, certificate)
+        except Fault as fault:
+            hint = hint_of(fault, certificate)
+            return Answer(file, REFUSED, f"{fault} ({hint})" if hint else str(fault))
+        except (TimeoutError, MemoryError) as error:
+            return Answer(file, REFUSED, str(error))
+        except (Unreadable, OSError, RuntimeError) as error:  # of the last ones none is known but of a machine that lacks something
+            return Answer(file, UNREAD, str(error))
+        finally:
+            self._workers.put(worker)
+        return Answer(file, ACCEPTED)
+
+    def _check(self, worker: Worker, name: str, certificate: bytes) -> None:
+        """Raises what is wrong with a certificate."""
+        stem = os.path.splitext(name)[0]
+        worker.check(self._site.picture(stem), certificate, self._site.background(stem), self._site.givens(stem))
+
+
+def line_of(answer: Answer) -> str:
+    """What is printed of an answer, in one line, whatever its name holds, and in signs that the output has."""
+    name = re.sub(r"[\x00-\x1f\x7f-\x9f\u2028\u2029]", lambda sign: f"\\x{ord(sign[0]):02x}", shown(answer.file))
+    coding = sys.stdout.encoding or "utf-8"
+    return f"{name}: {one_line(answer.why)}".encode(coding, "backslashreplace").decode(coding)
+
+
+def main(words: Optional[list[str]] = None) -> int:
+    """Runs nonobench-check-site, and answers its status."""
+    told = _parser().parse_args(words)
+    try:
+        return _run(told)
+    except KeyboardInterrupt:
+        os._exit(INTERRUPTED)  # no thread is waited for
+    except OSError as error:
+        print(f"nonobench-check-site: {error.strerror}", file=sys.stderr)
+        os._exit(UNREAD)  # no output is tried again
+    except Exception:
+        traceback.print_exc()
+        return UNREAD
+
+
+def _run(told: argparse.Namespace) -> int:
+    site = Site(told)
+    names = site.certificates()
+    if not names and told.shard[1] == 1:
+        site.unsearched.append(Answer(os.path.join(told.certificates or told.folder, ""), UNREAD, "there is no certificate"))
+    for file in site.unread:
+        print(f"nonobench-check-site: {line_of(Answer(file, ACCEPTED, 'not read, since a .cert is there'))}", file=sys.stderr)
+    counts = {ACCEPTED: 0, REFUSED: 0, UNREAD: 0}
+    for answer in itertools.chain(site.unsearched, Checks(site, told).answers(names)):
+        counts[answer.status] += 1
+        if answer.status != ACCEPTED:
+            print(line_of(answer), flush=True)
+    if not told.quiet:
+        print(f"accepted {counts[ACCEPTED]}, refused {counts[REFUSED]}, not read {counts[UNREAD]}", file=sys.stderr)
+    return UNREAD if counts[UNREAD] else REFUSED if counts[REFUSED] else ACCEPTED
+
+
+def _parser() -> argparse.ArgumentParser:
+    parser = argparse.ArgumentParser(
+        "nonobench-check-site", usage="nonobench-check-site [OPTION].. FOLDER", description=ABOUT, epilog=STATUSES,
+        formatter_class=argparse.RawDescriptionHelpFormatter, allow_abbrev=False,
+    )
+    parser.add_argument("folder", metavar="FOLDER", type=_folder, help="the site, with all that is below it")
+    parser.add_argument("--certificates", metavar="DIR", type=_folder, help="certificates are below this folder, not in FOLDER")
+    parser.add_argument("--givens", metavar="DIR", type=_folder, help="NAME.givens and NAME.background are below this folder, not in FOLDER")
+    parser.add_argument("--untrusted", action="store_true", help="for files of strangers: there is no NAME.givens nor NAME.background, but in the folder of --givens")
+    parser.add_argument("--jobs", metavar="N", type=_above_0, default=len(os.sched_getaffinity(0)), help="checks at a time (by default one per processor)")
+    parser.add_argument("--processor", metavar="S", type=_above_0, default=10, help="seconds of processor time for each (by default 10)")
+    parser.add_argument("--seconds", metavar="S", type=_seconds, default=60.0, help="seconds by the clock for each (by default 60)")
+    parser.add_argument("--memory", metavar="MIB", type=_memory, default=1024, help="for each check at a time (by default 1024)")
+    parser.add_argument("--shard", metavar="I/N", type=_shard, default=(1, 1), help="only every N-th certificate, from the I-th")
+    parser.add_argument("--quiet", action="store_true", help="no last line with the counts")
+    parser.add_argument("--version", action="version", version=f"%(prog)s {version()}")
+    return parser
+
+
+def _folder(word: str) -> str:
+    if not os.path.isdir(word):
+        raise argparse.ArgumentTypeError(f"no such folder: {word!r}")
+    return word
+
+
+if __name__ == "__main__":
+    sys.exit(main())

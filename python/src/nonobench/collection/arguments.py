@@ -1,0 +1,239 @@
+"""The arguments of nonobench-audit."""
+
+from __future__ import annotations
+
+import argparse
+import os
+import re
+from dataclasses import dataclass
+from typing import Optional
+
+from .._library import version
+from .finding import ENDINGS, SUFFIXES, unreached
+from .readers import ground_of
+
+_ENDINGS = frozenset((*SUFFIXES, ".givens", ".background", *(f".{ending}" for ending in ENDINGS)))
+
+ABOUT = """Says which puzzles of a collection have exactly one solution.
+
+PATH is a file, or a folder that is searched: pictures (plain and raw PPM, PGM and PBM, PNG, GIF, BMP, WebP, one pixel per cell),
+.non puzzles, and Web Paint-by-Number's XML with every puzzle in it. NAME.cert, a certificate, beside NAME.png is checked; NAME.givens
+has the cells that are published with the puzzle, and NAME.background its background."""
+
+EXAMPLES = """examples:
+  nonobench-audit site                                      a table of all puzzles below the folder site
+  nonobench-audit site --html report.html                   a report to look at, in one file
+  nonobench-audit site --jsonl rows.jsonl --csv rows.csv --certify certificates
+  nonobench-audit site --jsonl rows.jsonl --resume          after an interruption: only what is new or changed
+  nonobench-audit site --jsonl rows.$SLURM_ARRAY_TASK_ID --shard $SLURM_ARRAY_TASK_ID/16
+  nonobench-audit merge rows.* --jsonl rows.jsonl --html report.html
+  nonobench-audit site --scheduler tcp://ada.example:8786 --allow 20000 --jsonl rows.jsonl
+
+status:
+  0  every puzzle has one solution, no two of its colours look alike, and each certificate beside it is accepted
+  1  some puzzles are ambiguous or undecided, have colours that look alike, or have a certificate that is not accepted
+  2  the arguments are wrong
+  3  a file could not be read or written, or a library is missing; what is done is kept
+  130, 143  it was stopped; what is done is kept"""
+
+
+@dataclass(frozen=True)
+class Options:
+    """What is asked for."""
+
+    paths: list[str]
+    jsonl: Optional[str] = None
+    csv: Optional[str] = None
+    html: Optional[str] = None
+    title: Optional[str] = None
+    is_quiet: bool = False
+    jobs: int = 1
+    seconds: Optional[float] = 10.0
+    allowance: Optional[int] = None
+    memory: int = 1024
+    ground: str = "white"
+    certificates: Optional[str] = None
+    givens: Optional[str] = None
+    is_untrusted: bool = False
+    certify: Optional[str] = None
+    publish: Optional[str] = None
+    has_grades: bool = True
+    is_resumed: bool = False
+    shard: tuple[int, int] = (1, 1)
+    scheduler: Optional[str] = None
+    is_merge: bool = False
+
+
+def options_of(words: list[str]) -> Options:
+    """The options of arguments. Wrong ones end the program with status 2, and help with 0."""
+    if words[:1] == ["merge"]:
+        return _merge_options(words[1:])
+    parser = _parser()
+    told = parser.parse_args(words)
+    if told.resume and told.jsonl in (None, "-"):
+        parser.error("--resume goes with --jsonl FILE")
+    for path in told.paths:
+        if not os.path.lexists(path):
+            parser.error(f"no such file or folder: {path!r}" + (" (a folder of that name is ./merge)" if path == "merge" else ""))
+    _refuse_inputs(parser, told)
+    nested = unreached(told.paths)
+    if nested is not None:
+        parser.error(f"{nested[0]!r} lies in {nested[1]!r}, whose search leaves it out: name it in a run of its own")
+    for folder in (told.certificates, told.givens):
+        if folder is not None and not os.path.isdir(folder):
+            parser.error(f"no such folder: {folder!r}")
+    if told.ppm is not None:
+        _refuse_publishing(parser, told)
+    if told.certify is not None or told.ppm is not None:
+        _refuse_twins(parser, told.paths)
+    seconds = told.seconds if told.seconds is not None else None if told.allow is not None else 10.0
+    return Options(
+        told.paths, told.jsonl, told.csv, told.html, told.title, told.quiet, told.jobs, seconds, told.allow, told.memory,
+        told.background, told.certificates, told.givens, told.untrusted, told.certify, told.ppm, not told.no_grade, told.resume, told.shard,
+        told.scheduler,
+    )
+
+
+def _parser() -> argparse.ArgumentParser:
+    parser = argparse.ArgumentParser(
+        "nonobench-audit", usage="nonobench-audit [OPTION].. PATH..\n       nonobench-audit merge [OPTION].. FILE..",
+        description=ABOUT, epilog=EXAMPLES, formatter_class=argparse.RawDescriptionHelpFormatter, allow_abbrev=False,
+    )
+    parser.add_argument("paths", metavar="PATH", nargs="+", help="files, and folders to search; links to folders are not followed")
+    _add_outputs(parser)
+    write = parser.add_argument_group("what else is written")
+    write.add_argument("--certify", metavar="DIR", help="write NAME.cert for each puzzle with one solution below this folder")
+    write.add_argument("--ppm", metavar="DIR",
+                       help="write the picture that was judged, with its givens and background, as NAME.ppm below this folder, such as "
+                       "that of --certify")
+    read = parser.add_argument_group("what is read")
+    read.add_argument("--certificates", metavar="DIR", help="certificates are below this folder, not beside the puzzles")
+    read.add_argument("--givens", metavar="DIR", help="NAME.givens and NAME.background are below this folder, not beside the puzzles")
+    read.add_argument("--untrusted", action="store_true",
+                      help="for files of strangers: nothing beside the puzzles is read, but only what is in the folders of --certificates "
+                      "and --givens, and no links")
+    read.add_argument("--background", metavar="COLOUR", type=_ground, default="white",
+                      help="of pictures: white (the default), corner (the first pixel), or R,G,B")
+    bounds = parser.add_argument_group("bounds")
+    bounds.add_argument("--jobs", metavar="N", type=_above_0, default=len(os.sched_getaffinity(0)), help="processes (by default one per processor)")
+    bounds.add_argument("--seconds", metavar="S", type=_seconds, help="for each puzzle (by default 10)")
+    bounds.add_argument("--allow", metavar="N", type=_allowance,
+                        help="splits of a search, 0 to 99999, instead of seconds: the same files give the same rows, without times")
+    bounds.add_argument("--memory", metavar="MIB", type=_memory, default=1024, help="for each process (by default 1024)")
+    bounds.add_argument("--no-grade", action="store_true", help="no grades, which take most of the time")
+    parts = parser.add_argument_group("in parts, and on several machines")
+    parts.add_argument("--resume", action="store_true", help="keep the rows of --jsonl FILE whose puzzles have not changed")
+    parts.add_argument("--shard", metavar="I/N", type=_shard, default=(1, 1), help="only every N-th file, from the I-th; see merge")
+    parts.add_argument("--scheduler", metavar="ADDRESS", help="use the workers of this Dask scheduler")
+    return parser
+
+
+def _add_outputs(parser: argparse.ArgumentParser) -> None:
+    parser.add_argument("--version", action="version", version=f"nonobench-audit {version()}")
+    outputs = parser.add_argument_group("output (without any of these files, a table on standard output)")
+    outputs.add_argument("--jsonl", metavar="FILE", help="a line of JSON for each puzzle; - is standard output")
+    outputs.add_argument("--csv", metavar="FILE", help="for spreadsheets; - is standard output")
+    outputs.add_argument("--html", metavar="FILE", help="a report to look at, in one file that needs no network")
+    outputs.add_argument("--title", metavar="TEXT", help="of the report")
+    outputs.add_argument("--quiet", action="store_true", help="neither table nor progress")
+
+
+def _merge_options(words: list[str]) -> Options:
+    parser = argparse.ArgumentParser(
+        "nonobench-audit merge", usage="nonobench-audit merge [OPTION].. FILE..", allow_abbrev=False,
+        description="Joins files that --jsonl wrote into one, as a single run would have written it. If files have different rows for a puzzle, the last file counts.",
+    )
+    parser.add_argument("paths", metavar="FILE", nargs="+", help="as --jsonl wrote it")
+    _add_outputs(parser)
+    told = parser.parse_args(words)
+    for path in told.paths:
+        if not os.path.exists(path):
+            parser.error(f"no such file: {path!r}")
+    _refuse_inputs(parser, told)
+    return Options(told.paths, told.jsonl, told.csv, told.html, told.title, told.quiet, is_merge=True)
+
+
+def _refuse_inputs(parser: argparse.ArgumentParser, told: argparse.Namespace) -> None:
+    """An output must not take the place of an input: of a puzzle, of what lies beside one, or of rows to be joined."""
+    for name in (told.jsonl, told.csv, told.html):
+        if name in (None, "-"):
+            continue
+        if os.path.splitext(name)[1].lower() in _ENDINGS:
+            parser.error(f"{name!r} is no name for an output: its ending is that of a puzzle, or of what lies beside one")
+        if any(_are_same(path, name) for path in told.paths):
+            parser.error(f"{name!r} is both an input and an output")
+
+
+def _are_same(one: str, other: str) -> bool:
+    """Whether two names are of the same file."""
+    return os.path.exists(one) and os.path.exists(other) and os.path.samefile(one, other)
+
+
+def _refuse_twins(parser: argparse.ArgumentParser, paths: list[str]) -> None:
+    """Two paths must not give one certificate its name."""
+    seen: dict[str, str] = {}
+    for path in paths:
+        name = os.path.splitext(os.path.basename(os.path.normpath(path)))[0]
+        if os.path.isdir(path):
+            name = os.path.basename(os.path.realpath(path)) + "/"
+        if os.path.normpath(seen.setdefault(name, path)) != os.path.normpath(path):
+            parser.error(f"--certify or --ppm would give {seen[name]!r} and {path!r} the same names")
+
+
+def _refuse_publishing(parser: argparse.ArgumentParser, told: argparse.Namespace) -> None:
+    """Pictures are not written where puzzles or givens are read: they would be read as others, or take their place."""
+    if told.scheduler is not None:
+        parser.error("--ppm does not go with --scheduler")
+    for path in (*told.paths, *([told.givens] if told.givens is not None else [])):
+        one, other = os.path.realpath(path), os.path.realpath(told.ppm)
+        if os.path.commonpath([one, other]) in (one, other):
+            parser.error(f"--ppm {told.ppm!r} and {path!r} lie in each other")
+
+
+def _ground(word: str) -> str:
+    try:
+        ground_of(word)
+    except ValueError as error:
+        raise argparse.ArgumentTypeError(str(error)) from None
+    return word
+
+
+def _number(word: str, least: float, most: float, what: str) -> float:
+    try:
+        number = float(word)
+    except ValueError:
+        number = float("nan")
+    if not least <= number <= most:
+        raise argparse.ArgumentTypeError(f"must be {what}")
+    return number
+
+
+def _whole(word: str, least: int, most: int) -> int:
+    what = f"a whole number from {least} to {most}"
+    if not re.fullmatch("[0-9]{1,9}", word):
+        raise argparse.ArgumentTypeError(f"must be {what}")
+    return int(_number(word, least, most, what))
+
+
+def _above_0(word: str) -> int:
+    return _whole(word, 1, 1024)
+
+
+def _allowance(word: str) -> int:
+    return _whole(word, 0, 99_999)
+
+
+def _memory(word: str) -> int:
+    return _whole(word, 128, 1 << 20)
+
+
+def _seconds(word: str) -> float:
+    return _number(word, 0.01, 1e6, "a number of seconds from 0.01 on")
+
+
+def _shard(word: str) -> tuple[int, int]:
+    parts = re.fullmatch("([0-9]{1,6})/([0-9]{1,6})", word)
+    shard = (int(parts[1]), int(parts[2])) if parts else (0, 0)
+    if not 1 <= shard[0] <= shard[1]:
+        raise argparse.ArgumentTypeError("must be I/N, with I from 1 to N")
+    return shard

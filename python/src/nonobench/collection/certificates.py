@@ -1,0 +1,139 @@
+"""Certificates: those that lie beside puzzles, and those that an audit writes."""
+
+from __future__ import annotations
+
+import base64
+import contextlib
+import os
+import zlib
+from typing import TYPE_CHECKING, Optional
+
+from .._answers import fault_of, givens_of
+from .._hints import hint_of
+from .judging import Desk, Judged, said_of
+from .puzzles import Puzzle, Unreadable, one_line
+from .readers import bytes_of
+from .rows import Row, judged_row, noted, row_of, text_of, unwritten
+
+if TYPE_CHECKING:
+    from .workers import Answer
+
+
+# What a row has that its puzzle and its certificate do not tell. The rest is compared where a row is kept.
+UNBOUND = ("file", "puzzle", "more", "grade", "figures", "seconds", "content", "sha256", "made")
+
+
+def told(desk: Desk, puzzle: Puzzle, beside: list[bytes]) -> Row:
+    """What a row says of the certificates that lie beside the puzzle that was opened: of several, of the worst."""
+    return {"certificate": min((_told(desk, puzzle, held) for held in beside), key=lambda row: row["accepted"])} if beside else {}
+
+
+def _told(desk: Desk, puzzle: Puzzle, held: bytes) -> Row:
+    """What is said of one: whether it is accepted, and with which givens."""
+    why = desk.check(puzzle, held)
+    if why:
+        hint = hint_of(fault_of(why), held)
+        return {"accepted": False, "why": one_line(f"{why} ({hint})" if hint else why)}
+    givens = [list(place) for place in givens_of(held)]
+    return {"accepted": True, "givens": givens} if givens else {"accepted": True}
+
+
+def holds(desk: Desk, puzzle: Puzzle, row: Row, held: bytes, beside: list[bytes]) -> bool:
+    """Whether all that a row says of a puzzle with one solution is true, but for its grade, by its certificate."""
+    _, report = said_of(desk, puzzle, 0)
+    if desk.check(puzzle, held):
+        return False
+    wanted = {**judged_row(puzzle, Judged("unique", report, "", "")), "lines": held.count(b"\n"), **told(desk, puzzle, beside)}
+    return wanted == {name: value for name, value in row.items() if name not in UNBOUND}
+
+
+def write(name: str, text: str) -> str:
+    """Writes a certificate. Answers a note why it could not be written, and then nothing is left of it; empty where it was.
+
+    One that is there already stays until the new one is whole. A new file is written in its place: its row comes later, so that
+    `--resume` does it again where a run ends in between.
+    """
+    return _put("certificate", f"{name}.cert", text.encode("ascii"))
+
+
+def publish(desk: Desk, puzzle: Puzzle, report: str, name: str) -> str:
+    """Writes the picture that was judged, and its givens and its background where it has them. Answers a note as `write` does."""
+    maxval = int(report.split("\n", 2)[1].split(" ")[3])
+    is_white = puzzle.background in (None, (maxval,) * 3)
+    parts = {
+        "ppm": desk.picture(puzzle),
+        "givens": puzzle.published,
+        "background": b"" if is_white else puzzle.word() + b"\n",
+    }
+    for ending, data in parts.items():
+        note = _keep(f"{name}.{ending}", data)
+        if note:
+            return note
+    return ""
+
+
+def _keep(path: str, data: bytes) -> str:
+    """Writes a part of what is published where it is not there yet, or takes away what there is where it is empty."""
+    with contextlib.suppress(OSError, Unreadable):
+        if not data:
+            os.unlink(path)
+        elif bytes_of(path, follows=False) == data:
+            return ""
+    return _put("picture", path, data) if data else ""
+
+
+def _put(word: str, path: str, data: bytes) -> str:
+    try:
+        try:
+            _write_new(path, data)
+        except FileNotFoundError:
+            os.makedirs(os.path.dirname(path), exist_ok=True)
+            _write_new(path, data)
+        except FileExistsError:
+            _replace(path, data)
+    except (OSError, ValueError) as error:
+        return f"{unwritten(word)}: {one_line(getattr(error, 'strerror', None) or str(error))}"
+    return ""
+
+
+def _replace(path: str, data: bytes) -> None:
+    """Puts a file in the place of another one. Until then it has a short name that no other process has, on whichever machine."""
+    new = os.path.join(os.path.dirname(path), f".{os.urandom(12).hex()}.new")
+    _write_new(new, data)
+    try:
+        os.replace(new, path)
+    except OSError:
+        os.unlink(new)
+        raise
+
+
+def _write_new(path: str, data: bytes) -> None:
+    """Writes a file that is not there yet, or none."""
+    handle = os.open(path, os.O_WRONLY | os.O_CREAT | os.O_EXCL | os.O_CLOEXEC, 0o666)
+    try:
+        left = memoryview(data)
+        while left:
+            left = left[os.write(handle, left) :]
+    except OSError:
+        os.unlink(path)
+        raise
+    finally:
+        os.close(handle)
+
+
+def delivered(answer: Answer, to: Optional[str]) -> str:
+    """Writes the certificate that came with a row from another machine, and answers the row."""
+    row = row_of(answer.text)
+    number = row.get("puzzle", 1)
+    note = write(f"{to if number == 1 else f'{to}.{number}'}", unpacked(answer.certificate))
+    return text_of(noted(row, note)) if note else answer.text
+
+
+def packed(certificate: str) -> str:
+    """A certificate as one word."""
+    return base64.b64encode(zlib.compress(certificate.encode("ascii"), 1)).decode("ascii")
+
+
+def unpacked(word: str) -> str:
+    """The certificate of a word."""
+    return zlib.decompress(base64.b64decode(word)).decode("ascii")

@@ -1,0 +1,137 @@
+"""Lets the workers of a Dask scheduler judge: packs of files go out, and their rows come back in the order of the packs.
+
+Each worker needs this package in the same version, and no file of the collection: what a pack is judged by goes with it.
+"""
+
+from __future__ import annotations
+
+import asyncio
+import zlib
+from collections import deque
+from typing import Any, Callable, Iterator, NamedTuple, Optional
+
+from .._library import version
+from .outputs import Failure
+from .puzzles import Missing, Unreadable
+from .serving import Settings, Task, files_of, unread
+from .workers import TICK, Answer, Broken, Pool
+
+MOST_FILES = 256  # in a pack
+MOST_BYTES = 2 << 20
+RETRIES = 5
+CONNECTING = 10.0  # seconds
+
+Plain = tuple[Any, ...]
+
+
+class Flying(NamedTuple):
+    """A pack that is being judged: its future, or the answers where none is needed."""
+
+    future: Any
+    unread: list[Answer]
+
+
+def judge_pack(wanted: str, settings: Plain, seconds: Optional[float], pack: bytes) -> list[Plain]:
+    """What a worker of the scheduler does: it judges a pack in a process that can be ended, and answers plain tuples."""
+    import marshal
+
+    if version() != wanted:
+        raise RuntimeError(f"this worker has version {version()} of nonobench, and not {wanted}")
+    pool = Pool(Settings(*settings), 1, seconds)
+    try:
+        tasks = (Task(*task) for task in marshal.loads(zlib.decompress(pack)))
+        return [tuple(answer) for answer in pool.answers(tasks) if answer is not None]
+    finally:
+        pool.close()
+
+
+class Cluster:
+    """The workers of a scheduler, whichever there are."""
+
+    def __init__(self, address: str, settings: Settings, seconds: Optional[float]) -> None:
+        self._address = address
+        self._settings = settings
+        self._seconds = seconds
+        self._client: Any = None
+
+    def start(self) -> None:
+        """Finds the scheduler."""
+        try:
+            import distributed
+        except ImportError:
+            raise Failure(str(Missing("distributed", "reaches Dask's workers"))) from None
+        try:
+            connect: Any = distributed.Client
+            self._client = connect(self._address, timeout=CONNECTING, set_as_default=False)
+        except Exception as error:  # whatever the way there fails by
+            raise Failure(f"no scheduler answers at {self._address}: {error}") from error
+
+    def answers(self, tasks: Iterator[Task], is_full: Callable[[], bool] = bool) -> Iterator[Optional[Answer]]:
+        """What is answered to tasks, pack after pack; nothing, from time to time."""
+        packs = _packs(tasks, self._settings)
+        flying: deque[Flying] = deque()
+        has_more = True
+        while True:
+            while has_more and len(flying) < self._room():
+                pack = next(packs, None)
+                has_more = pack is not None
+                if pack is not None:
+                    flying.append(self._submit(*pack))
+            if not flying:
+                return
+            found = self._result(flying[0])
+            if found is not None:
+                flying.popleft()
+                yield from found
+            yield None
+
+    def close(self) -> None:
+        """Lets the scheduler go; what it was still to judge is forgotten."""
+        if self._client is not None:
+            self._client.close(timeout=2)
+
+    def _room(self) -> int:
+        """How many packs are out at once: some for each thread of the workers that are there now."""
+        threads: dict[str, int] = self._client.nthreads()
+        return 4 + 2 * sum(threads.values())
+
+    def _submit(self, tasks: list[Task], answers: list[Answer]) -> Flying:
+        import marshal
+
+        pack = zlib.compress(marshal.dumps([tuple(task) for task in tasks]), 1)
+        future = self._client.submit(
+            judge_pack, version(), tuple(self._settings), self._seconds, pack, retries=RETRIES, pure=False
+        )
+        return Flying(future, answers)
+
+    def _result(self, flying: Flying) -> Optional[list[Answer]]:
+        """The answers of a pack in order, where they are there within a moment."""
+        try:
+            found = [Answer(*answer) for answer in flying.future.result(timeout=TICK)]
+        except (asyncio.TimeoutError, TimeoutError):
+            return None
+        except Broken as error:
+            raise Failure(f"a worker of the scheduler: {error}") from error
+        except Exception as error:  # whatever a worker, or the way to it, failed by
+            raise Failure(f"the scheduler's workers: {type(error).__name__}: {error}") from error
+        return sorted([*found, *flying.unread], key=lambda answer: answer.number)
+
+
+def _packs(tasks: Iterator[Task], settings: Settings) -> Iterator[tuple[list[Task], list[Answer]]]:
+    """Tasks with the bytes of their files, some hundred together; and the answers of files that cannot be read."""
+    pack: list[Task] = []
+    answers: list[Answer] = []
+    size = 0
+    for task in tasks:
+        try:
+            files = files_of(task, settings.is_untrusted)
+        except Unreadable as error:
+            answers.append(Answer(task.number, True, "error", unread(task.name, error, settings.has_times)))
+        else:
+            pack.append(task._replace(**files._asdict()))
+            size += len(files.file) + sum(len(held) for _, held in files.beside)
+        if len(pack) + len(answers) >= MOST_FILES or size >= MOST_BYTES:
+            yield pack, answers
+            pack, answers, size = [], [], 0
+    if pack or answers:
+        yield pack, answers

@@ -1,0 +1,113 @@
+"""Rows of an earlier run, of which those are kept that nothing has changed."""
+
+from __future__ import annotations
+
+import hashlib
+import os
+import re
+from typing import BinaryIO, Optional
+
+from .outputs import Failure, failure, lines_of
+from .reading_rows import checked_row
+from .rows import Row, row_of, text_of
+from .serving import File, numbered_name
+
+
+# How a row begins: with its file, and the number of the puzzle where the file has several. The rest is read where it is wanted.
+_FRONT = re.compile(rb'\{"file":("(?:[^"\\]|\\.)*"),(?:"puzzle":([0-9]+),)?"')
+
+
+class Earlier:
+    """Where the rows of a file of rows are."""
+
+    def __init__(self, name: str) -> None:
+        self._name = name
+        self._places: dict[int, tuple[int, int]] = {}  # where a row begins, and the number of its line
+        try:
+            self._lines: BinaryIO = open(name, "rb")
+        except OSError as error:
+            raise failure(name, error) from error
+        for number, (place, line) in enumerate(lines_of(self._lines), 1):
+            front = _FRONT.match(line)
+            if front is None or not line.endswith(b"}\n"):
+                raise no_row(name, number, "it does not begin or end as one")
+            try:
+                file = row_of(front[1])
+            except ValueError as error:
+                raise no_row(name, number, str(error)) from None
+            self._places[_key(file, int((front[2] or b"1")[:9]))] = place, number
+
+    def rows(self, name: str) -> list[tuple[int, Row]]:
+        """The rows of a file, each with its place; none where some are missing."""
+        found: list[tuple[int, Row]] = []
+        while True:
+            place, number = self._places.get(_key(name, len(found) + 1), (0, 0))
+            if not number:
+                return []
+            self._lines.seek(place)
+            row = read_row(self._name, number, self._lines.readline())
+            if row["file"] != name or row.get("puzzle", 1) != len(found) + 1:
+                return []
+            found.append((place, row))
+            if not row.get("more"):
+                return found
+
+    def row(self, place: int) -> Row:
+        """The row at a place, which was read before."""
+        self._lines.seek(place)
+        row: Row = row_of(self._lines.readline())
+        return row
+
+    def close(self) -> None:
+        """Lets the file go."""
+        self._lines.close()
+
+
+def no_row(name: str, number: int, why: str) -> Failure:
+    """What is said of a line that is no row."""
+    return Failure(f"{name}: line {number} is not a row of an audit: {why}")
+
+
+def read_row(name: str, number: int, line: bytes) -> Row:
+    """The row of a line of a file."""
+    try:
+        return checked_row(line)
+    except ValueError as error:
+        raise no_row(name, number, str(error)) from None
+
+
+def content_before(rows: list[tuple[int, Row]], made: str, limit: str, to: Optional[str], published: Optional[str]) -> str:
+    """What the content of a file was when its rows were made; empty where they are to be made again.
+
+    Where a run was stopped within a file of several puzzles, some of its rows may be newer than the others.
+    """
+    if len({row.get("content") for _, row in rows}) > 1:
+        return ""
+    for _, row in rows:
+        if row.get("made") != made or "note" in row or "missing" in row:
+            return ""
+        if row["verdict"] == "undecided" and row.get("limit") != limit:
+            return ""
+        if row.get("error", "").startswith("out of memory"):
+            return ""
+        number = row.get("puzzle", 1)
+        is_unique = row["verdict"] == "unique"
+        wanted = [(name, ending) for name, ending in ((to, "cert"), (published, "ppm")) if name is not None and is_unique]
+        if not all(os.path.exists(f"{numbered_name(name, number)}.{ending}") for name, ending in wanted):
+            return ""
+    return rows[0][1].get("content", "") if rows else ""
+
+
+def to_check(rows: list[tuple[int, Row]], to: Optional[str]) -> tuple[tuple[int, str, File], ...]:
+    """The rows of a file as a task has them, each with where its certificate is; none where nothing says where."""
+    kept: list[tuple[int, str, File]] = []
+    for number, (_, row) in enumerate(rows if to is not None else (), 1):
+        is_unique = row["verdict"] == "unique"
+        certificate: File = f"{numbered_name(f'{to}', number)}.cert" if is_unique else b""
+        kept.append((number, text_of(row if is_unique else {}), certificate))
+    return tuple(kept)
+
+
+def _key(name: str, puzzle: int) -> int:
+    digest = hashlib.blake2b(f"{puzzle}\n{name}".encode("utf-8", "surrogatepass"), digest_size=8)
+    return int.from_bytes(digest.digest(), "big")

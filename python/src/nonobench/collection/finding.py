@@ -1,0 +1,239 @@
+"""Finds the files of puzzles below paths, in an order that their names alone decide."""
+
+from __future__ import annotations
+
+import functools
+import os
+import re
+from collections import Counter
+from typing import Any, Iterator, NamedTuple, Optional
+
+ENDINGS = ("cert", "proof")  # of certificates: the second is an older one, and counts where a puzzle has none of the first
+SUFFIXES = frozenset((".ppm", ".pgm", ".pbm", ".pnm", ".png", ".gif", ".bmp", ".webp", ".non", ".xml"))
+Names = frozenset[str]
+NONE: Names = frozenset()
+Named = tuple[int, str, str]  # a certificate: the puzzle of the file that it is for, from 1; how its name ends; its path
+_NUMBER = re.compile(r"(.+)\.[1-9][0-9]{0,5}", re.DOTALL)
+_NUMBERED = re.compile(rf"(.+)\.([1-9][0-9]{{0,5}})\.({'|'.join(ENDINGS)})", re.DOTALL | re.IGNORECASE)
+
+
+class Places(NamedTuple):
+    """Where lies what goes with puzzles, if not beside them. In a collection of strangers nothing beside them is believed."""
+
+    certificates: Optional[str] = None
+    givens: Optional[str] = None
+    is_untrusted: bool = False
+
+
+class Found(NamedTuple):
+    """A file that may hold puzzles, and the files that go with it."""
+
+    path: str  # in a collection of strangers without a link in it
+    name: str  # the path as it is shown and sorted, in letters alone
+    stem: str  # below its PATH, without the suffix: what its certificates are called
+    beside: tuple[tuple[int, str], ...]  # certificates: the puzzle of the file that each is for, from 1, and its path
+    givens: Optional[str]
+    background: Optional[str]
+    unread: tuple[str, ...] = ()  # the certificates with an older ending that others take the place of
+
+
+class Folder(NamedTuple):
+    """A folder that is searched."""
+
+    prefix: str  # what the names of its files begin with
+    real: str  # what their paths begin with
+    front: str  # the same below its PATH
+    names: Names
+    stems: Counter[str]  # how many puzzles have a name, without its suffix
+    numbers: Names  # the names that such names have before a number
+    held: Names  # the names in the folder where certificates lie
+    held_in: str
+    told: Optional[Names]  # the names where givens and backgrounds lie; nothing where they cannot be listed
+    told_in: str
+    numbered: dict[str, list[Named]]  # those of files with several puzzles
+    unlisted: tuple[Named, ...]  # a folder that cannot be listed stands for what lies there: it cannot be read either
+
+
+def shown(path: str) -> str:
+    """A path in letters: bytes that are no UTF-8 stand as \\xNN."""
+    return path.encode("utf-8", "surrogateescape").decode("utf-8", "backslashreplace")
+
+
+def order_of(name: str) -> str:
+    """What names are sorted by: folder by folder."""
+    return name.replace("/", "\0")
+
+
+def without_nested(paths: list[str]) -> list[str]:
+    """The paths in the order of names, each once and without those that lie in another one."""
+    every = {os.path.normpath(path) for path in paths}
+    kept: list[str] = []
+    for path in sorted(every, key=lambda path: order_of(shown(path))):
+        outers = [*kept[-1:], *(["."] if "." in every and path != "." else [])]
+        if not any(_is_within(path, outer) for outer in outers):
+            kept.append(path)
+    return kept
+
+
+def unreached(paths: list[str]) -> Optional[tuple[str, str]]:
+    """A path that lies in another one, and that the search of this does not find; with that other one."""
+    kept = without_nested(paths)
+    for path in sorted({os.path.normpath(path) for path in paths}.difference(kept)):
+        outer = next(outer for outer in kept if _is_within(path, outer))
+        if not _finds(outer, path):
+            return path, outer
+    return None
+
+
+def _finds(outer: str, path: str) -> bool:
+    """Whether the search of a folder finds a path that lies in it: nothing hidden, and not by a link to a folder."""
+    if any(part[0] == "." for part in os.path.relpath(path, outer).split("/")):
+        return False
+    if not os.path.isdir(path) and os.path.splitext(path)[1].lower() not in SUFFIXES:
+        return False
+    while path != outer:
+        if os.path.islink(path) and os.path.isdir(path):
+            return False
+        path = os.path.dirname(path) or "."
+    return True
+
+
+def _is_within(path: str, outer: str) -> bool:
+    """Whether a path is another one, or leads into it by its name."""
+    if outer == ".":
+        return not os.path.isabs(path) and path.split("/")[0] != ".."
+    return path == outer or path.startswith(outer.rstrip("/") + "/")
+
+
+def front_of(path: str) -> str:
+    """What a folder is called in the names of certificates, where there are several: never `..`."""
+    return os.path.basename(os.path.realpath(path)) + "/"
+
+
+def find(paths: list[str], places: Places = Places()) -> Iterator[Found]:
+    """The files of paths in order, and what goes with them, beside them or in folders of the same shape.
+
+    Folders that links lead to are not searched, nor is what is hidden. What is named by a path itself is, but in a collection of
+    strangers: there a link is a file that cannot be read.
+    """
+    several = len(paths) > 1
+    if places.is_untrusted:
+        certificates, givens = (way and os.path.realpath(way) for way in places[:2])
+        places = Places(certificates, givens, True)
+    for path in without_nested(paths):
+        real = _real(path) if places.is_untrusted else path
+        if os.path.isdir(path) and not (places.is_untrusted and os.path.islink(real)):
+            prefix, real = ("" if way == "." else os.path.join(way, "") for way in (path, real))
+            yield from _below(real, prefix, front_of(path) if several else "", places)
+        else:
+            folder, real = (os.path.join(os.path.dirname(way), "") for way in (path, real))
+            yield _found(_folder(folder, real, "", _names(real or "."), places), os.path.basename(path))
+
+
+def _real(path: str) -> str:
+    """A path of which nothing but its last part may be a link."""
+    folder, name = os.path.split(path)
+    return os.path.realpath(path) if name in ("", ".", "..") else os.path.join(os.path.realpath(folder), name)
+
+
+def _below(*place: Any) -> Iterator[Found]:
+    """The files of a folder, and of the folders in it, however deep."""
+    folders = [_steps(*place)]
+    while folders:
+        step = next(folders[-1], None)
+        if step is None:
+            folders.pop()
+        elif isinstance(step, Found):
+            yield step
+        else:
+            folders.append(step)
+
+
+def _steps(real: str, prefix: str, front: str, places: Places) -> Iterator[Any]:
+    """The files of a folder and, for each folder in it, the same of that. One that cannot be listed is a file that cannot be read."""
+    try:
+        with os.scandir(real or ".") as entries:
+            folders = {entry.name: entry.is_dir(follow_symlinks=False) for entry in entries if entry.name[0] != "."}
+    except OSError:
+        yield Found(real, shown(prefix.rstrip("/") or real or "."), front, (), None, None)
+        return
+    folder = _folder(prefix, real, front, frozenset(folders), places)
+    for name in sorted(folders, key=shown):
+        if folders[name]:
+            yield _steps(real + name + "/", prefix + name + "/", front + name + "/", places)
+        elif os.path.splitext(name)[1].lower() in SUFFIXES:
+            yield _found(folder, name)
+
+
+@functools.lru_cache(maxsize=4)
+def _names(folder: str) -> Optional[Names]:
+    """The names in a folder, of which there are none where it is missing; nothing where it cannot be listed."""
+    try:
+        return frozenset(os.listdir(folder))
+    except (FileNotFoundError, NotADirectoryError):
+        return NONE
+    except OSError:
+        return None
+
+
+@functools.lru_cache(maxsize=4)
+def _folder(prefix: str, real: str, front: str, names: Optional[Names], places: Places) -> Folder:
+    held_in, told_in = (real if way is None else os.path.join(way, front) for way in (places.certificates, places.givens))
+    beside = NONE if places.is_untrusted else names
+    held = beside if places.certificates is None else _names(held_in)
+    told = beside if places.givens is None else _names(told_in)
+    unlisted = [place or "." for place, listed in ((real, names), (held_in, held)) if listed is None]
+    numbered: dict[str, list[Named]] = {}
+    if any(name.lower().endswith(".xml") for name in names or ()):
+        for name in held or ():
+            parts = _NUMBERED.fullmatch(name)
+            if parts:
+                numbered.setdefault(parts[1], []).append((int(parts[2]), parts[3].lower(), held_in + name))
+    stems = Counter(stem for stem, suffix in [os.path.splitext(name) for name in names or ()] if suffix.lower() in SUFFIXES)
+    numbers = frozenset(parts[1] for parts in map(_NUMBER.fullmatch, stems) if parts)
+    whole = tuple((1, ENDINGS[0], place) for place in unlisted)
+    return Folder(prefix, real, front, names or NONE, stems, numbers, held or NONE, held_in, told, told_in, numbered, whole)
+
+
+def _found(folder: Folder, name: str) -> Found:
+    stem, suffix = os.path.splitext(name)
+    is_only = _is_only(folder, stem, suffix.lower())
+    called = stem if is_only else name
+    beside = list(folder.unlisted)
+    for ending in ENDINGS:
+        # What is called after the name alone may belong to the other puzzle of that name.
+        places = _named(name, stem, f".{ending}", folder.held, folder.held_in)
+        beside += [(1, ending, place) for place in places[: None if is_only else 1]]
+    if suffix.lower() == ".xml":
+        own = folder.numbered.get(name, [])
+        # What is numbered after the name alone may belong to another puzzle, or to another file of several.
+        others = folder.numbered.get(stem, []) if folder.stems[stem] == 1 else []
+        beside += sorted([*own, *(other for other in others if f"{stem}.{other[0]}" not in folder.stems)] if not is_only else others)
+    told = folder.told or NONE
+    givens, background = (next(iter(_named(name, stem, end, told, folder.told_in)), None) for end in (".givens", ".background"))
+    if folder.told is None:
+        givens = folder.told_in or "."
+    newer = {of for of, ending, _ in beside if ending == ENDINGS[0]}
+    read = tuple((of, place) for of, ending, place in beside if ending == ENDINGS[0] or of not in newer)
+    unread = tuple(place for of, ending, place in beside if ending != ENDINGS[0] and of in newer)
+    return Found(folder.real + name, shown(folder.prefix + name), folder.front + called, read, givens, background, unread)
+
+
+def _is_only(folder: Folder, stem: str, suffix: str) -> bool:
+    """Whether no other puzzle's certificate could have the name that a puzzle's has, if it is called after its stem."""
+    if folder.stems[stem] != (suffix in SUFFIXES):
+        return False
+    if suffix == ".xml" and stem in folder.numbers:
+        return False
+    of = _NUMBER.fullmatch(stem)
+    return not any(_is_puzzle(folder, whole) for whole in (stem, of[1] if of else ""))
+
+
+def _is_puzzle(folder: Folder, name: str) -> bool:
+    """Whether a name is that of a puzzle's file in a folder."""
+    return name in folder.names and os.path.splitext(name)[1].lower() in SUFFIXES
+
+
+def _named(name: str, stem: str, end: str, names: Names, prefix: str) -> list[str]:
+    """The files that go with a puzzle and have an ending, in small or capital letters: NAME.png.cert, then NAME.cert."""
+    return [prefix + front + ending for front in (name, stem) for ending in (end, end.upper()) if front + ending in names]

@@ -1,0 +1,280 @@
+"""Files that an audit writes: one run at a time, and what is written stays whole."""
+
+from __future__ import annotations
+
+import csv
+import errno
+import fcntl
+import io
+import os
+import stat
+import sys
+import time
+from array import array
+from typing import BinaryIO, Callable, ContextManager, Iterator, Sequence, Union
+
+from .rows import COLUMNS, HEAD, Row, csv_cells, table_line
+
+SOME = 1 << 16  # bytes that are written together
+MOMENT = 0.25  # seconds until a row is in its file
+CLOSED = "standard output was closed"
+
+
+class Failure(Exception):
+    """Something cannot be read or written. The text says what and why."""
+
+
+def failure(name: str, error: Exception) -> Failure:
+    """The failure that an error of the system is."""
+    if name == "-" and isinstance(error, BrokenPipeError):
+        return Failure(CLOSED)
+    return Failure(f"{'standard output' if name == '-' else name}: {getattr(error, 'strerror', None) or error}")
+
+
+def locked(name: str, file: Union[BinaryIO, int], is_shared: bool = False) -> None:
+    """Keeps other runs from a file until it is closed; where it is shared, those that do not share it."""
+    try:
+        fcntl.flock(file, (fcntl.LOCK_SH if is_shared else fcntl.LOCK_EX) | fcntl.LOCK_NB)
+    except BlockingIOError:
+        raise Failure(f"{name}: another run writes to it") from None
+    except OSError:
+        pass  # a system of files without locks
+
+
+def kept_folder(name: str, is_shared: bool) -> int:
+    """Makes a folder where there is none, and keeps other runs from writing to it, as long as the handle is open."""
+    try:
+        os.makedirs(name, exist_ok=True)
+        if not os.access(name, os.W_OK | os.X_OK):
+            raise PermissionError(errno.EACCES, os.strerror(errno.EACCES))
+        handle = os.open(name, os.O_RDONLY | os.O_DIRECTORY | os.O_CLOEXEC)
+    except OSError as error:
+        raise failure(name, error) from error
+    locked(name, handle, is_shared)
+    return handle
+
+
+def is_regular(file: BinaryIO) -> bool:
+    """Whether a file can be cut and read again, as no pipe or device can."""
+    return stat.S_ISREG(os.fstat(file.fileno()).st_mode)
+
+
+class Output:
+    """Bytes on their way to a file, or to standard output, which is called `-`. What a file had is kept until something is written."""
+
+    def __init__(self, name: str, keeps: bool = False) -> None:
+        self.name = name
+        self._parts: list[bytes] = []
+        self._size = 0
+        self._since = 0.0
+        self._is_old = False  # whether the file still has what it had
+        try:
+            if name == "-":
+                self.file: BinaryIO = os.fdopen(os.dup(1), "wb", buffering=0)
+                return
+            self.file = os.fdopen(os.open(name, os.O_RDWR | os.O_CREAT | os.O_APPEND | os.O_CLOEXEC, 0o666), "r+b", buffering=0)
+            if is_regular(self.file):  # a device such as /dev/null may have several runs
+                locked(name, self.file)
+                self._is_old = not keeps
+        except OSError as error:
+            raise failure(name, error) from error
+
+    def _empty(self) -> None:
+        """Takes away what the file had."""
+        if not self._is_old:
+            return
+        self._is_old = False
+        try:
+            self.file.truncate(0)
+        except OSError as error:
+            raise failure(self.name, error) from error
+
+    def put(self, data: bytes) -> None:
+        """Puts bytes, which go out within a moment where `flush` is called now and then."""
+        self._parts.append(data)
+        self._size += len(data)
+        if self._size > SOME:
+            self.flush()
+
+    def flush(self, is_hurried: bool = True) -> None:
+        """Writes what waits; unhurried, only where it has waited for a moment."""
+        if not self._parts or not (is_hurried or time.monotonic() - self._since > MOMENT):
+            return
+        data, self._parts, self._size = memoryview(b"".join(self._parts)), [], 0
+        self._since = time.monotonic()
+        self._empty()
+        try:
+            while data:
+                data = data[self.file.write(data) :]
+        except OSError as error:
+            raise failure(self.name, error) from error
+
+    def close(self) -> None:
+        """Writes what waits, and lets others write."""
+        try:
+            self.flush()
+            self._empty()
+        finally:
+            self.file.close()
+
+
+class Lines:
+    """Rows as lines of JSON. Rows of an earlier run stay where they are, until all are put in order in the end."""
+
+    def __init__(self, name: str, is_resumed: bool) -> None:
+        self._output = Output(name, is_resumed)
+        self._name = name
+        self._end = 0
+        self._order = array("Q")
+        self.has_places = name != "-" and is_regular(self._output.file)  # where rows can be put in order in the end
+        if is_resumed:
+            self._end = _cut_torn_line(self._output.file, name)
+
+    def put(self, text: str, row: Row) -> None:
+        """Puts a new row."""
+        self.keep(self.place(text))
+
+    def place(self, text: str) -> int:
+        """Writes a new row, and answers its place. Its turn comes when it is kept."""
+        line, place = text.encode("ascii") + b"\n", self._end
+        self._end += len(line)
+        self._output.put(line)
+        return place
+
+    def keep(self, place: int) -> None:
+        """Takes the row at a place as the next one."""
+        self._order.append(place)
+
+    def flush(self) -> None:
+        """Writes what has waited for a moment."""
+        self._output.flush(False)
+
+    def close(self, is_whole: bool) -> None:
+        """Ends the file. Where all puzzles were answered, it has their rows alone, in order."""
+        self._output.flush()
+        if is_whole and self.has_places:
+            self._put_in_order()
+        self._output.close()
+
+    def _put_in_order(self) -> None:
+        file = self._output.file
+        if all(before < after for before, after in zip(self._order, self._order[1:])) and len(self._order) == _count(file):
+            return
+        new = Output(f"{self._name}.new")
+        try:
+            with open(self._name, "rb") as lines:
+                for place in self._order:
+                    lines.seek(place)
+                    new.put(lines.readline())
+            new.flush()
+            os.replace(new.name, self._name)
+        except OSError as error:
+            raise failure(self._name, error) from error
+        finally:
+            new.close()
+
+
+def _count(file: BinaryIO) -> int:
+    """How many lines a file has."""
+    file.seek(0)
+    return sum(chunk.count(b"\n") for chunk in iter(lambda: file.read(1 << 20), b""))
+
+
+def _cut_torn_line(file: BinaryIO, name: str) -> int:
+    """Cuts off a last line that was not finished, and answers where the file ends."""
+    end = file.seek(0, os.SEEK_END)
+    place = end
+    while place > 0:
+        begin = max(0, place - SOME)
+        file.seek(begin)
+        at = file.read(place - begin).rfind(b"\n")
+        if at >= 0:
+            place = begin + at + 1
+            break
+        place = begin
+    if place < end:
+        try:
+            file.truncate(place)
+        except OSError as error:
+            raise failure(name, error) from error
+    file.seek(place)
+    return place
+
+
+class Sheet:
+    """Rows for spreadsheets: CSV in UTF-8."""
+
+    def __init__(self, name: str) -> None:
+        self._output = Output(name)
+        self._text = io.StringIO()
+        self._writer = csv.writer(self._text, lineterminator="\r\n")
+        self._write(COLUMNS)
+
+    def _write(self, cells: Sequence[object]) -> None:
+        self._text.seek(0)
+        self._text.truncate()
+        self._writer.writerow(cells)
+        self._output.put(self._text.getvalue().encode("utf-8"))
+
+    def put(self, text: str, row: Row) -> None:
+        """Puts a row."""
+        self._write(csv_cells(row))
+
+    def flush(self) -> None:
+        """Writes what has waited for a moment."""
+        self._output.flush(False)
+
+    def close(self, is_whole: bool) -> None:
+        """Ends the file."""
+        self._output.close()
+
+
+class Table:
+    """Rows as a table on standard output. Where nobody reads it any more, it ends."""
+
+    def __init__(self, clear: Callable[[], ContextManager[None]]) -> None:
+        self._output = Output("-")
+        self._clear = clear  # takes a bar away before lines are printed
+        self.is_closed = False
+        self._put(HEAD)
+        self.flush()
+
+    def _put(self, line: str) -> None:
+        self._output.put((line + "\n").encode(sys.stdout.encoding or "utf-8", "backslashreplace"))
+
+    def put(self, text: str, row: Row) -> None:
+        """Puts a row."""
+        if not self.is_closed:
+            self._guard(lambda: self._put(table_line(row)))
+
+    def say(self, lines: str) -> None:
+        """Puts lines that are no rows."""
+        if not self.is_closed:
+            self._guard(lambda: self._put(lines))
+
+    def flush(self) -> None:
+        """Prints what has waited for a moment."""
+        if not self.is_closed:
+            self._guard(lambda: self._output.flush(False))
+
+    def close(self, is_whole: bool) -> None:
+        """Prints what waits."""
+        if not self.is_closed:
+            self._guard(self._output.close)
+
+    def _guard(self, write: Callable[[], None]) -> None:
+        try:
+            with self._clear():
+                write()
+        except Failure as error:
+            self.is_closed = True
+            if not isinstance(error.__cause__, BrokenPipeError):
+                raise
+
+
+def lines_of(file: BinaryIO) -> Iterator[tuple[int, bytes]]:
+    """The lines of a file, each with its place."""
+    place = 0
+    for line in file:
+        yield place, line
+        place += len(line)

@@ -1,0 +1,141 @@
+"""Files as puzzles: told by their first bytes, and bounded before they are read."""
+
+from __future__ import annotations
+
+import errno
+import os
+import re
+import stat
+from typing import Iterator, NamedTuple, Optional, Union
+
+from .._answers import ImageFault
+from .._calls import picture_of
+from .._images import is_image, pixels_of
+from . import webpbn
+from .puzzles import MOST_BYTES, MOST_COLOURS, WHITE, Missing, Puzzle, Triple, Unreadable, one_line
+
+NAMED = {".png": "PNG", ".gif": "GIF", ".bmp": "BMP", ".webp": "WebP", ".xml": "XML"}
+
+
+class Ground(NamedTuple):
+    """What is taken for background where a file does not tell: a triple, else the first pixel or white."""
+
+    triple: Optional[Triple] = None
+    is_corner: bool = False
+
+
+def ground_of(word: str) -> Ground:
+    """The background of an option's word: `white`, `corner` or R,G,B. Anything else is a ValueError."""
+    if word in ("white", "corner"):
+        return Ground(is_corner=word == "corner")
+    if not re.fullmatch(r"[0-9]{1,5}(,[0-9]{1,5}){2}", word) or max(map(int, word.split(","))) > 65535:
+        raise ValueError("must be white, corner, or R,G,B of numbers up to 65535")
+    red, green, blue = map(int, word.split(","))
+    return Ground((red, green, blue))
+
+
+def bytes_of(path: Union[str, bytes], most: int = MOST_BYTES, follows: bool = True, is_real: bool = False) -> bytes:
+    """The bytes of a file. Pipes, devices and folders are none, and nothing waits for one. Nor are links, where it follows none;
+    and a real path is absolute, and leads through no link.
+    """
+    try:
+        handle = os.open(path, os.O_RDONLY | os.O_NONBLOCK | os.O_CLOEXEC | (0 if follows else os.O_NOFOLLOW))
+        try:
+            found = os.fstat(handle)
+            if not stat.S_ISREG(found.st_mode):
+                raise Unreadable("this is not a file" if not stat.S_ISDIR(found.st_mode) else "this folder is not read")
+            if found.st_size > most:
+                raise Unreadable(f"more than {most} bytes")
+            if is_real and os.readlink(f"/proc/self/fd/{handle}") != path:
+                raise Unreadable("a part of its path is a link")
+            data = os.read(handle, found.st_size)
+            while len(data) < found.st_size:
+                more = os.read(handle, found.st_size - len(data))
+                if not more:
+                    break
+                data += more
+        finally:
+            os.close(handle)
+    except (OSError, ValueError) as error:
+        if not follows and getattr(error, "errno", None) == errno.ELOOP:
+            raise Unreadable("this is a link") from error
+        raise Unreadable(one_line(getattr(error, "strerror", None) or str(error))) from error
+    return data
+
+
+def puzzles_of(
+    data: bytes, suffix: str, ground: Ground, givens: Optional[bytes] = None
+) -> Iterator[Union[Puzzle, Unreadable]]:
+    """Each puzzle of a file, or why it is none. What is wrong with the whole file is raised.
+
+    The first bytes tell what a file is. Its suffix counts where they do not. A file of givens takes the place of those in XML.
+    """
+    if data.startswith(b"P3") and suffix != ".non":
+        puzzle = Puzzle(data, background=first_triple(data) if ground.is_corner else ground.triple)
+    elif is_image(data):
+        puzzle = _puzzle_of_image(data, ground)
+    elif _is_xml(data):
+        puzzles = webpbn.puzzles_of_xml(data)
+        if givens is None:
+            yield from puzzles
+            return
+        puzzle = _only(puzzles)
+    elif suffix == ".non":
+        puzzle = Puzzle(data, is_non=True)
+    elif suffix not in NAMED:
+        puzzle = Puzzle(data)
+    else:
+        raise Unreadable(f"this does not begin as {NAMED[suffix]} does")
+    if givens is not None:
+        puzzle = Puzzle(puzzle.text, puzzle.is_non, puzzle.background, givens, puzzle.title)
+    yield puzzle
+
+
+def _puzzle_of_image(data: bytes, ground: Ground) -> Puzzle:
+    """The puzzle of an image: transparent pixels are background."""
+    try:
+        pixels = pixels_of(data)
+    except ImportError:
+        raise Missing("Pillow", "reads images") from None
+    except ImageFault as fault:
+        raise Unreadable(str(fault)) from fault
+    under = ground.triple or WHITE
+    if ground.is_corner:
+        under = pixels.triples(under)[0]
+    triples = pixels.triples(under)
+    if len({under, *triples}) > MOST_COLOURS:
+        raise Unreadable(f"more than {MOST_COLOURS} colours with the background")
+    return Puzzle(picture_of(pixels.columns, len(triples) // pixels.columns, triples), background=under)
+
+
+def _only(puzzles: Iterator[Union[Puzzle, Unreadable]]) -> Puzzle:
+    """The puzzle of a file that has one. Where it has several, nothing says which of them a file of givens is for."""
+    puzzle = next(puzzles, Unreadable("no puzzle"))
+    if next(puzzles, None) is not None:
+        raise Unreadable("a file of givens lies beside several puzzles")
+    if isinstance(puzzle, Unreadable):
+        raise puzzle
+    return puzzle
+
+
+def grounded(puzzles: Iterator[Union[Puzzle, Unreadable]], ground: Ground) -> Iterator[Union[Puzzle, Unreadable]]:
+    """The puzzles, where the file beside them names their background: XML and .non have one of their own."""
+    for puzzle in puzzles:
+        if isinstance(puzzle, Puzzle) and not ground.is_corner and (puzzle.background or WHITE) != (ground.triple or WHITE):
+            puzzle = Unreadable("the file of its background names another colour than the puzzle has")
+        yield puzzle
+
+
+def _is_xml(data: bytes) -> bool:
+    """Whether a text begins as XML does, in whichever coding."""
+    return data.startswith((b"\xff\xfe", b"\xfe\xff", b"<\0", b"\0<")) or data.removeprefix(b"\xef\xbb\xbf").lstrip()[:1] == b"<"
+
+
+def first_triple(data: bytes) -> Optional[Triple]:
+    """The first pixel of a P3 text, where it has one."""
+    numbers = re.match(rb"P3(?:(?:\s|#[^\r\n]*(?:[\r\n]|$))+0*[0-9]{1,9}(?![0-9])){6}", data)
+    if numbers is None:
+        return None
+    words = re.sub(rb"#[^\r\n]*", b" ", data[: numbers.end()]).split()
+    red, green, blue = (int(word.lstrip(b"0") or b"0") for word in words[-3:])
+    return red, green, blue

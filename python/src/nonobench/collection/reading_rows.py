@@ -1,0 +1,128 @@
+"""Rows that a run did not make itself: each field is what docs/FORMATS.md says, or the row is refused by its name."""
+
+from __future__ import annotations
+
+import json
+import math
+import re
+from typing import Any, Callable
+
+from .puzzles import MOST_CELLS, MOST_COLOURS
+from .rows import FIGURES, GRADES, VERDICTS, Row
+
+_LETTERS = ".abcdefghijklmno"
+
+
+def checked_row(line: bytes) -> Row:
+    """The row of a line. A ValueError says what is wrong with it."""
+    try:
+        row = json.loads(line, object_pairs_hook=_object, parse_constant=_no_number)
+    except RecursionError:
+        raise ValueError("it is nested too deeply") from None
+    except UnicodeDecodeError:
+        raise ValueError("it is not UTF-8") from None
+    except json.JSONDecodeError as error:
+        raise ValueError(f"it is not JSON: {error.msg}") from None
+    if not isinstance(row, dict):
+        raise ValueError("it is not an object")
+    for name, value in row.items():
+        if name not in _FIELDS:
+            raise ValueError(f"no row has a field {name[:40]!a}")
+        if not _FIELDS[name](value):
+            raise ValueError(f"the field {name!r} is wrong")
+    _compare(row)
+    return row
+
+
+def _object(pairs: list[tuple[str, Any]]) -> dict[str, Any]:
+    made = dict(pairs)
+    if len(made) < len(pairs):
+        raise ValueError("it has a field twice")
+    return made
+
+
+def _no_number(word: str) -> None:
+    raise ValueError(f"{word} is no number")
+
+
+def _compare(row: Row) -> None:
+    """What fields say together."""
+    verdict = row.get("verdict")
+    wanted = ["file", "verdict"]
+    if verdict in ("unique", "ambiguous") or any(name in row for name in _SHOWN):
+        wanted += _SHOWN
+    wanted += ["error"] if verdict == "error" else ["other"] if verdict == "ambiguous" else ["figures"] if "grade" in row else []
+    for name in wanted:
+        if name not in row:
+            raise ValueError(f"the field {name!r} is missing")
+    for name in ("grade", "figures", "lines"):
+        if name in row and verdict != "unique":
+            raise ValueError(f"the field {name!r} goes with the verdict 'unique'")
+    if "picture" in row:
+        _compare_picture(row)
+
+
+def _compare_picture(row: Row) -> None:
+    rows, columns, letters = row["rows"], row["columns"], {*_LETTERS[: row["colours"]]}
+    for name in ("picture", "other"):
+        lines = row.get(name, row["picture"]).split("/")
+        if len(lines) != rows or {*map(len, lines)} != {columns} or not letters.issuperset("".join(lines)):
+            raise ValueError(f"the field {name!r} has another size, or other colours")
+    if len(row["palette"]) != row["colours"] or row["open"] > rows * columns:
+        raise ValueError("the numbers of colours or open cells differ")
+    places = [place for one in (row, row.get("certificate", {})) for place in one.get("givens", ())]
+    if any(place[0] > rows or place[1] > columns for place in places):
+        raise ValueError("a given lies outside the picture")
+
+
+def _is_text(value: Any) -> bool:
+    return isinstance(value, str) and value != "" and (value.isascii() or not re.search("[\ud800-\udfff]", value))
+
+
+def _is_like(pattern: str) -> Callable[[Any], bool]:
+    return lambda value: isinstance(value, str) and re.fullmatch(pattern, value) is not None
+
+
+def _is_number(least: int, most: int) -> Callable[[Any], bool]:
+    return lambda value: type(value) is int and least <= value <= most
+
+
+def _is_list(value: Any, is_right: Callable[[Any], bool]) -> bool:
+    return isinstance(value, list) and value != [] and all(map(is_right, value))
+
+
+def _is_places(value: Any) -> bool:
+    return _is_list(value, lambda place: isinstance(place, list) and len(place) == 2 and all(map(_is_number(1, MOST_CELLS), place)))
+
+
+def _is_told(value: Any) -> bool:
+    """Whether this is what is said of a certificate that lies beside a puzzle."""
+    if not isinstance(value, dict) or type(value.get("accepted")) is not bool:
+        return False
+    if not value["accepted"]:
+        return value.keys() == {"accepted", "why"} and _is_text(value["why"])
+    return value.keys() <= {"accepted", "givens"} and ("givens" not in value or _is_places(value["givens"]))
+
+
+_count = _is_number(0, 1 << 31)
+_SHOWN = ("rows", "columns", "colours", "open", "palette", "picture")
+_FIELDS: dict[str, Callable[[Any], bool]] = {
+    **{name: _is_text for name in ("file", "title", "picture", "other", "error", "note", "content", "made", "limit")},
+    "certificate": _is_told,
+    "lines": _count,
+    "missing": _is_like("[A-Za-z0-9._-]{1,40}"),
+    "sha256": _is_like("[0-9a-f]{64}"),
+    "puzzle": _is_number(1, 1 << 31),
+    "more": lambda value: value is True,
+    "rows": _is_number(1, MOST_CELLS),
+    "columns": _is_number(1, MOST_CELLS),
+    "colours": _is_number(1, MOST_COLOURS),
+    "verdict": lambda value: value in VERDICTS,
+    "open": _count,
+    "givens": _is_places,
+    "palette": lambda value: _is_list(value, _is_like("[0-9a-f]{6}")),
+    "near": lambda value: _is_list(value, _is_like("#[0-9a-f]{6} and #[0-9a-f]{6}")),
+    "grade": lambda value: value in GRADES,
+    "figures": lambda value: isinstance(value, dict) and value.keys() == {*FIGURES} and all(map(_count, value.values())),
+    "seconds": lambda value: type(value) in (int, float) and 0 <= value < math.inf,
+}

@@ -1,0 +1,142 @@
+"""The report of an audit: one HTML file that needs no network, to look at, sort and filter."""
+
+from __future__ import annotations
+
+import contextlib
+import os
+import re
+import secrets
+import tempfile
+from collections import Counter
+from pathlib import Path
+from typing import Any, Optional
+
+from ..._library import version
+from ..outputs import Failure, Output, failure
+from ..puzzles import Missing
+from ..rows import FIGURES, GRADES, VERDICTS, Row, beside_words, flaws_of, name_of, near_words, printable, text_of
+
+SIDES = (10, 15, 20, 25, 30, 40, 60, 120)  # the longer sides that puzzles are counted by
+_FOLDER = Path(__file__).resolve().parent
+
+
+class Report:
+    """Gathers rows in a file, and makes the report of them in the end."""
+
+    def __init__(self, name: str, title: Optional[str]) -> None:
+        self._environment = _environment()
+        self._name = name
+        self._title = title
+        self._output = Output(f"{name}.new")
+        self._rows = tempfile.TemporaryFile(dir=os.path.dirname(name) or ".")
+        self._verdicts: Counter[str] = Counter()
+        self._grades: Counter[str] = Counter()
+        self._sides: Counter[tuple[int, str]] = Counter()
+        self._flaws: Counter[str] = Counter()
+
+    def put(self, text: str, row: Row) -> None:
+        """Puts a row."""
+        verdict = row["verdict"]
+        self._verdicts[verdict] += 1
+        self._flaws.update(flaws_of(row))
+        if "grade" in row:
+            self._grades[row["grade"]] += 1
+        if "rows" in row:
+            side = max(row["rows"], row["columns"])
+            self._sides[next((most for most in SIDES if side <= most), SIDES[-1]), verdict] += 1
+        line = text_of(record_of(row)).replace("<", "\\u003c")
+        try:
+            self._rows.write((line + ",\n").encode("ascii"))
+        except OSError as error:
+            raise failure(self._name, error) from error
+
+    def flush(self) -> None:
+        """Nothing waits for a moment here."""
+
+    def close(self, is_whole: bool) -> None:
+        """Makes the report of the rows that were put."""
+        try:
+            self._make(is_whole)
+            os.replace(self._output.name, self._name)
+        except (OSError, Failure) as error:
+            try:
+                os.unlink(self._output.name)
+            except OSError:
+                pass
+            raise error if isinstance(error, Failure) else failure(self._name, error) from error
+        finally:
+            with contextlib.suppress(OSError):
+                self._rows.close()
+
+    def _make(self, is_whole: bool) -> None:
+        parts = {name: (_FOLDER / name).read_text(encoding="utf-8") for name in ("report.css", "report.js")}
+        mark = secrets.token_hex()
+        page = self._environment.get_template("report.html").render(
+            title=self._title or "Puzzles", mark=mark, version=version(), is_whole=is_whole, style=parts["report.css"], script=parts["report.js"],
+            **self._figures(),
+        )
+        front, _, back = page.partition(mark)
+        self._output.put(front.encode("utf-8"))
+        self._rows.seek(0)
+        held = b""
+        for chunk in iter(lambda: self._rows.read(1 << 20), b""):
+            self._output.put(held)
+            held = chunk
+        self._output.put(held.removesuffix(b",\n"))
+        self._output.put(back.encode("utf-8"))
+        self._output.close()
+
+    def _figures(self) -> dict[str, Any]:
+        """What the front of the page tells, as numbers and shares."""
+        total = sum(self._verdicts.values())
+        tallest = max(self._grades.values(), default=1)
+        sides = [(most, [self._sides[most, verdict] for verdict in VERDICTS]) for most in SIDES]
+        widest = max((sum(counts) for _, counts in sides), default=1) or 1
+        return {
+            "total": total,
+            "verdicts": [(name, self._verdicts[name], self._verdicts[name] / (total or 1)) for name in VERDICTS],
+            "grades": [(name, self._grades[name], self._grades[name] / tallest) for name in GRADES],
+            "flaws": sorted(self._flaws.items()),
+            "graded": sum(self._grades.values()),
+            "sides": [
+                (least + 1, most, sum(counts), [(name, count, count / widest) for name, count in zip(VERDICTS, counts)])
+                for least, (most, counts) in zip((0, *SIDES), sides)
+                if sum(counts)
+            ],
+        }
+
+
+def record_of(row: Row) -> list[Any]:
+    """A row as the page's script reads it. What is empty at its end is left out."""
+    verdict, grade = VERDICTS.index(row["verdict"]), GRADES.index(row["grade"]) if "grade" in row else -1
+    told = (row.get("error"), row.get("note"), near_words(row), beside_words(row))
+    words = "; ".join(printable(word) for word in told if word)
+    figures = row.get("figures", {})
+    givens = [(place[0] - 1) * row["columns"] + place[1] - 1 for place in row.get("givens", ())]
+    record: list[Any] = [
+        printable(name_of(row)), row.get("title", ""), row.get("rows", 0), row.get("columns", 0), verdict, grade, row.get("open", 0),
+        "".join(row.get("palette", ())), runs_of(row.get("picture", "")), runs_of(row.get("other", "")), row.get("lines", 0),
+        row.get("seconds", 0), words, givens, [figures[name] for name in FIGURES if name in figures], len(flaws_of(row)),
+    ]
+    while record[-1] in (0, "", []):
+        record.pop()
+    return record
+
+
+def runs_of(picture: str) -> str:
+    """The cells of a picture, row after row: a letter, and how often it comes where that is more than once."""
+    cells = picture.replace("/", "")
+    return re.sub(r"(.)\1+", lambda run: f"{run[1]}{len(run[0])}", cells)
+
+
+def _environment() -> Any:
+    try:
+        from jinja2 import Environment, FileSystemLoader, StrictUndefined
+    except ImportError:
+        raise Failure(str(Missing("jinja2", "makes the report"))) from None
+    environment = Environment(
+        loader=FileSystemLoader(_FOLDER), autoescape=True, undefined=StrictUndefined, trim_blocks=True, lstrip_blocks=True
+    )
+    environment.filters["grouped"] = lambda number: f"{number:,}"
+    environment.filters["percent"] = lambda share: f"{100 * share:.3f}%"
+    return environment

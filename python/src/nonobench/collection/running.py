@@ -1,0 +1,333 @@
+"""A run: files are found, handed out, and their rows put in order into what is written."""
+
+from __future__ import annotations
+
+import os
+import signal
+import sys
+import threading
+import time
+import traceback
+from typing import Any, Callable, Iterator, NamedTuple, Optional
+
+from .._library import version
+from . import certificates
+from .arguments import Options, options_of
+from .earlier import Earlier, content_before, read_row, to_check
+from .finding import Places, find, order_of
+from .outputs import CLOSED, Failure, Lines, Sheet, Table, kept_folder, lines_of
+from .progress import Progress
+from .rows import Row, printable, row_of, text_of
+from .serving import FULL, Settings, Task
+from .tally import ERRORS, Tally
+from .workers import Answer, Broken, Pool
+
+MOST_WAITING = 64 << 20  # bytes of rows that wait for one before them
+BEHIND = 1.0  # seconds after which rows that wait for one before them are in the file of rows
+
+MIXED = "rows of some of its puzzles are missing, or of another run"
+
+
+def _follows(before: Row, row: Row) -> bool:
+    """Whether a row comes directly behind another one where files are joined: a file's puzzles are told whole, and by one run."""
+    if row["file"] != before.get("file"):
+        return not before.get("more") and row.get("puzzle", 1) == 1
+    return bool(before.get("more")) and row.get("puzzle") == before["puzzle"] + 1 and row.get("content") == before.get("content")
+
+
+class Stopped(BaseException):
+    """The run is to end: by Ctrl-C, or since the machine wants it to."""
+
+    def __init__(self, number: int) -> None:
+        super().__init__(number)
+        self.status = 128 + number
+
+
+class Kept(NamedTuple):
+    """Rows of an earlier run, and what is to be done about the file they are of."""
+
+    rows: tuple[tuple[int, str], ...]  # where each is, and its verdict
+    to: Optional[str]
+
+
+def main(words: Optional[list[str]] = None) -> int:
+    """Runs nonobench-audit, and answers its status."""
+    for number in (signal.SIGINT, signal.SIGTERM):
+        signal.signal(number, _stop)
+    try:
+        options = options_of(sys.argv[1:] if words is None else words)
+        return Run(options).merge() if options.is_merge else Run(options).audit()
+    except (Failure, Broken) as error:
+        print(f"nonobench-audit: {error}", file=sys.stderr)
+        return ERRORS
+    except Stopped as error:
+        return error.status
+    except Exception:  # 1 would say that puzzles are not fit
+        traceback.print_exc()
+        return ERRORS
+
+
+def _stop(number: int, _frame: Any) -> None:
+    signal.signal(number, signal.SIG_DFL)
+    raise Stopped(number)
+
+
+def settings_of(options: Options) -> Settings:
+    """What holds for all puzzles of a run, as its rows tell it too."""
+    bounds = [] if options.allowance is None else [f"{options.allowance} splits"]
+    limit = ", ".join(bounds if options.seconds is None else [*bounds, f"{options.seconds:g} s"])
+    made = f"{version()} {options.ground}{'' if options.has_grades else ' no-grade'}{'' if options.allowance is None else ' no-times'}"
+    return Settings(
+        made, limit, options.memory, options.allowance, options.ground, options.has_grades, options.allowance is None,
+        options.scheduler is not None, options.is_untrusted,
+    )
+
+
+class Run:
+    """One run of the program."""
+
+    def __init__(self, options: Options) -> None:
+        self._options = options
+        self._tally = Tally()
+        self._progress = Progress(options.is_quiet or options.is_merge)
+        self._lines: Optional[Lines] = None
+        self._sinks: list[Any] = []
+        self._reads_rows = False  # whether more is written than the rows' own texts
+        self._earlier: Optional[Earlier] = None
+        self._kept: dict[int, Kept] = {}
+        self._waiting: dict[int, list[Answer]] = {}
+        self._complete: set[int] = set()
+        self._size = 0
+        self._next = 0
+        self._since = time.monotonic()  # when that came to be the next
+        self._beside = 0  # how many certificates lie beside the puzzles
+        self._unread: list[str] = []  # those of an older name that are not read
+        self._is_elsewhere = False  # whether other shares have files
+
+    def audit(self) -> int:
+        """Audits a collection."""
+        options = self._options
+        settings = settings_of(options)
+        folders = [kept_folder(name, options.shard != (1, 1)) for name in {options.certify, options.publish} if name is not None]
+        source = self._source(settings)
+        try:
+            source.start()
+            self._open()
+            if options.is_resumed and options.jsonl is not None:
+                self._earlier = Earlier(options.jsonl)
+            self._count_files()
+            tasks = self._tasks(settings)
+            return self._guarded(lambda: self._take_all(source.answers(tasks, lambda: self._size > MOST_WAITING)))
+        finally:
+            source.close()
+            for folder in folders:
+                os.close(folder)
+
+    def merge(self) -> int:
+        """Joins the rows of several runs."""
+        rows: dict[tuple[str, int], tuple[int, int]] = {}
+        files = []
+        for at, path in enumerate(self._options.paths):
+            try:
+                files.append(open(path, "rb"))
+            except OSError as error:
+                raise Failure(f"{path}: {error.strerror}") from error
+            for number, (place, line) in enumerate(lines_of(files[-1]), 1):
+                row = read_row(path, number, line)
+                rows[order_of(row["file"]), row.get("puzzle", 1)] = (at, place)
+        self._open()
+        return self._guarded(lambda: self._join(files, rows))
+
+    def _join(self, files: list[Any], rows: dict[tuple[str, int], tuple[int, int]]) -> None:
+        before: Row = {}
+        for key in sorted(rows):
+            at, place = rows[key]
+            files[at].seek(place)
+            row = row_of(files[at].readline())
+            if not _follows(before, row):
+                raise Failure(f"{printable((before if before.get('more') else row)['file'])}: {MIXED}")
+            before = row
+            self._deliver(row["verdict"], text_of(row))  # written anew: other programs may have put blanks in
+        if before.get("more"):
+            raise Failure(f"{printable(before['file'])}: {MIXED}")
+
+    def _source(self, settings: Settings) -> Any:
+        options = self._options
+        if options.scheduler is None:
+            return Pool(settings, options.jobs, options.seconds)
+        from .cluster import Cluster
+
+        return Cluster(options.scheduler, settings, options.seconds)
+
+    def _open(self) -> None:
+        """Opens what is written, so that what cannot be is told before anything is done."""
+        options = self._options
+        if options.jsonl is not None:
+            self._lines = Lines(options.jsonl, options.is_resumed)
+            self._sinks.append(self._lines)
+        if options.csv is not None:
+            self._sinks.append(Sheet(options.csv))
+        if options.html is not None:
+            from .report import Report
+
+            self._sinks.append(Report(options.html, options.title))
+        if not self._sinks and not options.is_quiet:
+            self._sinks.append(Table(self._progress.aside))
+        self._reads_rows = any(sink is not self._lines for sink in self._sinks)
+
+    def _count_files(self) -> None:
+        """Counts the files beside the run, so that it can be told how long it takes."""
+        options = self._options
+
+        def count() -> None:
+            number = sum(1 for _ in find(options.paths))
+            self._progress.expect((number - options.shard[0]) // options.shard[1] + 1)
+
+        if not options.is_quiet:
+            threading.Thread(target=count, daemon=True).start()
+
+    def _tasks(self, settings: Settings) -> Iterator[Task]:
+        options = self._options
+        part, parts = options.shard
+        number = -1
+        places = Places(options.certificates, options.givens, options.is_untrusted)
+        for at, found in enumerate(find(options.paths, places)):
+            if at % parts != part - 1:
+                self._is_elsewhere = True
+                continue
+            number += 1
+            self._beside += len(found.beside)
+            self._unread += found.unread
+            to, published = (name and os.path.join(name, found.stem) for name in (options.certify, options.publish))
+            before, again = "", to_check([], None)
+            if self._earlier is not None:
+                rows = self._earlier.rows(found.name)
+                before = content_before(rows, settings.made, settings.limit, to, published)
+                again = to_check(rows, to) if before else ()
+                self._kept[number] = Kept(tuple((place, row["verdict"]) for place, row in rows) if before else (), to)
+            elif to is not None:
+                self._kept[number] = Kept((), to)
+            beside = found.beside, found.givens, found.background
+            yield Task(number, found.name, found.path, *beside, to, before, 1, FULL, published, again)
+
+    def _guarded(self, work: Callable[[], None]) -> int:
+        """Does the work, and ends what is written whatever comes: what is done is kept."""
+        options = self._options
+        failures: list[Exception] = []
+        status, is_whole = 0, False
+        try:
+            work()
+            is_whole = True
+        except Stopped as stopped:
+            status = stopped.status
+        except (Failure, Broken) as error:
+            failures.append(error)
+        except Exception as error:  # what is done is kept then too
+            traceback.print_exc()
+            failures.append(error)
+        if status:
+            for number in sorted(self._complete):
+                self._release(number)
+        if is_whole and options.certificates is not None and options.shard == (1, 1) and not self._beside:
+            failures.append(Failure(f"{options.certificates}: no certificate in it is of one of these puzzles"))
+        if is_whole and not self._tally.total and not self._is_elsewhere:
+            failures.append(Failure(f"no puzzles in {', '.join(options.paths)}"))
+        failures += self._close(is_whole)
+        self._progress.close()
+        for words in dict.fromkeys(map(str, failures)):
+            print(f"nonobench-audit: {words}", file=sys.stderr)
+        self._summary(is_whole, bool(status))
+        return status or (ERRORS if failures else self._tally.status())
+
+    def _close(self, is_whole: bool) -> list[Exception]:
+        failures: list[Exception] = []
+        for sink in self._sinks:
+            if not isinstance(sink, Table):
+                try:
+                    sink.close(is_whole)
+                except Failure as error:
+                    failures.append(error)
+        return failures
+
+    def _take_all(self, answers: Iterator[Optional[Answer]]) -> None:
+        for answer in answers:
+            if answer is None:
+                self._tick()
+                continue
+            self._waiting.setdefault(answer.number, []).append(answer)
+            self._size += len(answer.text) + len(answer.certificate)
+            told = [verdict for _, verdict in self._kept[answer.number].rows] if answer.verdict == "same" else [answer.verdict]
+            self._progress.count(told, answer.is_last)
+            if answer.is_last:
+                self._complete.add(answer.number)
+            while self._next in self._complete:
+                self._release(self._next)
+                self._next += 1
+                self._since = time.monotonic()
+
+    def _tick(self) -> None:
+        """Does what is done now and then: rows of the file that comes next are shown before it is complete."""
+        for answer in self._waiting.pop(self._next, ()):
+            self._deliver_answer(answer)
+        if self._lines is not None and self._lines.has_places and time.monotonic() - self._since > BEHIND:
+            for answers in self._waiting.values():
+                answers[:] = [self._placed(answer, self._lines) for answer in answers]
+        for sink in self._sinks:
+            sink.flush()
+        self._progress.tick()
+        if len(self._sinks) == 1 and getattr(self._sinks[0], "is_closed", False):
+            raise Failure(CLOSED)
+
+    def _placed(self, answer: Answer, lines: Lines) -> Answer:
+        """An answer whose row is in the file of rows, though rows before it are missing there: it is put in order in the end."""
+        if answer.place is not None or answer.verdict in ("same", "none"):
+            return answer
+        text = self._text_of(answer)
+        self._size += len(text) - len(answer.text)
+        return answer._replace(text=text, certificate="", place=lines.place(text))
+
+    def _text_of(self, answer: Answer) -> str:
+        """The row of an answer, whose certificate is written where it came with it."""
+        if not answer.certificate:
+            return answer.text
+        self._size -= len(answer.certificate)
+        return certificates.delivered(answer, self._kept[answer.number].to)
+
+    def _release(self, number: int) -> None:
+        """Delivers the rows of a file."""
+        for answer in self._waiting.pop(number, ()):
+            self._deliver_answer(answer)
+        self._complete.discard(number)
+        self._kept.pop(number, None)
+
+    def _deliver_answer(self, answer: Answer) -> None:
+        self._size -= len(answer.text)
+        if answer.verdict == "same":
+            assert self._earlier is not None
+            for place, verdict in self._kept[answer.number].rows:
+                # Written anew: what is looked for in it may stand otherwise in the file.
+                self._deliver(verdict, text_of(self._earlier.row(place)), place)
+        elif answer.verdict != "none":
+            self._deliver(answer.verdict, self._text_of(answer), answer.place)
+
+    def _deliver(self, verdict: str, text: str, place: Optional[int] = None) -> None:
+        """Puts a row into what is written. One that has a place in the file of rows stays there."""
+        self._tally.put(verdict, text)
+        row = row_of(text) if self._reads_rows else {}
+        for sink in self._sinks:
+            if sink is self._lines and place is not None:
+                self._lines.keep(place)
+            else:
+                sink.put(text, row)
+
+    def _summary(self, is_whole: bool, is_stopped: bool) -> None:
+        options, summary = self._options, self._tally.summary()
+        self._tally.warn(options, is_stopped, self._unread)
+        if options.is_quiet or "-" in (options.jsonl, options.csv):
+            return
+        table = next((sink for sink in self._sinks if isinstance(sink, Table)), None)
+        if table is not None:
+            table.say("\n" + summary)
+            table.close(is_whole)
+        else:
+            print(summary)

@@ -1,0 +1,371 @@
+"""What a worker's process does: it judges the puzzles of files, one after the other, and answers a line for each.
+
+The process that asks ends this one where a puzzle takes too long, so every line goes out within a moment, by a thread of its own.
+"""
+
+from __future__ import annotations
+
+import contextlib
+import ctypes
+import gc
+import hashlib
+import marshal
+import os
+import resource
+import signal
+import struct
+import sys
+import threading
+import time
+from typing import Any, BinaryIO, Iterator, NamedTuple, Optional, Union
+
+from .._library import version
+from . import certificates, readers
+from .judging import Desk, Judged, judge
+from .making import Making
+from .puzzles import Missing, Puzzle, Unreadable
+from .rows import Row, row_of, text_of, unfinished
+
+HEAD = struct.Struct("!I")
+MOMENT = 0.03  # seconds until a line goes out
+LONG = 0.02  # seconds after which a verdict goes out before its certificate is made
+FULL, GLANCE = 0, 1
+FEW_SPLITS = 100  # of a puzzle that took too long, to tell at least its size and what line logic leaves open
+SPARE = 8 << 20  # bytes
+DIES_WITH_PARENT = 1  # of prctl: PR_SET_PDEATHSIG
+
+File = Union[str, bytes]
+
+
+class Settings(NamedTuple):
+    """What holds for all puzzles of a run."""
+
+    made: str  # the version and the options that the rows depend on
+    limit: str  # the bound of time or splits, for what is undecided
+    memory: int  # MiB
+    allowance: Optional[int]
+    ground: str
+    has_grades: bool
+    has_times: bool
+    is_inline: bool  # certificates go back, and are written where the run was begun
+    is_untrusted: bool = False  # links are no files
+
+
+class Task(NamedTuple):
+    """A file to be judged."""
+
+    number: int
+    name: str
+    file: File
+    beside: tuple[tuple[int, File], ...]  # certificates, each with the number of its puzzle
+    givens: Optional[File]
+    background: Optional[File]
+    to: Optional[str]  # where its certificate is written, without the ending
+    before: str  # what its content was when it was judged before
+    start: int  # the first puzzle that is wanted
+    mode: int
+    published: Optional[str] = None  # where its picture is written, without the ending
+    kept: tuple[tuple[int, str, File], ...] = ()  # rows to be checked again: number, text where it has one solution, certificate
+    spent: float = 0.0  # the seconds of a try that took too long
+
+
+def serve() -> None:
+    """Answers packs of tasks until there are no more."""
+    signal.signal(signal.SIGINT, signal.SIG_IGN)
+    ctypes.CDLL(None).prctl(DIES_WITH_PARENT, signal.SIGKILL)
+    questions = sys.stdin.buffer
+    answers = Answers(os.dup(1))
+    os.dup2(2, 1)  # what prints must not stand between the answers
+    told = _receive(questions)
+    if told is None:  # the run was stopped before it said so much
+        return
+    settings = Settings(*told)
+    version()  # what loads the library is not bounded
+    resource.setrlimit(resource.RLIMIT_AS, (settings.memory << 20, settings.memory << 20))
+    resource.setrlimit(resource.RLIMIT_CORE, (0, 0))
+    gc.set_threshold(20_000)
+    judging = Judging(settings, answers)
+    answers.put(0, "ready", "")
+    while True:
+        pack = _receive(questions)
+        if pack is None:
+            break
+        for task in pack:
+            judging.answer(Task(*task))
+        answers.flush()
+    answers.flush()
+
+
+def _receive(stream: BinaryIO) -> Any:
+    head = stream.read(HEAD.size)
+    if len(head) < HEAD.size:
+        return None
+    return marshal.loads(stream.read(HEAD.unpack(head)[0]))
+
+
+class About(NamedTuple):
+    """What a row says of its file, and when it was begun."""
+
+    front: Row
+    kind: str  # `more` or `last`
+    content: str
+    sha256: str
+    begun: float
+
+
+class Answers:
+    """Lines that go out together: within a moment, and at the latest with the last one of a pack."""
+
+    def __init__(self, handle: int) -> None:
+        self._handle = handle
+        self._lines: list[str] = []
+        self._lock = threading.Lock()
+        self._some = threading.Event()
+        threading.Thread(target=self._run, daemon=True).start()
+
+    def put(self, number: int, kind: str, verdict: str, text: str = "", certificate: str = "") -> None:
+        """Puts a line of a kind.
+
+        `more` and `last` are rows of a file; `same` and `none` say that its rows are as they were, or that there are no more.
+        `known` is a row before its certificate or its grade is made: instead of a certificate it has the kind of the row to come, and
+        what follows is the certificate that goes back. `at` is the puzzle that is begun where a file has several, `bye` says that
+        the process ends and has begun no other task, `ready` that it begins.
+        """
+        self._lines.append(f"{number}\t{kind}\t{verdict}\t{text}\t{certificate}\n")
+        if not self._some.is_set():
+            self._some.set()
+
+    def flush(self) -> None:
+        """Sends what there is."""
+        with self._lock:
+            lines, self._lines = self._lines, []
+            data = memoryview("".join(lines).encode("ascii"))
+            try:
+                while data:
+                    data = data[os.write(self._handle, data) :]
+            except BrokenPipeError:  # nobody asks any more
+                os._exit(1)
+
+    def _run(self) -> None:
+        while True:
+            self._some.wait()
+            time.sleep(MOMENT)
+            self._some.clear()
+            self.flush()
+
+
+class Judging:
+    """Judges files with one desk."""
+
+    def __init__(self, settings: Settings, answers: Answers) -> None:
+        self._settings = settings
+        self._answers = answers
+        self._ground = readers.ground_of(settings.ground)
+        self._desk = Desk()
+        self._making: Optional[Making] = None  # what is known of the puzzle at hand
+        self._spare = bytes(SPARE)  # let go where memory is out, so that this can be told
+
+    def answer(self, task: Task) -> None:
+        """Answers the puzzles of a file."""
+        try:
+            self._answer(task)
+        except MemoryError:  # in reading it
+            self._spare = b""
+            row = {"file": task.name, "verdict": "error", "error": self._too_much()}
+            self._answers.put(task.number, "last", "error", text_of(row))
+            self._leave(task)
+
+    def _too_much(self) -> str:
+        return f"out of memory: more than {self._settings.memory} MiB"
+
+    def _leave(self, task: Task) -> None:
+        """Ends the process, whose memory may be in pieces, before it begins another file."""
+        self._answers.put(task.number, "bye", "")
+        self._answers.flush()
+        os._exit(0)
+
+    def _answer(self, task: Task) -> None:
+        begun = time.perf_counter()
+        try:
+            files = files_of(task, self._settings.is_untrusted)
+        except Unreadable as error:
+            self._answers.put(task.number, "last", "error", unread(task.name, error, self._settings.has_times))
+            return
+        content = _content(files)
+        if content == task.before and self._holds(task, files):
+            self._answers.put(task.number, "same", "")
+            return
+        try:
+            puzzles = numbered(self._puzzles(task.name, files))
+        except Unreadable as error:
+            puzzles = iter([(1, False, error)])
+        number, sha256 = 0, hashlib.sha256(files.file).hexdigest()
+        for number, has_more, puzzle in puzzles:
+            if number < task.start:
+                continue
+            if has_more or number > 1:
+                self._answers.put(task.number, "at", str(number))
+            front: Row = {"file": task.name}
+            if number > 1 or has_more:
+                front["puzzle"] = number
+            if has_more:
+                front["more"] = True
+            about = About(front, "more" if has_more else "last", content, sha256, begun)
+            self._judge(task, about, puzzle, files.of(number))
+            if task.mode == GLANCE:
+                return
+            begun = time.perf_counter()
+        if number < task.start:
+            self._answers.put(task.number, "none", "")
+
+    def _holds(self, task: Task, files: Files) -> bool:
+        """Whether there is a kept row for each puzzle, and those of puzzles with one solution are true by their certificates."""
+        kept = {number: (row_of(text), held) for number, text, held in files.kept}
+        if not kept:
+            return True
+        with contextlib.suppress(Unreadable):
+            for number, _, puzzle in numbered(self._puzzles(task.name, files)):
+                row, held = kept.pop(number, (None, b""))
+                if row is None or (row and isinstance(puzzle, Unreadable)):
+                    return False
+                if row and isinstance(puzzle, Puzzle) and not certificates.holds(self._desk, puzzle, row, held, files.of(number)):
+                    return False
+            return not kept
+        return False
+
+    def _puzzles(self, name: str, files: Files) -> Iterator[Union[Puzzle, Unreadable]]:
+        ground = self._ground
+        if files.background:
+            try:
+                ground = readers.ground_of(files.background.decode("ascii", "replace").strip())
+            except ValueError as error:
+                raise Unreadable(f"the file of its background {error}") from error
+        puzzles = readers.puzzles_of(files.file, os.path.splitext(name)[1].lower(), ground, files.givens)
+        return readers.grounded(puzzles, ground) if files.background else puzzles
+
+    def _judge(self, task: Task, about: About, puzzle: Union[Puzzle, Unreadable], beside: list[bytes]) -> None:
+        """Puts the row of one puzzle."""
+        made = ""
+        self._making = None
+        try:
+            if isinstance(puzzle, Unreadable):
+                raise puzzle
+            row, made = self._row(task, about, puzzle, beside)
+        except Unreadable as error:
+            row = {"verdict": "error", "error": str(error)}
+            if isinstance(error, Missing):
+                row["missing"] = error.library
+        except MemoryError:
+            self._spare = b""
+            row, made = self._short()
+        self._put(task, about, row, about.kind, made)
+        if not self._spare:
+            self._leave(task)
+
+    def _short(self) -> tuple[Row, str]:
+        """The row of a puzzle for which memory is out, with its certificate: what is known of it, and what is missing."""
+        if self._making is None or self._making.judged is None:
+            return {"verdict": "error", "error": self._too_much()}, ""
+        return unfinished(self._making.row(), self._too_much()), self._making.back
+
+    def _put(self, task: Task, about: About, row: Row, kind: str, certificate: str = "") -> None:
+        if self._settings.has_times:
+            row["seconds"] = round(task.spent + time.perf_counter() - about.begun, 6)
+        row["content"], row["sha256"], row["made"] = about.content, about.sha256, self._settings.made
+        if row["verdict"] == "undecided":
+            row["limit"] = self._settings.limit
+        self._answers.put(task.number, kind, row["verdict"], text_of({**about.front, **row}), certificate)
+
+    def _row(self, task: Task, about: About, puzzle: Puzzle, beside: list[bytes]) -> tuple[Row, str]:
+        """The row of a puzzle, and its certificate where that goes back."""
+        settings = self._settings
+        number = about.front.get("puzzle", 1)
+        name, published = (None if place is None else numbered_name(place, number) for place in (task.to, task.published))
+        making = self._making = Making(self._desk, puzzle, beside, name, settings.is_inline, published)
+
+        def tell(known: Judged) -> None:
+            making.hear(known)
+            if known.certificate or time.perf_counter() - about.begun > LONG:
+                self._put(task, about, making.row(), "known", f"{about.kind} {making.back}")
+                self._answers.flush()
+
+        allowance = FEW_SPLITS if task.mode == GLANCE else settings.allowance
+        is_full = task.mode == FULL
+        has_tree = is_full and (settings.has_grades or task.to is None)
+        judged = judge(self._desk, puzzle, allowance, tell, is_full and task.to is not None, has_tree)
+        making.end(judged, f"no certificate within {settings.limit}")
+        if judged.tree and settings.has_grades:
+            if judged.tree == judged.certificate:  # else it was told before the tree was made
+                self._put(task, about, making.row(), "known", f"{about.kind} {making.back}")
+            making.grade()
+        return making.row(), making.back
+
+
+def unread(name: str, error: Unreadable, has_times: bool) -> str:
+    """The row of a file that cannot be read."""
+    row: Row = {"file": name, "verdict": "error", "error": str(error)}
+    return text_of({**row, "seconds": 0.0} if has_times else row)
+
+
+def numbered(puzzles: Iterator[Union[Puzzle, Unreadable]]) -> Iterator[tuple[int, bool, Union[Puzzle, Unreadable]]]:
+    """Each puzzle with its number, and whether more follow. What is wrong with the file is the last of its puzzles."""
+    number, held = 0, None
+    while True:
+        try:
+            puzzle = next(puzzles, None)
+        except Unreadable as error:
+            puzzle, puzzles = error, iter(())
+        if held is not None:
+            yield number, puzzle is not None, held
+        if puzzle is None:
+            return
+        number, held = number + 1, puzzle
+
+
+def numbered_name(name: str, number: int) -> str:
+    """What the certificate and the picture of a puzzle are called, without the ending."""
+    return name if number == 1 else f"{name}.{number}"
+
+
+class Files(NamedTuple):
+    """The bytes of a file, and of what lies beside it."""
+
+    file: bytes
+    beside: tuple[tuple[int, bytes], ...]
+    givens: Optional[bytes]
+    background: bytes
+    kept: tuple[tuple[int, str, bytes], ...]
+
+    def of(self, number: int) -> list[bytes]:
+        """The certificates that lie beside a puzzle of the file."""
+        return [held for of, held in self.beside if of == number]
+
+
+def files_of(task: Task, is_untrusted: bool) -> Files:
+    """The bytes of a task's files. Raises Unreadable, which names what lies beside the file where that is not read."""
+    def bytes_of(file: Optional[File], whose: str = "", is_ours: bool = not is_untrusted) -> bytes:
+        if file is None or isinstance(file, bytes):
+            return file or b""
+        try:
+            return readers.bytes_of(file, follows=is_ours, is_real=not is_ours)
+        except Unreadable as error:
+            raise Unreadable(f"{whose}{error}") from error
+
+    def made(file: File) -> bytes:
+        with contextlib.suppress(Unreadable):
+            return bytes_of(file, is_ours=True)
+        return b""  # it is made again
+
+    beside = tuple((of, bytes_of(held, "its certificate: ")) for of, held in task.beside)
+    givens = None if task.givens is None else bytes_of(task.givens, "its givens: ")
+    kept = tuple((number, text, made(held)) for number, text, held in task.kept)
+    return Files(bytes_of(task.file), beside, givens, bytes_of(task.background, "its background: "), kept)
+
+
+def _content(files: Files) -> str:
+    """A digest of a file and of what lies beside it: also of which puzzle each certificate is for."""
+    parts = [("", files.file), ("background", files.background)]
+    parts += [] if files.givens is None else [("givens", files.givens)]
+    parts += [(f"{of}", held) for of, held in files.beside]
+    front = ",".join(f"{name} {len(held)}" for name, held in parts).encode("ascii")
+    return hashlib.blake2b(b":".join((front, *(held for _, held in parts))), digest_size=16).hexdigest()

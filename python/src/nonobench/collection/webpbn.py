@@ -1,0 +1,247 @@
+"""Web Paint-by-Number's XML puzzle sets, read as nonobench's page reads them: every puzzle of a file.
+
+The format is Wolter's, https://webpbn.com/pbn_fmt.html. Givens stand as a saved solution with the id `givens`, which has `?` in
+all other cells. defusedxml reads the XML: entities and what lies outside the file are refused.
+"""
+
+from __future__ import annotations
+
+import io
+import re
+from typing import Any, Iterator, NamedTuple, Optional
+
+from .._calls import picture_of
+from .puzzles import MOST_CELLS, MOST_COLOURS, WHITE, Missing, Puzzle, Triple, Unreadable, one_line
+
+MOST_ELEMENTS = 200_000  # in one puzzle
+MOST_DEPTH = 32
+NO_MEMORY = 1  # an error of expat
+GIVENS = "givens"
+BLACK: Triple = (0, 0, 0)
+Signs = list[list[str]]
+
+
+class Colour(NamedTuple):
+    """A colour of a puzzle. Its sign stands for it in solutions."""
+
+    name: str
+    sign: Optional[str]
+    triple: Triple
+    is_declared: bool
+
+
+def puzzles_of_xml(data: bytes) -> Iterator[Puzzle | Unreadable]:
+    """Each puzzle of an XML text, or why it is none. What is wrong with the XML itself is raised."""
+    try:
+        from defusedxml import ElementTree
+        from defusedxml.common import DefusedXmlException
+    except ImportError:
+        raise Missing("defusedxml", "reads XML") from None
+    try:
+        yield from _puzzles(ElementTree.iterparse(io.BytesIO(data), events=("start", "end"), forbid_entities=True))
+    except DefusedXmlException as error:
+        raise Unreadable(f"the XML cannot be read: it declares entities ({type(error).__name__})") from error
+    except (ElementTree.ParseError, ValueError, LookupError) as error:
+        if getattr(error, "code", 0) == NO_MEMORY:
+            raise MemoryError from error
+        raise Unreadable(f"the XML cannot be read: {one_line(str(error))}") from error
+
+
+def _puzzles(events: Any) -> Iterator[Puzzle | Unreadable]:
+    depth = elements = found = 0
+    outer: Any = None
+    for event, element in events:
+        if event == "start":
+            depth += 1
+            elements += 1
+            outer = element if outer is None else outer
+            if depth > MOST_DEPTH or elements > MOST_ELEMENTS:
+                raise Unreadable("the XML cannot be read: it has too many elements")
+            continue
+        depth -= 1
+        if element.tag != "puzzle":
+            continue
+        if depth > 1 or (depth == 1 and outer.tag != "puzzleset"):
+            raise Unreadable("the XML has a puzzle that is not directly in its set")
+        found += 1
+        try:
+            yield puzzle_of(element)
+        except Unreadable as error:
+            yield error
+        outer.clear()
+        elements = 0
+    if not found:
+        raise Unreadable("the XML has no puzzle")
+
+
+def puzzle_of(element: Any) -> Puzzle:
+    """One puzzle, by its goal, or by its clues where it has none and two colours."""
+    if element.get("type", "grid") != "grid":
+        raise Unreadable(f"a puzzle of the type {one_line(element.get('type'), 30)}, which has no rows and columns")
+    title = one_line(element.findtext("title") or "")
+    clues = {axis: _clues(element, axis, element.get("defaultcolor", "black")) for axis in ("rows", "columns")}
+    solutions = element.findall("solution")
+    goals = [one for one in solutions if one.get("type", "goal") == "goal"] or [one for one in solutions if one.get("type") == "solution"]
+    if not goals:
+        return Puzzle(_non_text(clues), is_non=True, title=title)
+    signs, *others = map(_image, goals)
+    if any(other != signs for other in others):
+        raise Unreadable("the puzzle has several goals, and they are different pictures")
+    order, by_sign = _order(_colours(element), element.get("backgroundcolor", "white"), {sign for row in signs for sign in row})
+    cells = [[by_sign[sign].name for sign in row] for row in signs]
+    _compare(cells, order[0].name, clues)
+    saved = _only([one for one in solutions if (one.get("type"), one.get("id")) == ("saved", GIVENS)], "its givens")
+    published = b"" if saved is None else _givens(_image(saved), signs)
+    triples = {colour.name: triple for colour, triple in zip(order, _apart(order))}
+    text = picture_of(len(cells[0]), len(cells), [triples[name] for row in cells for name in row])
+    return Puzzle(text, background=order[0].triple, published=published, title=title)
+
+
+def _text(element: Any) -> str:
+    """The text of an element. Others within it would hide what stands behind them."""
+    if len(element):
+        raise Unreadable("a text of the puzzle has elements in it")
+    return element.text or ""
+
+
+def _only(elements: list[Any], what: str) -> Any:
+    """The only one of some elements, or none: of several nothing says which one is shown."""
+    if len(elements) > 1:
+        raise Unreadable(f"the puzzle has {what} twice")
+    return next(iter(elements), None)
+
+
+def _colours(element: Any) -> dict[str, Colour]:
+    """The declared colours by name, and white and black where they are not declared."""
+    known = {"white": Colour("white", ".", WHITE, False), "black": Colour("black", "X", BLACK, False)}
+    colours: dict[str, Colour] = {}
+    for one in element.findall("color"):
+        name = one.get("name", "")
+        if name in colours:
+            raise Unreadable("a colour of the puzzle is declared twice")
+        if one.get("char") == "?":
+            raise Unreadable("a colour of the puzzle has the sign '?', which stands for a cell of any colour")
+        sign = one.get("char") or (known[name].sign if name in known else None)
+        colours[name] = Colour(name, sign, _triple(_text(one)), True)
+    return {**colours, **{name: colour for name, colour in known.items() if name not in colours}}
+
+
+def _triple(text: str) -> Triple:
+    digits = text.strip().removeprefix("#")
+    if re.fullmatch("[0-9a-fA-F]{3}", digits):
+        digits = "".join(digit * 2 for digit in digits)
+    if not re.fullmatch("[0-9a-fA-F]{6}", digits):
+        raise Unreadable("a colour of the puzzle is not three or six hexadecimal digits")
+    return int(digits[:2], 16), int(digits[2:4], 16), int(digits[4:], 16)
+
+
+def _order(colours: dict[str, Colour], ground: str, used: set[str]) -> tuple[list[Colour], dict[str, Colour]]:
+    """The colours of a solution, its background first, and the colour of each sign."""
+    if ground not in colours:
+        raise Unreadable("the background of the puzzle is a colour that it does not have")
+    by_sign: dict[str, Colour] = {}
+    for colour in colours.values():
+        before = by_sign.get(colour.sign or "")
+        if before is not None and before.is_declared and colour.is_declared and colour.sign in used:
+            raise Unreadable(f"two colours of the puzzle have the sign {one_line(before.sign or '', 2)!r}")
+        if colour.sign and (before is None or colour.is_declared):
+            by_sign[colour.sign] = colour
+    for sign in sorted(used - by_sign.keys()):
+        raise Unreadable(f"the solution has a cell {one_line(sign, 2)!r}, which is not a colour of the puzzle")
+    seen = [colours[ground], *(by_sign[sign] for sign in sorted(used) if by_sign[sign].name != ground)]
+    if len(seen) > MOST_COLOURS:
+        raise Unreadable(f"more than {MOST_COLOURS} colours with the background")
+    return seen, by_sign
+
+
+def _apart(order: list[Colour]) -> list[Triple]:
+    """The triples of colours: two that are declared alike stay two, as near as they can be, so that it is told that they look alike."""
+    made: list[Triple] = []
+    for red, green, blue in (colour.triple for colour in order):
+        blues = sorted(range(256), key=lambda other: abs(other - blue))
+        made.append(next(triple for triple in ((red, green, other) for other in blues) if triple not in made))
+    return made
+
+
+def _image(solution: Any) -> Signs:
+    """Rows of signs between bars. A backslash takes the next sign as it stands, and `[..]` is a cell that may have several."""
+    image = _only(solution.findall("image"), "the image of a solution")
+    text = "" if image is None else _text(image)
+    if len(text) > 64 * MOST_CELLS * MOST_CELLS or not re.fullmatch(r"(\s*\|(?:\\.|\[[^]]*\]|[^|\\\[])*\|)+\s*", text, re.DOTALL):
+        raise Unreadable("a row of the solution is not between bars")
+    rows: Signs = []
+    for row in re.findall(r"\|((?:\\.|\[[^]]*\]|[^|\\\[])*)\|", text, re.DOTALL):
+        rows.append([_sign(cell) for cell in re.findall(r"\\.|\[[^]]*\]|[^|\\\[]", row, re.DOTALL)])
+    if max(len(rows), *map(len, rows)) > MOST_CELLS:
+        raise Unreadable(f"the solution is larger than {MOST_CELLS} by {MOST_CELLS}")
+    if len(set(map(len, rows))) != 1 or not rows[0]:
+        raise Unreadable("the rows of the solution have several lengths, or none")
+    return rows
+
+
+def _sign(cell: str) -> str:
+    if cell[0] == "[":
+        return cell[1] if len(cell) == 3 else "?"
+    return cell[-1]
+
+
+def _clues(element: Any, axis: str, usual: str) -> Optional[list[list[tuple[int, str]]]]:
+    """The clues of an axis as lengths with names of colours, or none where the puzzle does not tell them."""
+    clues = _only([one for one in element.findall("clues") if one.get("type") == axis], f"the clues of the {axis}")
+    if clues is None:
+        return None
+    found = []
+    for line in clues.findall("line"):
+        blocks = []
+        for count in line.findall("count"):
+            text = _text(count)
+            if not re.fullmatch(r"\s*[0-9]{1,6}\s*", text):
+                raise Unreadable("a clue of the puzzle is not a number")
+            if int(text):
+                blocks.append((int(text), count.get("color", usual)))
+        found.append(blocks)
+    return found
+
+
+def _compare(cells: list[list[str]], ground: str, clues: dict[str, Any]) -> None:
+    """Clues that stand in the file must be those of the goal."""
+    columns: list[list[str]] = list(map(list, zip(*cells)))
+    for axis, lines in (("rows", cells), ("columns", columns)):
+        if clues[axis] is not None and clues[axis] != [_blocks(line, ground) for line in lines]:
+            raise Unreadable(f"the clues of the {axis} are not those of the solution")
+
+
+def _blocks(line: Any, ground: str) -> list[tuple[int, str]]:
+    blocks: list[tuple[int, str]] = []
+    before = ground
+    for name in line:
+        if name != ground:
+            blocks = [*blocks[:-1], (blocks[-1][0] + 1, name)] if name == before else [*blocks, (1, name)]
+        before = name
+    return blocks
+
+
+def _givens(saved: Signs, signs: Signs) -> bytes:
+    if (len(saved), len(saved[0])) != (len(signs), len(signs[0])):
+        raise Unreadable("the givens have another size than the solution")
+    givens = []
+    for row, (cells, goal) in enumerate(zip(saved, signs), 1):
+        for column, (sign, wanted) in enumerate(zip(cells, goal), 1):
+            if sign not in ("?", wanted):
+                raise Unreadable("a given has another colour than the solution")
+            if sign != "?":
+                givens.append(b"given %d %d\n" % (row, column))
+    return b"".join(givens)
+
+
+def _non_text(clues: dict[str, Any]) -> bytes:
+    """The .non text of a puzzle of two colours that has clues and no solution."""
+    rows, columns = clues["rows"], clues["columns"]
+    if not rows or not columns:
+        raise Unreadable("the puzzle has neither a solution nor all clues")
+    if len({name for line in [*rows, *columns] for _, name in line}) > 1:
+        raise Unreadable("the puzzle has clues in several colours and no solution")
+    lines = [f"width {len(columns)}", f"height {len(rows)}"]
+    for axis, all_clues in (("rows", rows), ("columns", columns)):
+        lines += [axis, *(",".join(str(length) for length, _ in line) or "0" for line in all_clues)]
+    return ("\n".join(lines) + "\n").encode()

@@ -1,0 +1,290 @@
+"""Processes that judge: files are handed out in packs, and a process that dies or takes too long costs one puzzle alone."""
+
+from __future__ import annotations
+
+import json
+import marshal
+import os
+import selectors
+import site
+import subprocess
+import sys
+import time
+from collections import deque
+from pathlib import Path
+from typing import Any, Callable, Iterator, NamedTuple, Optional
+
+from .rows import Row, text_of, unfinished
+from .serving import FULL, GLANCE, HEAD, Settings, Task
+
+# Run apart from the current folder, whose files are not trusted.
+_START = "import sys; sys.path[:0] = [{!r}]; sys.path += {!r}; from nonobench.collection.serving import serve; serve()"
+SLACK = 0.25  # seconds that a line may be late
+STUCK = 0.5  # seconds after which others take over what waits for one puzzle
+STARTING = 60.0  # seconds for a process to begin
+MOST_PACKED = 64  # files in a pack
+PACK_SECONDS = 0.1  # what a pack shall take
+TICK = 0.25  # seconds between looks at the clock
+ROOM = 1 << 18
+
+
+class Answer(NamedTuple):
+    """A row, or that the rows of a file are as they were."""
+
+    number: int  # of the task
+    is_last: bool  # of its file
+    verdict: str  # or `same`, where the rows are as they were, or `none`, where there are no more
+    text: str  # the row
+    certificate: str = ""
+    place: Optional[int] = None  # where the row is in the file of rows, if it is there
+
+
+class Broken(Exception):
+    """No process can be started that judges."""
+
+
+class Hand:
+    """One process, and what it was handed."""
+
+    def __init__(self, settings: Settings) -> None:
+        package = str(Path(__file__).resolve().parent.parent.parent)
+        more = [site.getusersitepackages()] if site.ENABLE_USER_SITE else []
+        self.process = subprocess.Popen(
+            [sys.executable, "-I", "-c", _START.format(package, more)], stdin=subprocess.PIPE, stdout=subprocess.PIPE, bufsize=0
+        )
+        assert self.process.stdin is not None and self.process.stdout is not None
+        self.questions, self.answers = self.process.stdin, self.process.stdout
+        os.set_blocking(self.questions.fileno(), False)
+        os.set_blocking(self.answers.fileno(), False)
+        self.tasks: deque[Task] = deque()
+        self.out = bytearray()
+        self.torn = b""
+        self.is_ready = False
+        self.is_left = False  # what waited here was handed to others
+        self.since = time.monotonic()  # the last sign of life
+        self.cost = PACK_SECONDS  # seconds of a file, about
+        self.reached = 0  # the puzzle of the first task's file that is being judged, where the file has several
+        self.known: Optional[list[str]] = None  # the row of the puzzle whose certificate or grade is being made
+        self.send(tuple(settings))
+
+    def send(self, value: Any) -> None:
+        """Puts a value on its way."""
+        packed = marshal.dumps(value)
+        self.out += HEAD.pack(len(packed)) + packed
+        self.write()
+
+    def write(self) -> None:
+        """Sends as much as there is room for."""
+        try:
+            while self.out:
+                del self.out[: os.write(self.questions.fileno(), self.out[:ROOM])]
+        except BlockingIOError:
+            pass
+        except BrokenPipeError:
+            self.out.clear()
+
+    def end(self) -> int:
+        """Ends the process, and answers its status."""
+        self.process.kill()
+        self.questions.close()
+        self.answers.close()
+        return self.process.wait()
+
+
+class Pool:
+    """Some processes, and what they answer."""
+
+    def __init__(self, settings: Settings, jobs: int, seconds: Optional[float]) -> None:
+        self._settings = settings
+        self._jobs = jobs
+        self._seconds = seconds
+        self._hands: list[Hand] = []
+        self._again: deque[Task] = deque()
+        self._died: set[tuple[int, int]] = set()
+        self._failures = 0
+        self._tasks: Iterator[Task] = iter(())
+        self._has_more = False
+        self._is_full: Callable[[], bool] = bool
+
+    def start(self) -> None:
+        """Starts the processes, so that they begin while tasks are found."""
+        self._hands += [Hand(self._settings) for _ in range(self._jobs - len(self._hands))]
+
+    def answers(self, tasks: Iterator[Task], is_full: Callable[[], bool] = bool) -> Iterator[Optional[Answer]]:
+        """What is answered to tasks, those of a file in order; nothing, from time to time. While it is full no more are begun."""
+        self._tasks, self._has_more, self._is_full = tasks, True, is_full
+        self.start()
+        while True:
+            self._feed()
+            if not (self._has_more or self._again or any(hand.tasks for hand in self._hands)):
+                return
+            begun = time.monotonic()
+            for hand in self._wait():
+                yield from self._read(hand)
+            lost = time.monotonic() - begun - 4 * TICK
+            for hand in self._hands if lost > 0 else ():
+                hand.since += lost  # all of us were stopped
+            yield from self._end_late()
+            yield None
+
+    def close(self) -> None:
+        """Ends the processes."""
+        for hand in self._hands:
+            hand.end()
+        self._hands.clear()
+
+    def _wait(self) -> list[Hand]:
+        """The processes that said something, within a moment."""
+        with selectors.PollSelector() as selector:
+            for hand in self._hands:
+                selector.register(hand.answers, selectors.EVENT_READ, hand)
+                if hand.out:
+                    selector.register(hand.questions, selectors.EVENT_WRITE, hand)
+            ready = selector.select(TICK)
+        for key, mask in ready:
+            if mask & selectors.EVENT_WRITE:
+                key.data.write()
+        return [key.data for key, mask in ready if mask & selectors.EVENT_READ]
+
+    def _feed(self) -> None:
+        for hand in self._hands:
+            size = max(1, min(MOST_PACKED, int(PACK_SECONDS / hand.cost)))
+            if hand.is_left or hand.out or len(hand.tasks) > size // 2:
+                continue
+            pack: list[Task] = []
+            while len(pack) < size and (task := self._next()) is not None:
+                pack.append(task)
+            if pack:
+                if not hand.tasks:
+                    hand.since = time.monotonic()
+                hand.tasks.extend(pack)
+                hand.send([tuple(task) for task in pack])
+
+    def _next(self) -> Optional[Task]:
+        if self._again:
+            return self._again.popleft()
+        if not self._has_more or self._is_full():
+            return None
+        task = next(self._tasks, None)
+        self._has_more = task is not None
+        return task
+
+    def _read(self, hand: Hand) -> Iterator[Answer]:
+        try:
+            data = os.read(hand.answers.fileno(), ROOM)
+        except BlockingIOError:
+            return
+        if not data:
+            yield from self._end(hand, "")
+            return
+        now = time.monotonic()
+        *lines, hand.torn = (hand.torn + data).split(b"\n")
+        before = len(hand.tasks)
+        is_further = False
+        for line in lines:
+            words = line.decode("ascii").split("\t")
+            # What is known of a puzzle before all is made gives it no more time.
+            is_further = is_further or words[1] != "known"
+            yield from self._hear(hand, words)
+        if lines and before > len(hand.tasks):
+            hand.cost = 0.5 * hand.cost + 0.5 * (now - hand.since) / (before - len(hand.tasks))
+        if is_further:
+            hand.since = now
+        if hand.is_left and not hand.tasks:
+            self._replace(hand)
+
+    def _hear(self, hand: Hand, line: list[str]) -> Iterator[Answer]:
+        number, kind, verdict, text, certificate = line
+        if kind == "ready":
+            hand.is_ready, self._failures = True, 0
+            return
+        if not hand.tasks or int(number) != hand.tasks[0].number:
+            return
+        task = hand.tasks[0]
+        if kind == "at":
+            hand.reached = int(verdict)
+        elif kind == "known":
+            hand.known = line
+        elif kind == "bye":
+            hand.reached = -1
+        else:
+            if kind in ("same", "none"):
+                verdict = kind
+            yield from self._take(hand, task, Answer(task.number, kind != "more", verdict, text, certificate))
+
+    def _take(self, hand: Hand, task: Task, answer: Answer) -> Iterator[Answer]:
+        """Takes the answer to the first task of a process."""
+        hand.known, hand.reached = None, 0
+        yield answer
+        if answer.is_last or task.mode == GLANCE:
+            hand.tasks.popleft()
+            if not answer.is_last:
+                self._again.appendleft(task._replace(start=task.start + 1, mode=FULL, spent=0.0))
+        else:
+            hand.tasks[0] = task._replace(start=json.loads(answer.text)["puzzle"] + 1)
+
+    def _end_late(self) -> Iterator[Answer]:
+        """Ends what takes too long, and hands to others what waits for a puzzle that takes long."""
+        now = time.monotonic()
+        for hand in list(self._hands):
+            quiet = now - hand.since
+            if not hand.is_ready:
+                if quiet > STARTING:
+                    yield from self._end(hand, "")
+            elif hand.tasks and self._seconds is not None and quiet > self._seconds + SLACK:
+                yield from self._end(hand, f"no answer within {self._seconds:g} seconds")
+            elif len(hand.tasks) > 1 and quiet > STUCK:
+                hand.is_left = True
+                while len(hand.tasks) > 1:
+                    self._again.appendleft(hand.tasks.pop())
+
+    def _replace(self, hand: Hand) -> int:
+        status = hand.end()
+        self._hands.remove(hand)
+        if not hand.is_ready:
+            self._failures += 1
+            if self._failures > 2:
+                raise Broken(f"a process that judges ended with status {status} before it began")
+        self._hands.append(Hand(self._settings))
+        return status
+
+    def _end(self, hand: Hand, late: str) -> Iterator[Answer]:
+        """Puts a new process in the place of one that ended, or is ended since it took too long. Its first task is to blame."""
+        status = self._replace(hand)
+        tasks = hand.tasks
+        if tasks and hand.is_ready and hand.reached >= 0:
+            task = tasks.popleft()
+            why = late or (f"its process ended by signal {-status}" if status < 0 else f"its process ended with status {status}")
+            yield from self._blame(hand, task, why, bool(late))
+        while tasks:
+            self._again.appendleft(tasks.pop())
+
+    def _blame(self, hand: Hand, task: Task, why: str, is_late: bool) -> Iterator[Answer]:
+        """What becomes of a puzzle whose process was ended, or ended: it is told, or tried once more."""
+        if hand.known is not None:
+            _, _, _, text, rest = hand.known
+            kind, _, certificate = rest.partition(" ")
+            row: Row = unfinished(json.loads(text), why)
+            if is_late and "seconds" in row:
+                row["seconds"] = self._seconds
+            yield from self._give_up(task, row, kind == "more", certificate)
+        elif is_late and task.mode == FULL:
+            self._again.appendleft(task._replace(mode=GLANCE, before="", spent=self._seconds or 0.0))
+        elif not is_late and (task.number, task.start) not in self._died:
+            self._died.add((task.number, task.start))
+            self._again.appendleft(task)
+        else:
+            has_more = hand.reached == task.start
+            row = {"file": task.name}
+            if has_more or task.start > 1:
+                row["puzzle"] = task.start
+            if has_more:
+                row["more"] = True
+            row.update(verdict="undecided", error=why, limit=self._settings.limit) if is_late else row.update(verdict="error", error=why)
+            yield from self._give_up(task, row, has_more)
+
+    def _give_up(self, task: Task, row: Row, has_more: bool, certificate: str = "") -> Iterator[Answer]:
+        """Tells the row of a puzzle whose process is gone. The puzzles after it are still to come."""
+        yield Answer(task.number, not has_more, row["verdict"], text_of(row), certificate)
+        if has_more:
+            self._again.appendleft(task._replace(start=row["puzzle"] + 1, mode=FULL, spent=0.0))

@@ -1,0 +1,375 @@
+"""Tests of nonobench-check-site: python3 -m pytest python/tests/test_check_site.py, with the library where the package looks for it.
+
+The certificates are those of examples/ and tests/cases/, or follow from docs/FORMATS.md by hand.
+"""
+
+import os
+import signal
+import subprocess
+import sys
+import time
+from pathlib import Path
+
+import nonobench
+import pytest
+from nonobench import check_site
+
+pytestmark = pytest.mark.since("0.7.0")
+EXAMPLES = Path(__file__).resolve().parent.parent.parent / "examples"
+DIAGONAL = (EXAMPLES / "diagonal.ppm").read_text()
+DIAGONAL_CERT = (EXAMPLES / "diagonal.cert").read_text()
+# Black on the diagonal, as another picture has it; and its certificates with a cell given, and with all.
+CROSS = "P3 2 2 255 0 0 0 255 255 255 255 255 255 0 0 0\n"
+ONE = "nonolemma 1\ngiven 1 1\nline r 1\nline c 1\nline r 2\ndone\n"
+ALL = "nonolemma 1\ngiven 1 1\ngiven 1 2\ngiven 2 1\ngiven 2 2\ndone\n"
+# Of a black and a red cell on the diagonal (tests/cases/lemmas.case).
+LEMMAS = "nonolemma 1\npart 1 1 a\nline r 1\ndead c 2\nline r 1\nline c 1\nline r 2\ndone\n"
+PATIENCE = 300  # seconds after which a test counts as one that does not end
+
+
+@pytest.fixture
+def site(tmp_path, monkeypatch):
+    """An empty site, below the current folder."""
+    monkeypatch.chdir(tmp_path)
+    (tmp_path / "site").mkdir()
+    return tmp_path / "site"
+
+
+@pytest.fixture
+def checked(capsys):
+    """Runs it, and answers its status and the lines that it printed."""
+
+    def run(*words):
+        status = check_site.main([*map(str, words)])
+        printed = capsys.readouterr()
+        return status, printed.out.splitlines()
+
+    return run
+
+
+def pair(site, name, picture=DIAGONAL, certificate=DIAGONAL_CERT, ending="cert", **beside):
+    """Puts a picture with a certificate, and with what else lies beside it."""
+    (site / name).parent.mkdir(parents=True, exist_ok=True)
+    for end, text in {"ppm": picture, ending: certificate, **beside}.items():
+        if text is not None:
+            (site / f"{name}.{end}").write_text(text)
+
+
+def started(stdout, encoding="utf-8"):
+    """Runs it in a process of its own."""
+    env = {**os.environ, "PYTHONPATH": str(Path(nonobench.__file__).resolve().parent.parent), "PYTHONIOENCODING": encoding}
+    words = [sys.executable, "-m", "nonobench.check_site", "site", "--quiet"]
+    return subprocess.run(words, stdout=stdout, stderr=subprocess.PIPE, encoding=encoding, timeout=PATIENCE, env=env, check=False)
+
+
+def test_all_is_accepted(site, capsys):
+    pair(site, "diagonal")
+    pair(site, "deep/in/a/folder", CROSS, ONE, "proof", givens="given 1 1\n")
+    assert check_site.main(["site"]) == 0
+    assert capsys.readouterr() == ("", "accepted 2, refused 0, not read 0\n")
+    assert check_site.main(["site", "--quiet", "--jobs", "1"]) == 0
+    assert capsys.readouterr() == ("", "")
+
+
+def test_what_is_refused_and_what_is_missing(site, checked):
+    pair(site, "cut", certificate="nonocert 1\nline r 1\n")
+    pair(site, "none", None)
+    pair(site, "other", CROSS)
+    pair(site, "picture", "P6")
+    pair(site, "long", certificate="nonolemma 1\n" + "line r 1\n" * 1864136 + LEMMAS[12:])
+    pair(site, "empty", certificate="")
+    assert checked("site") == (3, [
+        "site/cut.cert: certificate Ended at line 3",
+        "site/empty.cert: certificate NotCert at line 1",
+        "site/long.cert: more than 16777216 bytes",
+        "site/none.cert: its picture: No such file or directory",
+        "site/other.cert: certificate NotDead at line 5",
+        "site/picture.cert: ppm NotP3 at byte 0",
+    ])
+    for name in ("none", "long"):
+        (site / f"{name}.cert").unlink()
+    assert checked("site")[0] == 1
+
+
+def test_all_forms_and_endings_of_a_certificate(site, checked, capsys):
+    pair(site, "lemmas", certificate=LEMMAS)
+    pair(site, "older", ending="proof")
+    pair(site, "both")
+    pair(site, "both", certificate="x", ending="Proof")
+    pair(site, "capitals", ending="CERT")
+    pair(site, "capitals", certificate="x", ending="PROOF")
+    assert check_site.main(["site"]) == 0
+    assert capsys.readouterr() == ("", "".join(f"nonobench-check-site: site/{name}: not read, since a .cert is there\n" for name in (
+        "both.Proof", "capitals.PROOF")) + "accepted 4, refused 0, not read 0\n")
+    (site / "both.cert").unlink()
+    assert checked("site", "--shard", "1/4") == (1, ["site/both.Proof: certificate NotCert at line 1"])
+
+
+def test_givens_are_those_that_are_published(site, checked):
+    pair(site, "all", CROSS, ALL)
+    pair(site, "more", CROSS, ONE, givens="given 2 2\ngiven 1 1\n")
+    pair(site, "none", CROSS, ONE)
+    pair(site, "other", CROSS, ONE, givens="given 1 2\n")
+    pair(site, "three", CROSS, ALL, givens="given 1 1\ngiven 1 2\ngiven 2 2\n")
+    pair(site, "words", CROSS, ONE, givens="given 1 x\n")
+    pair(site, "twice", CROSS, ONE, givens="given 1 1\ngiven 2 2\ngiven 1 1\n")
+    pair(site, "wide", CROSS, ONE, givens="given 1 1\ngiven 1 3\n")
+    assert checked("site") == (1, [
+        "site/all.cert: certificate UnpublishedGiven at line 2",
+        "site/none.cert: certificate UnpublishedGiven at line 2",
+        "site/other.cert: certificate UnpublishedGiven at line 2",
+        "site/three.cert: certificate UnpublishedGiven at line 4",
+        "site/twice.cert: givens Repeated at line 3",
+        "site/wide.cert: givens Place at line 2",
+        "site/words.cert: givens BadLine at line 1",
+    ])
+
+
+def test_givens_and_backgrounds_of_the_site_and_not_of_strangers(site, checked, tmp_path):
+    # By a magenta background, which no cell has, the white cells are coloured too, and the cross has one solution.
+    filled = "nonocert 1\nline r 1\nline r 2\ndone\n"
+    pair(site, "filled", CROSS, filled, background="255,0,255\n")
+    pair(site, "given", CROSS, ONE, givens="given 1 1\n")
+    assert checked("site") == (0, [])
+    ours = tmp_path / "ours"
+    ours.mkdir()
+    refused = ["site/filled.cert: certificate NotDone at line 4", "site/given.cert: certificate UnpublishedGiven at line 2"]
+    assert checked("site", "--givens", "ours") == (1, refused)
+    assert checked("site", "--untrusted") == (1, refused)
+    (ours / "filled.background").write_text("255,0,255")
+    (ours / "given.givens").write_text("given 1 1")
+    assert checked("site", "--givens", "ours") == (0, [])
+    assert checked("site", "--givens", "ours", "--untrusted") == (0, [])
+
+
+def test_backgrounds(site, checked):
+    # Black and red cells side by side fill each row. By a black background the red ones may change places.
+    cells, filled = "P3 2 2 1 0 0 0 1 0 0 1 0 0 0 0 0\n", "nonocert 1\nline r 1\nline r 2\ndone\n"
+    pair(site, "black", cells, filled, background="0,0,0")
+    pair(site, "corner", cells, filled, background="corner\n")
+    pair(site, "link", cells, filled)
+    (site / "link.background").symlink_to("nowhere")
+    pair(site, "white", cells, filled, background="white\n")
+    pair(site, "word", cells, filled, background="red\n")
+    assert checked("site") == (3, [
+        "site/black.cert: certificate NotDone at line 4",
+        "site/corner.cert: its background must be white or R,G,B",
+        "site/link.cert: its background: this is a link",
+        "site/word.cert: its background must be white, corner, or R,G,B of numbers up to 65535",
+    ])
+
+
+def test_what_lies_beside_a_picture_is_called_as_for_an_audit(site, checked):
+    cells, filled = "P3 2 2 1 0 0 0 1 0 0 1 0 0 0 0 0\n", "nonocert 1\nline r 1\nline r 2\ndone\n"
+    pair(site, "capitals", cells, filled, BACKGROUND="0,0,0")
+    pair(site, "given", CROSS, ONE, GIVENS="given 1 1\n")
+    pair(site, "none", CROSS, ONE, **{"ppm.givens": "given 2 2\n", "givens": "given 1 1\n"})
+    pair(site, "whole", cells, filled, **{"ppm.background": "0,0,0", "background": "white"})
+    assert checked("site") == (1, [
+        "site/capitals.cert: certificate NotDone at line 4", "site/none.cert: certificate UnpublishedGiven at line 2",
+        "site/whole.cert: certificate NotDone at line 4",
+    ])
+
+
+def test_what_lies_beside_a_picture_is_short(site, checked):
+    pair(site, "long", CROSS, ONE, givens="x" * 16777217)
+    pair(site, "word", background="white" + " " * 60)
+    assert checked("site") == (3, [
+        "site/long.cert: its givens: more than 16777216 bytes", "site/word.cert: its background: more than 64 bytes",
+    ])
+
+
+def test_an_editor_that_changed_a_certificate_is_told(site, checked):
+    pair(site, "crlf")
+    (site / "crlf.cert").write_bytes(DIAGONAL_CERT.replace("\n", "\r\n").encode())
+    pair(site, "utf16")
+    (site / "utf16.cert").write_text(DIAGONAL_CERT, encoding="utf-16")
+    assert checked("site") == (1, [
+        "site/crlf.cert: certificate NotCert at line 1 (its lines end with CR LF, and must end with LF alone)",
+        "site/utf16.cert: certificate NotCert at line 1 (it is UTF-16, and must be ASCII)",
+    ])
+
+
+@pytest.mark.parametrize("ending", ["cert", "proof", "ppm", "givens", "background"])
+def test_nothing_but_regular_files_is_read(site, ending):
+    makers = {
+        "device": lambda path: path.symlink_to("/dev/zero"),
+        "folder": lambda path: path.mkdir(),
+        "link": lambda path: path.symlink_to(EXAMPLES / "diagonal.cert"),
+        "pipe": os.mkfifo,
+    }
+    for name, make in makers.items():
+        pair(site, name, **{"cert" if ending == "proof" else ending: None})
+        make(site / f"{name}.{ending}")
+    run = started(stdout=subprocess.PIPE)
+    whys = {"device": "this is a link", "folder": "this folder is not read", "link": "this is a link", "pipe": "this is not a file"}
+    whose = {"ppm": "its picture: ", "givens": "its givens: ", "background": "its background: "}.get(ending, "")
+    file = "proof" if ending == "proof" else "cert"
+    assert (run.returncode, run.stdout.splitlines()) == (3, [f"site/{name}.{file}: {whose}{why}" for name, why in whys.items()])
+
+
+def test_folders_that_are_no_site(site, checked, tmp_path):
+    assert checked("site") == (3, ["site/: there is no certificate"])
+    pair(site, "diagonal")
+    (tmp_path / "link").symlink_to("site")
+    assert checked("link") == (0, [])
+    (site / "inner").symlink_to(tmp_path)
+    assert checked("site") == (0, [])
+    for words in (["nowhere"], [], ["site", "site"], ["site", "--jobs", "0"], ["site", "--shard", "3/2"], ["site/diagonal.cert"], ["site", "--job=3"]):
+        with pytest.raises(SystemExit) as ended:
+            check_site.main(words)
+        assert ended.value.code == 2, words
+
+
+def test_a_folder_that_cannot_be_searched(site, checked, monkeypatch):
+    pair(site, "diagonal")
+    pair(site, "inner/diagonal")
+    search = os.scandir
+
+    def refused(path):
+        if os.path.basename(path) == "inner":
+            raise PermissionError(13, "Permission denied", path)
+        return search(path)
+
+    monkeypatch.setattr(os, "scandir", refused)
+    assert checked("site") == (3, ["site/inner/: Permission denied"])
+
+
+def test_odd_names(site, checked, tmp_path):
+    cut = "nonocert 1\n"
+    names = ["--", "-x", "answer_pack/nonobench/names/check_pair/x", " ", "a\\nb", "$(id)", "*", "'", '"', "--background 0,0,0"]
+    for name in names:
+        pair(site, name)
+    assert checked("site") == (0, [])
+    pair(site, "x.cert/y")
+    pair(site, "line\nfeed\x1b[31m\u2028", certificate=cut)
+    odd = os.fsdecode(bytes(site) + b"/\xff")
+    for end, text in (("ppm", DIAGONAL), ("cert", cut)):
+        Path(f"{odd}.{end}").write_text(text)
+    assert checked("site") == (3, [
+        "site/line\\x0afeed\\x1b[31m\\x2028.cert: certificate Ended at line 2",
+        "site/x.cert: this folder is not read",
+        "site/\\xff.cert: certificate Ended at line 2",
+    ])
+    pair(tmp_path / "-name", "x")
+    assert checked("--", "-name") == (0, [])
+
+
+def test_folders_in_folders_without_an_end(site, checked, tmp_path):
+    # Deeper than a path may name, as a crafted archive can make them: then it is told.
+    pair(site, "diagonal")
+    for depth, wanted in ((1500, 0), (2100, 3)):
+        os.chdir(site)
+        for _ in range(depth):
+            os.mkdir("d")
+            os.chdir("d")
+        for name in ("diagonal.ppm", "diagonal.cert"):
+            Path(name).write_bytes((EXAMPLES / name).read_bytes())
+        os.chdir(tmp_path)
+        status, lines = checked("site")
+        subprocess.run(["rm", "-rf", "site/d"], check=True)
+        assert (status, [line[-len(TOO_LONG):] for line in lines]) == (wanted, [TOO_LONG] if wanted else [])
+
+
+TOO_LONG = "/: File name too long"
+
+
+def test_shares(site, checked):
+    names = [f"{number:02}" for number in range(11)]
+    for name in names:
+        pair(site, name, certificate="nonocert 1\n")
+    printed = [checked("site", "--shard", f"{part}/3")[1] for part in (1, 2, 3)]
+    assert [len(lines) for lines in printed] == [4, 4, 3]
+    assert sorted(sum(printed, [])) == [f"site/{name}.cert: certificate Ended at line 2" for name in names]
+    assert checked("site", "--shard", "12/12") == (0, [])
+
+
+def test_certificates_in_a_folder_of_their_own(site, checked, tmp_path):
+    pair(site, "in/diagonal", certificate=None)
+    own = tmp_path / "own"
+    pair(own, "in/diagonal", None)
+    pair(own, "in/other", None, ALL)
+    (site / "in/other.ppm").write_text(CROSS)
+    assert checked("site", "--certificates", "own") == (1, ["own/in/other.cert: certificate UnpublishedGiven at line 2"])
+
+
+class Slow(nonobench.Worker):
+    """A worker whose process is stopped before it is asked, so that it never answers, but of one certificate."""
+
+    def check(self, picture, certificate, *words):
+        super().check(DIAGONAL.encode(), DIAGONAL_CERT.encode())
+        if certificate != LEMMAS.encode():
+            os.kill(self._process.pid, signal.SIGSTOP)
+        return super().check(picture, certificate, *words)
+
+
+def test_a_check_that_takes_too_long_is_ended(site, checked, monkeypatch):
+    pair(site, "one")
+    pair(site, "two", ending="proof", certificate=LEMMAS)
+    monkeypatch.setattr(check_site, "Worker", Slow)
+    assert checked("site", "--seconds", "0.5", "--jobs", "1") == (1, ["site/one.cert: no answer within 0.5 seconds"])
+
+
+# A chequerboard of 60 by 60 cells in four colours, whose verdict takes longer than anybody waits.
+INKS = ("1 1 1", "0 0 0", "1 0 0", "0 0 1")
+ENDLESS = f"P3 60 60 1 {' '.join(INKS[(at // 60 + at % 60) % 4] for at in range(3600))}\n".encode()
+
+
+class Busy(nonobench.Worker):
+    """A worker whose check is a search without an end, but of one certificate."""
+
+    def check(self, picture, certificate, *words):
+        return super().check(picture, certificate, *words) if certificate == LEMMAS.encode() else self.verdict(ENDLESS)
+
+
+def test_a_check_has_so_much_processor_time(site, checked, monkeypatch):
+    pair(site, "one")
+    pair(site, "two", ending="proof", certificate=LEMMAS)
+    monkeypatch.setattr(check_site, "Worker", Busy)
+    assert checked("site", "--seconds", PATIENCE, "--processor", "1") == (1, ["site/one.cert: no answer within its processor time"])
+
+
+def test_a_worker_ends_a_call_by_its_processor_time():
+    with nonobench.Worker(seconds=PATIENCE, processor=1) as worker:
+        began = os.times().children_user
+        for _ in range(2):
+            with pytest.raises(TimeoutError, match="processor time"):
+                worker.verdict(ENDLESS)
+        assert os.times().children_user - began < 6
+        assert worker.check(DIAGONAL.encode(), DIAGONAL_CERT.encode()).givens == ()
+    for processor in (0, -1, 1 << 40):
+        with pytest.raises(ValueError):
+            nonobench.Worker(processor=processor)
+
+
+def test_other_failures_have_status_3(site, checked, monkeypatch, capsys):
+    pair(site, "one")
+
+    def fails(*_words):
+        raise RuntimeError("the worker's program failed; it says why on standard error")
+
+    monkeypatch.setattr(nonobench.Worker, "check", fails)
+    assert checked("site") == (3, ["site/one.cert: the worker's program failed; it says why on standard error"])
+    monkeypatch.setattr(check_site, "line_of", fails)
+    assert check_site.main(["site"]) == 3
+    monkeypatch.setattr(nonobench.Worker, "check", lambda *words: 1 / 0)
+    assert check_site.main(["site"]) == 3
+    assert "ZeroDivisionError" in capsys.readouterr().err
+
+
+def test_outputs_that_cannot_be_written_or_have_few_signs(site):
+    pair(site, "\N{DUCK}\xe9", certificate="nonocert 1\n")
+    with open("/dev/full", "w") as full:
+        run = started(stdout=full)
+    assert (run.returncode, run.stderr) == (3, "nonobench-check-site: No space left on device\n")
+    for coding, name in (("ascii", "\\U0001f986\\xe9"), ("latin-1", "\\U0001f986\xe9"), ("utf-8", "\N{DUCK}\xe9")):
+        run = started(stdout=subprocess.PIPE, encoding=coding)
+        assert (run.returncode, run.stdout) == (1, f"site/{name}.cert: certificate Ended at line 2\n")
+
+
+def test_many_at_a_time_say_what_one_says(site, checked):
+    for number in range(300):
+        pair(site, f"{number:03}", certificate=DIAGONAL_CERT if number % 3 else "nonocert 1\n")
+    wanted = (1, [f"site/{number:03}.cert: certificate Ended at line 2" for number in range(0, 300, 3)])
+    assert checked("site", "--jobs", "1") == wanted
+    assert checked("site", "--jobs", "8") == wanted

@@ -1,0 +1,101 @@
+"""Tests of the reader of images: cd python && PYTHONPATH=src python3 -m unittest tests/test_images.py
+
+What each odd image shows is known from how it was made (odd_images.py). Where there is Chromium, its canvas says the same. Pillow is needed.
+"""
+
+import json
+import os
+import shutil
+import subprocess
+import sys
+import tempfile
+import unittest
+from pathlib import Path
+
+HERE = Path(__file__).resolve().parent
+sys.path.insert(0, str(HERE))
+import nonobench  # noqa: E402
+from nonobench._images import pixels_of  # noqa: E402
+from odd_images import BROKEN, CLEAR, REASONS, odd_images  # noqa: E402
+
+ODD = odd_images()
+
+
+def read(data):
+    """The rows of an image that is read, and nothing; or nothing, and why it is refused."""
+    try:
+        columns, cells = pixels_of(data)
+    except nonobench.ImageFault as fault:
+        return None, fault.name
+    return [cells[at : at + columns] for at in range(0, len(cells), columns)], ""
+
+
+class Reading(unittest.TestCase):
+    """Odd images."""
+
+    def test_what_is_read_and_why_others_are_refused(self):
+        for odd in ODD:
+            pixels, why = read(odd.data)
+            with self.subTest(odd.name):
+                if odd.pixels is not None:
+                    self.assertEqual((pixels, why), (odd.pixels, ""))
+                elif odd.reason == BROKEN:
+                    self.assertIn(why, ("damaged", "of a kind that is not read", "a size"))
+                elif odd.reason:
+                    self.assertEqual(why, odd.reason)
+
+    def test_there_are_many(self):
+        self.assertGreaterEqual(len({odd.data for odd in ODD}), 300)
+        self.assertEqual({odd.reason for odd in ODD}, {"", BROKEN, *REASONS})
+
+    def test_as_a_browser_shows_them(self):
+        browser = os.environ.get("CHROMIUM", "chromium")
+        if not shutil.which(browser) or not shutil.which("node"):
+            self.skipTest(f"there is no {browser} or no node")
+        with tempfile.TemporaryDirectory() as folder:
+            for odd in ODD:
+                (Path(folder) / odd.name).write_bytes(odd.data)
+            shown = json.loads(subprocess.run(["node", HERE / "canvas.mjs", folder], check=True, capture_output=True).stdout)
+        compared = 0
+        for odd in ODD:
+            pixels, _ = read(odd.data)
+            if pixels is not None and odd.name in shown:
+                with self.subTest(odd.name):
+                    self.assertEqual(pixels, [[tuple(dot) if dot[3] else CLEAR for dot in row] for row in shown[odd.name]])
+                compared += 1
+        self.assertGreater(compared, 100)
+
+
+class Pictures(unittest.TestCase):
+    """P3 texts of images."""
+
+    def test_transparent_is_background(self):
+        data = next(odd.data for odd in ODD if odd.name == "gif-clear-1-0")
+        ground = (1, 2, 3)
+        triples = [ground if cell == 1 else [(255, 255, 255), None, (255, 0, 0), (0, 0, 200)][cell] for cell in (1, 0, 2, 2, 0)]
+        text = nonobench.picture_of_image(data, ground)
+        self.assertEqual(text.split(b"\n")[:8], [b"P3", b"5 4", b"255", *(b"%d %d %d" % triple for triple in triples)])
+        self.assertEqual(nonobench.picture_of_image(data), nonobench.picture_of_image(data, (255, 255, 255)))
+
+    def test_faults(self):
+        for data, name, text in (
+            (b"\xff\xd8\xff", "lossy", "the image is refused: lossy"), (b"P3 1 1 1 0 0 0", "of a kind that is not read", None),
+            (b"P4 121 1\n", "a size", "121 by 1 pixels, and a puzzle has at most 120 by 120"), (b"", "of a kind that is not read", None),
+        ):
+            with self.subTest(data), self.assertRaises(nonobench.ImageFault) as caught:
+                nonobench.picture_of_image(data)
+            self.assertEqual(caught.exception.name, name)
+            self.assertIn(text or name, str(caught.exception))
+
+    def test_what_is_missing_is_not_black(self):
+        from PIL import ImageFile
+
+        stopped = next(odd.data for odd in ODD if odd.name == "gif-stopped")
+        self.addCleanup(setattr, ImageFile, "LOAD_TRUNCATED_IMAGES", ImageFile.LOAD_TRUNCATED_IMAGES)
+        for is_loose in (False, True):
+            ImageFile.LOAD_TRUNCATED_IMAGES = is_loose
+            self.assertRaises(nonobench.ImageFault, nonobench.picture_of_image, stopped)
+
+
+if __name__ == "__main__":
+    unittest.main()

@@ -1,0 +1,31 @@
+"""The documents: sentences, paths and links, the lists that scripts make, the definitions behind claims, and what is counted of the
+code."""
+
+import sys
+
+import pytest
+from tried import ROOT, passes
+
+# .ci/prose.py: long sentences, dead paths and links, jargon, and README's commands. .ci/crates.py: the list of crates. .ci/base.py:
+# what the claims stand on. .ci/promises.py: the calls with their clauses. .ci/memory.py: where memory is said to run out.
+# .ci/house.py: what makes the code harder to read, within bounds.
+CHECKS = ('prose', 'crates', 'base', 'promises', 'memory', 'house')
+
+
+@pytest.mark.parametrize('name', CHECKS)
+def test_check(name):
+    passes([sys.executable, ROOT / '.ci' / f'{name}.py'])
+
+
+def test_tables_of_the_comparison():
+    """They and the plot are those of the rows."""
+    passes(
+        [
+            sys.executable,
+            ROOT / 'measure' / 'others_plot.py',
+            'docs/comparison.csv',
+            'docs/comparison.svg',
+            '--said',
+            'docs/COMPARISON.md',
+        ]
+    )

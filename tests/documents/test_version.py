@@ -1,0 +1,53 @@
+"""The version: that of the sources in each place that names it, and that of the newest release in those that are about a
+release."""
+
+import hashlib
+import re
+
+import pytest
+from tried import BUILT, ROOT, ended, version_of_tree
+
+# Each place of the version of the tree, and the line there that has it.
+PLACES = {
+    'docs/nonobench.1': r'^This page is of version (.*)\.$',
+    'c/nonobench.h': r'^#define NONOBENCH_VERSION "(.*)"$',
+    'python/pyproject.toml': r'^version = "(.*)"$',
+    'CHANGELOG.md': r'^## ([^ ,]*)',
+}
+
+
+def named(place, pattern):
+    """The first version that a place names."""
+    return re.search(pattern, (ROOT / place).read_text(), re.MULTILINE)[1]
+
+
+def newest_release():
+    """The newest entry of the changes that has a date."""
+    return named('CHANGELOG.md', r'^## ([^ ,]*), [0-9]')
+
+
+@pytest.mark.parametrize('place', PLACES)
+def test_version(place):
+    assert named(place, PLACES[place]) == version_of_tree()
+
+
+@pytest.mark.toolchain
+@pytest.mark.parametrize('kind', BUILT, ids=('llvm', 'rattle'))
+def test_version_of_a_program(kept, kind):
+    assert ended([kept.program(f'nonobench{kind}'), '--version']).wrote.decode() == f'nonobench {version_of_tree()}\n'
+
+
+def test_digest_of_the_release():
+    entry = re.split(r'(?m)^## ', (ROOT / 'CHANGELOG.md').read_text())
+    [said] = [text for text in entry if text.startswith(f'{newest_release()}, ')]
+    digest = re.search(r'(?m)^Digest of its SHA256SUMS: `([^`]*)`', said)[1]
+    assert hashlib.sha256((ROOT / 'dist' / 'SHA256SUMS').read_bytes()).hexdigest() == digest
+
+
+def test_version_of_the_release():
+    version = newest_release()
+    assert named('CITATION.cff', r'^version: (.*)$') == version
+    names = re.findall(r'nonobench[-_]([0-9][0-9.]*[0-9])', (ROOT / 'README.md').read_text())
+    assert names and set(names) == {version}
+    packages = [re.match(r'nonobench[-_]([0-9][0-9.]*[0-9])', file.name) for file in (ROOT / 'dist').iterdir()]
+    assert {found[1] for found in packages if found} == {version}

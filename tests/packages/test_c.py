@@ -1,0 +1,133 @@
+"""The library for C: its tests, also under valgrind, the example, and the header in C++."""
+
+import os
+import re
+
+import pytest
+from tried import CASES, EXAMPLES, ROOT, ended, needs, needs_file, passes
+
+COMPILE = ('cc', '-std=c11', '-Wall', '-Wextra', '-Werror', '-O1', '-g', f'-I{ROOT}/c')
+CROSS = 'P3\n2 2\n1\n0 0 0 1 1 1\n1 1 1 0 0 0\n'
+# Certificates with lemmas (tests/cases/published.case).
+DIAGONAL_LEMMAS = 'nonolemma 1\npart 1 1 a\nline r 1\ndead c 2\nline r 1\nline c 1\nline r 2\ndone\n'
+GIVEN_LEMMAS = 'nonolemma 1\ngiven 1 1\nline r 1\nline c 1\nline r 2\ndone\n'
+ALL_GIVEN = 'given 1 1\ngiven 1 2\ngiven 2 1\ngiven 2 2\ndone\n'
+MEBIBYTE = 1 << 20
+USAGE = 'usage: example PICTURE CERTIFICATE [ROW,COLUMN ..]'
+ACCEPTED = 'certificate accepted'
+
+
+def refused(why):
+    return 1, f'refused: {why}'
+
+
+def unpublished(line):
+    return refused(f'certificate UnpublishedGiven at line {line}')
+
+
+@pytest.fixture(scope='session')
+def archive(library):
+    return needs_file(library.with_suffix('.a'), 'c/build')
+
+
+@pytest.fixture(scope='session')
+def test_program(archive, tmp_path_factory):
+    needs('cc')
+    program = tmp_path_factory.mktemp('c') / 'test'
+    tried = [f'-DTRIED="{os.environ["TRIED"]}"'] if 'TRIED' in os.environ else []
+    passes([*COMPILE, *tried, ROOT / 'c' / 'test.c', archive, '-lpthread', '-o', program])
+    return program
+
+
+@pytest.mark.since('0.7.0')
+@pytest.mark.compiler
+def test_c(test_program):
+    passes([test_program, CASES])
+
+
+@pytest.mark.since('0.7.0')
+@pytest.mark.all
+@pytest.mark.emulator
+@pytest.mark.parametrize(
+    'words', [('-q', '--leak-check=full', '100'), ('-q', '--tool=helgrind', '50')], ids=('memcheck', 'helgrind')
+)
+def test_c_under_valgrind(test_program, words):
+    needs('valgrind')
+    passes(['valgrind', *words[:-1], '--error-exitcode=9', test_program, CASES, words[-1]])
+
+
+@pytest.mark.compiler
+def test_header_in_cpp():
+    needs('c++')
+    passes(['c++', '-std=c++11', '-Wall', '-Wextra', '-Werror', '-fsyntax-only', '-x', 'c++', ROOT / 'c' / 'nonobench.h'])
+
+
+def files():
+    """The files by their names that are right, wrong and long."""
+    diagonal, cert = (EXAMPLES / 'diagonal.ppm').read_text(), (EXAMPLES / 'diagonal.cert').read_text()
+    blank = diagonal + ' ' * MEBIBYTE
+    most = diagonal + ' ' * (16 * MEBIBYTE - len(diagonal))
+    return {
+        'diagonal.ppm': diagonal,
+        'diagonal.cert': cert,
+        'given.ppm': (EXAMPLES / 'given.ppm').read_text(),
+        'given.cert': (EXAMPLES / 'given.cert').read_text(),
+        'cross.ppm': CROSS,
+        'cross.cert': f'nonocert 2\n{ALL_GIVEN}',
+        'lemmas.cert': f'nonolemma 2\n{ALL_GIVEN}',
+        'cut.cert': 'nonolemma',
+        'diagonal.lemmas': DIAGONAL_LEMMAS,
+        'given.lemmas': GIVEN_LEMMAS,
+        'blank.ppm': blank,
+        'more.ppm': f'{blank}99 9 9\n',
+        'more.cert': cert + ' ' * MEBIBYTE,
+        'most.ppm': most,
+        'longer.ppm': f'{most}\n',
+    }
+
+
+# What the example is called with, its status and what it prints or says. What stands behind a MiB is read too.
+CALLS = {
+    'diagonal.ppm diagonal.cert': (0, ACCEPTED),
+    'given.ppm given.cert 1,1': (0, f'{ACCEPTED}, givens 1'),
+    'given.ppm given.cert': unpublished(2),
+    'cross.ppm cross.cert': unpublished(2),
+    'cross.ppm cross.cert 1,2 1,1 2,2': unpublished(4),
+    'given.ppm diagonal.cert': refused('certificate NotDead at line 5'),
+    'diagonal.ppm diagonal.lemmas': (0, ACCEPTED),
+    'given.ppm given.lemmas 2,2 1,1': (0, f'{ACCEPTED}, givens 1'),
+    'given.ppm given.lemmas': unpublished(2),
+    'given.ppm given.lemmas 1,1 1,3': refused('givens Place at line 2'),
+    'cross.ppm lemmas.cert 1,2 1,1 2,2': unpublished(4),
+    'given.ppm diagonal.lemmas': refused('certificate NotDead at line 4'),
+    'diagonal.ppm cut.cert': refused('certificate NotCert at line 1'),
+    'blank.ppm diagonal.cert': (0, ACCEPTED),
+    'more.ppm diagonal.cert': refused(f'ppm TrailingToken at byte {len((EXAMPLES / "diagonal.ppm").read_bytes()) + MEBIBYTE}'),
+    'diagonal.ppm more.cert': refused('certificate BadLine at line 10'),
+    'most.ppm diagonal.cert': (0, ACCEPTED),
+    'longer.ppm diagonal.cert': refused('input too long'),
+    'diagonal.ppm longer.ppm': refused('input too long'),
+    'none.ppm diagonal.cert': (3, 'example: none.ppm: No such file or directory'),
+    'diagonal.ppm none.cert': (3, 'example: none.cert: No such file or directory'),
+    'hostile.so diagonal.cert': (3, 'example: hostile.so: Is a directory'),
+    **{f'given.ppm given.cert {place}': (2, USAGE) for place in ('1', '1,', '1,1x', 'x,1', '1,-')},
+    'given.ppm': (2, USAGE),
+}
+
+
+@pytest.mark.since('0.7.0')
+@pytest.mark.compiler
+def test_example(archive, tmp_path):
+    """It runs in a folder that has things by the names of libraries."""
+    needs('cc')
+    example = tmp_path / 'example'
+    passes([*COMPILE, ROOT / 'c' / 'example.c', archive, '-o', example])
+    here = tmp_path / 'here'
+    for name in ('hostile.so', 'libc.so.6'):
+        (here / name).mkdir(parents=True)
+    for name, text in {**files(), 'libnonobench.so': 'no library\n', 'nonobench.h': 'no library\n'}.items():
+        (here / name).write_text(text)
+    for words, (status, line) in CALLS.items():
+        run = ended([example, *words.split()], cwd=here)
+        said = re.sub(r'\n$', '', (run.wrote + run.said).decode())
+        assert (run.status, said) == (status, line), words

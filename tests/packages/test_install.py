@@ -1,0 +1,135 @@
+"""Tests of both scripts that install: python3 -m pytest tests/packages/test_install.py. What they install stands in for a program."""
+
+import os
+import shutil
+import subprocess
+from pathlib import Path
+
+import pytest
+
+ROOT = Path(__file__).resolve().parents[2]
+PROGRAM = '#!/bin/sh\necho nonobench 9.9.9\n'
+OURS = ['share/nonobench/files', 'share/nonobench/install']
+
+
+def write(path, text, mode=0o644):
+    path.parent.mkdir(parents=True, exist_ok=True)
+    path.write_text(text)
+    path.chmod(mode)
+
+
+def run(script, *words, cwd='/', home='/nonexistent'):
+    """The status, and what was printed and said."""
+    env = {'PATH': '/usr/bin:/bin', 'HOME': str(home)}
+    ended = subprocess.run([str(script), *map(str, words)], cwd=cwd, env=env, capture_output=True, text=True, check=False)
+    return ended.returncode, ended.stdout, ended.stderr
+
+
+def files(folder):
+    return sorted(str(file.relative_to(folder)) for file in folder.rglob('*') if file.is_file())
+
+
+@pytest.fixture
+def archive(tmp_path):
+    """A folder as an archive for Linux has it."""
+    folder = tmp_path / 'an archive'
+    write(folder / 'bin/nonobench', PROGRAM, 0o755)
+    write(folder / 'lib/nonobench/nonobench/__init__.py', '')
+    write(folder / 'share/doc/nonobench/examples/one.ppm', 'P3')
+    shutil.copy(ROOT / 'packages/linux/install', folder)
+    return folder
+
+
+@pytest.fixture
+def checkout(tmp_path):
+    """A checkout with a program that was built."""
+    folder = tmp_path / 'checkout'
+    for name in ('install', 'packages/linux/install', 'docs/nonobench.1', 'completions/nonobench.bash', 'completions/_nonobench'):
+        (folder / name).parent.mkdir(parents=True, exist_ok=True)
+        shutil.copy(ROOT / name, folder / name)
+    write(folder / 'crates.txt', '')
+    write(folder / 'crates/nonobench/out/nonobench', PROGRAM, 0o755)
+    return folder
+
+
+def test_installed_and_removed(archive, tmp_path):
+    prefix = tmp_path / 'p r e'
+    write(prefix / 'bin/mine', 'x')
+    (prefix / 'share/empty').mkdir(parents=True)
+    status, out, _ = run(archive / 'install', '--prefix', prefix)
+    wanted = [name for name in files(archive) if name != 'install']
+    assert (status, out.splitlines()[-1]) == (0, 'nonobench 9.9.9')
+    assert files(prefix) == sorted([*wanted, *OURS, 'bin/mine'])
+    assert (prefix / OURS[0]).read_text().splitlines() == sorted([*wanted, *OURS])
+    assert os.access(prefix / 'bin/nonobench', os.X_OK)
+    write(prefix / 'lib/nonobench/nonobench/__pycache__/__init__.pyc', '')
+    assert run(archive / 'install', '--uninstall', '--prefix', prefix)[0] == 0
+    assert (files(prefix), sorted(os.listdir(prefix)), os.listdir(prefix / 'share')) == (['bin/mine'], ['bin', 'share'], ['empty'])
+
+
+def test_removed_by_the_copy_that_was_installed(archive, tmp_path):
+    prefix = tmp_path / 'prefix'
+    assert run(archive / 'install', f'--prefix={prefix}')[0] == 0
+    shutil.rmtree(archive)
+    copy = prefix / 'share/nonobench/install'
+    status, _, err = run(copy)
+    assert (status, err) == (1, 'install: this copy only removes what was installed: --uninstall\n')
+    assert run(copy, '--uninstall') == (0, f'removed nonobench from {prefix}\n', '')
+    assert files(tmp_path) == []
+
+
+def test_what_an_earlier_version_had_goes(archive, tmp_path):
+    prefix = tmp_path / 'prefix'
+    write(archive / 'share/doc/nonobench/old/only.txt', 'x')
+    assert run(archive / 'install', '--prefix', prefix)[0] == 0
+    shutil.rmtree(archive / 'share/doc/nonobench/old')
+    write(archive / 'bin/nonobench-new', PROGRAM, 0o755)
+    assert run(archive / 'install', '--prefix', prefix)[0] == 0
+    assert files(prefix) == sorted([*(name for name in files(archive) if name != 'install'), *OURS])
+    assert not (prefix / 'share/doc/nonobench/old').exists()
+
+
+def test_what_was_interrupted_is_removed_too(archive, tmp_path):
+    prefix = tmp_path / 'prefix'
+    # A file is in the way of a folder.
+    write(prefix / 'share/doc', 'mine')
+    assert run(archive / 'install', '--prefix', prefix)[0] != 0
+    assert (prefix / 'bin/nonobench').exists()
+    assert run(archive / 'install', '--uninstall', '--prefix', prefix)[0] == 0
+    assert files(prefix) == ['share/doc']
+
+
+def test_below_the_home_and_from_where_we_stand(archive, tmp_path):
+    assert run(archive / 'install', home=tmp_path / 'home')[0] == 0
+    assert (tmp_path / 'home/.local/bin/nonobench').exists()
+    assert run(archive / 'install', '--prefix', 'here', cwd=tmp_path)[0] == 0
+    assert (tmp_path / 'here/bin/nonobench').exists()
+    assert run(archive / 'install', '--uninstall', home=tmp_path / 'home')[0] == 0
+    assert files(tmp_path / 'home') == []
+
+
+def test_a_checkout(checkout, tmp_path):
+    prefix = tmp_path / 'prefix'
+    write(prefix / 'bin/mine', 'x')
+    status, out, _ = run(checkout / 'install', '--prefix', prefix)
+    assert (status, out.splitlines()[-1]) == (0, 'nonobench 9.9.9')
+    assert files(prefix) == sorted([
+        'bin/mine', 'bin/nonobench', 'share/bash-completion/completions/nonobench', 'share/man/man1/nonobench.1',
+        'share/zsh/site-functions/_nonobench', *OURS,
+    ])
+    assert run(checkout / 'install', '--uninstall', '--prefix', prefix)[0] == 0
+    assert files(prefix) == ['bin/mine']
+
+
+@pytest.mark.parametrize('which', ['archive', 'checkout'])
+def test_words(which, request, tmp_path):
+    script = request.getfixturevalue(which) / 'install'
+    for word in ('--help', '-h'):
+        status, out, err = run(script, word, cwd=tmp_path)
+        assert (status, err) == (0, '') and out.startswith('usage: ./install ') and '--uninstall' in out
+    for words in (['--prefix'], ['--prefix', ''], ['--prefix', '-x'], ['--prefix=-x'], ['--prefix='], ['--other'], ['folder'], ['--prefix', '--uninstall']):
+        status, out, err = run(script, *words, cwd=tmp_path)
+        assert (status, out) == (2, '') and err.startswith('usage: ./install '), words
+    status, out, err = run(script, '--uninstall', '--prefix', tmp_path / 'none')
+    assert (status, out) == (1, '') and err.startswith('install: nothing to remove: there is no ')
+    assert not (tmp_path / '-x').exists() and not (tmp_path / 'none').exists()

@@ -1,0 +1,327 @@
+"""The packages of a release: made twice to the same bytes, and each tried with its own command in a clean folder, with no toolchain
+on the PATH and, if unshare is allowed, no network. Each is asked for pairs that must be accepted, that must be refused, and whose
+givens are all cells.
+
+If CHANGELOG.md says that the version is released, dist/ must have the bytes of what was made.
+"""
+
+import gzip
+import re
+import shutil
+import subprocess
+import sys
+
+import pytest
+from tried import EXAMPLES, ROOT, VERSION, clean, ended, engine_now, needs, node_tests, passes, version_of
+
+pytestmark = pytest.mark.all
+TRIALS = ROOT / 'packages' / 'trials'
+MOST_PACKED = 8 << 20
+MOST_PROGRAM = 3 << 19
+
+
+@pytest.fixture(scope='session')
+def version(made):
+    return version_of(next(made.glob('nonobench-*.tgz')).name)
+
+
+@pytest.fixture(scope='session')
+def pairs(kept, tmp_path_factory):
+    """Pictures with certificates: a good one, that of another picture, and one whose givens are all cells; and why the second is
+    refused."""
+    folder = tmp_path_factory.mktemp('pairs')
+    for name, picture in (('good', 'diagonal'), ('bad', 'heart'), ('all', 'given')):
+        shutil.copy(EXAMPLES / f'{picture}.ppm', folder / f'{name}.ppm')
+    for name in ('good', 'bad'):
+        shutil.copy(EXAMPLES / 'diagonal.cert', folder / f'{name}.cert')
+    (folder / 'all.cert').write_text('nonocert 2\ngiven 1 1\ngiven 1 2\ngiven 2 1\ngiven 2 2\ndone\n')
+    run = ended([kept.program('nonobench'), 'check', folder / 'bad.ppm', folder / 'bad.cert'])
+    assert run.status == 1
+    return {name: [folder / f'{name}.ppm', folder / f'{name}.cert'] for name in ('good', 'bad', 'all')}, run.said.decode().strip()
+
+
+def prints(status, wanted, words, **more):
+    """Compares what a command prints or says in a clean folder, and its status."""
+    run = clean(words, **more)
+    assert (run.status, (run.wrote + run.said).decode().strip()) == (status, wanted), words
+
+
+def try_program(words, pairs, version):
+    """Tries a program on the pairs. Of the one that is refused the native program says which line is wrong."""
+    files, why = pairs
+    prints(0, f'nonobench {version}', [*words, '--version'])
+    prints(0, 'certificate accepted', [*words, 'check', *files['good']])
+    prints(1, why, [*words, 'check', *files['bad']])
+    prints(0, 'certificate accepted, givens 4', [*words, 'check', *files['all']])
+
+
+def try_call(words, pairs, **more):
+    """Tries a call on the pairs: one whose givens are all cells is refused unless they are published."""
+    files, why = pairs
+    prints(0, 'certificate accepted', [*words, *files['good']], **more)
+    prints(1, f'refused: {why.removeprefix("nonobench: ")}', [*words, *files['bad']], **more)
+    prints(1, 'refused: certificate UnpublishedGiven at line 2', [*words, *files['all']], **more)
+    prints(0, 'certificate accepted, givens 4', [*words, *files['all'], '1,1', '1,2', '2,1', '2,2'], **more)
+
+
+def test_no_toolchain_in_clean_folders():
+    assert clean(['sh', '-c', 'command -v rt']).status != 0, 'the toolchain is on the PATH in clean folders too'
+
+
+@pytest.mark.toolchain
+def test_made_again_they_have_the_same_bytes(made, shared, tmp_path):
+    passes([ROOT / 'release', tmp_path / 'again'], env={'OBJECT': str(shared / 'nonobench.o')})
+    passes(['diff', '-r', made, tmp_path / 'again'])
+
+
+def test_sums(made):
+    passes(['sha256sum', '--quiet', '--strict', '-c', 'SHA256SUMS'], cwd=made)
+
+
+@pytest.mark.since('0.7.0')
+def test_sources(made, kept):
+    """The engine's files with what git calls their contents; of an older release those that it was made of."""
+    listed = dict(reversed(line.split()) for line in (made / 'SOURCES').read_text().splitlines())
+    assert VERSION in listed
+    if not kept.released:
+        assert listed == engine_now()
+
+
+def test_a_changed_byte_is_told(made, tmp_path):
+    """A release with a byte changed, or with another sum, is told from what was made."""
+    marred = tmp_path / 'marred'
+    shutil.copytree(made, marred)
+    compare = [ROOT / 'packages' / 'compare', made, marred]
+    passes(compare)
+    with open(marred / 'nonobench.html', 'ab') as page:
+        page.write(b'x')
+    assert ended(compare).status != 0
+    names = sorted(file.name for file in marred.iterdir() if file.name != 'SHA256SUMS')
+    (marred / 'SHA256SUMS').write_bytes(ended(['sha256sum', '--', *names], cwd=marred).wrote)
+    assert ended(compare).status != 0
+
+
+def test_dist_is_what_was_made(made, kept):
+    newest = re.search(r'(?m)^## (.*)$', (ROOT / 'CHANGELOG.md').read_text())[1]
+    if 'not released yet' in newest:
+        passes(['sha256sum', '--quiet', '--strict', '-c', 'SHA256SUMS'], cwd=ROOT / 'dist')
+    elif kept.released:
+        pytest.skip('it wants the toolchain, or what rt ci leaves')
+    else:
+        said = passes([ROOT / 'packages' / 'compare', made, ROOT / 'dist'])
+        if 'left out, since' in said:
+            pytest.skip(said.strip().splitlines()[0])
+
+
+# ---- npm
+
+
+def test_npm(npm, pairs, version):
+    words = [npm / 'node_modules' / '.bin' / 'nonobench']
+    try_program(words, pairs, version)
+    files, _ = pairs
+    if shutil.which('npx'):
+        prints(0, 'certificate accepted', ['npx', '--offline', 'nonobench', 'check', *files['good']], cwd=npm)
+
+
+@pytest.mark.since('0.7.0')
+def test_npm_upload(npm, pairs):
+    needs('npx')
+    files, _ = pairs
+    prints(0, 'certificate accepted', ['npx', '--offline', 'nonobench-check-upload', *files['good']], cwd=npm)
+
+
+def test_npm_calls(npm, pairs):
+    shutil.copy(TRIALS / 'ask.mjs', npm)
+    try_call(['node', npm / 'ask.mjs'], pairs)
+
+
+@pytest.mark.since('0.7.0')
+def test_npm_example(npm, pairs):
+    """The example of an upload, copied beside the installed package."""
+    shutil.copy(EXAMPLES / 'check_upload.mjs', npm)
+    files, _ = pairs
+    prints(0, 'certificate accepted', ['node', npm / 'check_upload.mjs', *files['good']])
+    prints(1, 'refused: certificate UnpublishedGiven at line 2', ['node', npm / 'check_upload.mjs', *files['all']])
+
+
+@pytest.mark.since('0.7.0')
+def test_npm_types(npm):
+    needs('tsc')
+    shutil.copy(TRIALS / 'types.mts', npm)
+    words = [
+        '--noEmit',
+        '--strict',
+        '--target',
+        'es2022',
+        '--module',
+        'node16',
+        '--moduleResolution',
+        'node16',
+        '--lib',
+        'es2022,esnext,dom',
+    ]
+    passes(['tsc', *words, 'types.mts'], cwd=npm)
+
+
+@pytest.mark.since('0.7.0')
+def test_npm_in_node(request, kept, npm):
+    env = {'PACKAGE': str(npm / 'node_modules' / 'nonobench'), 'NONOBENCH': str(kept.program('nonobench'))}
+    node_tests(request, ROOT / 'packages' / 'npm' / 'test.mjs', env)
+
+
+# ---- the page
+
+
+def test_page_has_the_module_of_the_package(made, npm, tmp_path):
+    passes(['node', TRIALS / 'page.mjs', made / 'nonobench.html', tmp_path / 'module.wasm'])
+    assert (tmp_path / 'module.wasm').read_bytes() == (npm / 'node_modules' / 'nonobench' / 'nonobench.wasm').read_bytes()
+
+
+def test_page_begins_in_a_browser(made, tmp_path):
+    """The text alone stands in the page's script too: the button is there once the script has run."""
+    found = next((shutil.which(name) for name in ('chromium', 'chromium-browser', 'google-chrome') if shutil.which(name)), None)
+    if not found:
+        pytest.skip('there is no Chromium')
+    words = [
+        '--headless',
+        '--no-sandbox',
+        '--disable-gpu',
+        '--virtual-time-budget=10000',
+        f'--user-data-dir={tmp_path}',
+        '--dump-dom',
+    ]
+    run = clean(['timeout', '600', found, *words, f'file://{made}/nonobench.html'])
+    assert run.status == 0
+    assert 'id="new-go">Start painting<' in run.wrote.decode()
+
+
+# ---- Linux
+
+
+def test_archive(installed, pairs, version):
+    try_program([installed / 'bin' / 'nonobench'], pairs, version)
+
+
+@pytest.mark.compiler
+def test_library_for_c(installed, pairs, version, tmp_path):
+    """It is linked both ways."""
+    needs('cc', 'pkg-config')
+    [example] = installed.glob('share/doc/nonobench/*/example.c')
+    run = clean(['pkg-config', '--cflags', '--libs', f'nonobench = {version}'], PKG_CONFIG_PATH=installed / 'lib' / 'pkgconfig')
+    assert run.status == 0, run
+    for name, flags in (
+        ('shared', [*run.wrote.decode().split(), f'-Wl,-rpath,{installed}/lib']),
+        ('static', [f'-I{installed}/include', installed / 'lib' / 'libnonobench.a']),
+    ):
+        built = clean(['cc', '-std=c11', example, *flags, '-o', tmp_path / name])
+        assert built.status == 0, built
+        try_call([tmp_path / name], pairs)
+
+
+@pytest.mark.since('0.7.0')
+def test_archive_removed(made, tmp_path):
+    """Installed and removed, nothing is left but what somebody else put there."""
+    passes(['tar', 'xzf', next(made.glob('*.tar.gz')), '-C', tmp_path])
+    [unpacked] = tmp_path.iterdir()
+    removed = tmp_path / 'removed'
+    (removed / 'bin').mkdir(parents=True)
+    (removed / 'bin' / 'mine').write_text('mine')
+    for words in (
+        [unpacked / 'install', '--prefix', removed],
+        [removed / 'bin' / 'nonobench-check-site', removed / 'share/doc/nonobench/examples'],
+        [removed / 'share' / 'nonobench' / 'install', '--uninstall'],
+    ):
+        run = clean(words)
+        assert run.status == 0, run
+    assert [file.relative_to(removed).as_posix() for file in removed.rglob('*') if file.is_file()] == ['bin/mine']
+
+
+def test_install_from_a_checkout(made, pairs, version, tmp_path):
+    """The repository's own ./install, where nothing was built: with neither a release nor a toolchain it says so, a release that
+    was changed is not taken, and the one that was made is, also where a toolchain is there (one that would fail)."""
+    checkout, name = tmp_path / 'checkout', f'nonobench-{version}-linux-x86_64.tar.gz'
+    checkout.mkdir()
+    shutil.copy(ROOT / 'install', checkout)
+    words = [checkout / 'install', '--prefix', tmp_path / 'none']
+    run = clean(words)
+    assert run.status != 0
+    assert re.search(r'(?m)no release in dist/$', (run.wrote + run.said).decode())
+    (checkout / 'dist').mkdir()
+    shutil.copy(made / 'SHA256SUMS', checkout / 'dist')
+    (checkout / 'dist' / name).write_bytes((made / name).read_bytes() + b'x')
+    assert clean(words).status != 0
+    assert not (tmp_path / 'none').exists()
+    shutil.copy(made / name, checkout / 'dist')
+    (tmp_path / 'toolchain').mkdir()
+    (tmp_path / 'toolchain' / 'rt').symlink_to('/bin/false')
+    run = clean([checkout / 'install', '--prefix', tmp_path / 'by-install'], before=tmp_path / 'toolchain')
+    assert run.status == 0, run
+    try_program([tmp_path / 'by-install' / 'bin' / 'nonobench'], pairs, version)
+
+
+def test_deb(made, pairs, version, tmp_path):
+    needs('dpkg-deb')
+    package = made / f'nonobench_{version}_amd64.deb'
+    passes(['dpkg-deb', '-x', package, tmp_path])
+    try_program([tmp_path / 'usr' / 'bin' / 'nonobench'], pairs, version)
+    if shutil.which('apt-get'):  # a simulation needs no lock, which another apt may hold
+        passes(['apt-get', '-qq', '-s', '-o', 'Debug::NoLocking=1', 'install', package])
+
+
+@pytest.mark.since('0.7.0')
+def test_deb_scripts(made, tmp_path):
+    needs('dpkg-deb')
+    passes(['dpkg-deb', '-x', next(made.glob('*.deb')), tmp_path])
+    run = clean([tmp_path / 'usr/bin/nonobench-check-site', tmp_path / 'usr/share/doc/nonobench/examples'])
+    assert run.status == 0, run
+
+
+def test_deb_by_lintian(made):
+    """What the missing licence makes is all that lintian may call an error."""
+    needs('lintian')
+    said = passes(['lintian', '--no-cfg', '--fail-on', 'none', next(made.glob('*.deb'))])
+    assert [line for line in said.splitlines() if line.startswith('E:') and 'copyright' not in line] == []
+
+
+# ---- Python
+
+
+@pytest.fixture(scope='session')
+def environment(made, tmp_path_factory):
+    """An environment of Python in which the wheel is installed."""
+    folder = tmp_path_factory.mktemp('wheel') / 'env'
+    if clean([sys.executable, '-m', 'venv', folder]).status:
+        pytest.skip('this Python makes no environment')
+    run = clean(
+        [folder / 'bin' / 'pip', 'install', '--quiet', '--no-index', '--disable-pip-version-check', next(made.glob('*.whl'))]
+    )
+    assert run.status == 0, run
+    return folder
+
+
+def test_wheel(made, environment, pairs, tmp_path):
+    passes([sys.executable, '-m', 'zipfile', '-t', next(made.glob('*.whl'))])
+    shutil.copy(TRIALS / 'ask.py', tmp_path)
+    try_call([environment / 'bin' / 'python', 'ask.py'], pairs, cwd=tmp_path)
+
+
+@pytest.mark.since('0.7.0')
+def test_wheel_scripts(environment):
+    shown = environment / 'share' / 'doc' / 'nonobench'
+    run = clean([environment / 'bin' / 'nonobench-check-site', shown / 'examples'])
+    assert run.status == 0, run
+    assert (shown / 'docs' / 'RECIPES.md').read_bytes() == (ROOT / 'docs' / 'RECIPES.md').read_bytes()
+
+
+def test_wheel_types(made, tmp_path):
+    needs('mypy')
+    passes([sys.executable, '-m', 'zipfile', '-e', next(made.glob('*.whl')), tmp_path])
+    shutil.copy(TRIALS / 'ask.py', tmp_path)
+    passes(['mypy', '--strict', '--no-incremental', '--cache-dir', '/dev/null', 'ask.py'], cwd=tmp_path)
+
+
+def test_sizes(made, installed):
+    packed = subprocess.run(['tar', 'c', '-C', made, '.'], stdout=subprocess.PIPE, check=True).stdout
+    assert len(gzip.compress(packed, 9)) < MOST_PACKED
+    assert (installed / 'bin' / 'nonobench').stat().st_size < MOST_PROGRAM

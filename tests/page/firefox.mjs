@@ -1,0 +1,312 @@
+// The built page in headless Firefox, as a new user meets it: start, paint, verdict, undo, reload, import, exports, print. It is
+// no part of the gate, which has no browser. Usage: [PAGE=dist/nonobench.html] [NONOBENCH=program] node tests/page/firefox.mjs [FOLDER],
+// where FOLDER gets pictures of the page and what it exports. FIREFOX is the browser (firefox-esr), driven by Marionette.
+import assert from 'node:assert/strict';
+import { spawn } from 'node:child_process';
+import { existsSync, mkdirSync, mkdtempSync, readFileSync, readdirSync, rmSync, writeFileSync } from 'node:fs';
+import { connect } from 'node:net';
+import { tmpdir } from 'node:os';
+import { join, resolve } from 'node:path';
+import { pathToFileURL } from 'node:url';
+import { Trial, eightColours, hookedPage } from './page_trial.mjs';
+
+const KEYS = {
+    Shift: '\ue008', Control: '\ue009', Alt: '\ue00a', Enter: '\ue007', Escape: '\ue00c', Tab: '\ue004', Backspace: '\ue003', Delete: '\ue017', Home: '\ue011',
+    End: '\ue010', ArrowLeft: '\ue012', ArrowUp: '\ue013', ArrowRight: '\ue014', ArrowDown: '\ue015', PageUp: '\ue00e', PageDown: '\ue00f',
+};
+const pause = (ms) => new Promise((go) => setTimeout(go, ms));
+
+/** A headless Firefox with a profile of its own, by its protocol: a length, a colon and JSON. It has one tab. */
+export class Firefox {
+    static async start(downloads) {
+        const browser = new Firefox();
+        browser.folder = mkdtempSync(join(tmpdir(), 'nonobench-firefox-'));
+        const prefs = {
+            'marionette.port': 0, 'browser.download.dir': downloads, 'browser.download.folderList': 2, 'browser.download.useDownloadDir': true,
+            'browser.download.always_ask_before_handling_new_types': false, 'browser.shell.checkDefaultBrowser': false, 'app.update.enabled': false,
+            'datareporting.policy.dataSubmissionEnabled': false, 'toolkit.telemetry.enabled': false, 'network.proxy.type': 0,
+        };
+        const lines = Object.entries(prefs).map(([name, value]) => `user_pref(${JSON.stringify(name)}, ${JSON.stringify(value)});\n`);
+        writeFileSync(join(browser.folder, 'user.js'), lines.join(''));
+        const words = ['--headless', '--marionette', '--remote-allow-system-access', '--no-remote', '--profile', browser.folder];
+        browser.process = spawn(process.env.FIREFOX ?? 'firefox-esr', words, { stdio: 'ignore', env: { ...process.env, MOZ_DISABLE_CONTENT_SANDBOX: '1' } });
+        const active = join(browser.folder, 'MarionetteActivePort');
+        for (let tries = 0; !existsSync(active) || !readFileSync(active, 'utf8'); tries++) {
+            if (tries > 600) throw new Error('Firefox does not start');
+            await pause(100);
+        }
+        await browser.join(Number(readFileSync(active, 'utf8')));
+        return browser;
+    }
+
+    async join(port) {
+        Object.assign(this, { waiting: new Map(), last: 0, rest: Buffer.alloc(0) });
+        this.socket = connect(port, '127.0.0.1');
+        this.socket.on('data', (piece) => this.hear(piece));
+        await new Promise((go, stop) => { this.hello = go; this.socket.once('error', stop); });
+        await this.send('WebDriver:NewSession', { capabilities: { alwaysMatch: { acceptInsecureCerts: true } } });
+    }
+
+    hear(piece) {
+        this.rest = Buffer.concat([this.rest, piece]);
+        for (let colon = this.rest.indexOf(58); colon > 0; colon = this.rest.indexOf(58)) {
+            const size = Number(this.rest.subarray(0, colon));
+            if (this.rest.length < colon + 1 + size) return;
+            const told = JSON.parse(this.rest.subarray(colon + 1, colon + 1 + size));
+            this.rest = this.rest.subarray(colon + 1 + size);
+            if (!Array.isArray(told)) { this.hello(); continue; }
+            const [, id, error, result] = told;
+            const { go, stop } = this.waiting.get(id);
+            this.waiting.delete(id);
+            if (error) stop(new Error(`${error.error}: ${error.message}`));
+            else go(result?.value !== undefined && Object.keys(result).length === 1 ? result.value : result);
+        }
+    }
+
+    send(command, words = {}) {
+        const id = ++this.last, text = Buffer.from(JSON.stringify([0, id, command, words]));
+        this.socket.write(Buffer.concat([Buffer.from(`${text.length}:`), text]));
+        return new Promise((go, stop) => this.waiting.set(id, { go, stop }));
+    }
+
+    async close() {
+        const ended = new Promise((go) => this.process.once('exit', go));
+        this.send('Marionette:Quit', { flags: ['eForceQuit'] }).catch(() => {});
+        await Promise.race([ended, pause(5000).then(() => this.process.kill('SIGKILL'))]);
+        this.socket.destroy();
+        rmSync(this.folder, { recursive: true, force: true, maxRetries: 5 });
+    }
+}
+
+/** The tab, with the calls of a page that a Trial makes. */
+export class Tab {
+    constructor(browser) {
+        Object.assign(this, { browser, faults: [] });
+    }
+
+    goto(url) {
+        return this.browser.send('WebDriver:Navigate', { url });
+    }
+
+    // A function run over the page's own objects. The page's policy lets no script into it, so the browser's sandbox runs it.
+    async run(what, ...words) {
+        const script = `with (window.wrappedJSObject ?? window) {
+            return Promise.resolve().then(() => (${what})(...JSON.parse(arguments[0]))).then((value) => JSON.stringify({ value }), (fault) => JSON.stringify({ fault: String(fault.stack ?? fault) }));
+        }`;
+        const { value, fault } = JSON.parse(await this.browser.send('WebDriver:ExecuteScript', { script, args: [JSON.stringify(words)] }));
+        if (fault) throw new Error(`in the page: ${fault}`);
+        return value;
+    }
+
+    async until(what, ms, ...words) {
+        const end = Date.now() + ms;
+        for (;;) {
+            const value = await this.run(what, ...words);
+            if (value) return value;
+            if (Date.now() > end) throw new Error(`not within ${ms} ms: ${what}`);
+            await pause(15);
+        }
+    }
+
+    act(actions) {
+        return this.browser.send('WebDriver:PerformActions', { actions });
+    }
+
+    /** Presses at the first point, goes over the others, and lets go. */
+    drag(points) {
+        const moves = points.map(([x, y]) => ({ type: 'pointerMove', duration: 0, x: Math.round(x), y: Math.round(y) }));
+        const actions = [moves[0], { type: 'pointerDown', button: 0 }, ...moves.slice(1), { type: 'pointerUp', button: 0 }];
+        return this.act([{ type: 'pointer', id: 'mouse', parameters: { pointerType: 'mouse' }, actions }]);
+    }
+
+    async click(selector) {
+        await this.drag([await this.run((wanted) => {
+            const element = document.querySelector(wanted);
+            if (!element) throw new Error(`there is no ${wanted}`);
+            element.scrollIntoView({ block: 'nearest', inline: 'nearest' });
+            const { left, top, width, height } = element.getBoundingClientRect();
+            return [left + width / 2, top + height / 2];
+        }, selector)]);
+    }
+
+    async press(...names) {
+        for (const name of names) {
+            const keys = name.split('+').map((key) => KEYS[key] ?? key);
+            const actions = [...keys.map((value) => ({ type: 'keyDown', value })), ...keys.reverse().map((value) => ({ type: 'keyUp', value }))];
+            await this.act([{ type: 'key', id: 'keys', actions }]);
+        }
+    }
+
+    async shot(path) {
+        writeFileSync(path, Buffer.from(await this.browser.send('WebDriver:TakeScreenshot', { full: false }), 'base64'));
+    }
+}
+
+const PAGE = process.env.PAGE ?? new URL('../../dist/nonobench.html', import.meta.url).pathname;
+const folder = resolve(process.argv[2] ?? mkdtempSync(join(tmpdir(), 'nonobench-firefox-out-')));
+const downloads = join(folder, 'downloads');
+const example = (name) => readFileSync(new URL(`../../examples/${name}`, import.meta.url));
+
+// The first download with an ending.
+async function downloaded(ending) {
+    for (let tries = 0; tries < 400; tries++) {
+        const name = readdirSync(downloads).find((one) => one.endsWith(ending));
+        if (name && readFileSync(join(downloads, name)).length && !readdirSync(downloads).some((one) => one.endsWith('.part'))) return readFileSync(join(downloads, name));
+        await pause(25);
+    }
+    throw new Error(`no download ${ending}: ${readdirSync(downloads)}`);
+}
+
+// A file that is let fall on the page, by the events that a browser sends for one.
+function drop(page, name, bytes) {
+    return page.run(async (one, text) => {
+        const data = new DataTransfer();
+        data.items.add(new File([Uint8Array.from(atob(text), (letter) => letter.charCodeAt(0))], one));
+        for (const type of ['dragenter', 'dragover', 'drop']) document.body.dispatchEvent(new DragEvent(type, { bubbles: true, cancelable: true, dataTransfer: data }));
+    }, name, bytes.toString('base64'));
+}
+
+const isOpen = (page) => page.until(() => !document.body.classList.contains('starting') && bench.state !== null, 10000);
+
+const steps = {
+    async 'the file itself, as it is given away, starts and shows no fault'({ page }) {
+        await page.goto(pathToFileURL(resolve(PAGE)).href);
+        await page.until(() => document.querySelector('#new-go') !== null, 10000);
+        const paint = await page.run(() => performance.getEntriesByName('first-contentful-paint')[0]?.startTime ?? performance.now());
+        console.log(`  first paint after ${Math.round(paint)} ms`);
+        await page.shot(join(folder, 'start.png'));
+        await page.click('#new-go');
+        await page.until(() => !document.body.classList.contains('starting'), 10000);
+        await page.until(() => /unique|ambiguous|other/i.test(document.querySelector('#audit').textContent), 10000);
+        await page.shot(join(folder, 'new.png'));
+    },
+    async 'a picture is painted by the mouse, with clues and verdict'({ page, trial }) {
+        await trial.load();
+        await page.click('#new-go');
+        await isOpen(page);
+        await trial.drag([[2, 2], [2, 6]]);
+        await trial.drag([[4, 4]]);
+        const { picture, clues } = await trial.state();
+        assert.equal(picture[1].slice(0, 8), '.aaaaa..');
+        assert.equal(picture[3].slice(0, 6), '...a..');
+        assert.deepEqual(clues.rows[1].map((block) => block.length), [5]);
+        await trial.check('after two strokes');
+        // By hand: column 4 has two blocks and only rows 2 and 4 have any, so nothing can move. Two cells by a corner can.
+        await trial.judged();
+        assert.equal((await trial.state()).verdict.word, 'unique');
+        for (const cell of [[8, 10], [9, 11]]) await trial.drag([cell]);
+        await trial.judged();
+        assert.equal((await trial.state()).verdict.word, 'ambiguous');
+        await page.shot(join(folder, 'painted.png'));
+    },
+    async 'undo and redo by keys'({ page, trial }) {
+        await trial.press('Control+z');
+        assert.equal((await trial.picture())[8], '.'.repeat(20));
+        await trial.press('Control+y');
+        assert.equal((await trial.picture())[8].slice(8, 13), '..a..');
+    },
+    async 'a reload loses nothing'({ page, trial }) {
+        await page.until(() => keep.keeper.isDone && keep.isKept, 5000);
+        const before = await trial.state();
+        await trial.load();
+        await page.until(() => document.querySelector('#kept .kept'), 5000);
+        await page.click('#kept .kept');
+        await isOpen(page);
+        const after = await trial.state();
+        assert.deepEqual([after.picture, after.givens, after.colours, after.strokes], [before.picture, before.givens, before.colours, before.strokes]);
+    },
+    async 'a P3 text, a .non text and a PNG come in'({ page, trial }) {
+        for (const [name, rows, columns] of [['flower.ppm', null, null], ['key.non', 5, 10], ['duck.png', 10, 10]]) {
+            await trial.load();
+            await drop(page, name, example(name));
+            if (name.endsWith('.png')) await page.until(() => document.querySelector('dialog[open]') !== null || !document.body.classList.contains('starting'), 5000);
+            if (await page.run(() => document.querySelector('dialog[open]') !== null)) await page.press('Enter');
+            await isOpen(page);
+            const state = await trial.state();
+            if (rows) assert.deepEqual([state.rows, state.columns], [rows, columns], name);
+            await trial.check(name);
+        }
+    },
+    async 'XML, PNG, P3, .non and a certificate go out'({ page, trial }) {
+        await trial.load();
+        await drop(page, 'key.non', example('key.non'));
+        await isOpen(page);
+        await page.run(() => bench.stroke(['pin 1 3', 'pin 1 5']));
+        await trial.judged();
+        for (const id of ['export-xml', 'export-cells', 'export-ppm', 'export-non']) await page.run((one) => runAction(one), id);
+        await page.click('#out [data-action="certificate"]');
+        assert.match((await downloaded('.xml')).toString(), /<puzzleset>/);
+        assert.match((await downloaded('.ppm')).toString(), /^P3\n/);
+        assert.match((await downloaded('.non')).toString(), /^title "Key"\nwidth 10\nheight 5\nrows\n/);
+        assert.match((await downloaded('.cert')).toString(), /^nonocert 2\ngiven 1 3\ngiven 1 5\n/);
+        const png = await downloaded('-cells.png');
+        assert.deepEqual([png.readUInt32BE(16), png.readUInt32BE(20)], [10, 5]);
+    },
+    async 'a certificate is checked, and the library goes out as an archive and comes back'({ page, trial }) {
+        const certificate = await downloaded('.cert');
+        await drop(page, 'key.cert', certificate);
+        await page.until(() => document.getElementById('said').textContent.includes('only solution with its given cells'), 8000);
+        await page.run(() => runAction('new'));
+        await page.until(() => document.querySelector('#library .kept'), 5000);
+        const count = await page.run(async () => (await keep.keeper.cards()).length);
+        await page.click('#library-export');
+        await drop(page, 'all.zip', await downloaded('.zip'));
+        await page.until((wanted) => document.getElementById('said').textContent.includes(`${wanted} picture${wanted === 1 ? '' : 's'} there already`), 8000, count);
+        assert.equal(await page.run(async () => (await keep.keeper.cards()).length), count);
+        await page.click('#start-back');
+        await isOpen(page);
+        assert.equal((await trial.state()).columns, 10);
+    },
+    async 'the puzzle and its solution are printed, a page each'({ browser, page }) {
+        await page.run(() => { window.print = () => {}; });
+        await page.press('Control+p');
+        await page.until(() => document.querySelector('dialog[open]') !== null, 5000);
+        await page.press('Enter');
+        await page.until(() => document.querySelectorAll('.printed').length === 2, 5000);
+        const pdf = Buffer.from(await browser.send('WebDriver:Print', {}), 'base64');
+        writeFileSync(join(folder, 'sheet.pdf'), pdf);
+        assert.equal(pdf.subarray(0, 5).toString(), '%PDF-');
+    },
+    async 'a link of 30 by 30 cells in 8 colours is short, and opens in the editor, and in the player alone'({ page, trial }) {
+        await trial.load();
+        await drop(page, 'eight.ppm', Buffer.from(eightColours()));
+        await isOpen(page);
+        const { picture, colours } = await trial.state();
+        assert.deepEqual([picture.length, colours.length], [30, 8]);
+        const links = await page.run(async () => [await fragmentOf(bench.state, 'edit'), await fragmentOf(bench.state, 'play')]);
+        for (const link of links) {
+            assert.ok(trial.url.length + link.length < 2000, `${link.length} characters`);
+            await page.goto('about:blank');
+            await page.goto(`${trial.url}${link}`);
+            await isOpen(page);
+            assert.deepEqual((await trial.state()).picture, picture);
+        }
+        await page.until(() => document.getElementById('play-room')?.open, 5000);
+        await page.press('Escape');
+        assert.equal(await page.run(() => document.getElementById('play-room').open), true);
+    },
+};
+
+rmSync(downloads, { recursive: true, force: true });
+mkdirSync(downloads, { recursive: true });
+const url = hookedPage(PAGE, folder);
+const browser = await Firefox.start(downloads);
+let failed = 0;
+try {
+    await browser.send('WebDriver:SetWindowRect', { width: 1280, height: 900 });
+    const page = new Tab(browser), trial = new Trial(page, url, folder);
+    for (const [name, step] of Object.entries(steps)) {
+        try {
+            await step({ browser, page, trial });
+            console.log(`passed: ${name}`);
+        } catch (fault) {
+            failed++;
+            console.log(`FAILED: ${name}: ${fault.stack ?? fault}`);
+            await page.shot(join(folder, `failed-${failed}.png`)).catch(() => {});
+        }
+    }
+} finally {
+    await browser.close();
+}
+console.log(`${Object.keys(steps).length} steps in Firefox, ${failed} failed; pictures in ${folder}`);
+process.exit(failed ? 1 : 0);

@@ -1,0 +1,82 @@
+// Tests of palette files, of colours by name, and of colours as the colour-blind see them. Texts and colours are made by hand after
+// the formats' descriptions and published tables. Run: node --test tests/page/page_colours.mjs
+import assert from 'node:assert/strict';
+import { test } from 'node:test';
+import '../../page/test/limits.mjs';
+import { emptyDoc } from '../../page/document/document.js';
+import { COLOUR_NAMES, colourNamed } from '../../page/document/named.js';
+import { clashesWith, seenWith } from '../../page/document/vision.js';
+import { PaletteFault, kindOfPalette, paletteText, readPalette } from '../../page/formats/palettes.js';
+import { withMore, withNearest } from '../../page/import/palettes.js';
+
+const GPL = 'GIMP Palette\nName: Sea\nColumns: 3\n# a comment\n  0   0 128\tnavy blue\n255 255 255\tUntitled\n 70 130 180\n';
+const PAL = 'JASC-PAL\r\n0100\r\n2\r\n0 0 128\r\n255 255 255\r\n';
+const HEX = '000080\n#FFFFFF\n\n4682b4\n';
+const triples = (palette) => palette.colours.map(({ triple }) => triple);
+
+test('palette files of three kinds', () => {
+    assert.deepEqual(readPalette(GPL), { name: 'Sea', kind: 'gpl', colours: [{ triple: [0, 0, 128], name: 'navy blue' }, { triple: [255, 255, 255], name: '' }, { triple: [70, 130, 180], name: '' }] });
+    assert.deepEqual(triples(readPalette(PAL)), [[0, 0, 128], [255, 255, 255]]);
+    assert.deepEqual(triples(readPalette(HEX)), [[0, 0, 128], [255, 255, 255], [70, 130, 180]]);
+    assert.deepEqual(triples(readPalette('ff0000\r\nff0000\r\n00ff00')), [[255, 0, 0], [0, 255, 0]], 'what is there twice counts once');
+    assert.deepEqual(['GIMP Palette', 'JASC-PAL\n0100', HEX, 'P3 1 1', 'width 3', '', '12345', '\ufeffGIMP Palette\n1 2 3'].map(kindOfPalette), ['gpl', 'pal', 'hex', null, null, null, null, 'gpl']);
+});
+
+test('palette files that are not read name why', () => {
+    const faults = {
+        NoPalette: ['hello', 'JASC-PAL\n0200\n1\n1 2 3\n', 'ff00ff\nfg0000\n'], BadColour: ['GIMP Palette\n1 2\n', 'GIMP Palette\n1 2 256\n', 'GIMP Palette\n1 2 x red\n', 'JASC-PAL\n0100\n1\n1,2,3\n'],
+        BadCount: ['JASC-PAL\n0100\n3\n1 2 3\n', 'JASC-PAL\n0100\n\n1 2 3\n', 'JASC-PAL\n0100\nx\n1 2 3\n'], NoColours: ['GIMP Palette\nName: x\n', 'JASC-PAL\n0100\n0\n'], TooMany: ['000000\n'.repeat(1025)],
+    };
+    for (const [kind, texts] of Object.entries(faults)) {
+        for (const text of texts) assert.throws(() => readPalette(text), (fault) => fault instanceof PaletteFault && fault.kind === kind && fault.message.length > 8, `${kind}: ${text.slice(0, 40)}`);
+    }
+    assert.throws(() => readPalette('GIMP Palette\n#\n1 2 3\n300 0 0\n'), /line 4 is not a colour/);
+    assert.throws(() => readPalette('JASC-PAL\n0100\n3\n1 2 3\n'), /line 3/);
+});
+
+test('palette files as they are written, and read again', () => {
+    const palette = { name: 'Two\nlines', colours: [{ triple: [0, 0, 128], name: 'navy' }, { triple: [9, 200, 255], name: '' }] };
+    assert.equal(paletteText(palette, 'gpl'), 'GIMP Palette\nName: Two lines\nColumns: 0\n#\n  0   0 128\tnavy\n  9 200 255\tUntitled\n');
+    assert.equal(paletteText(palette, 'pal'), 'JASC-PAL\r\n0100\r\n2\r\n0 0 128\r\n9 200 255\r\n');
+    assert.equal(paletteText(palette, 'hex'), '000080\n09c8ff\n');
+    for (const kind of ['gpl', 'pal', 'hex']) assert.deepEqual(triples(readPalette(paletteText(palette, kind))), [[0, 0, 128], [9, 200, 255]], kind);
+});
+
+test('colours by name', () => {
+    assert.equal(COLOUR_NAMES.length, 141); // the 148 of CSS Color 4 without the seven that are spelt with grey
+    const known = { tomato: [255, 99, 71], 'Dark Slate Grey': [47, 79, 79], REBECCAPURPLE: [102, 51, 153], 'light-goldenrod yellow': [250, 250, 210], '#0af': [0, 170, 255], '12ABef': [18, 171, 239], grey: [128, 128, 128], cyan: [0, 255, 255], magenta: [255, 0, 255] };
+    for (const [text, triple] of Object.entries(known)) assert.deepEqual(colourNamed(text), triple, text);
+    for (const text of ['', 'tomatoes', '#12', '#12345', 'rgb(1,2,3)', '#gggggg']) assert.equal(colourNamed(text), null, text);
+});
+
+test('a picture takes colours of a palette', () => {
+    const doc = { ...emptyDoc(3, 1), colours: [[255, 255, 255], [250, 10, 10], [240, 40, 40]], picture: ['.ab'], inks: [{}, { name: 'rose', sign: 'R' }, {}] };
+    const palette = [[0, 0, 0], [252, 12, 12], [200, 60, 60], [250, 250, 250]].map((triple, at) => ({ triple, name: at === 1 ? 'red' : '' }));
+    const near = withNearest(doc, palette);
+    assert.deepEqual([near.colours, near.inks, near.picture], [[[250, 250, 250], [252, 12, 12], [200, 60, 60]], [{}, { sign: 'R', name: 'red' }, {}], ['.ab']]);
+    const more = withMore(doc, [{ triple: [250, 10, 10], name: 'x' }, { triple: [1, 2, 3], name: 'rose' }, { triple: [4, 5, 6], name: 'ink' }]);
+    assert.deepEqual([more.colours.slice(3), more.inks.slice(3)], [[[1, 2, 3], [4, 5, 6]], [{}, { name: 'ink' }]], 'what it has is not added, and no name is there twice');
+});
+
+test('greys are seen as they are with each kind of vision, and colours are not', () => {
+    for (const kind of ['protan', 'deutan', 'tritan']) {
+        for (const sample of [0, 60, 128, 255]) for (const one of seenWith([sample, sample, sample], kind)) assert.ok(Math.abs(one - sample) <= 1, `${kind}: ${sample}, ${one}`);
+    }
+    // Red and green become alike yellows without red or green cones, blue and green do not; without blue cones it is the other way round.
+    const spread = ([red, green, blue]) => Math.max(red, green, blue) - Math.min(red, green, blue);
+    for (const kind of ['protan', 'deutan']) {
+        const [red, green, blue] = [seenWith([200, 60, 40], kind), seenWith([110, 120, 40], kind), seenWith([40, 60, 220], kind)];
+        assert.ok(Math.abs(red[0] - red[1]) < 60 && Math.abs(green[0] - green[1]) < 60, `${kind}: ${red} ${green}`);
+        assert.ok(spread(blue) > 120, `${kind}: ${blue}`);
+    }
+    assert.ok(spread(seenWith([200, 60, 40], 'tritan')) > 120);
+});
+
+test('colours that look alike to some are named, and only those', () => {
+    const doc = { ...emptyDoc(5, 1), colours: [[255, 255, 255], [200, 90, 60], [120, 130, 50], [40, 60, 220], [0, 0, 0]], picture: ['abcd.'] };
+    assert.deepEqual(clashesWith(doc, 'tritan'), []);
+    assert.deepEqual(clashesWith(doc, 'deutan'), [['a', 'b']]);
+    assert.deepEqual(clashesWith({ ...doc, picture: ['accd.'] }, 'deutan'), [], 'of colours that no cell has nothing is said');
+    const near = { ...doc, colours: [[255, 255, 255], [200, 40, 40], [204, 42, 40], [40, 60, 220], [0, 0, 0]] };
+    for (const kind of ['protan', 'deutan', 'tritan']) assert.deepEqual(clashesWith(near, kind), [], 'what looks alike to all is said elsewhere');
+});

@@ -1,0 +1,248 @@
+// Tests of the library: shelves that are full or refuse, records that are damaged or of the first version, cards, archives, and what
+// a second tab is told. Run: node --test tests/page/page_keep.mjs
+import assert from 'node:assert/strict';
+import { test } from 'node:test';
+import { needsModule, saidLine, workers } from '../../page/test/worker.mjs';
+import { baseOf } from '../../page/document/cover.js';
+import { docOf, emptyDoc, packedDoc, sameDoc } from '../../page/document/document.js';
+import { Client } from '../../page/engine/client.js';
+import { crcOf, readZip, writeZip } from '../../page/formats/zip.js';
+import { archiveOf, readArchive } from '../../page/import/archives.js';
+import { Keeper } from '../../page/library/keeper.js';
+import { cardOf, readRecord, recordOf, recordOfDoc } from '../../page/library/records.js';
+import { claim, localShelf, memoryShelf, openShelf } from '../../page/library/shelf.js';
+
+class Full extends Error {
+    name = 'QuotaExceededError';
+}
+// A browser's localStorage that takes so many signs and no more.
+function storageOf(room) {
+    const kept = new Map();
+    const used = () => [...kept].reduce((sum, [key, value]) => sum + key.length + value.length, 0);
+    return {
+        get length() { return kept.size; },
+        key: (at) => [...kept.keys()][at] ?? null,
+        getItem: (key) => kept.get(key) ?? null,
+        setItem(key, value) {
+            const before = kept.get(key);
+            kept.set(key, value);
+            if (used() <= room) return;
+            if (before === undefined) kept.delete(key);
+            else kept.set(key, before);
+            throw new Full('full');
+        },
+        removeItem: (key) => kept.delete(key),
+    };
+}
+
+// A bench with strokes, as far as a record asks for them: the documents before the one at hand, and those that can be made again.
+function benchOf(doc, before = [], after = [], more = {}) {
+    const docs = [...before, doc, ...after];
+    const strokes = docs.slice(1).map((to, at) => ({ before: docs[at], after: to }));
+    return { name: 'tree', isSaved: false, state: doc, past: strokes.slice(0, before.length), future: strokes.slice(before.length).reverse(), ...more };
+}
+const painted = (doc, place, letter = 'a') => ({ ...doc, picture: doc.picture.map((row, at) => [...row].map((one, col) => (at * doc.columns + col === place ? letter : one)).join('')) });
+const record = (id, when, more = {}) => ({ ...recordOf(benchOf(emptyDoc(3, 2)), id, when), ...more });
+const json = (value) => JSON.parse(JSON.stringify(value));
+
+test('a record holds the document and those that strokes lead to, back and forth', () => {
+    const [one, two, other] = [emptyDoc(4, 3), painted(emptyDoc(4, 3), 0), { ...emptyDoc(2, 2), about: { title: 'T' }, givens: new Set([1]) }];
+    const three = { ...painted(two, 5), locks: new Set([2]) };
+    const back = readRecord(json(recordOf(benchOf(three, [one, two], [other, one]), 'x', 7)));
+    assert.deepEqual([back.name, back.when, back.isSaved, back.strokes.past.length, back.strokes.future.length], ['tree', 7, false, 2, 2]);
+    for (const [found, wanted] of [[back.doc, three], [back.strokes.past[0], one], [back.strokes.past[1], two], [back.strokes.future[0], other], [back.strokes.future[1], one]]) {
+        assert.ok(sameDoc(found, wanted));
+    }
+});
+
+test('of strokes that take much room the last ones are kept', () => {
+    const docs = Array.from({ length: 40 }, (_, at) => ({ ...emptyDoc(100, 100), picture: Array(100).fill((at % 2 ? 'a' : '.').repeat(100)) }));
+    const back = readRecord(json(recordOf(benchOf(docs.at(-1), docs.slice(0, -1)), 'x')));
+    assert.ok(back.strokes.past.length > 10 && back.strokes.past.length < 39, `${back.strokes.past.length}`);
+    assert.ok(sameDoc(back.strokes.past.at(-1), docs.at(-2)));
+});
+
+test('damaged records are none, and damaged strokes leave the document', () => {
+    const good = json(recordOf(benchOf(painted(emptyDoc(3, 2), 0), [emptyDoc(3, 2)]), 'x'));
+    assert.equal(readRecord(good).strokes.past.length, 1);
+    for (const wrong of [null, 'x', {}, { ...good, version: 3 }, { ...good, doc: { ...good.doc, picture: ['z..', '...'] } }, { ...good, doc: null }, { ...good, id: 3 }]) assert.equal(readRecord(wrong), null);
+    for (const past of [null, 'x', [{ rows: [[9, '...']] }], [{ rows: [[0, 'zzz']] }], [{ whole: {} }], [null]]) {
+        const read = readRecord({ ...good, past });
+        assert.deepEqual([read.doc.picture, read.strokes.past], [['a..', '...'], []]);
+    }
+});
+
+test('a record of the first version brings its picture and its texts', () => {
+    const old = { version: 1, id: 'x', name: 'old', when: 5, isSaved: false, about: { title: 'T', author: '' }, base: { text: 'P3 ..', lines: [] }, strokes: { past: [['paint 1 1 a']], future: [] }, now: { rows: 1, columns: 2, maxval: 255, colours: [[255, 255, 255], [0, 0, 0]], picture: ['a.'], givens: [0] } };
+    const read = readRecord(old);
+    assert.deepEqual([read.name, read.doc.picture, [...read.doc.givens], read.doc.about, read.strokes], ['old', ['a.'], [0], { title: 'T' }, { past: [], future: [] }]);
+    assert.deepEqual(cardOf(old).doc.picture, ['a.']);
+});
+
+test('of records that wait the last one counts', async () => {
+    const puts = [];
+    const shelf = { ...memoryShelf(), putAll: async ([[, value]]) => { puts.push(value.when); await new Promise((go) => setTimeout(go, 5)); } };
+    const keeper = new Keeper(shelf, () => {});
+    for (let at = 1; at <= 5; at++) keeper.note(() => ({ record: record('x', at) }));
+    assert.equal(keeper.isDone, false);
+    await keeper.writing;
+    assert.deepEqual([puts, keeper.isDone], [[1, 5], true]);
+});
+
+test('what may rest is made a moment later, with the next that may not, or before its document goes', async () => {
+    const made = [];
+    const shelf = memoryShelf();
+    const keeper = new Keeper(shelf, () => {});
+    const note = (when, mayRest) => keeper.note(() => {
+        made.push(when);
+        return { record: record('x', when) };
+    }, mayRest);
+    note(1, true);
+    const rested = note(2, true);
+    assert.deepEqual([made, keeper.isDone], [[], false], 'a stroke does not wait for it');
+    await rested;
+    assert.deepEqual([made, keeper.isDone, (await shelf.get('work:x')).when], [[2], true, 2], 'of quick strokes the last one counts');
+    note(3, true);
+    await Promise.race([note(4), new Promise((go) => { setTimeout(go, 20); })]);
+    assert.deepEqual([made, keeper.isDone], [[2, 4], true], 'one that may not rest ends the rest');
+    const last = note(5, true);
+    keeper.hurry();
+    assert.deepEqual(made, [2, 4, 5], 'made at once');
+    await last;
+    assert.equal((await shelf.get('work:x')).when, 5);
+    keeper.hurry();
+    assert.deepEqual(made, [2, 4, 5], 'nothing rests');
+});
+
+test('a hundred pictures stay, whether they are in a file or not', async () => {
+    const said = [];
+    const keeper = new Keeper({ ...memoryShelf(), lasts: true }, (one) => said.push(one.kind));
+    for (let at = 0; at < 100; at++) await keeper.put(record(`r${at}`, at, { isSaved: at % 2 === 0 }), { verdict: 'unique', grade: '3 of 5' });
+    const cards = await keeper.cards();
+    assert.deepEqual([cards.length, cards[0].id, cards[0].verdict, cards[0].grade, new Set(said).size], [100, 'r99', 'unique', '3 of 5', 1]);
+});
+
+test('a full storage: it is told, and nothing that is kept goes', async () => {
+    const said = [];
+    const size = JSON.stringify(record('a', 1)).length + JSON.stringify(cardOf(record('a', 1))).length + 40;
+    const keeper = new Keeper(localShelf(storageOf(Math.round(size * 2.5))), ({ kind, why }) => said.push([kind, why]));
+    await keeper.put(record('a', 1, { isSaved: true }));
+    await keeper.put(record('b', 2));
+    await keeper.put(record('c', 3));
+    assert.deepEqual(said, [['kept', ''], ['kept', ''], ['failed', 'full']]);
+    assert.deepEqual((await keeper.cards()).map((one) => one.id), ['b', 'a']);
+    assert.equal((await keeper.record('a')).name, 'tree');
+    await keeper.put({ ...record('a', 4), name: 'x'.repeat(size * 2) });
+    assert.equal((await keeper.record('a')).when, 1, 'the record before stays where the new one is refused');
+});
+
+test('a shelf that refuses, and one that does not last, are told', async () => {
+    const said = [];
+    await new Keeper({ ...memoryShelf(), lasts: true, putAll: async () => { throw new Error('no'); } }, (one) => said.push([one.kind, one.why])).put(record('a', 1));
+    await new Keeper(memoryShelf(), (one) => said.push([one.kind, one.why])).put(record('a', 1));
+    assert.deepEqual(said, [['failed', 'refused'], ['failed', 'none']]);
+});
+
+test('pictures are renamed, copied, taken away and brought back', async () => {
+    const keeper = new Keeper(memoryShelf(), () => {});
+    await keeper.put(recordOf(benchOf(painted(emptyDoc(3, 2), 0), [emptyDoc(3, 2)]), 'a', 1), { verdict: 'unique' });
+    await keeper.rename('a', 'leaf');
+    const copy = await keeper.duplicate('a', 'leaf copy');
+    assert.deepEqual((await keeper.cards()).map(({ name, verdict, isSaved }) => [name, verdict, isSaved]), [['leaf copy', 'unique', false], ['leaf', 'unique', false]]);
+    assert.deepEqual([(await keeper.record(copy)).strokes.past.length, (await keeper.record('a')).name], [1, 'leaf']);
+    const gone = await keeper.drop('a');
+    assert.deepEqual([(await keeper.cards()).map((card) => card.id), await keeper.record('a')], [[copy], null]);
+    await keeper.restore(gone);
+    assert.equal((await keeper.record('a')).doc.picture[0], 'a..');
+    assert.equal((await keeper.cards()).length, 2);
+});
+
+test('a card that is missing or damaged is made of its record', async () => {
+    const keeper = new Keeper(memoryShelf(), () => {});
+    await keeper.put(record('a', 1), { verdict: 'unique' });
+    await keeper.put(record('b', 2));
+    await keeper.shelf.drop('card:a');
+    await keeper.shelf.put('card:b', { id: 'b', doc: { rows: 1e9 } });
+    await keeper.shelf.put('work:bad', { version: 2, id: 'bad', doc: null });
+    assert.deepEqual((await keeper.cards()).map(({ id, verdict }) => [id, verdict]), [['b', null], ['a', null]]);
+});
+
+test('an archive of all, and back', needsModule, async () => {
+    saidLine();
+    const zipOf = (records) => archiveOf(records, [], () => new Client(workers()()));
+    assert.equal(crcOf(new TextEncoder().encode('123456789')), 0xcbf43926); // the check value of CRC-32
+    const docs = [{ ...painted(emptyDoc(3, 2), 1), about: { title: 'Tr\u00e4um <1>' }, givens: new Set([4]), locks: new Set([1]) }, emptyDoc(2, 5)];
+    const records = [{ name: 'leaf', doc: docs[0] }, { name: 'Leaf', doc: docs[1] }, { name: 'a/b: "c"', doc: docs[1] }];
+    const bytes = await zipOf(records);
+    assert.deepEqual((await readZip(bytes)).map((file) => file.name), ['leaf.xml', 'Leaf 2.xml', 'a b   c.xml']);
+    const { docs: back, unread } = await readArchive(bytes);
+    assert.deepEqual([back.map((one) => one.name), unread], [['leaf', 'Leaf 2', 'a b   c'], []]);
+    assert.deepEqual([back[0].doc.picture, back[0].doc.about.title, [...back[0].doc.givens], [...back[0].doc.locks]], [docs[0].picture, 'Tr\u00e4um <1>', [4], [1]]);
+    assert.deepEqual(bytes, await zipOf(records));
+});
+
+test('archives of others: what is no puzzle is left, what is damaged is refused', async () => {
+    const text = (one) => new TextEncoder().encode(one);
+    const bytes = writeZip([{ name: 'x/', bytes: text('') }, { name: 'x/one.ppm', bytes: text('P3 2 1 255 255 255 255 0 0 0') }, { name: 'notes.txt', bytes: text('hello') }, { name: 'bad.xml', bytes: text('<puzzle>') }]);
+    const { docs, unread } = await readArchive(bytes);
+    assert.deepEqual([docs.map((one) => [one.name, one.doc.picture]), unread], [[['one', ['.a']]], ['notes.txt', 'bad.xml']]);
+    const found = (sign) => Buffer.from(bytes).indexOf(sign, 1);
+    for (const at of [found('P3 2'), found('PK\u0001\u0002'), found('PK\u0003\u0004'), bytes.length - 22]) await assert.rejects(readZip(bytes.map((byte, one) => (one === at ? byte ^ 85 : byte))), /damaged/);
+    await assert.rejects(readZip(text('PK')), /damaged/);
+});
+
+test('which shelf is opened', async () => {
+    const throws = { get() { throw new Error('forbidden'); } };
+    assert.equal((await openShelf(Object.defineProperties({}, { indexedDB: throws, localStorage: throws }))).lasts, false);
+    assert.equal((await openShelf({ indexedDB: undefined, localStorage: storageOf(1000) })).lasts, true);
+    const refusing = { open() { const request = {}; setTimeout(() => request.onerror(), 1); return request; } };
+    assert.equal((await openShelf({ indexedDB: refusing, localStorage: storageOf(1000) })).lasts, true);
+});
+
+// The browser's locks, as far as a claim asks for them.
+function locks() {
+    const held = new Set();
+    return { request(name, options, use) {
+        if (held.has(name)) return Promise.resolve(use(null));
+        held.add(name);
+        return Promise.resolve(use({ name })).finally(() => held.delete(name));
+    } };
+}
+
+test('a name is one tab\'s alone, by locks', async () => {
+    const home = { navigator: { locks: locks() } };
+    const free = await claim('x', home);
+    assert.equal(typeof free, 'function');
+    assert.equal(await claim('x', home), null);
+    free();
+    await new Promise((go) => setTimeout(go, 1));
+    assert.equal(typeof await claim('x', home), 'function');
+});
+
+// A channel that delivers at once.
+const channels = new Set();
+class Channel {
+    constructor(name) {
+        this.name = name;
+        channels.add(this);
+    }
+
+    postMessage(data) {
+        for (const other of [...channels]) if (other !== this && other.name === this.name) other.onmessage?.({ data });
+    }
+
+    close() {
+        channels.delete(this);
+    }
+}
+
+test('and by a channel where there are no locks', async () => {
+    const home = { navigator: {}, BroadcastChannel: Channel };
+    const free = await claim('y', home);
+    assert.equal(typeof free, 'function');
+    assert.equal(await claim('y', home), null);
+    free();
+    const again = await claim('y', home);
+    assert.equal(typeof again, 'function');
+    again();
+});

@@ -1,0 +1,129 @@
+// Trials in Chromium of small things that a designer stumbles over: forced colours, help on phones, the order of the library, an
+// archive that comes back, what is refused in the palette, tiles. Each is a test of the runner tests/page/page_test.mjs.
+import assert from 'node:assert/strict';
+import { clean, coloursAt, downloaded, drop, fresh, isKept, isOpen, said } from './page_hands.mjs';
+import { SIZES, SLACK, ppmOf } from './page_trial.mjs';
+
+const THREE = ['aabb.', 'a..b.', 'cc...'];
+
+// Colours of the window at points, as they are seen.
+async function seenAt(page, points) {
+    const [width, height] = await page.run(() => [innerWidth, innerHeight]);
+    return coloursAt(page, points.map(([x, y]) => [x / width, y / height]));
+}
+
+/** Where the system takes over all colours, swatches, cells and the chosen tool and colour are still told apart. */
+export async function forcedColours({ trial, page }) {
+    await trial.open(ppmOf(THREE), 'forced');
+    await page.send('Emulation.setEmulatedMedia', { features: [{ name: 'forced-colors', value: 'active' }] });
+    assert.equal(await page.run(() => matchMedia('(forced-colors: active)').matches), true);
+    await page.run(() => useColour('b'));
+    const swatches = await page.run(() => [...document.querySelectorAll('#palette button')].map((one) => { const box = one.getBoundingClientRect(); return [box.left + 5, box.top + 5]; }));
+    assert.deepEqual(await seenAt(page, swatches), ['255,255,255', '0,0,0', '200,40,40', '40,80,200'], 'swatches');
+    const cells = [];
+    for (const [row, col] of [[1, 2], [1, 4], [3, 2]]) cells.push(await trial.cell(row, col));
+    assert.deepEqual(await seenAt(page, cells), ['0,0,0', '200,40,40', '40,80,200'], 'cells');
+    // The edge of the chosen colour, and the ground of the chosen tool, are other ones than those of their neighbours.
+    const rings = await page.run(() => ['a', 'b'].map((letter) => { const box = document.querySelector(`#palette [data-letter="${letter}"]`).getBoundingClientRect(); return [box.left - 2.5, box.top + box.height / 2]; }));
+    const [plain, ring] = await seenAt(page, rings);
+    assert.notEqual(ring, plain, 'the chosen colour has a ring');
+    const grounds = await page.run(() => ['pencil', 'line'].map((tool) => { const box = document.querySelector(`[data-tool="${tool}"]`).getBoundingClientRect(); return [box.left + 4, box.top + box.height - 5]; }));
+    const [chosen, other] = await seenAt(page, grounds);
+    assert.notEqual(chosen, other, 'the chosen tool has a ground of its own');
+    await page.send('Emulation.setEmulatedMedia', { features: [] });
+}
+
+/** On a phone, help is beside the verdict and in Play; it names version and commit. */
+export async function helpOnPhones({ browser, url, folder }) {
+    const { page, trial } = await fresh(browser, url, folder, 'help', { size: SIZES.phone });
+    await trial.open(ppmOf(THREE), 'help');
+    await page.tap('#help-open');
+    await page.until(() => document.querySelector('#menu-help:popover-open [data-action="keys"]'), 3000 * SLACK);
+    await page.tap('#menu-help [data-action="guide"]');
+    await page.until(() => document.querySelector('#version'), 3000 * SLACK);
+    assert.match(await trial.text('#version'), /^nonobench [0-9.]+, commit [0-9a-f]{12}\. .*: git’s names/);
+    await page.press('Escape');
+    await page.run(() => runAction('play'));
+    await page.until(() => document.querySelector('#play-help'), 3000 * SLACK);
+    await page.tap('#play-help');
+    await page.until(() => document.querySelector('#version'), 3000 * SLACK);
+    await page.close();
+}
+
+/** What is found out about a picture later makes it no newer in the library; a stroke does. */
+export async function lateVerdict({ browser, url, folder }) {
+    const { page, trial } = await fresh(browser, url, folder, 'late');
+    await clean(page);
+    for (const name of ['first', 'second']) {
+        await trial.open(ppmOf(THREE), name);
+        await page.run((title) => openDoc(bench.state, { name: title }), name);
+        await trial.drag([[3, 5]]);
+        await isKept(page);
+    }
+    const when = () => page.run(async () => (await keep.keeper.cards()).map((card) => [card.name, card.when, card.grade]));
+    const before = await when();
+    await page.run(() => keep.graded('expert'));
+    await isKept(page);
+    const after = await when();
+    assert.deepEqual(after.map(([name, at]) => [name, at]), before.map(([name, at]) => [name, at]));
+    assert.equal(after[0][2], 'expert');
+    await trial.drag([[2, 5]]);
+    await isKept(page);
+    assert.ok((await when())[0][1] > before[0][1]);
+    await page.close();
+}
+
+/** An archive that comes back adds nothing that is there, whatever its name; what has changed since stands beside it. */
+export async function archiveTwice({ browser, url, folder }) {
+    const { page, trial, own } = await fresh(browser, url, folder, 'twice');
+    await clean(page);
+    await page.run((rows) => openDoc({ rows: 3, columns: 5, maxval: 255, colours: [[255, 255, 255], [0, 0, 0], [200, 40, 40], [40, 80, 200]], picture: rows, givens: new Set([0]), about: { title: 'Kept' } }, { name: 'kept', isSaved: false }), THREE);
+    await isOpen(page);
+    await trial.drag([[3, 5]]);
+    await isKept(page);
+    await page.run(() => runAction('new'));
+    await page.until(() => document.querySelector('#library .kept'), 5000 * SLACK);
+    await page.click('#library-export');
+    const { content } = await downloaded(page, own, '.zip');
+    const count = () => page.run(async () => (await keep.keeper.cards()).length);
+    assert.equal(await count(), 1);
+    await drop(page, own, 'back.zip', content);
+    await page.until(() => document.getElementById('said').textContent.includes('there already'), 5000 * SLACK);
+    assert.equal(await count(), 1, await said(page));
+    await page.run(async () => { const [card] = await keep.keeper.cards(); await keep.keeper.duplicate(card.id, 'other'); });
+    await drop(page, own, 'back.zip', content);
+    await page.until(() => document.getElementById('said').textContent.includes('there already'), 5000 * SLACK);
+    assert.equal(await count(), 2, 'whatever it is named');
+    await page.click('#start-back');
+    await isOpen(page);
+    await trial.drag([[1, 5]]);
+    await isKept(page);
+    await page.run(async () => { const card = (await keep.keeper.cards()).find((one) => one.name === 'other'); await keep.keeper.drop(card.id); runAction('new'); });
+    await drop(page, own, 'back.zip', content);
+    await page.until(() => document.getElementById('said').textContent.includes('1 picture added'), 5000 * SLACK);
+    assert.equal(await count(), 2);
+    await page.close();
+}
+
+/** The palette says why a colour is not moved, and a refused name or sign does not stay in its field. */
+export async function refusedInPalette({ trial, page }) {
+    await trial.open(ppmOf(THREE), 'refused');
+    for (const [letter, id, text] of [['a', 'colour-earlier', /first one already/], ['c', 'colour-later', /last one already/], ['.', 'colour-later', /background always/]]) {
+        await page.run((one, action) => { useColour(one); runAction(action); }, letter, id);
+        assert.match(await said(page), text);
+    }
+    await page.run(() => useColour('a'));
+    for (const [id, text, kept] of [['ink-name', 'red', ''], ['ink-sign', '?', '']]) {
+        await page.click(`#${id}`);
+        await page.press(...text, 'Enter');
+        await page.until(() => document.getElementById('said').dataset.kind === 'alarm', 3000 * SLACK);
+        assert.equal(await page.run((one) => document.getElementById(one).value, id), kept, id);
+    }
+}
+
+/** Tiles of the examples are of one height. */
+export async function equalTiles({ page }) {
+    const heights = await page.run(() => [...document.querySelectorAll('#examples .kept')].map((one) => Math.round(one.getBoundingClientRect().height)));
+    assert.ok(heights.length >= 3);
+    assert.equal(new Set(heights).size, 1, heights.join());
+}

@@ -1,0 +1,180 @@
+// Trials of the ways from a picture to a puzzle: repairs of several cells, the grade beside the verdict, the solving path, hints.
+import assert from 'node:assert/strict';
+import { SLACK, ppmOf } from './page_trial.mjs';
+
+const PAIR = ['a.....', '.a....', '......', '...aaa', '...aaa', '...aaa'];
+const GUESS = ['.aa.', 'a..a', 'a..a']; // one solution, eight cells to guess
+const isNarrow = (page) => page.run(() => document.getElementById('verdict-open').checkVisibility());
+const isMoreOpen = (page) => page.run(() => document.getElementById('audit').classList.contains('open'));
+const moreOf = async (hands) => { if (await isNarrow(hands.page) && !(await isMoreOpen(hands.page))) await hands.press('#verdict-open'); };
+const listed = async (page) => {
+    await page.until(() => document.querySelectorAll('#fix-list button').length > 0, 20000 * SLACK);
+    await page.until(() => !searches.running, 30000 * SLACK);
+};
+const said = (page, wanted) => page.until((text) => new RegExp(text).test(document.getElementById('play-said').textContent), 20000 * SLACK, wanted);
+const differing = (one, two) => [...one.join('')].filter((letter, at) => letter !== two.join('')[at]).length;
+
+/** From two solutions to one, and from a guess to line logic: a proposal is taken by one press, and back by one undo. */
+export async function mendingPoint(hands) {
+    const { page, trial } = hands;
+    await trial.open(ppmOf(PAIR), 'pair');
+    assert.equal(await trial.judged(), 'ambiguous');
+    await moreOf(hands);
+    await hands.press('#verdict-do [data-action="fix"]');
+    assert.equal(await page.run(() => document.getElementById('fix-goal').value), 'lines', 'no guessing is looked for first');
+    await listed(page);
+    assert.match(await trial.text('#fix-said'), /proposals? found/);
+    await hands.press('#fix-list button');
+    await page.until((before) => bench.state.picture.join() !== before, 5000 * SLACK, PAIR.join());
+    assert.equal(await trial.judged(), 'unique');
+    await hands.undo();
+    assert.deepEqual(await trial.picture(), PAIR, 'one undo takes it back');
+    await trial.open(ppmOf(GUESS), 'guess');
+    assert.equal(await trial.judged(), 'unique');
+    assert.equal((await trial.state()).open, 8);
+    await moreOf(hands);
+    await hands.press('#verdict-do [data-action="fix"]');
+    await listed(page);
+    await hands.press('#fix-list button');
+    await page.until((before) => bench.state.picture.join() !== before, 5000 * SLACK, GUESS.join());
+    assert.equal(await trial.judged(), 'unique');
+    assert.equal((await trial.state()).open, 0, 'no guessing');
+}
+
+/** The solving path by its buttons, slider and keys; hints that tell more each time. */
+export async function walkingPoint(hands) {
+    const { page, trial } = hands;
+    await trial.open(ppmOf(['.a.', 'aa.', '...']), 'small');
+    assert.equal(await trial.judged(), 'unique');
+    await moreOf(hands);
+    await hands.press('#verdict-do [data-action="walk"]');
+    await said(page, '^Step 0 of \\d+');
+    if (hands.byKeys) await page.press('ArrowRight');
+    else await hands.press('#walk-on');
+    await said(page, '^Step 1 of \\d+: Row 3 settles columns 1–3 by its clue alone');
+    await hands.press('#walk-hardest');
+    await said(page, '^Step [2-9]');
+    await hands.press('#walk-end');
+    assert.equal(await page.run(() => play.marks.flat().every((mark) => mark === '?')), true, 'the own marks stand again');
+    for (const wanted of ['^Row 3 tells more\\.$', '^Row 3 settles columns 1–3\\.$', 'by its clue alone']) {
+        await hands.press('#play-hint');
+        await said(page, wanted);
+    }
+    if (hands.byKeys) await page.press('Escape');
+    else await hands.press('#play-close');
+    await page.until(() => !document.querySelector('#play-room'), 3000 * SLACK);
+}
+
+/** The first example is mended by one press behind Fix it. */
+export async function firstPoint(hands) {
+    const { page, trial } = hands;
+    await hands.press('#examples li:nth-child(1) button');
+    await page.until(() => bench.state !== null, 8000 * SLACK);
+    assert.equal(await trial.judged(), 'ambiguous');
+    await moreOf(hands);
+    await hands.press('#verdict-do [data-action="fix"]');
+    await listed(page);
+    await hands.press('#fix-list button');
+    await page.until(() => bench.past.length === 1, 5000 * SLACK);
+    assert.equal(await trial.judged(), 'unique');
+    assert.equal((await trial.state()).open, 0);
+    for (const example of ['heart', 'mushroom', 'boat']) {
+        await trial.example(example);
+        assert.equal(await trial.judged(), 'unique', example);
+    }
+}
+
+export async function repairsOfSeveralCells({ trial, page }) {
+    await trial.example('computer'); // no single cell mends it
+    assert.equal(await trial.judged(), 'ambiguous');
+    const before = await trial.picture();
+    await trial.action('fix');
+    await page.click('#fix-paint');
+    await listed(page);
+    const sizes = await page.run(() => [...document.querySelectorAll('#fix-list button')].map((button) => button.ariaLabel));
+    assert.match(sizes[0], /2 cells/);
+    assert.match(await trial.text('#fix-said'), /No smaller one exists/);
+    assert.match(sizes.at(-1), /Give \d+ cells?, the fewest/, 'given cells stand beside');
+    assert.equal(await page.run(() => document.querySelector('#fix-list canvas').width >= 80), true, 'large enough to be seen');
+    assert.equal(await page.run(() => document.documentElement.scrollHeight - innerHeight), 0, 'the window itself has nothing to scroll');
+    await page.run(() => document.querySelector('#fix-list button').focus());
+    assert.equal(await page.run(() => sheet.overlay.size), 2, 'it is seen on the sheet');
+    await page.click('#fix-list button');
+    assert.equal(await trial.judged(), 'unique');
+    assert.equal(differing(before, await trial.picture()), 2);
+    await trial.check('after a repair');
+    await trial.press('Control+z');
+    assert.deepEqual(await trial.picture(), before);
+}
+
+export async function repairsHeedLocks({ trial, page }) {
+    await trial.open(ppmOf(PAIR), 'pair');
+    assert.equal(await trial.judged(), 'ambiguous');
+    await trial.action('fix');
+    await page.run(() => bench.become((doc) => ({ ...doc, locks: new Set([0, 1]) })).then(() => true));
+    await page.click('#fix-paint');
+    await listed(page);
+    await page.click('#fix-list button');
+    assert.equal(await trial.judged(), 'unique');
+    const after = await trial.picture();
+    assert.deepEqual([after[0], after[1]], ['a.....', 'aa....'], 'locked cells stay: of the two cells that would do, the other one is painted');
+}
+
+export async function gradeBeside({ trial, page }) {
+    const graded = (wanted) => page.until((text) => document.getElementById('grade').textContent.startsWith(text), 20000 * SLACK, wanted);
+    await trial.open(ppmOf(['.a.', 'aa.', '...']), 'small');
+    await trial.judged();
+    await graded('easy (2 rounds, 8 lines looked at, longest wait 2)');
+    await trial.open(ppmOf(GUESS), 'guess');
+    await trial.judged();
+    await graded('very hard (8 cells to guess, 1 split, depth 1;');
+    await trial.open(ppmOf(PAIR), 'pair');
+    assert.equal(await trial.judged(), 'ambiguous');
+    assert.equal(await trial.text('#grade'), '–', 'no grade without one solution');
+}
+
+export async function walkOfAGuess({ trial, page }) {
+    await trial.open(ppmOf(GUESS), 'guess');
+    await trial.judged();
+    await page.run(() => { runAction('walk'); });
+    await said(page, '^Step 0 of [0-9]+: '); // with what the certificate supposes
+    const texts = [];
+    for (let step = 0; step < 40; step++) {
+        await page.press('ArrowRight');
+        texts.push(await trial.text('#play-said'));
+    }
+    assert.ok(texts.some((text) => /Suppose row \d, column \d is (black|background)/.test(text)), texts.join('\n'));
+    assert.ok(texts.some((text) => /then (row|column) \d cannot be filled/.test(text)));
+    assert.ok(texts.some((text) => /this is the picture/.test(text)));
+    assert.match(texts.at(-1), /no other picture fits/);
+    assert.deepEqual(await page.run(() => play.marks.map((row) => row.join(''))), GUESS, 'the path ends at the picture');
+    await page.click('#walk-hardest');
+    await said(page, ': Suppose row');
+    await page.click('#walk-heat');
+    assert.deepEqual(await page.run(() => [...play.heat].filter((round) => round < 0).length), 8, 'what needs a guess is told apart');
+    await page.run(() => {
+        const order = document.getElementById('walk-order');
+        order.value = 'book';
+        order.dispatchEvent(new Event('change'));
+    });
+    await said(page, '^Step 0 of');
+    await page.press('Escape');
+}
+
+/** The grade goes where it is asked for: onto the printed sheet, into the description, and beside the picture in the library. */
+export async function gradeGoesOut({ trial, page }) {
+    await trial.open(ppmOf(['.a.', 'aa.', '...']), 'small');
+    await trial.judged();
+    await page.until(() => document.getElementById('grade').textContent.startsWith('easy'), 20000 * SLACK);
+    await page.run(() => { window.print = () => { window.isPrinted = true; }; runAction('print'); });
+    await page.until(() => document.querySelector('#print-grade'), 3000 * SLACK);
+    await page.click('#print-grade');
+    await page.click('dialog button.main');
+    await page.until(() => window.isPrinted, 5000 * SLACK);
+    assert.match(await page.run(() => document.querySelectorAll('.printed text')[1].textContent), /3 by 3, easy/);
+    await page.run(() => { runAction('about'); });
+    for (let twice = 0; twice < 2; twice++) await page.click('#about-grade');
+    await page.click('dialog button.main');
+    await page.until(() => bench.state.about.description, 5000 * SLACK); // the dialog is heard after it has closed
+    assert.equal(await page.run(() => bench.state.about.description), 'Grade: easy: rounds 2, evaluations 8, longest wait 2', 'once');
+}

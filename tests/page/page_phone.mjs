@@ -1,0 +1,142 @@
+// Tests in the browser on phones, upright and lying: large pictures fit, the clue under a finger stands whole, and what is pressed is
+// large enough. Each is a test of the runner tests/page/page_test.mjs.
+import assert from 'node:assert/strict';
+import { pause } from './page_browser.mjs';
+import { SLACK, Trial, noise, ppmOf } from './page_trial.mjs';
+
+const UPRIGHT = [[390, 844], [360, 640]];
+const LYING = [[844, 390], [640, 360]];
+const start = (browser, url, folder, [width, height]) => Trial.start(browser, url, folder, { width, height, touch: true });
+
+const look = (page) => page.run(() => {
+    const { geometry: at } = sheet;
+    return { side: at.cell / at.scale, isFolded: at.isFolded, isWhole: at.x(at.columns) <= at.width && at.y(at.rows) <= at.height };
+});
+
+// A finger that comes down and stays there.
+const down = (page, [x, y]) => page.send('Input.dispatchTouchEvent', { type: 'touchStart', touchPoints: [{ x, y, id: 0 }] });
+const up = (page) => page.send('Input.dispatchTouchEvent', { type: 'touchEnd', touchPoints: [] });
+
+// The clues that stand whole: their texts, whether they are in the window, and whether the finger is on them.
+const wholes = (page, [x, y] = [0, 0]) => page.run((a, b) => [...document.querySelectorAll('.whole')].filter((one) => one.checkVisibility()).map((one) => {
+    const { left, top, right, bottom } = one.getBoundingClientRect();
+    return [one.textContent, left >= 0 && top >= 0 && right <= innerWidth && bottom <= innerHeight, a >= left && a <= right && b >= top && b <= bottom];
+}), x, y);
+const clue = (page, axis, line) => page.run((name, at) => {
+    const blocks = bench.state.clues[name][at - 1];
+    return `${name === 'rows' ? 'Row' : 'Column'} ${at}${blocks.map((block) => block.length).join('') || '0'}`;
+}, axis, line);
+
+// A pinch at a point, from one distance of the fingers to another.
+async function pinch(page, [x, y], from, to) {
+    const way = (side) => [0, 0.25, 0.5, 0.75, 1].map((part) => [x + side * (from + (to - from) * part), y]);
+    await page.touch(way(-1), way(1));
+}
+
+/** Fit shows 120 by 120 whole: clues fold to edges. Larger cells have them back, and a pinch to small ones is Fit. */
+export async function foldedClues({ browser, url, folder }) {
+    for (const size of [...UPRIGHT, ...LYING]) {
+        const where = size.join(' by ');
+        const trial = await start(browser, url, folder, size);
+        const { page } = trial;
+        await trial.open(ppmOf(noise(120, 120, '...aabc')), 'large');
+        await trial.settled(20000);
+        const first = await look(page);
+        assert.ok(first.isWhole && first.isFolded && first.side >= (size[0] === 390 ? 3 : 2), `${where}: ${JSON.stringify(first)}`);
+        await page.shot(`${folder}/phone-${size[0]}-fit.png`);
+        const middle = await trial.cell(60, 60);
+        await pinch(page, middle, 20, 100);
+        await page.until(() => !sheet.geometry.isFolded && sheet.geometry.left > 30 * sheet.geometry.scale, 3000 * SLACK);
+        await page.shot(`${folder}/phone-${size[0]}-near.png`);
+        await pinch(page, middle, 120, 10);
+        await page.until(() => sheet.geometry.isFolded, 3000 * SLACK);
+        assert.deepEqual(await look(page), first, `${where}: Fit again`);
+        assert.equal((await trial.state()).strokes[0], 0, `${where}: two fingers paint nothing`);
+        await trial.example('heart');
+        assert.equal((await look(page)).isFolded, false, `${where}: a small picture has its clues`);
+        assert.deepEqual(page.faults, []);
+        await page.close();
+    }
+}
+
+/** The clues of the cell under a finger stand whole beside it, and so does one whose edge is tapped. */
+export async function cluesUnderAFinger({ browser, url, folder }) {
+    for (const size of [...UPRIGHT, ...LYING]) {
+        const where = size.join(' by ');
+        const trial = await start(browser, url, folder, size);
+        const { page } = trial;
+        await trial.open(ppmOf(noise(120, 120, '...aabc')), 'large');
+        await trial.settled(20000);
+        for (const [row, col] of [[20, 110], [110, 7]]) {
+            const at = await trial.cell(row, col);
+            await down(page, at);
+            await page.until(() => document.querySelectorAll('.whole:not([hidden])').length === 2, 2000 * SLACK);
+            assert.deepEqual(await wholes(page, at), [[await clue(page, 'rows', row), true, false], [await clue(page, 'columns', col), true, false]], where);
+            await page.shot(`${folder}/phone-${size[0]}-finger-${row}.png`);
+            await up(page);
+            await trial.settled();
+            assert.deepEqual(await wholes(page), [], `${where}: the finger is lifted`);
+        }
+        const before = await trial.picture();
+        const edge = await page.run(() => {
+            const box = sheet.view.getBoundingClientRect();
+            return [box.left + (sheet.geometry.originX / sheet.geometry.scale) - 6, box.top + (sheet.geometry.y(30) + 1) / sheet.geometry.scale];
+        });
+        await page.touch([edge]);
+        await page.until(() => document.querySelectorAll('.whole:not([hidden])').length === 1, 2000 * SLACK);
+        assert.deepEqual(await wholes(page, edge), [[await clue(page, 'rows', 31), true, false]], `${where}: a tap on an edge`);
+        assert.deepEqual(await trial.picture(), before, `${where}: a tap paints nothing`);
+        assert.deepEqual(page.faults, []);
+        await page.close();
+    }
+}
+
+/** A phone that lies has its tools, its palette and the verdict beside the picture, large enough for fingers. */
+export async function lyingPhone({ browser, url, folder }) {
+    for (const size of LYING) {
+        const where = size.join(' by ');
+        const trial = await start(browser, url, folder, size);
+        const { page } = trial;
+        await page.shot(`${folder}/phone-${size[0]}-start.png`);
+        await trial.example('apple');
+        await trial.judged();
+        await page.shot(`${folder}/phone-${size[0]}.png`);
+        const small = await page.run(() => [...document.querySelectorAll('#tools button, #palette button, #quick button, #menus > button, #audit button')]
+            .filter((one) => one.checkVisibility() && Math.min(one.offsetWidth, one.offsetHeight) < 44).map((one) => one.outerHTML.slice(0, 80)));
+        assert.deepEqual(small, [], `${where}: targets of 44 px`);
+        const [wide, stage, verdict, palette] = await page.run(() => [document.documentElement.scrollWidth - innerWidth, document.getElementById('stage').offsetHeight / innerHeight,
+            ...['verdict', 'palette'].map((id) => document.getElementById(id).getBoundingClientRect().bottom < innerHeight)]);
+        assert.ok(wide <= 0 && stage > 0.8 && verdict && palette, `${where}: ${[wide, stage, verdict, palette]}`);
+        const before = await trial.picture();
+        await page.run(() => useColour('b'));
+        await page.touch([await trial.cell(1, 1), await trial.cell(1, 3)]);
+        await trial.settled();
+        assert.notDeepEqual(await trial.picture(), before, `${where}: one finger paints`);
+        assert.deepEqual(page.faults, []);
+        await page.close();
+    }
+}
+
+/** A tap is a click behind a stroke too that was as quick as a flick: on the tools, the palette, and in Play. */
+export async function tapBehindAFlick({ browser, url, folder }) {
+    const trial = await start(browser, url, folder, UPRIGHT[0]);
+    const { page } = trial;
+    const flick = ([x, y], far) => page.touch([0, 1, 2, 3].map((step) => [x + (far * step) / 3, y]));
+    await trial.open(ppmOf(['..aa...', '.aaba..', '..aaaa.', '...aa..', '.......']));
+    for (const tool of ['pin', 'line', 'pencil']) {
+        await flick(await trial.cell(5, 1), 150);
+        await trial.settled();
+        await page.middle(`[data-tool="${tool}"]`);
+        await pause(120);
+        await page.tap(`[data-tool="${tool}"]`);
+        await page.until((wanted) => tools.name === wanted, 1000 * SLACK, tool);
+    }
+    await page.run(() => runAction('play'));
+    await page.until(() => document.querySelector('#play-room')?.open, 2000 * SLACK);
+    const [x, y] = await page.middle('#play-field');
+    await flick([x - 60, y], 120);
+    await page.tap('#play-palette [data-letter="b"]');
+    await page.until(() => play.letter === 'b', 1000 * SLACK);
+    assert.deepEqual(page.faults, []);
+    await page.close();
+}

@@ -1,0 +1,312 @@
+// Tests of several files at once: what lies beside a picture, of which folder it is, and what is made of images without the dialog.
+// Pictures and what comes of them are worked by hand. Run: node --test tests/page/page_several.mjs
+import assert from 'node:assert/strict';
+import { readFileSync } from 'node:fs';
+import { test } from 'node:test';
+import { needsModule, workers } from '../../page/test/worker.mjs';
+import { FileFault } from '../../page/document/limits.js';
+import { Client } from '../../page/engine/client.js';
+import { Judge } from '../../page/engine/judging.js';
+import { ppmTextOf } from '../../page/formats/ppm_notes.js';
+import { readGivens, readGround } from '../../page/formats/published.js';
+import { webpbnText } from '../../page/formats/webpbn.js';
+import { readZip, writeZip } from '../../page/formats/zip.js';
+import { readArchive } from '../../page/import/archives.js';
+import { docsOfUnit, grouped, hasCertificate } from '../../page/import/beside.js';
+import { unitsIn } from '../../page/import/folders.js';
+import { docOfNon } from '../../page/import/reading.js';
+import { docByItself, proposalFor } from '../../page/import/proposing.js';
+
+const bytesFrom = (base64) => new Uint8Array(Buffer.from(base64, 'base64'));
+const read = (path) => readFileSync(new URL(`../../${path}`, import.meta.url));
+const bytesOf = (text) => new TextEncoder().encode(text);
+const fileOf = (name, text = '') => Object.assign(new Blob([text]), { name });
+const filesOf = (files) => Object.entries(files).map(([name, text]) => fileOf(name, text));
+const unitOf = (files) => grouped(filesOf(files))[0];
+const docOf = async (files) => {
+    const { docs } = await docsOfUnit(unitOf(files));
+    assert.equal(docs.length, 1);
+    return docs[0];
+};
+const givensOf = ({ givens }) => [...givens].sort((one, other) => one - other);
+const refused = (files, wanted) => assert.rejects(docsOfUnit(unitOf(files)), (fault) => fault instanceof FileFault && wanted.test(fault.message));
+
+// Black above white, white above black: the other diagonal has the same clues.
+const TWO_WAYS = 'P3\n2 2\n255\n0 0 0 255 255 255\n255 255 255 0 0 0\n';
+
+test('the texts of files beside pictures, which nonobench-audit reads alike', () => {
+    let count = 0;
+    for (const line of read('tests/cases/beside.txt').toString().split('\n').filter((one) => one && !one.startsWith('#'))) {
+        const [, kind, quoted, wanted] = /^(\w+) (".*") ([^"]+)$/.exec(line);
+        const text = Buffer.from(JSON.parse(quoted)).toString('latin1');
+        const answer = kind === 'givens' ? () => givensText(text) : () => groundText(text, wanted);
+        if (['refused', 'outside'].includes(wanted)) assert.throws(answer, (fault) => fault instanceof FileFault && /outside/.test(fault.message) === (wanted === 'outside'), line);
+        else assert.equal(answer(), wanted, line);
+        count++;
+    }
+    assert.ok(count > 40);
+});
+
+const givensText = (text) => [...readGivens(text, { rows: 3, columns: 4 })].sort((one, other) => one - other).map((place) => `${Math.floor(place / 4) + 1},${(place % 4) + 1}`).join(' ') || 'none';
+
+// What a background comes to for a first pixel of 9,8,7 with the largest samples that there are.
+function groundText(text, wanted) {
+    const ground = readGround(text);
+    const names = { '9,8,7': 'corner', '255,255,255': 'white' };
+    const triple = ground?.({ data: Uint8ClampedArray.of(9, 8, 7, 255) }, 65535).join();
+    if (wanted.includes(',')) return triple === wanted.split(',').map((sample) => Math.round((sample * 255) / 65535)).join() ? wanted : triple;
+    return triple ? names[triple] : 'none';
+}
+
+test('lines of givens end with LF, and the line that is wrong is named', () => {
+    const size = { rows: 3, columns: 4 };
+    assert.deepEqual([...readGivens('given 3 4\ngiven 1 2', size)], [11, 1]);
+    assert.throws(() => readGivens('given 1 2\ngiven 3\n', size), /^Error: line 2 is not/);
+    assert.throws(() => readGivens('given 1 2\r\n', size), /line 1 is not/);
+    assert.throws(() => readGivens('given 1 2\ngiven 2 2\ngiven 1 2\n', size), /^Error: line 3 names a cell for the second time/);
+    for (const [line, wanted] of [['3 5', /row 3, column 5 is outside/], ['0 1', /row 0, column 1 is outside/], ['999 1', /row 999, column 1 is outside/]]) assert.throws(() => readGivens(`given 1 2\ngiven ${line}\n`, size), wanted);
+});
+
+test('a background is in the samples of its picture', () => {
+    const white = { data: Uint8ClampedArray.of(9, 8, 7, 0) };
+    assert.deepEqual(readGround('1,2,15')(white, 15), [17, 34, 255]); // 255 / 15 = 17
+    assert.deepEqual(readGround('corner')(white, 255), [255, 255, 255]); // what is transparent has no colour
+    assert.deepEqual([127, 128].map((opacity) => readGround('corner')({ data: Uint8ClampedArray.of(9, 8, 7, opacity) }, 255).join()), ['255,255,255', '9,8,7']);
+    assert.throws(() => readGround('0,0,16')(white, 15), /above 15/);
+});
+
+test('what goes with a picture, by its name', () => {
+    const names = (files) => grouped(files.map((name) => fileOf(name))).map(({ file, givens, background, beside, fault }) => [file.name, givens?.name, background?.name, beside.map((one) => one.name), Boolean(fault)]);
+    assert.deepEqual(names(['a.png', 'a.givens', 'a.background', 'a.cert', 'a.proof']), [['a.png', 'a.givens', 'a.background', ['a.givens', 'a.background', 'a.cert', 'a.proof'], false]]);
+    assert.deepEqual(names(['a.b.ppm', 'a.b.givens', 'a.givens']), [['a.b.ppm', 'a.b.givens', undefined, ['a.b.givens'], false], ['a.givens', undefined, undefined, [], true]]);
+    // NAME.png.givens comes before NAME.givens, and small letters before capital ones, as for nonobench-audit.
+    assert.deepEqual(names(['a.png', 'a.ppm', 'a.givens', 'a.png.GIVENS', 'a.ppm.BACKGROUND', 'a.ppm.background']), [
+        ['a.png', 'a.png.GIVENS', undefined, ['a.png.GIVENS'], false], ['a.ppm', 'a.givens', 'a.ppm.background', ['a.givens', 'a.ppm.background'], false], ['a.ppm.BACKGROUND', undefined, undefined, [], true],
+    ]);
+    // Those of another name, or of a file that is no picture, are alone.
+    assert.deepEqual(names(['a.txt', 'a.givens', 'A.background', 'b.cert']), [['a.txt', undefined, undefined, [], false], ...['a.givens', 'A.background', 'b.cert'].map((name) => [name, undefined, undefined, [], true])]);
+    assert.deepEqual(names(['Ä 1.PNG', 'Ä 1.GIVENS']), [['Ä 1.PNG', 'Ä 1.GIVENS', undefined, ['Ä 1.GIVENS'], false]]);
+    assert.deepEqual(names(['a.png', 'a.Givens']), [['a.png', undefined, undefined, [], false], ['a.Givens', undefined, undefined, [], false]]);
+    // The puzzles of a set have certificates of their own.
+    assert.deepEqual(names(['set.xml', 'set.2.cert', 'set.xml.3.proof', 'set.givens', 'no.2.cert']), [['set.xml', 'set.givens', undefined, ['set.givens'], false], ['no.2.cert', undefined, undefined, [], true]]);
+    assert.deepEqual(grouped([fileOf('a.png'), fileOf('a.cert')]).map(hasCertificate), [true]);
+    assert.deepEqual(grouped([fileOf('a.png'), fileOf('a.givens')]).map(hasCertificate), [false]);
+});
+
+test('files of one name out of several folders: what goes together is not known', async () => {
+    const both = grouped([fileOf('a.png'), fileOf('a.png'), fileOf('a.givens')]);
+    assert.equal(both.length, 2);
+    for (const unit of both) await assert.rejects(docsOfUnit(unit), /several files have its name/);
+    const lists = grouped([fileOf('a.png'), fileOf('a.givens'), fileOf('a.givens')]);
+    assert.deepEqual(lists.map(({ file, fault }) => [file.name, /several/.test(fault)]), [['a.png', true], ['a.givens', false]]);
+    assert.deepEqual(grouped([fileOf('a.png'), fileOf('a.png')]).map(({ fault }) => fault), ['', '']); // nothing goes with them
+});
+
+test('givens and a background beside a picture', async () => {
+    const doc = await docOf({ 'a.ppm': TWO_WAYS, 'a.givens': 'given 1 1\n' });
+    assert.deepEqual([doc.colours, doc.picture, givensOf(doc)], [[[255, 255, 255], [0, 0, 0]], ['a.', '.a'], [0]]);
+    const night = await docOf({ 'a.ppm': TWO_WAYS, 'a.background': '0,0,0\n' });
+    assert.deepEqual([night.colours, night.picture, givensOf(night)], [[[0, 0, 0], [255, 255, 255]], ['.a', 'a.'], []]);
+    const corner = await docOf({ 'a.ppm': TWO_WAYS, 'a.background': 'corner' });
+    assert.deepEqual(corner.picture, night.picture);
+    const small = await docOf({ 'a.ppm': 'P3 2 1 15 15 0 0 0 0 15', 'a.background': '15,0,0' });
+    assert.deepEqual([small.colours, small.picture], [[[255, 0, 0], [0, 0, 255]], ['.a']]);
+    // Raw samples are read as eight bits, as Pillow does.
+    const raw = await docOf({ 'a.ppm': new Uint8Array([...bytesOf('P6 2 1 15\n'), 15, 0, 0, 0, 0, 15]), 'a.background': '255,0,0' });
+    assert.deepEqual([raw.colours, raw.picture], [[[255, 0, 0], [0, 0, 255]], ['.a']]);
+    // A background that no cell has.
+    const other = await docOf({ 'a.ppm': TWO_WAYS, 'a.background': '1,2,3' });
+    assert.deepEqual([other.colours, other.picture], [[[1, 2, 3], [0, 0, 0], [255, 255, 255]], ['ab', 'ba']]);
+    const empty = await docOf({ 'a.ppm': TWO_WAYS, 'a.givens': '', 'a.background': '' });
+    assert.deepEqual([empty.picture, givensOf(empty)], [['a.', '.a'], []]);
+    await refused({ 'a.ppm': TWO_WAYS, 'a.givens': 'given 1 1\ngiven 1\n' }, /“a\.givens” could not be read: line 2 is not/);
+    await refused({ 'a.ppm': TWO_WAYS, 'a.givens': 'given 3 1\n' }, /“a\.givens” could not be read: row 3, column 1 is outside/);
+    await refused({ 'a.ppm': TWO_WAYS, 'a.background': 'blue' }, /“a\.background” could not be read: it is neither/);
+    await refused({ 'a.ppm': TWO_WAYS, 'a.background': '0,0,256' }, /“a\.background” could not be read: a number is above 255/);
+    const unit = { file: fileOf('a.ppm', TWO_WAYS), givens: { name: 'a.givens', size: 16777217 } };
+    await assert.rejects(docsOfUnit(unit), /“a\.givens” could not be read: it has more than 16 MiB/);
+    const most = { file: fileOf('a.ppm', TWO_WAYS), givens: { name: 'a.givens', size: 16777216, arrayBuffer: async () => bytesOf('given 1 2') } };
+    assert.deepEqual((await docsOfUnit(most)).docs.map(givensOf), [[1]]);
+    await refused({ 'a.ppm': TWO_WAYS, 'a.givens': '\ufeffgiven 1 1\n' }, /line 1 is not/); // as for nonobench-audit
+});
+
+test('what lies beside a picture of the page holds in place of its notes', async () => {
+    const doc = { rows: 2, columns: 2, maxval: 255, colours: [[0, 0, 40], [255, 255, 255], [9, 9, 9]], picture: ['a.', '.a'], givens: new Set([3]), about: { title: 'Moon' }, inks: [{}, { name: 'star' }], locks: new Set([1]) };
+    const text = ppmTextOf(doc);
+    const as = async (files) => docOf({ 'a.ppm': text, ...files });
+    const alone = await as({});
+    assert.deepEqual([alone.colours, alone.picture, givensOf(alone), alone.about.title], [doc.colours, doc.picture, [3], 'Moon']);
+    assert.deepEqual(givensOf(await as({ 'a.givens': 'given 1 1\n' })), [0]); // not those of both
+    assert.deepEqual(givensOf(await as({ 'a.givens': '' })), []);
+    const same = await as({ 'a.background': '0,0,40\n' });
+    assert.deepEqual([same.colours, same.inks[1].name, givensOf(same)], [doc.colours, 'star', [3]]);
+    const other = await as({ 'a.background': '255,255,255' });
+    assert.deepEqual([other.colours, other.picture, givensOf(other), other.about.title, [...other.locks]], [[[255, 255, 255], [0, 0, 40]], ['.a', 'a.'], [3], 'Moon', [1]]);
+});
+
+test('givens beside XML hold in place of its own; another background is an error', async () => {
+    const clues = { rows: [[{ length: 1, letter: 'a' }], [{ length: 1, letter: 'a' }]], columns: [[{ length: 1, letter: 'a' }], [{ length: 1, letter: 'a' }]] };
+    const doc = { rows: 2, columns: 2, maxval: 255, colours: [[0, 0, 40], [255, 255, 255]], picture: ['a.', '.a'], givens: new Set([3]), about: {}, inks: [], locks: new Set(), extras: null };
+    const xml = webpbnText(doc, clues);
+    assert.deepEqual(givensOf(await docOf({ 'a.xml': xml })), [3]);
+    assert.deepEqual(givensOf(await docOf({ 'a.xml': xml, 'a.givens': 'given 1 1\n', 'a.background': '0,0,40' })), [0]);
+    assert.deepEqual(givensOf(await docOf({ 'a.xml': xml, 'a.givens': '' })), []);
+    await refused({ 'a.xml': xml, 'a.background': 'white' }, /its own background is not that/);
+    await refused({ 'a.xml': xml, 'a.background': 'corner' }, /its own background is not that/);
+    // Which of two puzzles such a file is for is not known.
+    const set = xml.replace('</puzzle>', `</puzzle>${/<puzzle[ >][^]*<\/puzzle>/.exec(xml)[0]}`);
+    const { docs, left } = await docsOfUnit(unitOf({ 'a.xml': set, 'a.givens': 'given 1 1\n', 'a.background': 'white' }));
+    assert.deepEqual([docs.map(givensOf), left.map(({ name }) => name)], [[[3], [3]], ['a.givens', 'a.background']]);
+});
+
+// Puzzles of Web Paint-by-Number, by the rows of their solutions. The first cells of a damaged one have a sign of no colour.
+const setOf = (...puzzles) => `<puzzleset>${puzzles.map((rows) => `<puzzle><solution type="goal"><image>${rows.map((row) => `|${row}|`).join('')}</image></solution></puzzle>`).join('')}</puzzleset>`;
+const [SOUND, OTHER, DAMAGED] = [['X.', '.X'], ['XX', 'X.'], ['Y.', '.X']];
+
+test('of a set, a damaged puzzle is told in its place, and the others are read', async () => {
+    const shown = ({ docs }) => docs.map(({ picture, fault }) => (fault ? /'Y'/.test(fault.message) : picture.join('/')));
+    for (const [puzzles, wanted] of [[[SOUND, DAMAGED, OTHER], ['a./.a', true, 'aa/a.']], [[DAMAGED, SOUND], [true, 'a./.a']], [[SOUND, DAMAGED], ['a./.a', true]]]) {
+        assert.deepEqual(shown(await docsOfUnit(unitOf({ 'a.xml': setOf(...puzzles) }))), wanted);
+    }
+    // That a puzzle is damaged does not tell for which one the givens are.
+    const { docs, left } = await docsOfUnit(unitOf({ 'a.xml': setOf(SOUND, DAMAGED), 'a.givens': 'given 1 1\n' }));
+    assert.deepEqual([givensOf(docs[0]), left.map(({ name }) => name)], [[], ['a.givens']]);
+    await refused({ 'a.xml': setOf(DAMAGED) }, /'Y'/);
+    const { docs: kept, unread, why } = await readArchive(writeZip([{ name: 'x/set.xml', bytes: bytesOf(setOf(DAMAGED, SOUND, OTHER)) }, { name: 'x/set.givens', bytes: bytesOf('given 1 1\n') }]));
+    assert.deepEqual([kept.map(({ name, doc }) => [name, doc.picture.join('/'), givensOf(doc)]), unread], [[['set 2', 'a./.a', []], ['set 3', 'aa/a.', []]], ['x/set.givens', 'x/set.xml']]);
+    assert.match(why, /'Y'/);
+});
+
+test('a search for the picture of clues ends after its time, and its engine with it', async () => {
+    let stop;
+    const engine = { open: () => new Promise((resolve, reject) => { stop = reject; }), end: (text) => stop({ text }) };
+    await assert.rejects(docOfNon('width 1', {}, engine, 1), { text: 'stopped' });
+});
+
+test('the examples, as they are published', needsModule, async () => {
+    const judge = new Judge({ seconds: 20, start: () => new Client(workers()()) });
+    const verdict = async (...names) => (await judge.judge(await docOf(Object.fromEntries(names.map((name) => [name, read(`examples/${name}`)]))))).word;
+    assert.equal(await verdict('given.ppm'), 'ambiguous');
+    assert.equal(await verdict('given.ppm', 'given.givens', 'given.cert'), 'unique');
+    judge.end();
+});
+
+// An entry of a folder, as a browser has it: a text is a file, anything else a folder.
+function entryOf(name, content) {
+    if (typeof content === 'string') return { name, isFile: true, isDirectory: false, file: (take) => take(fileOf(name, content)) };
+    const entries = Object.entries(content).map(([one, inside]) => entryOf(one, inside));
+    return { name, isFile: false, isDirectory: true, createReader: () => ({ readEntries: (take) => take(entries.splice(0, 2)) }) };
+}
+
+test('folders: the files of one do not go with those of another', async () => {
+    const tree = { b: { 'a.ppm': TWO_WAYS, 'a.givens': 'given 1 1\n', '.hidden.ppm': TWO_WAYS }, c: { 'a.ppm': TWO_WAYS }, d: { 'a.givens': 'given 2 2\n', 'b.cert': '' }, '.git': { 'x.ppm': TWO_WAYS }, 'z.ppm': TWO_WAYS };
+    const units = await unitsIn([entryOf('one', tree), null, entryOf('one', { 'a.ppm': TWO_WAYS, 'a.givens': 'given 1 2\n' }), null], [null, fileOf('a.ppm', TWO_WAYS), null, fileOf('.no.ppm')]);
+    const shown = await Promise.all(units.map(async (unit) => [unit.file.name, unit.fault ? 'alone' : givensOf((await docsOfUnit(unit)).docs[0])]));
+    assert.deepEqual(shown, [['a.ppm', []], ['a.ppm', [0]], ['a.ppm', []], ['a.givens', 'alone'], ['b.cert', 'alone'], ['z.ppm', []], ['a.ppm', [1]]]);
+});
+
+test('folders: their files in the order of names, each with the background beside it', async () => {
+    const units = await unitsIn([entryOf('one', { 'b.ppm': TWO_WAYS, 'a.background': '0,0,0', 'c.ppm': TWO_WAYS, 'a.ppm': TWO_WAYS })], [null]);
+    const shown = await Promise.all(units.map(async (unit) => [unit.file.name, (await docsOfUnit(unit)).docs[0].colours[0].join()]));
+    assert.deepEqual(shown, [['a.ppm', '0,0,0'], ['b.ppm', '255,255,255'], ['c.ppm', '255,255,255']]);
+});
+
+test('a folder that is called as a file beside a picture is a folder', async () => {
+    const units = await unitsIn([entryOf('one', { 'a.givens': { 'b.ppm': TWO_WAYS }, 'a.ppm': TWO_WAYS, 'b.ppm': { 'c.ppm': TWO_WAYS }, 'b.cert': '' })], [null]);
+    assert.deepEqual(units.map(({ file, fault }) => [file.name, Boolean(fault)]), [['b.ppm', false], ['a.ppm', false], ['c.ppm', false], ['b.cert', true]]);
+});
+
+test('folders of many files: none is cut off from its picture', async () => {
+    const many = Object.fromEntries(Array.from({ length: 2001 }, (_, at) => [[`${at}.ppm`, TWO_WAYS], [`${at}.givens`, 'given 1 1\n']]).flat());
+    const units = await unitsIn([entryOf('many', many)], [null]);
+    assert.equal(units.length, 2000);
+    assert.ok(units.every(({ file, givens }) => givens.name === file.name.replace('ppm', 'givens')));
+});
+
+test('the zip for a puzzle site, dropped again', async () => {
+    const entry = (name, text) => ({ name, bytes: bytesOf(text) });
+    const pair = [entry('x/a.ppm', TWO_WAYS), entry('x/a.cert', 'nonocert 1\n'), entry('x/a.proof', 'nonolemma 1\n')];
+    const zipped = async (...files) => {
+        const { docs, unread, why } = await readArchive(writeZip(files));
+        return [docs.map(({ name, doc }) => [name, givensOf(doc), doc.colours[0].join()]), unread, why];
+    };
+    assert.deepEqual(await zipped(...pair, entry('x/a.givens', 'given 1 1\n'), entry('x/a.background', '0,0,0\n'), entry('y/a.ppm', TWO_WAYS)), [[['a', [0], '0,0,0'], ['a', [], '255,255,255']], [], '']);
+    assert.deepEqual(await zipped(...pair, entry('y/a.givens', 'given 1 1\n')), [[['a', [], '255,255,255']], ['y/a.givens'], 'no picture here goes with it']);
+    assert.deepEqual(await zipped(...pair, entry('x/a.givens', '')), [[['a', [], '255,255,255']], [], '']);
+    const [docs, unread, why] = await zipped(...pair, entry('x/a.givens', 'given 9 9\n'));
+    assert.deepEqual([docs, unread], [[], ['x/a.ppm']]);
+    assert.match(why, /“a\.givens” could not be read: row 9, column 9 is outside/);
+});
+
+test('in an archive, what lies in another folder does not go with a picture', async () => {
+    const entry = (name, text) => ({ name, bytes: bytesOf(text) });
+    const { docs, unread } = await readArchive(writeZip([entry('x/y/a.ppm', TWO_WAYS), entry('x/z/a.givens', 'given 1 1\n'), entry('x/z/b.ppm', TWO_WAYS)]));
+    assert.deepEqual([docs.map(({ name, doc }) => [name, givensOf(doc)]), unread], [[['a', []], ['b', []]], ['x/z/a.givens']]);
+});
+
+test('a zip by another program: extra fields, flags, and what is not read', async () => {
+    // By Info-ZIP 3.0: ä.ppm, deflated. Its extra field has 28 bytes before the content, and 24 in the directory.
+    const other = 'UEsDBBQAAAAIANghfF15yLgBGgAAAC8AAAAGABwAw6QucHBtVVQJAAM4VQprOFUKa3V4CwABBAAAAAAEAAAAAAsw5jJSMOIyMjXlMlAAQSALhrmQ2GA5Ay4AUEsBAh4DFAAAAAgA2CF8XXnIuAEaAAAALwAAAAYAGAAAAAAAAQAAAKSBAAAAAMOkLnBwbVVUBQADOFUKa3V4CwABBAAAAAAEAAAAAFBLBQYAAAAAAQABAEwAAABaAAAAAAA=';
+    assert.deepEqual((await readArchive(bytesFrom(other))).docs.map(({ name, doc }) => [name, doc.picture.join('/')]), [['ä', 'a./.a']]);
+    const own = writeZip([{ name: 'ä.ppm', bytes: bytesOf(TWO_WAYS) }]);
+    const directory = Buffer.from(own).indexOf('PK\u0001\u0002');
+    assert.deepEqual([own[6] | own[7] << 8, own[directory + 8] | own[directory + 9] << 8], [0x800, 0x800], 'names are UTF-8');
+    // What is encrypted, packed in another way, or above 16 MiB is there, but not read.
+    for (const [at, value] of [[8, 1], [10, 12], [27, 1]]) {
+        const changed = own.slice();
+        changed[directory + at] = value;
+        assert.deepEqual((await readZip(changed)).map(({ name, bytes }) => [name, bytes]), [['ä.ppm', null]], `${at}`);
+    }
+});
+
+// An image of rows of signs, each `by` pixels a side; '-' is transparent.
+const COLOURS = { w: [255, 255, 255], k: [0, 0, 0], r: [200, 30, 50], b: [40, 90, 200], ...Object.fromEntries([...'ABCDEFGHIJKLMNOPQ'].map((sign, at) => [sign, [15 * at, 255 - 15 * at, 100]])) };
+function imageOf(rows, by = 1) {
+    const [width, height] = [rows[0].length * by, rows.length * by];
+    const data = new Uint8ClampedArray(width * height * 4);
+    for (let at = 0; at < width * height; at++) {
+        const sign = rows[Math.floor(at / width / by)][Math.floor((at % width) / by)];
+        data.set(sign === '-' ? [0, 0, 0, 0] : [...COLOURS[sign], 255], at * 4);
+    }
+    return { width, height, data };
+}
+const made = (rows, by, background) => {
+    const doc = docByItself(imageOf(rows, by), background);
+    return doc && [doc.picture, doc.colours.map((triple) => triple.join(' '))];
+};
+const [WHITE, BLACK, CRIMSON, BLUE] = ['255 255 255', '0 0 0', '200 30 50', '40 90 200'];
+
+test('an image without the dialog: pixel by pixel where that goes, else dot by dot', () => {
+    const rows = ['kw', 'wk', 'rr'];
+    const wanted = [['a.', '.a', 'bb'], [WHITE, BLACK, CRIMSON]];
+    assert.deepEqual(made(rows, 1), wanted);
+    assert.deepEqual(made(rows, 61), wanted); // 122 by 183 pixels
+    assert.deepEqual(made(rows, 2), [['aa..', 'aa..', '..aa', '..aa', 'bbbb', 'bbbb'], wanted[1]]); // it opens pixel by pixel
+    assert.deepEqual(made(['-k', 'k-'], 100), [['.a', 'a.'], [WHITE, BLACK]]);
+    assert.equal(made(rows.map((row) => row.repeat(61)), 1), null); // 122 dots
+    assert.equal(made(['k'], 200), null); // one dot
+    const photo = imageOf(rows, 61);
+    photo.data[0] = 1;
+    assert.equal(docByItself(photo), null);
+});
+
+test('enlarged pixel art without white: as the dialog proposes it', () => {
+    const rows = ['bbb', 'brb', 'bbb'];
+    assert.deepEqual(made(rows, 50), [['...', '.a.', '...'], [BLUE, CRIMSON]]); // what most of the border has is background
+    assert.deepEqual(made(rows, 2), [['...', '.a.', '...'], [BLUE, CRIMSON]]);
+    assert.equal(made(rows, 1), null); // that is no enlarged one
+    assert.deepEqual(made(rows, 50, [200, 30, 50]), [['aaa', 'a.a', 'aaa'], [CRIMSON, BLUE]]);
+    assert.deepEqual(made(['-w', 'w-'], 100), [['.a', 'a.'], ['224 224 224', WHITE]]); // white is a colour beside what is transparent
+    assert.deepEqual(made(['-w', 'wk'], 100, [255, 255, 255]), [['..', '.a'], [WHITE, BLACK]]);
+});
+
+test('enlarged pixel art of many colours has as many as the dialog proposes, and tells how many there were', () => {
+    const rows = ['ABCDEF', 'GHIJKL', 'MNOPQA'];
+    const image = imageOf(rows, 30);
+    const doc = docByItself(image);
+    assert.deepEqual([doc.rows, doc.columns, doc.all], [3, 6, 17]);
+    assert.ok(doc.colours.length <= proposalFor(image).colours && doc.colours.length <= 16);
+    assert.equal(docByItself(image, [255, 255, 255]), null); // 18 colours with that background
+    const few = imageOf(rows.map((row) => row.replace('Q', 'A')), 30);
+    assert.deepEqual([docByItself(few).all, docByItself(few).colours.length], [16, 16]);
+});

@@ -1,0 +1,309 @@
+// Trials of what leaves the page by a link and of what comes as several files, in Chromium: links to edit, to play, in a frame; a
+// table of a folder; a served page without its server. Each is a test of the runner tests/page/page_test.mjs.
+import assert from 'node:assert/strict';
+import { mkdirSync, readFileSync, rmSync, writeFileSync } from 'node:fs';
+import { join } from 'node:path';
+import { DUCK, clean, downloaded, examples, frames, fresh, hard, isKept, isOpen, menu, said, serve } from './page_hands.mjs';
+import { SIZES, SLACK, Trial, eightColours, ppmOf } from './page_trial.mjs';
+
+const TWO_WAYS = ['.a', 'a.']; // its mirror has the same clues
+const ONE_WAY = ['a.', '.b', 'bb']; // column 2 has its bs in rows 2 and 3, for row 1 has none; then each row has one place left
+const linkShown = (page) => page.run(() => document.getElementById('share-link').value);
+const choose = (page, selector, value) => page.run((one, wanted) => {
+    document.querySelector(one).value = wanted;
+    document.querySelector(one).dispatchEvent(new Event('change', { bubbles: true }));
+}, selector, value);
+const inPlay = (page) => page.until(() => document.getElementById('play-room')?.open, 5000 * SLACK);
+
+// The fragment that the dialog offers, of a kind.
+async function fragment(page, kind) {
+    await menu(page, 'share');
+    await page.until(() => document.getElementById('share-link'), 3000 * SLACK);
+    await choose(page, '#share-kind', kind);
+    const text = await linkShown(page);
+    await page.press('Escape');
+    await page.until(() => !document.querySelector('dialog[open]'), 3000 * SLACK);
+    return text;
+}
+
+const opened = async (page, url) => {
+    await page.goto('about:blank');
+    await page.goto(url);
+    await isOpen(page);
+};
+
+// The link of a kind, as the dialog offers and copies it.
+async function linkOf(hands, kind) {
+    const { page } = hands;
+    await hands.menu('file', 'share');
+    await page.until(() => document.getElementById('share-link'), 3000 * SLACK);
+    await hands.choose('#share-kind', kind);
+    const text = await linkShown(page);
+    await hands.press('dialog button.main');
+    await page.until(() => !document.querySelector('dialog[open]'), 3000 * SLACK);
+    assert.match(await said(page), /copied/);
+    return text;
+}
+
+/** A link to edit opens the whole document and is kept from its first stroke on; one of 30 by 30 in 8 colours is short. */
+export async function linkPoint(hands, { page, trial }) {
+    await trial.open(eightColours(), 'eight');
+    const rows = await trial.picture();
+    await page.run(() => bench.become((doc) => ({ ...doc, about: { title: 'Ente & Möwe' }, givens: new Set([3]) })));
+    const link = await linkOf(hands, 'edit');
+    assert.match(link, /^file:.*#edit=[A-Za-z0-9_-]+$/);
+    assert.ok(link.length < 2000, `${link.length} characters`);
+    await opened(page, link);
+    const { picture, givens } = await trial.state();
+    assert.deepEqual([picture, givens, await page.run(() => bench.state.about.title)], [rows, [3], 'Ente & Möwe']);
+    await clean(page);
+    await hands.colour(rows[1][1] === 'a' ? 'b' : 'a');
+    await hands.stroke([2, 2]);
+    assert.notEqual((await trial.picture())[1][1], rows[1][1]);
+    await page.until(async () => (await keep.keeper.cards()).length === 1, 5000 * SLACK);
+}
+
+/** A link to play shows the player alone: there is no way to the editor, and Escape does not close it. */
+export async function playerPoint(hands, { page, trial }) {
+    await trial.open(ppmOf(ONE_WAY), 'little');
+    await opened(page, await linkOf(hands, 'play'));
+    await inPlay(page);
+    await page.press('Escape', 'Escape');
+    assert.ok(await page.run(() => document.getElementById('play-room')?.open));
+    assert.equal(await page.run(() => document.getElementById('play-close').checkVisibility()), false);
+    assert.equal(await page.run(() => document.getElementById('menus').checkVisibility({ visibilityProperty: true })), false);
+    await hands.mark('a', [[1, 1]]);
+    await hands.mark('b', [[2, 2], [3, 1], [3, 2]]);
+    assert.match(await trial.text('#play-said'), /^Solved/);
+    assert.deepEqual(await page.run(() => [bench.state.picture, bench.past.length]), [ONE_WAY, 0]);
+}
+
+/** Another fragment in the same tab opens its puzzle; a damaged one says so and loses nothing. */
+export async function linkInTheSameTab({ browser, url, folder }) {
+    const { page, trial } = await fresh(browser, url, folder, 'same-tab');
+    await trial.open(ppmOf(DUCK), 'duck');
+    const link = await fragment(page, 'edit');
+    await trial.open(ppmOf(TWO_WAYS), 'other');
+    await page.run((hash) => { location.hash = hash; }, link.slice(link.indexOf('#')));
+    await page.until((rows) => bench.state.picture.join() === rows, 5000 * SLACK, DUCK.join());
+    await page.run((hash) => { location.hash = hash; }, `${link.slice(link.indexOf('#'), -6)}`);
+    await page.until(() => /damaged/.test(document.getElementById('said').textContent), 3000 * SLACK);
+    assert.deepEqual(await trial.picture(), DUCK);
+    await page.close();
+}
+
+/** The dialog tells what a link does not: an ambiguous puzzle, a page from a file; and its HTML is text. */
+export async function linkNotes({ browser, url, folder }) {
+    const { page, trial } = await fresh(browser, url, folder, 'notes');
+    await trial.open(ppmOf(TWO_WAYS), 'two');
+    await trial.judged();
+    await page.run(() => bench.become((doc) => ({ ...doc, about: { title: '"><b>x' } })));
+    await menu(page, 'share');
+    await page.until(() => document.getElementById('share-link'), 3000 * SLACK);
+    assert.match(await trial.text('#share-note'), /opened from a file.*holds the solution.*Another picture has the same clues/);
+    await page.run(() => {
+        const field = document.getElementById('share-address');
+        field.value = 'https://example.org/p.html?a&b';
+        field.dispatchEvent(new Event('input'));
+    });
+    assert.match(await linkShown(page), /^https:\/\/example\.org\/p\.html\?a&b#play=/);
+    assert.doesNotMatch(await trial.text('#share-note'), /from a file/);
+    await choose(page, '#share-kind', 'frame');
+    assert.match(await linkShown(page), /^<iframe src="https:\/\/example\.org\/p\.html\?a&amp;b#play=[A-Za-z0-9_-]+" title="&quot;>&lt;b>x" width="600" height="600"><\/iframe>$/);
+    await page.close();
+}
+
+// Writes files to a folder; gives their paths.
+function filesIn(own, files) {
+    mkdirSync(join(own, 'in'), { recursive: true });
+    return files.map(([name, content]) => {
+        writeFileSync(join(own, 'in', name), content);
+        return join(own, 'in', name);
+    });
+}
+
+// Drops files by the mouse, or chooses them.
+async function takeAll(hands, paths) {
+    const { page } = hands;
+    if (hands.input === 'mouse') {
+        const [x, y] = await page.run(() => [innerWidth / 2, innerHeight / 2]);
+        const data = { items: [], files: paths, dragOperationsMask: 1 };
+        for (const type of ['dragEnter', 'dragOver', 'drop']) await page.send('Input.dispatchDragEvent', { type, x, y, data });
+    } else await hands.chooseFile(() => hands.menu('file', 'open'), ...paths);
+    await page.until(() => document.querySelector('#several'), 5000 * SLACK);
+}
+
+const closedDialog = (page) => page.until(() => !document.querySelector('dialog[open]'), 5000 * SLACK);
+
+// A PNG of rows of letters, so many pixels a side each.
+async function pngOf(page, rows, by) {
+    const data = await page.run((lines, side) => {
+        const canvas = Object.assign(document.createElement('canvas'), { width: lines[0].length * side, height: lines.length * side });
+        const pen = canvas.getContext('2d');
+        lines.forEach((line, row) => [...line].forEach((letter, col) => {
+            const step = 15 * (letter.charCodeAt(0) - 65); // from A
+            pen.fillStyle = { '.': '#fff', a: '#000', b: '#c82828' }[letter] ?? `rgb(${step}, ${255 - step}, 100)`;
+            pen.fillRect(col * side, row * side, side, side);
+        }));
+        return canvas.toDataURL().split(',')[1];
+    }, rows, by);
+    return Buffer.from(data, 'base64');
+}
+
+// A set of puzzles of two rows and columns by clues alone: those of the rows, which each have one block. Those of the columns are 1.
+const setOf = (...puzzles) => `<puzzleset>${puzzles.map((rows) => `<puzzle>${Object.entries({ rows, columns: [1, 1] }).map(([type, lines]) => `<clues type="${type}">${lines.map((length) => `<line><count>${length}</count></line>`).join('')}</clues>`).join('')}</puzzle>`).join('')}</puzzleset>`;
+
+const rowsShown = (page) => page.run(() => [...document.querySelectorAll('#several tbody tr')].map((row) => [...row.children].map((cell) => cell.textContent)));
+
+/**
+ * Several files become a table with verdicts and grades, each picture with what lies beside it; a row opens its picture, all go to the
+ * library, or out as one zip.
+ */
+export async function severalPoint(hands, { page, trial, own }) {
+    const paths = filesIn(own, [
+        ['little.ppm', ppmOf(ONE_WAY)], ['two.ppm', ppmOf(TWO_WAYS)], ['heart.ppm', readFileSync(new URL('heart.ppm', examples))], ['notes.txt', 'nothing to read\n'],
+        ['spot.ppm', ppmOf(TWO_WAYS)], ['spot.givens', 'given 1 2\n'], ['spot.cert', 'nonocert 1\n'], ['night.ppm', ppmOf(TWO_WAYS)], ['night.background', '0,0,0\n'],
+        ['art.png', await pngOf(page, ONE_WAY, 61)], ['odd.ppm', ppmOf(TWO_WAYS)], ['odd.givens', 'given 3 1\n'], ['lost.background', 'white\n'],
+        ['=1+1.ppm', ppmOf(TWO_WAYS)], ['art17.png', await pngOf(page, ['ABCDEF', 'GHIJKL', 'MNOPQA'], 25)], ['"q".givens', ''], ['set.xml', setOf([1, 1], [2, 2], [1, 1])],
+    ]);
+    await takeAll(hands, paths);
+    await page.until(() => /^10 pictures of 10/.test(document.getElementById('several-count').textContent), 20000 * SLACK);
+    const rows = await rowsShown(page);
+    assert.deepEqual(rows.map(([name, size, colours, verdict]) => [name, size, colours, verdict]).slice(0, 3), [['little', '2 by 3', '3', 'unique'], ['two', '2 by 2', '2', 'ambiguous'], ['heart', rows[2][1], rows[2][2], 'unique']]);
+    assert.deepEqual(rows.slice(4, 7).map((row) => row.slice(0, 4)), [['spot', '2 by 2, 1 cell given', '2', 'unique'], ['night', '2 by 2, background: black', '2', 'ambiguous'], ['art', '2 by 3', '3', 'unique']]);
+    assert.deepEqual(rows.slice(8, 13).map((row) => [row[0], row[3] ?? row[1]]), [['=1+1', 'ambiguous'], ['art17', rows[9][3]], ['set', 'ambiguous'], ['set 2', 'no picture has these clues'], ['set 3', 'ambiguous']]);
+    assert.match(rows[9][2], /^(\d|1[0-6]) of 17$/);
+    assert.deepEqual([rows[7], rows[13]], [['odd', '\u201codd.givens\u201d could not be read: row 3, column 1 is outside the picture.'], ['lost.background', 'no picture here goes with it']]);
+    assert.match(await trial.text('dialog[open]'), /Certificates are not checked here/);
+    assert.match(rows[0][4], /^(easy|medium|hard|very hard|expert)$/);
+    assert.equal(rows[1][4], '–');
+    assert.deepEqual([rows[3].length, rows[3][0]], [2, 'notes']);
+    await hands.press('dialog[open] .buttons button:nth-of-type(2)'); // all as a zip
+    const { content } = await downloaded(page, own, '.zip');
+    const text = content.toString('latin1');
+    for (const name of ['report.csv', 'little.xml', 'two.xml', 'heart.xml', 'spot.xml', 'art.xml']) assert.ok(text.includes(name), name);
+    assert.ok(text.includes('"two","2 by 2","2","ambiguous"'));
+    assert.ok(text.includes(`"'=1+1","2 by 2"`), 'no formula');
+    assert.ok(text.includes('\n"""q"".givens","no picture'), 'quotes');
+    assert.ok(text.includes('"spot","2 by 2, 1 cell given","2","unique"'));
+    await closedDialog(page);
+    await clean(page);
+    await takeAll(hands, paths.slice(0, 2));
+    await hands.press('dialog[open] button.main'); // to the library
+    await page.until(async () => (await keep.keeper.cards()).length === 2, 5000 * SLACK);
+    await closedDialog(page);
+    await takeAll(hands, paths.slice(0, 2));
+    await hands.press('#several [data-name="two"]');
+    await isOpen(page);
+    assert.deepEqual(await trial.picture(), TWO_WAYS);
+}
+
+/** An undecided picture is kept as such; pictures for which there is no room are not told as added. */
+export async function severalUndecided({ browser, url, folder }) {
+    const { page } = await fresh(browser, url, folder, 'undecided');
+    const paths = filesIn(folder, [['hard.ppm', hard()], ['two.ppm', ppmOf(TWO_WAYS)]]);
+    const add = async () => {
+        await takeAll({ page, input: 'mouse' }, paths);
+        await page.until(() => /^2 pictures of 2/.test(document.getElementById('several-count').textContent), 20000 * SLACK);
+        await page.click('dialog[open] button.main');
+        await closedDialog(page);
+    };
+    await clean(page);
+    await page.run(async () => { (await keep.ready()).put = async () => { window.asked = (window.asked ?? 0) + 1; return null; }; });
+    await add();
+    await page.until(() => window.asked, 5000 * SLACK);
+    await frames(page);
+    assert.doesNotMatch(await said(page), /added to the library/);
+    await page.run(() => { delete keep.keeper.put; });
+    await add();
+    await page.until(() => /^2 pictures added to the library/.test(document.getElementById('said').textContent), 5000 * SLACK);
+    const cards = await page.run(async () => (await keep.keeper.cards()).map(({ name, verdict }) => `${name} ${verdict}`));
+    assert.deepEqual(cards.sort(), ['hard undecided', 'two ambiguous']);
+    await page.close();
+}
+
+/** A folder that the browser does not read, as Chromium for a page from a file, is said; the picture stays. */
+export async function folderUnread({ browser, url, folder }) {
+    const { page, trial } = await fresh(browser, url, folder, 'unread');
+    await trial.open(ppmOf(ONE_WAY), 'little');
+    filesIn(folder, [['two.ppm', ppmOf(TWO_WAYS)]]);
+    const data = { items: [], files: [join(folder, 'in')], dragOperationsMask: 1 };
+    for (const type of ['dragEnter', 'dragOver', 'drop']) await page.send('Input.dispatchDragEvent', { type, x: 400, y: 300, data });
+    await page.until(() => /does not read folders/.test(document.getElementById('said').textContent), 5000 * SLACK);
+    assert.deepEqual(await trial.picture(), ONE_WAY);
+    await page.close();
+}
+
+/** A folder of a served page: a picture has what lies in its own folder, not what lies in another one under the same name. */
+export async function foldersApart({ browser, folder }) {
+    const { url, end } = await serve(folder);
+    const page = await browser.page(SIZES.small);
+    const trial = new Trial(page, url, folder);
+    await trial.load();
+    const set = join(folder, 'set');
+    rmSync(set, { recursive: true, force: true });
+    for (const [part, files] of Object.entries({ one: { 'spot.ppm': ppmOf(TWO_WAYS) }, two: { 'spot.ppm': ppmOf(TWO_WAYS), 'spot.givens': 'given 1 2\n' }, three: { 'spot.background': '0,0,0' } })) {
+        mkdirSync(join(set, part), { recursive: true });
+        for (const [name, text] of Object.entries(files)) writeFileSync(join(set, part, name), text);
+    }
+    const data = { items: [], files: [set], dragOperationsMask: 1 };
+    for (const type of ['dragEnter', 'dragOver', 'drop']) await page.send('Input.dispatchDragEvent', { type, x: 400, y: 300, data });
+    await page.until(() => /^2 pictures of 2/.test(document.getElementById('several-count')?.textContent), 20000 * SLACK);
+    assert.deepEqual((await rowsShown(page)).map((row) => row.slice(0, 4)), [['spot', '2 by 2', '2', 'ambiguous'], ['spot.background', 'no picture here goes with it'], ['spot', '2 by 2, 1 cell given', '2', 'unique']]);
+    // A table that is open gives way to that of another folder.
+    for (const type of ['dragEnter', 'dragOver', 'drop']) await page.send('Input.dispatchDragEvent', { type, x: 400, y: 300, data: { ...data, files: [join(set, 'one')] } });
+    await page.until(() => /^1 picture of 1/.test(document.getElementById('several-count')?.textContent), 20000 * SLACK);
+    assert.equal(await page.run(() => document.querySelectorAll('dialog[open]').length), 1);
+    await end();
+    await page.close();
+}
+
+const isKeptOffline = (page) => page.until(() => navigator.serviceWorker.controller !== null, 8000 * SLACK);
+
+/** A served page asks for nothing but its own files, and a frame on a site tells that its puzzle is solved. */
+export async function servedPage({ browser, folder }) {
+    const { url, asked, end } = await serve(folder);
+    const page = await browser.page(SIZES.small);
+    const trial = new Trial(page, url, folder);
+    await trial.load();
+    await isKeptOffline(page);
+    assert.deepEqual([...new Set(asked)].filter((path) => !['/', '/manifest.webmanifest', '/icon.svg', '/offline.js', '/favicon.ico'].includes(path)), []);
+    await trial.open(ppmOf(['a.', '.a', 'aa']), 'little');
+    const link = await fragment(page, 'play');
+    await page.goto(`${url}frame`);
+    await page.run((src) => { const frame = document.createElement('iframe'); Object.assign(frame, { src, width: 600, height: 600, id: 'frame' }); document.body.append(frame); }, link);
+    await page.until(() => document.getElementById('frame').contentWindow.play?.state, 8000 * SLACK);
+    await page.run(async () => {
+        const { play } = document.getElementById('frame').contentWindow;
+        const field = document.getElementById('frame').contentDocument.getElementById('play-field');
+        const box = field.getBoundingClientRect();
+        for (const [row, col] of [[0, 0], [1, 1], [2, 0], [2, 1]]) {
+            const at = { pointerId: 1, clientX: box.left + (col + 0.5) * play.side, clientY: box.top + (row + 0.5) * play.side, bubbles: true, button: 0 };
+            field.setPointerCapture = () => {};
+            field.dispatchEvent(new PointerEvent('pointerdown', at));
+            field.dispatchEvent(new PointerEvent('pointerup', at));
+        }
+    });
+    await page.until(() => document.getElementById('told').textContent === '{"nonobench":"solved"}', 3000 * SLACK);
+    await end();
+    await page.close();
+}
+
+/** Once it was visited, a served page opens without its server, with its library. */
+export async function offlinePoint(hands, { page, trial, folder }) {
+    const { url, end } = await serve(folder);
+    trial.url = url;
+    await trial.load();
+    await isKeptOffline(page);
+    await end();
+    await trial.load(); // the server is gone
+    await hands.press('#new-go');
+    await isOpen(page);
+    await hands.stroke([2, 2], [2, 5]);
+    assert.equal(await trial.judged(), 'unique');
+    await isKept(page);
+    await trial.load();
+    await hands.press('#kept .kept');
+    await isOpen(page);
+    assert.equal((await trial.picture())[1].slice(0, 6), '.aaaa.');
+}

@@ -1,0 +1,127 @@
+// Trials of what the browser keeps of the work, in Chromium. Each is a test of the runner tests/page/page_test.mjs.
+import assert from 'node:assert/strict';
+import { readFileSync } from 'node:fs';
+import { join } from 'node:path';
+import { clean, drop, examples, fresh, goOn, isKept, isOpen, said } from './page_hands.mjs';
+import { SLACK, Trial } from './page_trial.mjs';
+
+/** A reload and a closed tab lose nothing: strokes come back with their undo, and the start screen offers to go on. */
+export async function kept({ browser, page, trial, url, folder }) {
+    await clean(page);
+    await page.click('#new-go');
+    await isOpen(page);
+    await trial.drag([[2, 2], [2, 6]]);
+    await trial.drag([[4, 4]]);
+    await page.run(() => bench.stroke(['pin 4 4']));
+    await isKept(page);
+    const before = await trial.state();
+    await trial.load();
+    assert.ok(page.dialogs.includes('beforeunload'));
+    await page.until(() => document.querySelector('#kept .kept'), 5000 * SLACK);
+    assert.match(await trial.text('#kept .kept'), /picture.*20 by 15.*not in a file/);
+    await page.shot(join(folder, 'start.png'));
+    await goOn(page);
+    await isOpen(page);
+    const after = await trial.state();
+    assert.deepEqual([after.picture, after.givens, after.colours, after.strokes], [before.picture, before.givens, before.colours, [3, 0]]);
+    await page.run(() => bench.undo().then(() => bench.undo()));
+    await isKept(page);
+    await page.close();
+    const again = await Trial.start(browser, url, folder);
+    await goOn(again.page);
+    await isOpen(again.page);
+    assert.deepEqual((await again.state()).strokes, [1, 2]);
+    await again.page.run(() => bench.redo());
+    assert.equal((await again.picture())[3], '...a................');
+    await again.page.close();
+}
+
+/** A damaged record is left out, and one whose strokes are damaged gives its picture. */
+export async function damaged({ page, trial }) {
+    await clean(page);
+    await page.click('#new-go');
+    await isOpen(page);
+    await trial.drag([[2, 2]]);
+    await isKept(page);
+    await page.run(async () => {
+        const shelf = keep.keeper.shelf;
+        const key = (await shelf.keys()).find((one) => one.startsWith('work:'));
+        const record = await shelf.get(key);
+        await shelf.put('work:bad', { version: 2, id: 'bad', doc: { rows: 1e9 } });
+        await shelf.put(key, { ...record, past: [{ rows: [[99, 'x']] }] });
+    });
+    await trial.load();
+    await page.until(() => document.querySelector('#kept .kept'), 5000 * SLACK);
+    assert.equal(await page.run(() => document.querySelectorAll('#kept .kept').length), 1);
+    await goOn(page);
+    await isOpen(page);
+    await page.until(() => bench.state.picture[1] === '.a..................', 5000 * SLACK);
+    await isKept(page);
+    assert.doesNotMatch(await said(page), /another tab/);
+    assert.equal(await page.run(async () => (await keep.keeper.cards()).length), 1);
+}
+
+/** Two tabs have a picture each; where both would keep the same one the second says so, and adds a copy only once it changes. */
+export async function tabsApart({ browser, page, trial, url, folder }) {
+    await clean(page);
+    await page.click('#new-go');
+    await isOpen(page);
+    await trial.drag([[2, 2]]);
+    await isKept(page);
+    const other = await Trial.start(browser, url, folder);
+    await goOn(other.page);
+    await isOpen(other.page);
+    await other.page.until(() => document.getElementById('said').textContent.includes('open in another tab'), 5000 * SLACK);
+    for (let again = 0; again < 3; again++) {
+        await other.page.run(() => runAction('new'));
+        await goOn(other.page);
+        await other.page.until(() => document.getElementById('start').hidden, 5000 * SLACK);
+        await isKept(other.page);
+    }
+    assert.equal(await page.run(async () => (await keep.keeper.cards()).length), 1, 'opened again and again it is one picture');
+    await other.drag([[5, 5]]);
+    await isKept(other.page);
+    await trial.drag([[7, 7]]);
+    await isKept(page);
+    const names = await page.run(async () => (await keep.keeper.cards()).map((card) => card.doc.picture.join('').replaceAll('.', '').length));
+    assert.deepEqual(names, [2, 2]);
+    await other.page.close();
+}
+
+/** Where there is no database, the browser's local storage keeps the work; where there is neither, that is told. */
+export async function otherShelves({ browser, url, folder }) {
+    const hidden = (name) => `Object.defineProperty(window, '${name}', { get() { throw new DOMException('hidden', 'SecurityError'); } });`;
+    const { page, trial } = await fresh(browser, url, folder, 'local', { before: hidden('indexedDB') });
+    await page.click('#new-go');
+    await isOpen(page);
+    await trial.drag([[2, 2]]);
+    await isKept(page);
+    await trial.load();
+    await goOn(page);
+    await isOpen(page);
+    assert.equal((await trial.picture())[1], '.a..................');
+    await clean(page);
+    await page.close();
+    const { page: bare, trial: other } = await fresh(browser, url, folder, 'bare', { before: hidden('indexedDB') + hidden('localStorage') });
+    await bare.click('#new-go');
+    await isOpen(bare);
+    await other.drag([[2, 2]]);
+    await bare.until(() => /keeps nothing/.test(document.getElementById('said').textContent), 5000 * SLACK);
+    await bare.close();
+}
+
+/** A storage that is full is told once, and the work goes on. */
+export async function toldFull({ browser, url, folder }) {
+    const { page, trial } = await fresh(browser, url, folder, 'full', { before: `IDBObjectStore.prototype.put = () => { throw new DOMException('full', 'QuotaExceededError'); };` });
+    await page.click('#new-go');
+    await isOpen(page);
+    await trial.drag([[2, 2]]);
+    await page.until(() => /storage is full/.test(document.getElementById('said').textContent), 5000 * SLACK);
+    assert.match(await trial.text('#title'), /not kept/);
+    const own = join(folder, 'full');
+    await drop(page, own, 'flower.ppm', readFileSync(new URL('flower.ppm', examples)));
+    await page.until(() => document.querySelector('dialog[open]')?.textContent.includes('would be lost'), 5000 * SLACK);
+    await page.press('Escape');
+    assert.equal((await trial.state()).columns, 20);
+    await page.close();
+}

@@ -1,0 +1,43 @@
+"""The page's scripts: each file of tests for node, the names and types in the modules, and the page in browsers."""
+
+import os
+import re
+from pathlib import Path
+
+import pytest
+from tried import needs, node_tests, passes
+
+HERE = Path(__file__).parent
+FILES = sorted(file for file in HERE.glob('*.mjs') if 'Run: node --test' in file.read_text())
+# The rooms of trials that page_test.mjs has.
+ROOMS = re.findall(r"^import \* as (\w+) from './page_", (HERE / 'page_test.mjs').read_text(), re.MULTILINE)
+
+
+@pytest.mark.parametrize('file', FILES, ids=lambda file: file.stem)
+def test_in_node(request, kept, file):
+    env = {'PAGE': str(request.getfixturevalue('page'))} if file.stem == 'page_limit' else {}
+    node_tests(request, file, {**env, 'WASM': str(kept.module)})
+
+
+def test_names_and_types():
+    needs('tsc')
+    passes(['tsc', '-p', 'page'])
+
+
+# Rooms of certificates with lemmas.
+NEWER = ('lasting', 'meaning')
+
+
+@pytest.mark.browser
+@pytest.mark.parametrize('room', [pytest.param(room, marks=pytest.mark.since('0.7.0') if room in NEWER else ()) for room in ROOMS])
+def test_in_chromium(kept, page, room, tmp_path):
+    """Trials by mouse, keys and fingers, and what is shown compared with sessions of the program on the same picture."""
+    needs('node', 'esbuild', 'unzip', 'pdfinfo', 'pdftotext', os.environ.get('CHROMIUM', 'chromium'))
+    env = {'PAGE': str(page), 'NONOBENCH': str(kept.program('nonobench'))}
+    passes(['node', HERE / 'page_test.mjs', tmp_path, room], env=env, seconds=6000)
+
+
+@pytest.mark.browser
+def test_in_firefox(kept, page, tmp_path):
+    needs('node', os.environ.get('FIREFOX', 'firefox-esr'))
+    passes(['node', HERE / 'firefox.mjs', tmp_path], env={'PAGE': str(page), 'NONOBENCH': str(kept.program('nonobench'))})

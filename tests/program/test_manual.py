@@ -1,0 +1,104 @@
+"""The man page beside the program's help, docs/FORMATS.md and the code.
+
+- Each command, argument and option of `--help`, and of `--help` after each command, is in the synopsis in the same place, and
+  nothing else is; each option of the synopsis has its description.
+- The commands of a session, each with its arguments, are those of the list in docs/FORMATS.md.
+- The names of refusals are those that sessions print.
+- Each line that can come on standard error is in both pages.
+"""
+
+import re
+
+import pytest
+from help_text import words_of
+from tried import ROOT, needs, passes
+
+PAGE = ROOT / 'docs' / 'nonobench.1'
+
+
+def section(name, ending=r'^\.Sh'):
+    """The lines of a section of the man page."""
+    within = []
+    for part in re.split(rf'(?m)(?={ending})', PAGE.read_text()):
+        if re.match(rf'{ending} {name}', part):
+            within += part.splitlines()[1:]
+    assert within, name
+    return within
+
+
+def part_of_formats(words):
+    """The lines of a part of docs/FORMATS.md whose heading has some words."""
+    parts = re.split(r'(?m)(?=^## )', (ROOT / 'docs' / 'FORMATS.md').read_text())
+    return [line for part in parts if words in part.split('\n')[0] for line in part.splitlines()]
+
+
+def synopsis():
+    """The words, arguments and options of the synopsis; each .Nm begins a line of it."""
+    word = ''
+    for line in section('SYNOPSIS'):
+        parts = line.split()
+        if parts[0] == '.Nm':
+            word = ''
+        elif parts[0] == '.Cm':
+            word = parts[1]
+            yield f'word {word}'
+        elif parts[0] == '.Ar':
+            yield f'{word} {parts[1]}'
+        elif parts[0] in ('.Op', '.Fl'):
+            name, *rest = parts[2:] if parts[0] == '.Op' else parts[1:]
+            yield f'{word} -{name}' + (f' {rest[1]}' if rest[:1] == ['Ar'] else '')
+
+
+@pytest.mark.since('0.7.0')
+def test_synopsis(kept):
+    program = kept.program('nonobench')
+    known = words_of(program)
+    for word in [line.split()[1] for line in known if line.startswith('word ')]:
+        known |= words_of(program, word)
+    assert len(known) > 10
+    assert set(synopsis()) == known
+
+
+def test_each_option_is_described():
+    """`.It Fl -name`, also behind its short form."""
+
+    def options(lines):
+        return {found[1] for found in (re.search(r'Fl (-[a-z]+)', line) for line in lines) if found}
+
+    named = options(section('SYNOPSIS'))
+    assert named
+    assert options(line for line in section('DESCRIPTION') if line.startswith('.It Fl')) == named
+
+
+def test_commands_of_a_session():
+    told = {
+        line.removeprefix('.It Ic ').replace(' Ar ', ' ')
+        for line in section('COMMANDS OF A SESSION', r'^\.Sh')
+        if line.startswith('.It Ic')
+    }
+    heads = (re.match(r'- (?:`[^`]*`(?:, )?)+: ', line) for line in part_of_formats('Commands of a session'))
+    known = {command for head in heads if head for command in re.findall(r'`([^`]*)`', head[0])}
+    assert len(known) > 10
+    assert told == known
+
+
+def test_names_of_refusals():
+    lines = (line.split() for line in section('Refusals', r'^\.S[hs]'))
+    told = {parts[1] for parts in lines if parts[0] == '.Ql' and len(parts) < 4 and parts[1][0].isupper()}
+    known = set(re.findall(r'refused: ([A-Za-z]+)', (ROOT / 'crates' / 'session' / 'src' / 'refusal.rt').read_text()))
+    assert known
+    assert told == known
+
+
+def test_lines_on_standard_error():
+    """A paint cannot be asked for on the command line, so its refusal is not in the page."""
+    told = {line.removeprefix('.It ') for line in section('DIAGNOSTICS') if line.startswith('.It nonobench: ')}
+    heads = (re.match(r'- `(nonobench: [^`]*)`: ', line) for line in part_of_formats('The program'))
+    known = {head[1] for head in heads if head and ': edit ' not in head[1]}
+    assert known
+    assert told == known
+
+
+def test_lint():
+    needs('mandoc')
+    passes(['mandoc', '-T', 'lint', PAGE])

@@ -1,0 +1,151 @@
+"""The reference on rows worked by hand, and its two readings of a line against each other. Run before a fuzzing."""
+import random
+
+from .certificates import check_cert, read_cert
+from .checks import answer
+from .faults import Fault
+from .lines import clue_of, fillings, map_rows, narrow_by_listing, narrow_by_places, settled
+from .non import read_non, write_non
+from .pictures import read_ppm
+from .runs import Run, work_run
+from .search import Keeper, Scene, pictures_with
+from .sessions import agree
+
+
+def rows_of(text):
+    """The rows of a picture that is written as rows joined by `/`."""
+    return [['.abcdefghijklmno'.index(byte) for byte in row] for row in text.split('/')]
+
+
+def ppm_of(text):
+    """A P3 text of a picture in white, black and red."""
+    rows = text.split('/')
+    triples = {'.': '255 255 255', 'a': '0 0 0', 'b': '255 0 0'}
+    return ('P3\n%d %d\n255\n' % (len(rows[0]), len(rows))
+            + ''.join(triples[byte] + '\n' for row in rows for byte in row)).encode()
+
+
+def fault_of(call, *values):
+    """The name and place of the fault of a call, or None."""
+    try:
+        call(*values)
+    except Fault as fault:
+        return fault.name if fault.place is None else (fault.name, fault.place)
+    return None
+
+
+def must(got, wanted, what):
+    """Says which row is wrong, and ends."""
+    if got != wanted:
+        raise SystemExit(f'the reference itself is wrong: {what}: wanted {wanted}, got {got}')
+
+
+def test_lines(chance):
+    """Worked lines, and both readings of random lines."""
+    must(len(fillings(((2, 1), (1, 2)), 4)), 3, 'aab. aa.b .aab')
+    must(narrow_by_places(((2, 1), (1, 2)), (0xFFFF,) * 4), (3, 2, 7, 5), '2a 1b in four cells')
+    must(narrow_by_places(((1, 1), (1, 1)), (0xFFFF,) * 2), None, '1a 1a in two cells')
+    must(set(narrow_by_places(((1, 1),) * 60, (0xFFFF,) * 120)), {3}, 'sixty blocks in 120 cells')
+    for _ in range(400):
+        length = chance.randint(1, 7)
+        clue = clue_of([chance.choice((0, 1, 1, 2)) for _ in range(length)])
+        masks = tuple(chance.choice((0xFFFF, 3, 5, 6, 7, 1)) for _ in range(length))
+        must(narrow_by_places(clue, masks), narrow_by_listing(clue, masks), f'{clue} under {masks}')
+
+
+def test_pictures():
+    """Worked maps, verdicts and allowances."""
+    for text, shown, count in (('a./.a', '??/??', 2), ('a./.b', 'a./.b', 1), ('aa/a.', 'aa/a.', 1),
+                               ('a.../.a../..b./...b', '??../??../..??/..??', 4)):
+        scene = Scene(rows_of(text), ())
+        must('/'.join(map_rows(scene.facts)), shown, f'the map of {text}')
+        height, width = len(scene.rows), len(scene.rows[0])
+        base = [[0xFFFF] * width for _ in range(height)]
+        must(len(pictures_with(scene.clues, height, width, base)), count, f'the pictures with the clues of {text}')
+    for text, allowed, word in (('a./.a', 0, 'undecided'), ('a./.a', 1, 'ambiguous'), ('a./.b', 0, 'unique'),
+                                ('a../.a./..a', 2, 'undecided'), ('a../.a./..a', 3, 'ambiguous')):
+        must(Keeper(Scene(rows_of(text), ())).judge(allowed, 1000), word, f'{text} with {allowed} splits')
+    must(map_rows(settled(rows_of('a./.a'), [(0, 0)])), ['a.', '.a'], 'a given')
+
+
+def test_texts():
+    """Worked texts of the three formats."""
+    for text, fault in ((b'', ('NotP3', 0)), (b'P3', ('Truncated', 2)), (b'P3\n121 1\n255\n', ('TooLarge', 3)),
+                        (b'P3 1#2', ('Truncated', 6)), (b'P3\n1 1\n255\n0 256 0\n', ('SampleOver', 13)),
+                        (b'P3\n1 1\n255\n0 0 0\n7\n', ('TrailingToken', 17)), (b'P3#\n1 1 255 0 0 0', None)):
+        must(fault_of(read_ppm, text), fault, text)
+    grey = ''.join(f'{k} {k} {k}\n' for k in range(17))
+    must(fault_of(read_ppm, f'P3\n17 1\n16\n{grey}'.encode()), ('TooManyColours', 116), 'seventeen colours')
+    start = 'width 1|height 1|rows|1|columns|1|'
+    for text, fault in (('width 1|width 1|', 'Repeated'), ('width 121|height 1|', 'BadSize'),
+                        ('height 1|', 'MissingSize'), ('width 1|height 1|rows|1|', 'BadCount'),
+                        (start.replace('1|col', '2|col'), 'ClueTooLong'), (start.replace('1|col', '0,1|col'), 'BadClue'),
+                        (start + 'goal "1|', 'BadGoal'), (start + 'goal "0"|', 'GoalDisagrees'),
+                        (start + 'goal 1|', None)):
+        must(fault_of(read_non, text.replace('|', '\n').encode()), fault, text)
+    must(write_non(rows_of('aa/a.')), b'width 2\nheight 2\nrows\n2\n1\ncolumns\n2\n1\ngoal "1110"\n', 'write non')
+    proof = 'nonocert 1|line r 1|split 1 1|line c 1|dead r 2|line r 1|line c 1|line c 2|done'
+    for text, fault in ((proof, None), (proof[:-5], ('Ended', 9)), (proof + '|done', ('Trailing', 10)),
+                        ('nonocert 1|line r 01', ('BadLine', 2)), ('nonocert 1|line r 3', ('Place', 2)),
+                        ('nonocert 3', ('NotCert', 1)), ('nonocert 2', ('Ended', 2)), ('nonocert 1|', ('BadLine', 2))):
+        text = text.replace('|', '\n') + ('\n' if fault == ('BadLine', 2) else '')
+        must(fault_of(lambda cert: check_cert(rows_of('a./.b'), read_cert(cert)), text.encode()), fault, text)
+
+
+SESSIONS = (
+    ('aa/a.', 'verdict|paint 1 1 .|map|verdict|undo|report',
+     'unique|ok|??|??|ambiguous|a.|.a|ok|size 2 2|colours 2 maxval 255|. 255 255 255|a 0 0 0|picture|aa|a.|clues|r 1: 2a'
+     '|r 2: 1a|c 1: 2a|c 2: 1a|map|aa|a.|open 0|verdict unique|history 0 1'),
+    ('a./.b', 'colour set . 1 1 1|colour set a 255 0 0|colour set a 256 0 0|colour set a 0 0 0|colour set d 1 1 1'
+              '|colour add 0 0 255|paint 1 2 c|undo|undo|paint 1 2 c|redo',
+     'refused: Background|refused: DuplicateColour|refused: SampleOver|refused: NoChange|refused: Colour|ok|ok|ok|ok'
+     '|refused: Colour|ok'),
+    ('a./.a', 'pin 1 1|map|verdict|why 1 1 .|why 1 1 a|why 1 2 a|pin 1 1|pin 3 1|unpin 2 2|unpin 1 1|allow 0|verdict'
+              '|allow 1|verdict|allow 0|verdict|certify|allow 00007|allow x',
+     'ok|a.|.a|unique|given|possible|by r 1 given 1=a|refused: NoChange|refused: Place|refused: NoChange|ok|ok'
+     '|undecided 0|ok|ambiguous|.a|a.|ok|ambiguous|.a|a.|ambiguous|ok|refused: BadNumber'),
+    ('a./.a', 'allow 0|verdict|certify|verdict', 'ok|undecided 0|ambiguous|ambiguous|.a|a.'),
+    ('a.../.a../..b./...b', 'allow 1|verdict|allow 0|paint 4 3 b|map|verdict',
+     'ok|ambiguous|.a..|a...|..b.|...b|ok|ok|??..|??..|..b.|..bb|ambiguous|.a..|a...|..b.|..bb'),
+)
+
+
+def test_sessions():
+    """Worked sessions, replayed."""
+    for picture, commands, answers in SESSIONS:
+        run = Run(0, (answers.replace('|', '\n') + '\n').encode(), b'')
+        work_run(run, ppm_of(picture), commands.replace('|', '\n').encode())
+
+
+# Pictures, certificates with `|` for line feeds, and what is printed of them.
+ANSWERS = (
+    ('a', 'nonocert 1|line r 1|done', ('certificate accepted', 0)),
+    ('a./.a', 'nonocert 2|given 1 1|line r 1|line c 1|line r 2|done', ('certificate accepted, givens 1', 0)),
+    ('a./.a', 'nonocert 1|dead r 1', ('certificate NotDead at line 2', 1)),
+    ('a', 'nonolemma 1|line c 1|done', ('certificate accepted', 0)),
+    ('a./.a', 'nonolemma 2|given 1 1|line r1 c1 r2|done', ('certificate accepted, givens 1', 0)),
+    ('a', 'nonolemma 1|done', ('certificate NotDone at line 2', 1)),
+)
+
+
+def test_answers():
+    """Both readers, a picture that is none, and a certificate that is none."""
+    for picture, text, wanted in ANSWERS:
+        said = answer(ppm_of(picture), text.replace('|', '\n').encode(), None)
+        agree(said == wanted, f'{picture} with {text}')
+    agree(answer(b'P6\n', b'nonocert 1\n', None) == ('ppm NotP3 at byte 0', 1), 'a picture that is none')
+    agree(answer(ppm_of('a'), b'nonolemma 3\n', None) == ('certificate NotCert at line 1', 1), 'no certificate')
+
+
+def test():
+    """All of it."""
+    test_answers()
+    test_lines(random.Random(1))
+    test_pictures()
+    test_texts()
+    test_sessions()
+
+
+if __name__ == '__main__':
+    test()
+    print('the reference agrees with the rows worked by hand')

@@ -1,0 +1,42 @@
+"""The programs beside a plain reference in Python and brute force over all small pictures, each by a program of its own."""
+
+import sys
+from pathlib import Path
+
+import pytest
+from tried import BUILT, ROOT, needs_file, passes
+
+HERE = Path(__file__).parent
+pytestmark = pytest.mark.all
+
+
+def compares(script, *words, **more):
+    passes([sys.executable, HERE / script, *words], **more)
+
+
+def test_small_pictures(kept):
+    """One listing serves all programs."""
+    compares('small_pictures.py', *[kept.program(f'nonobench{kind}') for kind in BUILT if not (kind and kept.released)])
+
+
+@pytest.mark.toolchain
+def test_small_bounds(kept):
+    compares('small_bounds.py', *[needs_file(kept.program(f'search_tables{kind}'), 'rt ci') for kind in BUILT])
+
+
+@pytest.mark.toolchain
+@pytest.mark.parametrize('kind', BUILT)
+def test_certificates_with_lemmas(kept, kind):
+    compares('lemma_pictures.py', needs_file(kept.program(f'lemma_tables{kind}'), 'rt ci'))
+
+
+@pytest.mark.toolchain
+@pytest.mark.parametrize('kind', BUILT)
+def test_plain_forms(kept, kind):
+    """Certificates of all forms, with and without published givens, against a checker that was written from the documents alone."""
+    compares('plain_forms.py', needs_file(kept.program(f'cert_tables{kind}'), 'rt ci'))
+
+
+def test_cases_made_by_chance(kept, tmp_path):
+    """Some seeded cases of the fuzzer, the same each time."""
+    compares('fuzz.py', '1000', '1', env={'PROGRAM': str(kept.program('nonobench')), 'FUZZ_FOLDER': str(tmp_path)})
