@@ -8,6 +8,7 @@ declare function showSaveFilePicker(options?: any): Promise<any>;
 interface DataTransferItem { getAsFileSystemHandle?(): Promise<any> }
 interface Array<T> { findLast(holds: (one: T, at: number) => boolean): T | undefined }
 declare const LIMITS: { side: number; colours: number; history: number };
+declare var HAS_TEXTS_APART: boolean | undefined;
 
 // The values that a text has places for (texts/phrase.js): `{name}`, or `{name|form|form}`.
 type NameOf<Inside extends string> = Inside extends `${infer Name}|${string}` ? Name : Inside;

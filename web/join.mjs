@@ -9,11 +9,15 @@ import { join } from 'node:path';
 import { gzipSync } from 'node:zlib';
 import { signsOf } from '../page/engine/signs.js';
 import { limitsOf } from './limits.mjs';
+import { DE } from '../page/texts/de.js';
+import { EN } from '../page/texts/en.js';
+import { FR } from '../page/texts/fr.js';
 
 const [root, folder, entry = join(root, 'page', 'main.js')] = process.argv.slice(2);
 // How many bytes the page may have. tests/page/page_limit.mjs tries how soon it is ready.
 const MOST = 1048576;
 const EXAMPLES = ['balloon', 'heart', 'mushroom', 'boat']; // the first is to be mended
+const TEXTS = { en: EN, de: DE, fr: FR };
 const MANIFEST = {
   name: 'nonobench', short_name: 'nonobench', description: 'A workbench for multicolour nonograms', start_url: './', scope: './', display: 'standalone',
   icons: [{ src: 'icon.svg', sizes: 'any', type: 'image/svg+xml' }],
@@ -46,12 +50,14 @@ function commitOf() {
 
 // What a module comes to with all that it imports. What esbuild warns of is an error.
 function bundled(file, ...words) {
-  const { stdout, stderr, status } = spawnSync('esbuild', [file, '--bundle', '--minify', '--charset=utf8', '--target=es2022', '--log-level=warning', ...words], { encoding: 'utf8', maxBuffer: 1 << 26 });
+  const { stdout, stderr, status } = spawnSync('esbuild', [file, '--bundle', '--minify', '--target=es2022', '--log-level=warning', ...words], { encoding: 'utf8', maxBuffer: 1 << 26 });
   if (status !== 0 || stderr) throw new Error(`esbuild ${file}: ${stderr}`);
   return stdout.trimEnd();
 }
 
-const script = (file) => bundled(file, '--format=iife', `--define:LIMITS=${JSON.stringify(limitsOf(root))}`);
+// The tables of texts stand in the page beside its script: a browser reads only that of its language (page/texts/phrase.js).
+const script = (file) => bundled(file, '--format=iife', `--define:LIMITS=${JSON.stringify(limitsOf(root))}`, '--define:globalThis.HAS_TEXTS_APART=true');
+const dataOf = (value) => JSON.stringify(value).replaceAll('<', '\\u003c');
 const hashOf = (text) => `'sha256-${createHash('sha256').update(text).digest('base64')}'`;
 
 // What the page may do: it runs its own script and style alone, known by their hashes, and fetches nothing. A served page has its
@@ -75,7 +81,8 @@ function pageTexts(version) {
     '<!-- style -->': `<style>${style}</style>`,
     '<!-- built -->': [
       ...EXAMPLES.map((name) => `<script type="text/plain" data-example="${name}">${read('examples', `${name}.ppm`)}</script>`),
-      `<script type="application/json" id="built">${JSON.stringify(built).replaceAll('<', '\\u003c')}</script>`,
+      ...Object.entries(TEXTS).map(([language, table]) => `<script type="application/json" data-texts="${language}">${dataOf(table)}</script>`),
+      `<script type="application/json" id="built">${dataOf(built)}</script>`,
     ].join('\n'),
     '<!-- script -->': `<script>${code}</script>`,
   });

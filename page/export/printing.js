@@ -68,8 +68,7 @@ function saveSvg(sheets) {
 const choice = (id, options, value) => make('select', { id }, ...Object.entries(options).map(([name, text]) => make('option', { value: name, selected: name === String(value) }, text)));
 
 // Puzzles come in the order of their names, as they are called in the library: "2 cat" before "10 dog".
-const names = new Intl.Collator(LANGUAGE, { numeric: true });
-const byName = (one, other) => names.compare(one.name, other.name);
+const byName = (one, other) => one.name.localeCompare(other.name, LANGUAGE, { numeric: true });
 
 // The other pictures of the library, to be printed with this one.
 async function otherCards() {

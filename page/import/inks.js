@@ -15,7 +15,7 @@ const TEXT = {
   lockHint: phrase('import.staysHoweverManyColours'), unknown: (text) => phrase('view.noColourName', { text }), from: (name) => phrase('import.coloursAlone', { name }),
   isGround: phrase('import.isGround'), isLocked: phrase('import.isLocked'), wrong: (name, fault) => phrase('import.fileNotRead', { name, fault }),
 };
-const shareText = new Intl.NumberFormat(LANGUAGE, { style: 'percent', minimumFractionDigits: 1, maximumFractionDigits: 1 });
+const shareText = (share) => share.toLocaleString(LANGUAGE, { style: 'percent', minimumFractionDigits: 1, maximumFractionDigits: 1 });
 const same = (one, other) => one.join() === other.join();
 const without = (triples, triple) => triples.filter((one) => !same(one, triple));
 const noEdits = () => ({ locked: [], dropped: [], replaced: [], background: null, palette: null });
@@ -150,7 +150,7 @@ export class Inks {
   textOf(at) {
     const { doc } = this;
     const cells = doc.picture.join('').split(LETTERS[at]).length - 1;
-    const share = shareText.format(cells / (doc.rows * doc.columns));
+    const share = shareText(cells / (doc.rows * doc.columns));
     return [`${nameOf(doc.colours[at], 255)} ${hexOf(doc.colours[at], 255)}`, share, at === 0 ? TEXT.isGround : '', this.isLocked(at) ? TEXT.isLocked : ''].filter(Boolean).join(', ');
   }
 

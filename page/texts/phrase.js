@@ -21,15 +21,30 @@ export { DIRECTION, LANGUAGE };
  * @type {{ en: typeof EN, de: SameTexts<typeof EN, typeof DE>, fr: SameTexts<typeof EN, typeof FR> }}
  */
 const TABLES = { en: EN, de: DE, fr: FR };
-const TEXTS = TABLES[LANGUAGE] ?? EN;
+
+/** @type {() => typeof EN} */
+const tableOfPage = () => JSON.parse((document.querySelector(`[data-texts="${LANGUAGE}"]`) ?? document.querySelector('[data-texts="en"]')).textContent);
+
+// The build (web/join.mjs) leaves the tables out of the script, and puts them beside it.
+const TEXTS = globalThis.HAS_TEXTS_APART ? tableOfPage() : TABLES[LANGUAGE] ?? EN;
 
 const ORDER = ['zero', 'one', 'two', 'few', 'many', 'other'];
-const plurals = new Intl.PluralRules(LANGUAGE);
-const forms = plurals.resolvedOptions().pluralCategories.sort((one, other) => ORDER.indexOf(one) - ORDER.indexOf(other));
-const digits = new Intl.NumberFormat(LANGUAGE); // made once: that takes longer than a number
+
+// What of Intl is asked for is made when it is first needed: the first of it takes a browser 20 ms.
+let made = null;
+function plurals() {
+  if (!made) {
+    const rules = new Intl.PluralRules(LANGUAGE);
+    made = { rules, forms: rules.resolvedOptions().pluralCategories.sort((one, other) => ORDER.indexOf(one) - ORDER.indexOf(other)) };
+  }
+  return made;
+}
+
+let digits = null;
+const UNGROUPED = 1000; // below it, whole numbers have the same digits in each language of the page
 
 /** A number as the language writes it. */
-export const number = (count) => digits.format(count);
+export const number = (count) => (Number.isInteger(count) && count >= 0 && count < UNGROUPED ? String(count) : (digits ??= new Intl.NumberFormat(LANGUAGE)).format(count));
 
 const shown = (value) => (typeof value === 'number' ? number(value) : String(value));
 
@@ -38,7 +53,8 @@ export const filled = (text, values) => text.replace(/\{(\w+)(?:\|([^}]*))?\}/g,
   const value = values[name];
   if (choices === undefined) return shown(value);
   const all = choices.split('|');
-  return (all[forms.indexOf(plurals.select(value))] ?? all.at(-1)).replaceAll('#', shown(value));
+  const { rules, forms } = plurals();
+  return (all[forms.indexOf(rules.select(value))] ?? all.at(-1)).replaceAll('#', shown(value));
 });
 
 /**

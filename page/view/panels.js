@@ -32,20 +32,21 @@ export function makeToolBar() {
   bar.symmetry.addEventListener('change', () => useSymmetry(bar.symmetry.value));
   on('symmetry', (kind) => { bar.symmetry.value = kind; });
   radioGroup(bar.row, (button) => useTool(button.dataset.tool));
-  on('tool', showTool);
+  on('tool', () => showTool().scrollIntoView({ block: 'nearest', inline: 'nearest' })); // on a phone the bar is wider than the window
   showTool();
 }
 
+// Shows which tool is taken, and returns its button.
 function showTool() {
   for (const button of bar.row.children) {
     const is = button.dataset.tool === tools.name;
     button.setAttribute('aria-checked', is);
     button.tabIndex = is ? 0 : -1;
     if (button.dataset.tool === 'wand') button.querySelector('span').textContent = TOOLS.wand.name + (tools.adds ? ' +' : '');
-    if (is) button.scrollIntoView({ block: 'nearest', inline: 'nearest' }); // on a phone the bar is wider than the window
   }
   bar.hint.textContent = TOOLS[tools.name].hint;
   sheet.stage.dataset.tool = tools.name;
+  return bar.row.querySelector('[aria-checked=true]');
 }
 
 const panel = {

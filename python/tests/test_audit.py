@@ -345,6 +345,16 @@ class Reading(unittest.TestCase):
         self.assertEqual((puzzle.text, puzzle.givens, puzzle.title), (p3(AMBIGUOUS), ((1, 1),), "Given & taken"))
 
 
+class Answers(list):
+    """What a process answers, kept."""
+
+    def put(self, *words):
+        self.append(words)
+
+    def flush(self):
+        pass
+
+
 class Running(Case):
     """Runs over a folder."""
 
@@ -520,18 +530,18 @@ class Running(Case):
                     raise MemoryError
                 return super().say(lines)
 
-        class Answers(list):
+        class Full(Answers):
             def put(self, *words):
                 if words[1] == "known":
                     raise MemoryError
-                self.append(words)
+                super().put(*words)
 
         place = self.put("one.ppm", p3(["aa", "a."]))
         beside = (1, str(self.put("one.cert", "nonocert 1\nline r 1\nline c 1\nline c 2\ndone\n")))
         to = str(self.folder / "made")
         task = serving.Task(0, "one.ppm", str(place), (beside,), None, None, to, "", 1, serving.FULL)
         for desk, missing in ((Short, "certificate"), (judging.Desk, "grade")):
-            answers, left = Answers(), []
+            answers, left = Full(), []
             judge = serving.Judging(serving.Settings("", "", 1024, None, "white", True, True, False), answers)
             judge._desk, judge._leave = desk(), left.append
             judge.answer(task)
@@ -544,10 +554,6 @@ class Running(Case):
     @pytest.mark.since("0.7.0")
     def test_a_certificate_goes_back_before_the_grade(self):
         # Over a scheduler, what is known of a puzzle has its certificate, should its grade not come.
-        class Answers(list):
-            def put(self, *words):
-                self.append(words)
-
         answers = Answers()
         judge = serving.Judging(serving.Settings("", "", 1024, 9, "white", True, False, True), answers)
         place = self.put("one.ppm", p3(UNIQUE))
@@ -559,10 +565,6 @@ class Running(Case):
 
     @pytest.mark.since("0.7.0")
     def test_a_note_that_a_certificate_was_not_written_goes_before_the_grade(self):
-        class Answers(list):
-            def put(self, *words):
-                self.append(words)
-
         answers = Answers()
         judge = serving.Judging(serving.Settings("", "", 1024, 9, "white", True, False, False), answers)
         place = self.put("one.ppm", p3(UNIQUE))
@@ -845,13 +847,6 @@ class Running(Case):
                 if lines == b"certify\n":
                     raise TimeoutError
                 return super().say(lines)
-
-        class Answers(list):
-            def put(self, *words):
-                self.append(words)
-
-            def flush(self):
-                pass
 
         # What is known of a puzzle is its row where its process is ended while it makes a certificate.
         self.addCleanup(setattr, serving, "LONG", serving.LONG)
