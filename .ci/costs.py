@@ -1,5 +1,5 @@
 #!/usr/bin/env python3
-"""Writes in CONTRIBUTING.md what a change in each crate costs, from what `bash .ci/run` printed when it proved everything.
+"""Writes in crates/README.md what a change in each crate costs, from what `bash .ci/run` printed when it proved everything.
 
 Usage: .ci/costs.py LOG, where LOG is that output. Each crate has the processor minutes of its own proofs, tests and builds, of its
 must-fail edits, and of both together with all crates that depend on it.
@@ -57,7 +57,7 @@ def main():
     whole = {crate: sum(own[one] + edits[one] for one in above(crate, lower)) for crate in lower}
     rows = [f'| `{crate}` | {own[crate]:.1f} | {edits[crate]:.1f} | {whole[crate]:.0f} |\n' for crate in sorted(minutes.keys() & lower.keys(), key=lambda one: (-whole[one], one))]
     date = datetime.date.fromtimestamp(log.stat().st_mtime)
-    page = ROOT / 'CONTRIBUTING.md'
+    page = ROOT / 'crates' / 'README.md'
     before, rest = page.read_text().split(START)
     after = rest[rest.index('\n## '):]
     page.write_text(before + START + HEAD.format(date=f'{date.day} {date:%B %Y}') + ''.join(rows) + after)

@@ -2,8 +2,8 @@
 """Keeps the list of crates in one order: .ci/crates.py [--write]
 
 Each crate has a room, by ROOMS. crates.txt must name the crates room by room, each after those that it depends on, and the list
-in docs/ARCHITECTURE.md must have their order. crates/README.md must be what this script makes of crates.txt and the first
-sentence of each crate's root file. With --write all three are put into order.
+in docs/ARCHITECTURE.md must have their order. The list of crates/README.md must be what this script makes of crates.txt and the first
+sentence of each crate's root file; what follows it, from COSTS on, is kept. With --write all three are put into order.
 """
 import re
 import sys
@@ -13,6 +13,7 @@ ROOT = Path(__file__).resolve().parent.parent
 README = ROOT / 'crates' / 'README.md'
 LIST = ROOT / 'crates.txt'
 ARCHITECTURE = ROOT / 'docs' / 'ARCHITECTURE.md'
+COSTS = '## What a change costs\n'
 # The rooms, in reading order: what stands there, and its crates.
 ROOMS = {
     'Ground': ('pictures and their clues', 'picture flaws clues clue_laws'),
@@ -29,7 +30,7 @@ ROOMS = {
 }
 HEAD = '''# Crates
 
-This page is for those who look for a place in the code. It lists the crates in reading order: each depends only on earlier ones, the crates *below* it. [ARCHITECTURE.md](../docs/ARCHITECTURE.md) names their main items, and `crates.txt` has what each depends on. `.ci/crates.py --write` makes this page.
+This page is for those who look for a place in the code. It lists the crates in reading order: each depends only on earlier ones, the crates *below* it. [ARCHITECTURE.md](../docs/ARCHITECTURE.md) names their main items, and `crates.txt` has what each depends on. `.ci/crates.py --write` makes the list. What [a change costs](#what-a-change-costs) and [the must-fail edits](#the-must-fail-edits) follow it.
 
 '''
 
@@ -78,13 +79,13 @@ def crates_of(item):
     return re.findall(r'`(\w+)`', item.partition(':')[0])
 
 
-def page(crates):
-    """The text of crates/README.md."""
+def page(crates, rest):
+    """The text of crates/README.md, whose list is followed by the rest."""
     text = HEAD
     for room, (what, _) in ROOMS.items():
         items = ''.join(f'- [`{name}`]({name}): {told(name)}\n' for name in crates if room_of(name) == room)
         text += f'## {room}: {what}\n\n{items}\n' if items else ''
-    return text.rstrip('\n') + '\n'
+    return text + rest
 
 
 def put_in_order():
@@ -118,6 +119,9 @@ def faults(crates, text):
                f'{" ".join(list(crates)[at:at + 1]) or "nothing"}')
     if not README.exists() or README.read_text(encoding='utf-8') != text:
         yield 'crates/README.md is stale: run .ci/crates.py --write'
+    for name in re.findall(r'^\| `(\w+)` \|', text, re.M):
+        if name not in crates:
+            yield f'crates/README.md: its table of costs has {name}, which is no crate'
 
 
 def main(words):
@@ -127,7 +131,7 @@ def main(words):
     if words:
         put_in_order()
     crates = listed()
-    text = page(crates)
+    text = page(crates, COSTS + README.read_text(encoding='utf-8').partition(COSTS)[2])
     if words:
         README.write_text(text, encoding='utf-8')
     found = list(faults(crates, text))

@@ -4,7 +4,7 @@
 For each *.md of the repository, or those that are named: a sentence above 35 words, a stiff phrase, a link or a path that
 does not exist. Of some documents also:
 - README.md: a command that CI does not run, sentences that are too long on average;
-- CONTRIBUTING.md: a must-fail edit without its row, or a row without its edit;
+- crates/README.md: a must-fail edit without its row, or a row without its edit;
 - docs/THEOREMS.md: a name that the file, which is named after it, does not have;
 - docs/TRUST.md: a file that has another number of lines than is written after its name.
 
@@ -181,7 +181,7 @@ def names_in(text):
 
 
 def edit_faults(lines):
-    """The rows of CONTRIBUTING.md without an edit, and the edits without a row: an item for each, `CRATE/EDIT`."""
+    """The rows of crates/README.md without an edit, and the edits without a row: an item for each, `CRATE/EDIT`."""
     edits = {(os.path.basename(os.path.dirname(folder)), name[:-5])
              for folder, _, names in os.walk(os.path.join(ROOT, "crates")) if os.path.basename(folder) == "must-fail"
              for name in names if name.endswith(".edit")}
@@ -256,7 +256,7 @@ def citation_faults(lines):
             names = []
 
 
-OF_DOCUMENT = {"CONTRIBUTING.md": (edit_faults,), os.path.join("docs", "THEOREMS.md"): (citation_faults,),
+OF_DOCUMENT = {os.path.join("crates", "README.md"): (edit_faults,), os.path.join("docs", "THEOREMS.md"): (citation_faults,),
                os.path.join("docs", "TRUST.md"): (length_faults,)}
 
 
