@@ -8,17 +8,18 @@ does not exist. Of some documents also:
 - docs/THEOREMS.md: a name that the file, which is named after it, does not have;
 - docs/TRUST.md: a file that has another number of lines than is written after its name.
 
-No run of TWICE words may be in two of the documents that people read (READ): each thing is said once, and linked. Code, tables and
-the sentences of ALLOWED are left out.
+Each document is READ or LOOKED_UP. Those that people read have at most MOST_READ words together, as `wc -w` counts them, and those of
+MOST their own number; --sizes lists them. No run of TWICE words may be in two that are read: each thing is said once, and linked. Code,
+tables and the sentences of ALLOWED are left out.
 
 A sentence's words are those that have a letter or a digit. And the file KIT must have a line with the logic that `rt version`
-prints, if there is an rt. It counts, and with --words lists, the words for which INSTEAD has a better one; each of these is an
-error, except in sentences that come from the heads of crates.
+prints, if there is an rt. A word for which INSTEAD has a better one is an error, except in sentences that come from the heads of
+crates.
 
 A block of README.md that begins with ```sh is run by tests/documents/test_commands.py, so its commands pass. A block that begins with
 ```sh build holds commands that only build or serve; each must begin as one of BUILDS. No other block may be named sh.
 
-Usage: .ci/prose.py [--short] [--words] [DOCUMENT ..]; --short prints the number of faults of each document alone.
+Usage: .ci/prose.py [--sizes] [DOCUMENT ..]
 """
 import functools
 import os
@@ -82,12 +83,16 @@ INSTEAD = {
 OF_CRATES = {os.path.join("crates", "README.md")}
 # Documents that a script makes of the sources, which says itself whether they are in order.
 MADE = {os.path.join("docs", "BASE.md"), os.path.join("docs", "PROMISES.md")}
-# The documents that people read from top to bottom, how many words in a row are a repetition, and what may be said twice: the licence
-# in each package, and the claims that README.md takes from docs/THEOREMS.md.
+# The documents that people read from top to bottom, those that they look things up in, and how many words they may have.
 READ = ["README.md", "CONTRIBUTING.md", *(f"docs/{name}.md" for name in ("ARCHITECTURE", "COMPARISON", "FORMATS", "GLOSSARY", "RECIPES",
                                                                         "THEOREMS", "TRUST", "TUTORIAL")),
-        "examples/README.md", "examples/site/README.md", "page/README.md", "packages/linux/README.md", "packages/npm/README.md",
-        "python/README.md"]
+        "examples/README.md", "examples/site/README.md", "measure/README.md", "page/README.md", "packages/linux/README.md",
+        "packages/npm/README.md", "python/README.md"]
+LOOKED_UP = ["CHANGELOG.md", "crates/README.md", "dist/README.md", "docs/DECISIONS.md"]
+MOST_READ = 33100
+MOST = {"README.md": 900, "docs/DECISIONS.md": 2000}
+# How many words in a row are a repetition, and what may be said twice: the licence in each package, and the claims that README.md
+# takes from docs/THEOREMS.md.
 TWICE = 10
 ALLOWED = ["No licence has been chosen for nonobench yet. NOTICES has the licences of the third-party code in it.",
            "A certificate may name any cells as givens, even all of them"]
@@ -331,6 +336,24 @@ def repetitions():
                 yield f"{name}:{number}", f"said at {other}:{at} too: {' '.join(run)} .."
 
 
+def size_faults(is_listed):
+    """The documents that have too many words, or that are in neither list."""
+    sizes = {}
+    for name in [*READ, *LOOKED_UP]:
+        with open(os.path.join(ROOT, name), encoding="utf-8") as file:
+            sizes[name] = len(file.read().split())
+        if is_listed:
+            print(f"{sizes[name]:6,} {name}")
+        if sizes[name] > MOST.get(name, sizes[name]):
+            yield f"{name} has {sizes[name]:,} words, of at most {MOST[name]:,}"
+    read = sum(sizes[name] for name in READ)
+    print(f"prose: {read:,} words are read")
+    if read > MOST_READ:
+        yield f"{read:,} words are read, of at most {MOST_READ:,}"
+    for name in sorted(set(documents()) - set(sizes)):
+        yield f"{name} is in neither list of documents"
+
+
 def kit_fault():
     """What KIT says of the logic must be what rt says; another kit with the same logic is told and is no fault."""
     if shutil.which("rt") is None:
@@ -348,21 +371,13 @@ def kit_fault():
 
 def main():
     words = sys.argv[1:]
-    short = "--short" in words
     named = [w for w in words if not w.startswith("--")]
-    total, odd = 0, 0
+    total = 0
     for name in named or documents():
         faults = sorted(faults_of(name))
         total += len(faults)
-        better = list(better_words(name))
-        odd += len(better)
-        for number, word in better if "--words" in words else ():
-            print(f"{name}:{number}: {word}")
-        if short and faults:
-            print(f"{name}: {len(faults)}")
-        elif not short:
-            for number, fault in faults:
-                print(f"{name}:{number}: {fault}")
+        for number, fault in faults:
+            print(f"{name}:{number}: {fault}")
     if not named:
         mean = mean_sentence("README.md")
         print(f"prose: README has {mean:.1f} words a sentence")
@@ -372,11 +387,9 @@ def main():
         for place, fault in repetitions():
             total += 1
             print(f"{place}: {fault}")
-        fault = kit_fault()
-        if fault:
+        for fault in [*size_faults("--sizes" in words), *filter(None, [kit_fault()])]:
             total += 1
             print(fault)
-    print(f"prose: {odd} words with a better one (--words lists them)")
     print(f"prose: {total} faults")
     return 1 if total else 0
 
