@@ -1,0 +1,139 @@
+"""Numbers that documents state: limits are those that the code has, and sentences of the comparison those of its rows."""
+
+import csv
+import re
+from statistics import median
+
+import pytest
+from tried import ROOT
+
+WORDS = {'two': 2, 'ten': 10}
+MIB = 1 << 20
+# Each number of a document, as the words around it with N in its place; what the code counts in, by the document's unit; and the places
+# that have it, as a file and the words before the number.
+PICTURE = ('crates/picture/src/picture.rt', 'MAX_SIDE: u8 =')
+COLOURS = ('crates/picture/src/picture.rt', 'MAX_COLOURS: u8 =')
+INPUT = ('crates/program/src/input.rt', 'MAX_INPUT: usize =')
+DEPTH = ('crates/edits/src/studio.rt', 'MAX_DEPTH: u16 =')
+HISTORY = ('crates/command_line/src/words.rt', 'DEPTH: u16 =')
+ALLOWANCE = ('crates/live_audit/src/bench.rt', 'MAX_ALLOWANCE: u32 =')
+BOUNDS = 'crates/second_search/src/bounds.rt'
+AUDIT = 'python/src/nonobench/collection/arguments.py'
+SITE = 'python/src/nonobench/check_site.py'
+EXAMPLE = 'examples/site/app.py'
+UPLOAD = 'examples/check_upload.mjs'
+GRADES = ('page/grade/grade.js', 'python/src/nonobench/_grade.py')
+STATED = [
+    ('README.md', 'A puzzle has up to N by', 1, [PICTURE]),
+    ('README.md', 'by 120 cells and N colours', 1, [COLOURS]),
+    ('README.md', 'a file is longer than N MiB', MIB, [INPUT]),
+    ('docs/FORMATS.md', 'it is at most N, else TooLarge', 1, [PICTURE]),
+    ('docs/FORMATS.md', 'a row inserted where there are N rows', 1, [PICTURE]),
+    ('docs/FORMATS.md', 'a colour added where there are N', 1, [COLOURS]),
+    ('docs/FORMATS.md', 'A line of more than N bytes is LongLine', 1, [('crates/command_text/src/request.rt', 'MOST_BYTES: usize =')]),
+    ('docs/FORMATS.md', 'A session makes at most N reads', 1, [('crates/command_text/src/lines.rt', 'MOST_READS: u32 =')]),
+    ('docs/FORMATS.md', 'the lemma that began has N literals', 1, [('crates/cert_text/src/cert_line.rt', 'MAX_LEMMA_LITERALS: usize =')]),
+    ('docs/FORMATS.md', 'the lemmas that are kept have N together', 1, [('crates/cert_text/src/cert_line.rt', 'MAX_LITERALS: usize =')]),
+    ('docs/FORMATS.md', '`line`, `use` and `drop` have 1 to N words', 1, [('crates/cert_text/src/runs.rt', 'MAX_RUN: usize =')]),
+    ('docs/FORMATS.md', 'splits (0 to N)', 1, [ALLOWANCE]),
+    ('docs/FORMATS.md', 'N, from 1 to N, is how many edits can be undone', 1, [DEPTH]),
+    ('docs/FORMATS.md', 'is how many edits can be undone; it is N by default', 1, [HISTORY]),
+    ("docs/FORMATS.md", "other than a session's commands has at most N bytes", 1, [INPUT]),
+    ('docs/FORMATS.md', 'An image has at most N MiB', MIB, [('page/import/decoding.js', 'MOST_IMAGE =')]),
+    ('docs/FORMATS.md', 'an archive at most N GiB', 1024 * MIB, [('page/import/taking.js', 'MOST_ARCHIVE =')]),
+    ('docs/FORMATS.md', 'a PPM picture at most N pixels a side', 1, [('page/formats/ppm.js', 'MOST_PIXELS =')]),
+    ('docs/FORMATS.md', 'An image has at most N pixels', 1, [('page/import/decoding.js', 'MOST_DECODED =')]),
+    ('docs/FORMATS.md', 'If an image has more than N pixels a side', 1, [('page/import/decoding.js', 'MOST_SIDE =')]),
+    (
+        'docs/FORMATS.md',
+        'elements nested more than N deep',
+        1,
+        [('page/formats/xml.js', 'MOST_XML_DEPTH ='), ('python/src/nonobench/collection/webpbn.py', 'MOST_DEPTH =')],
+    ),
+    (
+        'docs/FORMATS.md',
+        'deep, more than N elements',
+        1,
+        [('page/formats/xml.js', 'MOST_XML_ELEMENTS ='), ('python/src/nonobench/collection/webpbn.py', 'MOST_ELEMENTS =')],
+    ),
+    ('docs/FORMATS.md', 'TooMany (more than N)', 1, [('page/formats/palettes.js', 'MOST_COLOURS =')]),
+    ('docs/FORMATS.md', 'in at most N characters', 1, [('page/library/records.js', 'MOST_SIGNS =')]),
+    ('docs/FORMATS.md', 'is cut into parts of at most N', 1, [('page/export/sheets.js', 'MOST_LINES =')]),
+    ('docs/FORMATS.md', 'the page reads at most N files', 1, [('page/import/folders.js', 'MOST_UNITS =')]),
+    ('docs/FORMATS.md', 'db db < N', 1, [('python/src/nonobench/_colours.py', '_BOUND =')]),
+    ('docs/FORMATS.md', '| easy | none | at most N rounds', 1, [(file, r'easy.*rounds"?:') for file in GRADES]),
+    ('docs/FORMATS.md', 'at most 2 rounds, and a longest wait of at most N', 1, [(file, r'easy.*wait"?:') for file in GRADES]),
+    ('docs/FORMATS.md', '| medium | none | at most N rounds', 1, [(file, r'medium.*rounds"?:') for file in GRADES]),
+    ('docs/FORMATS.md', 'at most 4 rounds, and a longest wait of at most N', 1, [(file, r'medium.*wait"?:') for file in GRADES]),
+    ('docs/FORMATS.md', '| very hard | some | at most N splits', 1, [(file, r'very_?hard.*splits"?:') for file in GRADES]),
+    ('docs/FORMATS.md', 'at most 3 splits, and a depth of at most N', 1, [(file, r'very_?hard.*depth"?:') for file in GRADES]),
+    ('docs/ARCHITECTURE.md', 'or up to N splits if none is set', 1, [(BOUNDS, 'fixed_splits:')]),
+    ('docs/ARCHITECTURE.md', 'once more, up to N splits', 1, [(BOUNDS, 'again_splits:')]),
+    ('docs/ARCHITECTURE.md', 'searches with lemmas, up to N conflicts', 1, [(BOUNDS, r'window_splits: \d+,\n    conflicts:')]),
+    ('docs/RECIPES.md', 'Each puzzle has N seconds', 1, [(AUDIT, r'seconds: Optional\[float\] =')]),
+    ('docs/RECIPES.md', '(`--seconds`), and each process N MiB', 1, [(AUDIT, '"--memory".*default=')]),
+    ('docs/RECIPES.md', 'A check has N seconds of processor time', 1, [(SITE, '"--processor".*default=')]),
+    ('docs/RECIPES.md', 'of processor time, N seconds of wall-clock time', 1, [(SITE, '"--seconds".*default=')]),
+    ('docs/RECIPES.md', 'of wall-clock time, and N MiB', 1, [(SITE, '"--memory".*default=')]),
+    ('packages/npm/README.md', 'an `ArrayBuffer` of at most N bytes', 1, [INPUT]),
+    ('packages/npm/README.md', 'from 1 to N; the default is', 1, [DEPTH]),
+    ('packages/npm/README.md', 'from 1 to 1,000; the default is N', 1, [HISTORY]),
+    ('packages/npm/README.md', 'regular files of at most N MiB', MIB, [(UPLOAD, 'MOST_BYTES =')]),
+    ('packages/npm/README.md', 'allows N seconds of processor time', 1, [(UPLOAD, 'MOST_PROCESSOR =')]),
+    ('packages/npm/README.md', 'of processor time, or N of wall-clock time', 1, [(UPLOAD, 'MOST_CLOCK =')]),
+    ('examples/site/README.md', 'An upload has at most N MiB', MIB, [(EXAMPLE, 'MAX_CONTENT_LENGTH=')]),
+    ('examples/site/README.md', 'each is ended after N seconds', 1, [(EXAMPLE, ' SECONDS=')]),
+    ('examples/site/README.md', 'in a process with at most N GiB', 1024 * MIB, [(EXAMPLE, ' MEMORY=')]),
+    ('examples/site/README.md', 'Titles are cut at N characters', 1, [(EXAMPLE, 'MOST_TITLE =')]),
+    ('page/README.md', 'The page may have at most N bytes', 1, [('web/join.mjs', 'MOST ='), ('tests/page/page_limit.mjs', 'MOST_BYTES =')]),
+]
+
+
+def counted(product):
+    """The number of a text such as `2 << 20`, `512 * 64 * 64`, `100e6` or `1_000`."""
+    left, shift, right = product.partition('<<')
+    if shift:
+        return counted(left) << counted(right)
+    value = 1
+    for factor in product.replace('_', '').replace(',', '').split('*'):
+        value *= float(factor)
+    return int(value)
+
+
+def said(document, words):
+    """The number at N, the last one in some words of a document."""
+    before, _, after = words.rpartition('N')
+    text = ' '.join((ROOT / document).read_text().split())
+    [number] = set(re.findall(re.escape(before) + r'([\w,]*\w)' + re.escape(after), text))
+    return WORDS.get(number) or counted(number)
+
+
+@pytest.mark.parametrize(('document', 'words', 'unit', 'places'), STATED, ids=[f'{row[0]}: {row[1]}' for row in STATED])
+def test_number(document, words, unit, places):
+    for file, before in places:
+        [number] = set(re.findall(before + r' ?([\d_.e]+(?: (?:<<|\*) \d+)*)', (ROOT / file).read_text(), re.IGNORECASE))
+        assert said(document, words) * unit == counted(number), file
+
+
+def test_sentences_of_the_comparison():
+    """What docs/COMPARISON.md says outside of its tables, which others_plot.py compares."""
+    with (ROOT / 'docs' / 'comparison.csv').open(newline='') as file:
+        rows = list(csv.DictReader(file))
+    tuned = {row['picture']: row['tuned'] == 'yes' for row in rows}
+    seconds = {(row['program'], row['picture']): float(row['seconds']) for row in rows if row['answer'] != 'open'}
+    sizes = {(row['program'], row['picture']): int(row['bytes']) for row in rows if row['bytes']}
+    icon, hard = sorted(tuned, key=lambda picture: seconds.get(('nonobench', picture), 0))[:-3:-1]
+    ratios = [size / sizes['nonobench prove', picture] for (program, picture), size in sizes.items() if program == 'cadical, DRAT']
+    took = {program: f'{seconds[program, icon]:.2f}' for program in ('nonobench', 'minisat', 'cadical', 'gringo, clasp')}
+    sentences = [
+        f'We ran each program on {len(tuned)} pictures',
+        f'{sum(tuned.values())} of the {len(tuned)} pictures were chosen because',
+        f'the table of the other {len(tuned) - sum(tuned.values())}',
+        f'{took["nonobench"]} and {seconds["nonobench", hard]:.2f} seconds, minisat takes {took["minisat"]} seconds each',
+        f'with {took["cadical"]} and {took["gringo, clasp"]}.',
+        f'more than {int(median(ratios) // 10) * 10} times as long',
+        f'and {["no", "one", "two", "three"][sum(ratio < 1 for ratio in ratios)]} are shorter',
+    ]
+    text = ' '.join((ROOT / 'docs' / 'COMPARISON.md').read_text().split())
+    assert f'{seconds["minisat", hard]:.2f}' == took['minisat']
+    assert [sentence for sentence in sentences if sentence not in text] == []
