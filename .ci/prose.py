@@ -1,7 +1,7 @@
 #!/usr/bin/env python3
 """Reads the documents and says what a reader would stumble over.
 
-For each *.md of the repository, or those that are named: a sentence above 35 words, a stiff phrase, a link or a path that
+For each *.md of the repository, or those that are named: a sentence above 35 words, a link or a path that
 does not exist. Of some documents also:
 - README.md: a command that CI does not run, sentences that are too long on average;
 - crates/README.md: a must-fail edit without its row, or a row without its edit;
@@ -31,11 +31,10 @@ import sys
 ROOT = os.path.dirname(os.path.dirname(os.path.abspath(__file__)))
 MOST_WORDS = 35
 README_MEAN = 16
-STIFF = ["want of memory", "for want of", "wanting", "is had", "are had", "was had", "be had", "in front of which",
-         "behind which", "thereof", "therein", "whereof", "hereby", "wherein"]
 # Private, clipped or archaic words, which a reader of other documentation does not expect, as regular expressions, each with the
 # usual word.
 INSTEAD = {
+    r"want of|wanting|(?:is|are|was|be) had|in front of which|thereof|therein|whereof|hereby|wherein": "plainer words",
     r"lack of memory|refused memory|(?<!of )memory (?:is|was) refused|memory lacks": "out of memory",
     r"growths?(?: of memory)?(?: (?:is|are|be|was|were))? refused|refused growths?": "failed allocation",
     r"growths?(?: of memory)?": "allocation, increase",
@@ -275,10 +274,6 @@ def faults_of(name):
             words = [w for w in sentence.split() if re.search(r"\w", w)]
             if len(words) > MOST_WORDS:
                 yield number, f"a sentence of {len(words)} words: {' '.join(words[:8])} .."
-        low = unit.lower()
-        for phrase in STIFF:
-            if re.search(r"\b" + phrase + r"\b", low):
-                yield number, f"a stiff phrase: {phrase}"
     for number, line in enumerate(lines, 1):
         for target in re.findall(r"\]\(([^)\s]+)\)", line):
             if re.match(r"[a-z]+:", target):
