@@ -1,9 +1,9 @@
 #!/usr/bin/env python3
 """Keeps the list of crates in one order: .ci/crates.py [--write]
 
-Each crate has a room, by ROOMS. crates.txt must name the crates room by room, each after those that it depends on, and the list
-in docs/ARCHITECTURE.md must have their order. The list of crates/README.md must be what this script makes of crates.txt and the first
-sentence of each crate's root file; what follows it, from COSTS on, is kept. With --write all three are put into order.
+Each crate has a room, by ROOMS. crates.txt must name the crates room by room, each after those that it depends on. The first list of
+crates/README.md must be what this script makes of crates.txt and the first sentence of each crate's root file. What follows it, from
+ENTRIES on, is kept, and begins with a list that must have the same order. With --write all three are put into order.
 """
 import re
 import sys
@@ -12,8 +12,7 @@ from pathlib import Path
 ROOT = Path(__file__).resolve().parent.parent
 README = ROOT / 'crates' / 'README.md'
 LIST = ROOT / 'crates.txt'
-ARCHITECTURE = ROOT / 'docs' / 'ARCHITECTURE.md'
-COSTS = '## What a change costs\n'
+ENTRIES = '## Where to enter them\n'
 # The rooms, in reading order: what stands there, and its crates.
 ROOMS = {
     'Ground': ('pictures and their clues', 'picture flaws clues clue_laws'),
@@ -30,7 +29,7 @@ ROOMS = {
 }
 HEAD = '''# Crates
 
-This page is for those who look for a place in the code. It lists the crates in reading order: each depends only on earlier ones, the crates *below* it. [ARCHITECTURE.md](../docs/ARCHITECTURE.md) names their main items, and `crates.txt` has what each depends on. `.ci/crates.py --write` makes the list. What [a change costs](#what-a-change-costs) and [the must-fail edits](#the-must-fail-edits) follow it.
+This page is for those who look for a place in the code. It lists the crates in reading order: each depends only on earlier ones, the crates *below* it. `crates.txt` has what each depends on, and [ARCHITECTURE.md](../docs/ARCHITECTURE.md) says how they work together. `.ci/crates.py --write` makes this list; [where to enter the crates](#where-to-enter-them), what [a change costs](#what-a-change-costs) and [the must-fail edits](#the-must-fail-edits) follow it.
 
 '''
 
@@ -68,8 +67,8 @@ def told(crate):
 
 
 def items_of(text):
-    """The list of crates in docs/ARCHITECTURE.md: what is before it, its items, and what follows."""
-    found = re.search(r'^## Crates in reading order\n.*?(?=^- )', text, re.M | re.S)
+    """The second list of crates/README.md: what is before it, its items, and what follows."""
+    found = re.search(ENTRIES + r'.*?(?=^- )', text, re.M | re.S)
     items = re.match(r'(- .*\n)+', text[found.end():])[0]
     return text[:found.end()], items.splitlines(), text[found.end() + len(items):]
 
@@ -89,13 +88,13 @@ def page(crates, rest):
 
 
 def put_in_order():
-    """Writes crates.txt and the list in docs/ARCHITECTURE.md in the order of rooms."""
+    """Writes crates.txt and the second list of crates/README.md in the order of rooms."""
     lines = [line for line in LIST.read_text(encoding='utf-8').splitlines() if line.strip()]
     lines.sort(key=lambda line: place_of(line.partition(':')[0].split()[0]))
     LIST.write_text(''.join(f'{line}\n' for line in lines), encoding='utf-8')
-    front, items, end = items_of(ARCHITECTURE.read_text(encoding='utf-8'))
+    front, items, end = items_of(README.read_text(encoding='utf-8'))
     items.sort(key=lambda item: min(place_of(name) for name in crates_of(item)))
-    ARCHITECTURE.write_text(front + ''.join(f'{item}\n' for item in items) + end, encoding='utf-8')
+    README.write_text(front + ''.join(f'{item}\n' for item in items) + end, encoding='utf-8')
 
 
 def faults(crates, text):
@@ -112,10 +111,10 @@ def faults(crates, text):
             yield f'crates/{name}: its root file does not begin with what it holds'
     if list(crates) != sorted(crates, key=place_of):
         yield 'crates.txt is not in the order of rooms: run .ci/crates.py --write'
-    order = [name for item in items_of(ARCHITECTURE.read_text(encoding='utf-8'))[1] for name in crates_of(item)]
+    order = [name for item in items_of(README.read_text(encoding='utf-8'))[1] for name in crates_of(item)]
     if order != list(crates):
         at = next((i for i, pair in enumerate(zip(order, crates)) if pair[0] != pair[1]), min(len(order), len(crates)))
-        yield (f'docs/ARCHITECTURE.md: its list goes on with {" ".join(order[at:at + 1]) or "nothing"}, and crates.txt with '
+        yield (f'crates/README.md: its second list goes on with {" ".join(order[at:at + 1]) or "nothing"}, and crates.txt with '
                f'{" ".join(list(crates)[at:at + 1]) or "nothing"}')
     if not README.exists() or README.read_text(encoding='utf-8') != text:
         yield 'crates/README.md is stale: run .ci/crates.py --write'
@@ -131,7 +130,7 @@ def main(words):
     if words:
         put_in_order()
     crates = listed()
-    text = page(crates, COSTS + README.read_text(encoding='utf-8').partition(COSTS)[2])
+    text = page(crates, ENTRIES + README.read_text(encoding='utf-8').partition(ENTRIES)[2])
     if words:
         README.write_text(text, encoding='utf-8')
     found = list(faults(crates, text))
