@@ -33,7 +33,7 @@ STATED = [
     ('docs/FORMATS.md', 'A line of more than N bytes is LongLine', 1, [('crates/command_text/src/request.rt', 'MOST_BYTES: usize =')]),
     ('docs/FORMATS.md', 'A session makes at most N reads', 1, [('crates/command_text/src/lines.rt', 'MOST_READS: u32 =')]),
     ('docs/FORMATS.md', 'the lemma that began has N literals', 1, [('crates/cert_text/src/cert_line.rt', 'MAX_LEMMA_LITERALS: usize =')]),
-    ('docs/FORMATS.md', 'the lemmas that are kept have N together', 1, [('crates/cert_text/src/cert_line.rt', 'MAX_LITERALS: usize =')]),
+    ('docs/FORMATS.md', 'has 1,024 literals already, or N together', 1, [('crates/cert_text/src/cert_line.rt', 'MAX_LITERALS: usize =')]),
     ('docs/FORMATS.md', '`line`, `use` and `drop` have 1 to N words', 1, [('crates/cert_text/src/runs.rt', 'MAX_RUN: usize =')]),
     ('docs/FORMATS.md', 'splits (0 to N)', 1, [ALLOWANCE]),
     ('docs/FORMATS.md', 'N, from 1 to N, is how many edits can be undone', 1, [DEPTH]),
