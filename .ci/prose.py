@@ -85,10 +85,10 @@ MADE = {os.path.join("docs", "BASE.md"), os.path.join("docs", "PROMISES.md")}
 # The documents that people read from top to bottom, those that they look things up in, and how many words they may have.
 READ = ["README.md", "CONTRIBUTING.md", *(f"docs/{name}.md" for name in ("ARCHITECTURE", "COMPARISON", "FORMATS", "GLOSSARY", "RECIPES",
                                                                         "THEOREMS", "TRUST", "TUTORIAL")),
-        "examples/README.md", "examples/site/README.md", "measure/README.md", "page/README.md", "packages/linux/README.md",
-        "packages/npm/README.md", "python/README.md"]
-LOOKED_UP = ["CHANGELOG.md", "crates/README.md", "dist/README.md", "docs/DECISIONS.md"]
-MOST_READ = 33100
+        "examples/README.md", "examples/site/README.md", "page/README.md", "packages/linux/README.md", "packages/npm/README.md",
+        "python/README.md"]
+LOOKED_UP = ["CHANGELOG.md", "crates/README.md", "dist/README.md", "docs/DECISIONS.md", "measure/README.md"]
+MOST_READ = 32000
 MOST = {"README.md": 900, "docs/DECISIONS.md": 2000}
 # How many words in a row are a repetition, and what may be said twice: the licence in each package, and the claims that README.md
 # takes from docs/THEOREMS.md.

@@ -973,7 +973,7 @@ class Running(Case):
         self.assertEqual(list(self.rows("site/b.ppm", "site", "site/a", "./site")), wanted)
 
     def test_grades(self):
-        # FORMATS.md's example by hand: 2 rounds, 8 evaluations, longest wait 2.
+        # An example of tests/cases/grade.case, by hand: 2 rounds, 8 evaluations, longest wait 2.
         self.put("one.ppm", p3([".a.", "aa.", "..."]))
         row = self.rows("site", status=0)["site/one.ppm"]
         self.assertEqual(row["grade"], "easy")
