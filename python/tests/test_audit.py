@@ -669,15 +669,13 @@ class Running(Case):
             self.assertEqual(row["sha256"], hashlib.sha256(files[name.removeprefix("site/").split("#")[0]]).hexdigest())
 
     def test_what_is_known_of_a_puzzle_gives_it_no_more_time(self):
-        ours, theirs = os.pipe()
         task = serving.Task(0, "one.ppm", "one.ppm", (), None, None, None, "", 1, serving.FULL)
-        with open(ours, "rb", buffering=0) as answers, open(theirs, "wb", buffering=0) as file:
-            hand = types.SimpleNamespace(answers=answers, torn=b"", tasks=deque([task]), cost=1.0, since=5.0, is_left=False, known=None, reached=0)
-            pool = workers.Pool(None, 0, 10.0)
-            for line, is_further in ((b"0\tknown\tunique\t{}\tlast\n", False), (b"0\tlast\tunique\t{}\t\n", True)):
-                file.write(line)
-                self.assertEqual(len(list(pool._read(hand))), is_further)
-                self.assertEqual(hand.since > 5.0, is_further)
+        hand = types.SimpleNamespace(torn=b"", tasks=deque([task]), cost=1.0, since=5.0, is_left=False, known=None, reached=0)
+        pool = workers.Pool(None, 0, 10.0)
+        for line, is_further in ((b"0\tknown\tunique\t{}\tlast\n", False), (b"0\tlast\tunique\t{}\t\n", True)):
+            hand.read = lambda line=line: line
+            self.assertEqual(len(list(pool._read(hand))), is_further)
+            self.assertEqual(hand.since > 5.0, is_further)
 
     @pytest.mark.since("0.7.0")
     def test_a_grade_that_does_not_come_takes_neither_note_nor_certificate(self):

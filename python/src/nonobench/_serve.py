@@ -46,7 +46,7 @@ def answer(kind: int, picture: bytes, background: bytes, rest: bytes, givens: by
         return status, texts
 
 
-def _read(stream: int, size: int) -> bytes:
+def read(stream: int, size: int) -> bytes:
     """So many bytes of a stream."""
     parts = []
     while size > 0:
@@ -57,7 +57,8 @@ def _read(stream: int, size: int) -> bytes:
     return b"".join(parts)
 
 
-def _write(stream: int, held: bytes) -> None:
+def write(stream: int, held: bytes) -> None:
+    """Writes all of some bytes."""
     view = memoryview(held)
     while view:
         view = view[os.write(stream, view) :]
@@ -91,13 +92,13 @@ def serve(stream: int, memory: int) -> None:
     _bound(memory)
     while True:
         try:
-            number, kind, seconds, processor, *sizes = QUESTION.unpack(_read(stream, QUESTION.size))
-            files = [_read(stream, size) for size in sizes]
+            number, kind, seconds, processor, *sizes = QUESTION.unpack(read(stream, QUESTION.size))
+            files = [read(stream, size) for size in sizes]
             alarm(seconds)
             _allow(processor)
             status, texts = answer(kind, *files)
             alarm(0)
             texts += [b""] * (3 - len(texts))
-            _write(stream, ANSWER.pack(number, status, *map(len, texts)) + b"".join(texts))
+            write(stream, ANSWER.pack(number, status, *map(len, texts)) + b"".join(texts))
         except (EOFError, OSError, MemoryError):
             return

@@ -2,22 +2,19 @@
 
 from __future__ import annotations
 
-import _thread
 import math
 import operator
 import os
 import signal
 import socket
-import subprocess
-import sys
 import threading
 import time
-import weakref
 from types import TracebackType
-from typing import Callable, Optional, TypeVar
+from typing import Optional
 
 from ._calls import Questions
 from ._library import FOLDER, PATH, version
+from ._process import NO_SIGNAL, Child, uninterrupted
 from ._serve import ANSWER, QUESTION
 
 # The process loads the modules that it needs from the package's folder, under the package's name, and looks nowhere else but in
@@ -32,9 +29,6 @@ serve(0, int(sys.argv[2]))"""
 # After so many seconds more than it may take, a question ends the process by itself, should nobody be there to end it.
 _GRACE = 2
 _MOST_ALARM = 2**31 - 1
-
-# A write to a process that has ended is an error, and no signal.
-_NO_SIGNAL = getattr(socket, "MSG_NOSIGNAL", 0)
 
 
 class Worker(Questions):
@@ -95,7 +89,7 @@ class Worker(Questions):
             process, self._process = self._process, None
             try:
                 if not process or not process.is_waiting():
-                    process = _uninterrupted(lambda: _Process(self._memory))
+                    process = uninterrupted(lambda: _Process(self._memory))
                 self._number += 1
                 answer = process.ask(self._number, kind, files, self._seconds, self._processor)
             except BaseException as error:
@@ -115,55 +109,13 @@ class _Late(Exception):
     """There is no answer in time."""
 
 
-Made = TypeVar("Made")
-
-
-def _uninterrupted(call: Callable[[], Made]) -> Made:
-    """What a call makes in a thread of its own: what a signal's handler raises is raised in the main thread alone.
-
-    There it may be raised between any two steps, also within `subprocess` and `threading`: a process that was just started would
-    be known to nobody, or a lock of theirs would stay taken. Here the main thread takes no lock but one of this call.
-    """
-    made: list[Made] = []
-    raised: list[BaseException] = []
-    done = _thread.allocate_lock()
-
-    def run() -> None:
-        try:
-            made.append(call())
-        except BaseException as error:
-            raised.append(error)
-        finally:
-            done.release()
-
-    done.acquire()
-    try:
-        _thread.start_new_thread(run, ())
-    except RuntimeError:  # no thread is started any more where the program ends
-        run()
-    done.acquire()
-    if raised:
-        raise raised[0]
-    return made[0]
-
-
-class _Process:
-    """A process that answers, and the stream to it. It is ended with this object."""
+class _Process(Child):
+    """A process that answers questions one after the other."""
 
     def __init__(self, memory: int) -> None:
         self._memory = memory
-        self._stream, theirs = socket.socketpair()
-        with theirs:
-            self._process = subprocess.Popen(
-                [sys.executable, *_FLAGS, "-c", _START, FOLDER, str(memory)], stdin=theirs.fileno(), stdout=subprocess.DEVNULL, cwd="/",
-                env={**os.environ, "NONOBENCH_LIBRARY": PATH}, start_new_session=True,
-            )
-        self.end = weakref.finalize(self, _end, self._process, self._stream, os.getpid())
-
-    @property
-    def pid(self) -> int:
-        """The process's number."""
-        return self._process.pid
+        env = {**os.environ, "NONOBENCH_LIBRARY": PATH}
+        super().__init__(_FLAGS, _START, FOLDER, str(memory), cwd="/", env=env, start_new_session=True)
 
     def is_waiting(self) -> bool:
         """Whether it waits for a question: it has not ended, and nothing of another answer is there."""
@@ -190,7 +142,7 @@ class _Process:
         limit = min(math.ceil(seconds) + _GRACE, _MOST_ALARM)
         try:
             self._wait(deadline)
-            self._stream.sendall(b"".join((QUESTION.pack(number, kind, limit, processor, *map(len, files)), *files)), _NO_SIGNAL)
+            self._stream.sendall(b"".join((QUESTION.pack(number, kind, limit, processor, *map(len, files)), *files)), NO_SIGNAL)
             answered, status, *sizes = ANSWER.unpack(self._read(ANSWER.size, deadline))
             if answered != number:
                 raise RuntimeError(f"the worker answered question {answered} instead of {number}")
@@ -218,15 +170,3 @@ class _Process:
         if left <= 0:
             raise _Late
         self._stream.settimeout(left)
-
-
-def _end(process: subprocess.Popen[bytes], stream: socket.socket, owner: int) -> None:
-    """Ends a process. In a child that was forked, this closes the child's end of the stream, and the process goes on."""
-    stream.close()
-
-    def end() -> None:
-        process.kill()
-        process.wait()
-
-    if os.getpid() == owner:
-        _uninterrupted(end)

@@ -10,6 +10,7 @@ from typing import TYPE_CHECKING, Optional
 
 from .._answers import fault_of, givens_of
 from .._hints import hint_of
+from .._serve import write as write_all
 from .judging import Desk, Judged, said_of
 from .puzzles import Puzzle, Unreadable, one_line
 from .readers import bytes_of
@@ -111,9 +112,7 @@ def _write_new(path: str, data: bytes) -> None:
     """Writes a file that is not there yet, or none."""
     handle = os.open(path, os.O_WRONLY | os.O_CREAT | os.O_EXCL | os.O_CLOEXEC, 0o666)
     try:
-        left = memoryview(data)
-        while left:
-            left = left[os.write(handle, left) :]
+        write_all(handle, data)
     except OSError:
         os.unlink(path)
         raise

@@ -14,18 +14,19 @@ import os
 import resource
 import signal
 import struct
-import sys
 import threading
 import time
-from typing import Any, BinaryIO, Iterator, NamedTuple, Optional, Union
+from typing import Any, Iterator, NamedTuple, Optional, Union
 
 from .._library import version
+from .._serve import read, write
 from . import certificates, readers
 from .judging import Desk, Judged, judge
 from .making import Making
 from .puzzles import Missing, Puzzle, Unreadable
 from .rows import Row, row_of, text_of, unfinished
 
+STREAM = 0  # questions come there, and answers go
 HEAD = struct.Struct("!I")
 MOMENT = 0.03  # seconds until a line goes out
 LONG = 0.02  # seconds after which a verdict goes out before its certificate is made
@@ -73,10 +74,9 @@ def serve() -> None:
     """Answers packs of tasks until there are no more."""
     signal.signal(signal.SIGINT, signal.SIG_IGN)
     ctypes.CDLL(None).prctl(DIES_WITH_PARENT, signal.SIGKILL)
-    questions = sys.stdin.buffer
-    answers = Answers(os.dup(1))
-    os.dup2(2, 1)  # what prints must not stand between the answers
-    told = _receive(questions)
+    os.dup2(2, 1)  # what prints is seen, and not beside the answers
+    answers = Answers(STREAM)
+    told = _receive()
     if told is None:  # the run was stopped before it said so much
         return
     settings = Settings(*told)
@@ -87,7 +87,7 @@ def serve() -> None:
     judging = Judging(settings, answers)
     answers.put(0, "ready", "")
     while True:
-        pack = _receive(questions)
+        pack = _receive()
         if pack is None:
             break
         for task in pack:
@@ -96,11 +96,12 @@ def serve() -> None:
     answers.flush()
 
 
-def _receive(stream: BinaryIO) -> Any:
-    head = stream.read(HEAD.size)
-    if len(head) < HEAD.size:
+def _receive() -> Any:
+    """What comes next; nothing where nobody asks any more."""
+    try:
+        return marshal.loads(read(STREAM, HEAD.unpack(read(STREAM, HEAD.size))[0]))
+    except (EOFError, ConnectionError):
         return None
-    return marshal.loads(stream.read(HEAD.unpack(head)[0]))
 
 
 class About(NamedTuple):
@@ -139,11 +140,9 @@ class Answers:
         """Sends what there is."""
         with self._lock:
             lines, self._lines = self._lines, []
-            data = memoryview("".join(lines).encode("ascii"))
             try:
-                while data:
-                    data = data[os.write(self._handle, data) :]
-            except BrokenPipeError:  # nobody asks any more
+                write(self._handle, "".join(lines).encode("ascii"))
+            except ConnectionError:  # nobody asks any more
                 os._exit(1)
 
     def _run(self) -> None:

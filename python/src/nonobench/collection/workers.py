@@ -4,16 +4,14 @@ from __future__ import annotations
 
 import json
 import marshal
-import os
 import selectors
 import site
-import subprocess
-import sys
 import time
 from collections import deque
 from pathlib import Path
 from typing import Any, Callable, Iterator, NamedTuple, Optional
 
+from .._process import NO_SIGNAL, Child
 from .rows import Row, text_of, unfinished
 from .serving import FULL, GLANCE, HEAD, Settings, Task
 
@@ -43,19 +41,14 @@ class Broken(Exception):
     """No process can be started that judges."""
 
 
-class Hand:
+class Hand(Child):
     """One process, and what it was handed."""
 
     def __init__(self, settings: Settings) -> None:
         package = str(Path(__file__).resolve().parent.parent.parent)
         more = [site.getusersitepackages()] if site.ENABLE_USER_SITE else []
-        self.process = subprocess.Popen(
-            [sys.executable, "-I", "-c", _START.format(package, more)], stdin=subprocess.PIPE, stdout=subprocess.PIPE, bufsize=0
-        )
-        assert self.process.stdin is not None and self.process.stdout is not None
-        self.questions, self.answers = self.process.stdin, self.process.stdout
-        os.set_blocking(self.questions.fileno(), False)
-        os.set_blocking(self.answers.fileno(), False)
+        super().__init__(("-I",), _START.format(package, more))
+        self._stream.setblocking(False)
         self.tasks: deque[Task] = deque()
         self.out = bytearray()
         self.torn = b""
@@ -77,18 +70,25 @@ class Hand:
         """Sends as much as there is room for."""
         try:
             while self.out:
-                del self.out[: os.write(self.questions.fileno(), self.out[:ROOM])]
+                del self.out[: self._stream.send(self.out[:ROOM], NO_SIGNAL)]
         except BlockingIOError:
             pass
-        except BrokenPipeError:
+        except ConnectionError:
             self.out.clear()
 
-    def end(self) -> int:
+    def read(self) -> Optional[bytes]:
+        """What has come: empty where the process has ended, and nothing where nothing has come."""
+        try:
+            return self._stream.recv(ROOM)
+        except BlockingIOError:
+            return None
+        except ConnectionError:
+            return b""
+
+    def status(self) -> int:
         """Ends the process, and answers its status."""
-        self.process.kill()
-        self.questions.close()
-        self.answers.close()
-        return self.process.wait()
+        self.end()
+        return self._process.wait()
 
 
 class Pool:
@@ -137,9 +137,7 @@ class Pool:
         """The processes that said something, within a moment."""
         with selectors.PollSelector() as selector:
             for hand in self._hands:
-                selector.register(hand.answers, selectors.EVENT_READ, hand)
-                if hand.out:
-                    selector.register(hand.questions, selectors.EVENT_WRITE, hand)
+                selector.register(hand, selectors.EVENT_READ | (selectors.EVENT_WRITE if hand.out else 0), hand)
             ready = selector.select(TICK)
         for key, mask in ready:
             if mask & selectors.EVENT_WRITE:
@@ -170,9 +168,8 @@ class Pool:
         return task
 
     def _read(self, hand: Hand) -> Iterator[Answer]:
-        try:
-            data = os.read(hand.answers.fileno(), ROOM)
-        except BlockingIOError:
+        data = hand.read()
+        if data is None:
             return
         if not data:
             yield from self._end(hand, "")
@@ -239,7 +236,7 @@ class Pool:
                     self._again.appendleft(hand.tasks.pop())
 
     def _replace(self, hand: Hand) -> int:
-        status = hand.end()
+        status = hand.status()
         self._hands.remove(hand)
         if not hand.is_ready:
             self._failures += 1
