@@ -143,34 +143,3 @@ export async function nothingIsSent({ browser, url, folder }) {
     assert.ok(page.faults.some((one) => /Content Security Policy/.test(one)), `the policy refuses it: ${page.faults}`);
     await page.close();
 }
-
-/** Pictures for the documents. */
-export async function pictures({ trial, page, folder }) {
-    await page.run(() => localStorage.clear()); // choices of other trials
-    await trial.load();
-    await trial.example('apple');
-    await trial.judged();
-    await page.shot(`${folder}/page.png`);
-    await trial.action('fix');
-    await page.click('#fix-paint');
-    await page.until(() => !searches.running && document.querySelectorAll('#fix-list button').length > 0, 30000 * SLACK);
-    await page.shot(`${folder}/page-fix.png`);
-    await trial.example('mushroom');
-    await trial.judged();
-    await trial.action('play');
-    await page.shot(`${folder}/page-play.png`);
-    await page.press('Escape');
-    const duck = [...readFileSync(new URL('../../examples/duck.png', import.meta.url))];
-    await page.run((bytes) => { takeFile(new File([new Uint8Array(bytes)], 'duck.png')); }, duck);
-    await page.until(() => document.querySelector('dialog[open] canvas') !== null, 10000 * SLACK);
-    await pause(1000);
-    await page.shot(`${folder}/import.png`);
-    await page.press('Escape');
-    await trial.example('computer');
-    await trial.judged();
-    await page.shot(`${folder}/icon.png`);
-    await trial.action('fix');
-    await page.click('#fix-give');
-    await page.until(() => bench.state.verdict.word === 'unique' && document.getElementById('grade').textContent !== '–', 30000 * SLACK);
-    await page.shot(`${folder}/given.png`);
-}
