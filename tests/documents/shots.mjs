@@ -1,14 +1,14 @@
-// Makes the pictures of the documents in headless Chromium, and the printed sheet by pdftoppm: node measure/shots.mjs PAGE [NAME..]
+// Makes the pictures of the documents in headless Chromium, and the printed sheet by pdftoppm: node tests/documents/shots.mjs PAGE [NAME..]
 // puts them into docs/, all or those of the names in SHOTS. PAGE is a built page; the audit's report is docs/audit.html.
 import { spawnSync } from 'node:child_process';
 import { mkdtempSync, readFileSync, rmSync, writeFileSync } from 'node:fs';
 import { tmpdir } from 'node:os';
 import { join } from 'node:path';
 import { fileURLToPath, pathToFileURL } from 'node:url';
-import { Browser, pause } from '../tests/page/page_browser.mjs';
-import { Trial, hookedPage } from '../tests/page/page_trial.mjs';
+import { Browser, pause } from '../page/page_browser.mjs';
+import { Trial, hookedPage } from '../page/page_trial.mjs';
 
-const ROOT = fileURLToPath(new URL('..', import.meta.url));
+const ROOT = fileURLToPath(new URL('../..', import.meta.url));
 const DOCS = join(ROOT, 'docs');
 const MOST_MS = 60000; // for a search
 const SETTLED_MS = 2000; // until a dialog has its verdict
@@ -23,15 +23,9 @@ const SHOTS = {
     audit: { width: 1280, height: 800, take: audit },
 };
 
-/** Writes what the window shows, or the part of it about some elements. */
-async function shoot(page, name, ...parts) {
-    const clip = parts.length === 0 ? undefined : await page.run((selectors) => {
-        const boxes = selectors.map((one) => document.querySelector(one).getBoundingClientRect());
-        const [x, y] = [Math.min(...boxes.map((box) => box.left)), Math.min(...boxes.map((box) => box.top))];
-        const [right, bottom] = [Math.max(...boxes.map((box) => box.right)), Math.max(...boxes.map((box) => box.bottom))];
-        return { x, y, width: right - x, height: bottom - y, scale: 1 };
-    }, parts);
-    const { data } = await page.send('Page.captureScreenshot', { format: 'png', ...(clip && { clip, captureBeyondViewport: true }) });
+/** Writes what the window shows, or the part of it within `{ x, y, width, height }`. */
+async function shoot(page, name, part) {
+    const { data } = await page.send('Page.captureScreenshot', { format: 'png', ...(part && { clip: { ...part, scale: 1 } }) });
     writeFileSync(join(DOCS, `${name}.png`), Buffer.from(data, 'base64'));
 }
 
@@ -72,7 +66,11 @@ async function imported({ page }) {
     await page.run((bytes) => { takeFile(new File([new Uint8Array(bytes)], 'duck.png')); }, duck);
     await page.until(() => document.querySelector('dialog[open] canvas') !== null, MOST_MS);
     await pause(SETTLED_MS);
-    await shoot(page, 'import', 'dialog[open]');
+    const part = await page.run(() => {
+        const { x, y, width, height } = document.querySelector('dialog[open]').getBoundingClientRect();
+        return { x, y, width, height };
+    });
+    await shoot(page, 'import', part);
 }
 
 // The sheet that is printed, from a PDF of it.
@@ -95,7 +93,8 @@ async function play({ trial, page }) {
 async function audit({ page }) {
     await page.goto(pathToFileURL(join(DOCS, 'audit.html')).href);
     await page.until(() => document.querySelector('#list > *') !== null, MOST_MS);
-    await shoot(page, 'audit', 'header', 'main', '#list > :first-child');
+    const height = await page.run(() => document.querySelector('#list > :first-child').getBoundingClientRect().bottom);
+    await shoot(page, 'audit', { x: 0, y: 0, width: SHOTS.audit.width, height: height + 8 });
 }
 
 const [built, ...names] = process.argv.slice(2);
