@@ -48,6 +48,10 @@ export function nameOf(triple, maxval) {
   return shadedName(phrase(HUES.find(({ end }) => hue < end).name ?? (light < 0.42 ? 'document.brown' : 'document.orange')), stepOf(light, HUE_STEPS));
 }
 
+/** Whether two triples are the same, and whether one is among others. */
+export const isSame = (one, other) => one.join() === other.join();
+export const isAmong = (triples, triple) => triples.some((one) => isSame(one, triple));
+
 export const plainHexOf = (triple) => triple.map((sample) => sample.toString(16).padStart(2, '0')).join('');
 
 // Light of a sample from 0 to 1, and back (IEC 61966-2-1, sRGB).

@@ -25,8 +25,6 @@ const MARK = [217, 115, 13]; // around the cells of a step
 const DOT = [138, 138, 138]; // in a cell of the background
 const MOST_COLOURS = 256;
 
-const letterOf = (mask) => (mask && !(mask & (mask - 1)) ? LETTERS[31 - Math.clz32(mask)] : '?');
-
 const keyOf = ([red, green, blue]) => (red << 16) | (green << 8) | blue;
 
 // The colours of an animation: those that cells are filled with, and the most frequent of the empty puzzle.
@@ -111,9 +109,9 @@ function animated(puzzle, walk) {
   const count = walk.steps.length;
   const each = Math.max(1, Math.ceil(count / MOST_FRAMES));
   const delay = clamp(Math.round((WHOLE * each) / Math.max(1, count)), LEAST, MOST);
-  let [letters, marked] = [Array.from(walk.after(0), letterOf), []];
+  let [letters, marked] = [walk.letters(0), []];
   for (let at = each; at < count + 2 * each; at += each) { // behind the last step once more, without marks
-    const after = Array.from(walk.after(Math.min(at, count)), letterOf);
+    const after = walk.letters(Math.min(at, count));
     const changed = [...after.keys()].filter((index) => after[index] !== letters[index]);
     const cells = [...new Set([...marked, ...changed])];
     for (const index of cells) film.fill(index, after[index], changed.includes(index) && after[index] !== '?');

@@ -1,5 +1,7 @@
 // GIF89a, written: an animation of parts of one picture over one another.
 
+import { joined } from './deflate.js';
+
 const MOST_CODES = 4096;
 const MOST_BLOCK = 255; // bytes
 
@@ -80,12 +82,5 @@ export function writeGif({ width, height, palette, frames }) {
   const text = (name) => [...name].map((letter) => letter.charCodeAt(0));
   const head = [...text('GIF89a'), ...word(width), ...word(height), 0xf0 | (bits - 1), 0, 0, ...colours];
   const loop = [0x21, 0xff, 11, ...text('NETSCAPE2.0'), 3, 1, 0, 0, 0];
-  const parts = [head, loop, ...frames.map((frame) => frameBytes(frame, bits)), [0x3b]].map((part) => Uint8Array.from(part));
-  const all = new Uint8Array(parts.reduce((sum, part) => sum + part.length, 0));
-  let at = 0;
-  for (const part of parts) {
-    all.set(part, at);
-    at += part.length;
-  }
-  return all;
+  return joined([head, loop, ...frames.map((frame) => frameBytes(frame, bits)), [0x3b]]);
 }

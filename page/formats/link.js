@@ -8,7 +8,6 @@ import { webpbnText } from './webpbn.js';
 import { readWebpbn } from './webpbn_reading.js';
 import { crcOf } from './zip.js';
 
-export const WAYS = ['play', 'edit'];
 const MOST_TEXT = 1 << 20; // bytes of XML that a link may come to
 
 const sumOf = (bytes) => new Uint8Array(new Uint32Array([crcOf(bytes)]).buffer);

@@ -1,6 +1,7 @@
 // Palette files, read and written: GIMP's .gpl, JASC's .pal, and .hex, one colour a line. A palette is {name, colours: [{triple, name}]}
 // with samples of eight bits.
 
+import { isSame, plainHexOf } from '../document/colours.js';
 import { FileFault } from '../document/limits.js';
 import { phrase } from '../texts/phrase.js';
 
@@ -70,15 +71,14 @@ export function readPalette(text) {
   const { name, colours } = { gpl: readGpl, pal: readPal, hex: readHex }[kind](linesOf(text));
   if (!colours.length) throw new PaletteFault('NoColours');
   if (colours.length > MOST_COLOURS) throw new PaletteFault('TooMany');
-  return { name, kind, colours: colours.filter(({ triple }, at) => colours.findIndex((one) => one.triple.join() === triple.join()) === at) };
+  return { name, kind, colours: colours.filter(({ triple }, at) => colours.findIndex((one) => isSame(one.triple, triple)) === at) };
 }
 
-const hexOf = (triple) => triple.map((sample) => sample.toString(16).padStart(2, '0')).join('');
 const oneLine = (text) => text.replace(/\s+/g, ' ').trim();
 
 /** A palette as a text of a kind: 'gpl', 'pal' or 'hex'. */
 export function paletteText({ name = '', colours }, kind) {
-  if (kind === 'hex') return colours.map(({ triple }) => `${hexOf(triple)}\n`).join('');
+  if (kind === 'hex') return colours.map(({ triple }) => `${plainHexOf(triple)}\n`).join('');
   if (kind === 'pal') return `JASC-PAL\r\n0100\r\n${colours.length}\r\n${colours.map(({ triple }) => `${triple.join(' ')}\r\n`).join('')}`;
   const line = ({ triple, name: own }) => `${triple.map((sample) => String(sample).padStart(3)).join(' ')}\t${oneLine(own ?? '') || 'Untitled'}\n`;
   return `GIMP Palette\nName: ${oneLine(name) || 'palette'}\nColumns: 0\n#\n${colours.map(line).join('')}`;

@@ -68,13 +68,6 @@ export function zipEntries(bytes) {
   return files;
 }
 
-/** The files of a zip as `{name, bytes}`, where `bytes` is null for what is not read. */
-export async function readZip(bytes) {
-  const files = [];
-  for (const { name, read } of zipEntries(bytes)) files.push({ name, bytes: await read() });
-  return files;
-}
-
 async function unpackedEntry(bytes, view, at) {
   const [flags, method] = [view.getUint16(at + 8, true), view.getUint16(at + 10, true)];
   const [crc, size, length, local] = [16, 20, 24, 42].map((place) => view.getUint32(at + place, true));

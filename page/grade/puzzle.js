@@ -19,6 +19,9 @@ export function countOf(mask) {
 
 const isSettled = (mask) => (mask & (mask - 1)) === 0;
 
+/** The letter of a cell with such candidates: '?' unless it is settled. */
+export const letterOf = (mask) => (mask !== 0 && isSettled(mask) ? LETTERS[31 - Math.clz32(mask)] : '?');
+
 /** The clues of a picture, rows from the top and then columns from the left, its size, its cells and its givens by index. */
 export class Puzzle {
   /** `clues` are those of the lines, where they are known already. */
@@ -149,8 +152,7 @@ export class Narrowing {
 
 /** The map of a narrowing, a text for each row: a settled cell's letter, else '?'. */
 export function mapOf({ masks, puzzle: { rows, columns } }) {
-  const letter = (mask) => (mask !== 0 && isSettled(mask) ? LETTERS[31 - Math.clz32(mask)] : '?');
-  return Array.from({ length: rows }, (_, row) => Array.from(masks.subarray(row * columns, (row + 1) * columns), letter).join(''));
+  return Array.from({ length: rows }, (_, row) => Array.from(masks.subarray(row * columns, (row + 1) * columns), letterOf).join(''));
 }
 
 export { ALL_COLOURS };

@@ -3,7 +3,7 @@
 // edges alone.
 
 import { coloursTooNear } from '../../web/colours.mjs';
-import { oklabOf } from '../document/colours.js';
+import { isAmong, oklabOf } from '../document/colours.js';
 import { isTransparent } from './images.js';
 import { farness, keyOf, nearestOf, once, spotsOf, weightOf } from './spots.js';
 
@@ -93,7 +93,7 @@ export function groupsOf(image) {
 // Groups as they are merged: `weight` by area and edges, `isGuarded` for a colour with some area of its own.
 function weighed(groups, locked) {
   const total = groups.reduce((sum, group) => sum + group.area, 0);
-  const isLocked = (group) => locked.some((triple) => triple.join() === group.triple.join());
+  const isLocked = ({ triple }) => isAmong(locked, triple);
   const kept = groups.filter((group) => isLocked(group) || (group.edges <= group.area / 2 && group.area >= total * SPECK) || group.area - group.edges >= total * GUARDED);
   return kept.map((group) => ({
     ...group, weight: Math.sqrt(group.area - group.edges * (1 - EDGE_WEIGHT)), isLocked: isLocked(group), isGuarded: group.area - group.edges >= total * GUARDED,
@@ -159,6 +159,6 @@ export function nearestPalette(image, triples, most, locked = []) {
   const places = triples.map(placeOfTriple);
   const groups = triples.map((triple, at) => ({ triple, place: places[at], area: 0, edges: 0 }));
   for (const { triple, weight } of spotsOf(image)) groups[nearestOf(places, placeOfTriple(triple))].area += weight;
-  const isLocked = (group) => locked.some((triple) => triple.join() === group.triple.join());
+  const isLocked = ({ triple }) => isAmong(locked, triple);
   return triplesOf(mergedDown(weighed(groups.filter((group) => group.area > 0 || isLocked(group)), locked)), most);
 }

@@ -3,7 +3,7 @@
 
 import { make } from '../base/elements.js';
 import { radioGroup } from '../base/radios.js';
-import { hexOf, nameOf, tripleOf } from '../document/colours.js';
+import { hexOf, isAmong, isSame, nameOf, tripleOf } from '../document/colours.js';
 import { LETTERS } from '../document/limits.js';
 import { colourNamed } from '../document/named.js';
 import { mergedNumbers } from '../document/near.js';
@@ -16,8 +16,7 @@ const TEXT = {
   isGround: phrase('import.isGround'), isLocked: phrase('import.isLocked'), wrong: (name, fault) => phrase('import.fileNotRead', { name, fault }),
 };
 const shareText = (share) => share.toLocaleString(LANGUAGE, { style: 'percent', minimumFractionDigits: 1, maximumFractionDigits: 1 });
-const same = (one, other) => one.join() === other.join();
-const without = (triples, triple) => triples.filter((one) => !same(one, triple));
+const without = (triples, triple) => triples.filter((one) => !isSame(one, triple));
 const noEdits = () => ({ locked: [], dropped: [], replaced: [], background: null, palette: null });
 
 export class Inks {
@@ -81,15 +80,15 @@ export class Inks {
   replace(triple) {
     const { source, edits } = this;
     if (this.isClear && this.at === 0) return this.edit({ background: triple });
-    const replaced = edits.replaced.filter(([from]) => !same(from, source));
-    return this.edit({ replaced: same(source, triple) ? replaced : [...replaced, [source, triple]], locked: [...without(edits.locked, source), source] });
+    const replaced = edits.replaced.filter(([from]) => !isSame(from, source));
+    return this.edit({ replaced: isSame(source, triple) ? replaced : [...replaced, [source, triple]], locked: [...without(edits.locked, source), source] });
   }
 
   drop() {
     const { source, edits } = this;
     this.at = Math.max(0, this.at - 1);
     this.drops();
-    this.edit({ dropped: [...edits.dropped, source], locked: without(edits.locked, source), replaced: edits.replaced.filter(([from]) => !same(from, source)) });
+    this.edit({ dropped: [...edits.dropped, source], locked: without(edits.locked, source), replaced: edits.replaced.filter(([from]) => !isSame(from, source)) });
   }
 
   /** Locks a triple of the image, and chooses it. */
@@ -103,7 +102,7 @@ export class Inks {
     const { edits, doc } = this;
     const from = doc.sources ?? doc.colours;
     const pairs = mergedNumbers(doc).flatMap((to, at) => (to === at ? [] : [[from[at], doc.colours[to]], [doc.colours[at], doc.colours[to]]]));
-    const target = (triple) => pairs.find(([one]) => same(one, triple))?.[1] ?? triple;
+    const target = (triple) => pairs.find(([one]) => isSame(one, triple))?.[1] ?? triple;
     const replaced = new Map([...edits.replaced.map(([one, to]) => [one, target(to)]), ...pairs].map((pair) => [pair[0].join(), pair]));
     this.edit({ replaced: [...replaced.values()], background: this.isClear ? null : edits.background });
   }
@@ -126,7 +125,7 @@ export class Inks {
 
   /** Shows the colours of a document. */
   show(doc) {
-    const wanted = this.wanted ? (doc.sources ?? doc.colours).findIndex((one) => same(one, this.wanted)) : -1;
+    const wanted = this.wanted ? (doc.sources ?? doc.colours).findIndex((one) => isSame(one, this.wanted)) : -1;
     Object.assign(this, { doc, isClear: doc.isClear ?? false, at: wanted < 0 ? Math.min(this.at, doc.colours.length - 1) : wanted, wanted: null });
     const had = this.row.contains(document.activeElement);
     // The buttons stay, so that one that is pressed is there still when it is let go.
@@ -144,7 +143,7 @@ export class Inks {
 
   isLocked(at) {
     const source = (this.doc.sources ?? this.doc.colours)[at];
-    return this.edits.locked.some((one) => same(one, source));
+    return isAmong(this.edits.locked, source);
   }
 
   textOf(at) {

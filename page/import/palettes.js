@@ -3,7 +3,7 @@
 
 import { make, say } from '../base/elements.js';
 import { cleanName } from '../base/words.js';
-import { hexOf, nameOf } from '../document/colours.js';
+import { hexOf, isAmong, nameOf } from '../document/colours.js';
 import { eightBitDoc } from '../document/document.js';
 import { LETTERS, MOST_COLOURS } from '../document/limits.js';
 import { bench } from '../engine/bench.js';
@@ -24,7 +24,6 @@ const TEXT = {
   noPicture: (name) => phrase('import.paletteOpenPictureFirst', { name }), wrong: (name, fault) => phrase('import.fileNotRead', { name, fault }),
 };
 const MOST_SHOWN = 256;
-const same = (one, other) => one.join() === other.join();
 
 // What the page keeps of a colour that becomes another one, with that one's name where it has one.
 function renamed(ink, name) {
@@ -49,7 +48,7 @@ export function withNearest(doc, colours) {
 
 /** A document with more colours, of those that it does not have yet. */
 export function withMore(doc, colours) {
-  const fresh = colours.filter(({ triple }) => !doc.colours.some((one) => same(one, triple)));
+  const fresh = colours.filter(({ triple }) => !isAmong(doc.colours, triple));
   const inks = doc.colours.map((_, at) => doc.inks[at] ?? {});
   const isNew = ({ name }, at) => name && !inks.some((ink) => ink.name === name) && fresh.findIndex((one) => one.name === name) === at;
   return { ...doc, colours: [...doc.colours, ...fresh.map(({ triple }) => triple)], inks: [...inks, ...fresh.map((one, at) => (isNew(one, at) ? { name: one.name } : {}))] };
@@ -73,7 +72,7 @@ export async function takePalette(text, name) {
   const doc = eightBitDoc(bench.state);
   const offered = colours.slice(0, MOST_SHOWN);
   const swatches = offered.map(swatchOf);
-  const chosen = () => offered.filter(({ triple }, at) => swatches[at].getAttribute('aria-pressed') === 'true' && !doc.colours.some((one) => same(one, triple)));
+  const chosen = () => offered.filter(({ triple }, at) => swatches[at].getAttribute('aria-pressed') === 'true' && !isAmong(doc.colours, triple));
   const free = MOST_COLOURS - doc.colours.length;
   const done = await openDialog({
     title: TEXT.title(name),

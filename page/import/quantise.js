@@ -1,15 +1,13 @@
 // An image of cells as a document: its palette, which colour each cell gets, and which of them is the background.
 
 import { coloursTooNear } from '../../web/colours.mjs';
-import { oklabOf } from '../document/colours.js';
+import { isAmong, oklabOf } from '../document/colours.js';
 import { LETTERS } from '../document/limits.js';
 import { Votes, dithered, withoutSpecks } from './cells.js';
 import { flatPalette, isFlat, nearestPalette } from './flat.js';
 import { photoPalette } from './photo.js';
 import { ALIKE, EXACT, farness, hasClear, hasFewColours, numbersFor, once, spotsOf } from './spots.js';
 import { drawnCells } from './tone.js';
-
-const isIn = (triples, triple) => triples.some((one) => one.join() === triple.join());
 
 /**
  * At most so many triples that stand well for an image's colours; where `isExact`, its own ones if there are no more than that: else
@@ -20,7 +18,7 @@ export function paletteFor(image, most, { locked = [], from = null, isExact = tr
     if (from) return nearestPalette(image, from, most, locked);
     if (isExact && hasFewColours(image, most - locked.length)) {
       const own = [...spotsOf(image)].sort((a, b) => b.weight - a.weight).map((spot) => spot.triple);
-      return [...own, ...locked.filter((triple) => !isIn(own, triple))];
+      return [...own, ...locked.filter((triple) => !isAmong(own, triple))];
     }
     return isFlat(image) ? flatPalette(image, most, locked) : photoPalette(image, most, locked);
   });
@@ -32,10 +30,10 @@ function editedPalette(image, most, { locked = [], dropped = [], palette = null 
   const fixed = locked.slice(1 - LETTERS.length); // one is left for what is transparent
   const wanted = Math.max(1, most, fixed.length);
   const found = paletteFor(image, Math.min(LETTERS.length, wanted + dropped.length), { locked: fixed, from: palette, isExact });
-  const left = found.filter((triple) => !isIn(dropped, triple));
+  const left = found.filter((triple) => !isAmong(dropped, triple));
   const kept = left.length ? left : found.slice(0, 1);
-  const others = kept.filter((triple) => !isIn(fixed, triple)).slice(0, wanted - fixed.length);
-  return kept.filter((triple) => isIn(fixed, triple) || isIn(others, triple));
+  const others = kept.filter((triple) => !isAmong(fixed, triple)).slice(0, wanted - fixed.length);
+  return kept.filter((triple) => isAmong(fixed, triple) || isAmong(others, triple));
 }
 
 // Which number most cells of the border have; -1 is transparent.
@@ -98,7 +96,7 @@ export function docOfCells(image, options, { fine = null, points = image } = {})
 
 // The numbers in their order where what is transparent is the background, and its colour.
 function clearGround(numbers, palette, shown, { background }) {
-  const isOwn = background && !isIn(palette, background) && !isIn(shown, background);
+  const isOwn = background && !isAmong(palette, background) && !isAmong(shown, background);
   return { order: [...palette.keys()].filter((one) => numbers.includes(one)), first: isOwn ? background : groundFor(shown) };
 }
 

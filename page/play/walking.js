@@ -141,10 +141,9 @@ function goTo(at) {
   const { walk } = walking;
   if (!walk) return;
   walking.at = clamp(at, 0, walk.steps.length);
-  const masks = walk.after(walking.at);
-  const letter = (mask) => (mask && !(mask & (mask - 1)) ? LETTERS[31 - Math.clz32(mask)] : '?');
+  const letters = walk.letters(walking.at);
   const { columns, rows } = play.state;
-  play.marks = Array.from({ length: rows }, (_, row) => Array.from(masks.subarray(row * columns, (row + 1) * columns), letter));
+  play.marks = Array.from({ length: rows }, (_, row) => letters.slice(row * columns, (row + 1) * columns));
   const step = walking.at > 0 ? walk.steps[walking.at - 1] : null;
   play.shown = step && { line: step.line ?? null, cells: step.settled, premises: step.premises };
   walking.told = step ? `: ${textOf(step)}` : phrase('play.emptyPuzzle');

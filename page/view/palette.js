@@ -4,7 +4,7 @@
 import { $, make, say } from '../base/elements.js';
 import { behindFrame, on } from '../base/events.js';
 import { radioGroup } from '../base/radios.js';
-import { eightBits, hexOf, nameOf, tripleOf } from '../document/colours.js';
+import { eightBits, hexOf, isAmong, nameOf, tripleOf } from '../document/colours.js';
 import { LETTERS, MOST_COLOURS } from '../document/limits.js';
 import { COLOUR_NAMES, colourNamed } from '../document/named.js';
 import { reordered } from '../document/shapes.js';
@@ -116,12 +116,10 @@ function withEightBits(doc) {
   return doc.maxval === 255 ? doc : { ...doc, maxval: 255, colours: doc.colours.map((triple) => eightBits(triple, doc.maxval)) };
 }
 
-const hasColour = (doc, triple) => doc.colours.some((one) => one.join() === triple.join());
-
 // Some colour near to this one that the palette does not have.
 function freeColour(doc, triple) {
   let found = [...triple];
-  for (let step = 1; hasColour(doc, found); step++) found = triple.map((sample) => (sample + 37 * step) % 256);
+  for (let step = 1; isAmong(doc.colours, found); step++) found = triple.map((sample) => (sample + 37 * step) % 256);
   return found;
 }
 
@@ -156,10 +154,10 @@ async function changeColour(triple) {
   const at = LETTERS.indexOf(tools.colour);
   const now = withEightBits(bench.state).colours;
   if (now[at].join() === triple.join()) return null;
-  if (hasColour({ colours: now }, triple)) return refuse(phrase('view.paletteColourAlreadyMake'));
+  if (isAmong(now, triple)) return refuse(phrase('view.paletteColourAlreadyMake'));
   const changed = (old) => {
     const doc = withEightBits(old);
-    if (at >= doc.colours.length || hasColour(doc, triple)) return null;
+    if (at >= doc.colours.length || isAmong(doc.colours, triple)) return null;
     const inks = doc.inks.map((ink, other) => (other === at ? inkOfOther(ink, doc.colours[at]) : ink));
     return { ...doc, inks, colours: doc.colours.map((one, other) => (other === at ? triple : one)) };
   };

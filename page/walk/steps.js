@@ -6,7 +6,7 @@
 
 import { solveByLines } from '../grade/grade.js';
 import { narrow } from '../grade/lines.js';
-import { Narrowing, countOf } from '../grade/puzzle.js';
+import { Narrowing, countOf, letterOf } from '../grade/puzzle.js';
 import { follow } from '../grade/tree.js';
 
 const isSettled = (mask) => countOf(mask) === 1;
@@ -238,6 +238,11 @@ export class Walk {
     }
     this.known.at = count;
     return masks;
+  }
+
+  /** The letters of the cells after so many steps, '?' where several are left. */
+  letters(count) {
+    return Array.from(this.after(count), letterOf);
   }
 
   /**
