@@ -5,8 +5,7 @@ For each claim it takes the clauses and laws by name. From the names in them, th
 definitions in specs/ that they need, in reading order. Then it adds those by which a clause sees its values: the views of their
 types (.ci/views.py). docs/BASE.md lists these with file, line and the comment's first sentence. It
 must be what this script makes, and quotes the definitions of QUOTED. No claim may need more lines than MOST says, and no name may
-mean two things in the base of a claim but those of SHARED. README.md must name the lines of FIGURES. And no line of an .antt file
-may have more columns than WIDTHS says.
+mean two things in the base of a claim but those of SHARED. README.md must name the lines of FIGURES.
 
 Usage: .ci/base.py [--write | --counts]: --write writes docs/BASE.md, and --counts prints only the counts.
 """
@@ -61,8 +60,6 @@ SHARED = {
     'What prove prints is accepted',
     'The program does what its arguments ask for',
 }
-# The most columns of a line: definitions are read by whoever audits a claim, proofs by whoever mends them.
-WIDTHS = {'specs': 120, 'proofs': 200}
 # From this many words on, a comment's first sentence is shortened in docs/BASE.md.
 LONG = 35
 # What README.md says of the lines that a claim needs.
@@ -346,15 +343,6 @@ def faults(found):
             yield f'{title}: {name} means two things: {", ".join(files)}'
 
 
-def wide_lines():
-    """The lines of .antt files that are too wide."""
-    for part, width in WIDTHS.items():
-        for path in sorted(CRATES.glob(f'*/{part}/**/*.antt')):
-            for number, line in enumerate(path.read_text(encoding='utf-8').split('\n'), 1):
-                if len(line) > width:
-                    yield f'{path.relative_to(ROOT)}:{number}: {len(line)} columns, and at most {width} are allowed'
-
-
 def figures(found):
     """What README.md should say of the lines that claims need, and does not."""
     readme = (ROOT / 'README.md').read_text(encoding='utf-8')
@@ -372,7 +360,7 @@ def main():
         return 0
     if '--write' in sys.argv[1:]:
         PAGE.write_text(page(found), encoding='utf-8')
-    told = [*faults(found), *figures(found), *wide_lines()]
+    told = [*faults(found), *figures(found)]
     for fault in told:
         print(fault)
     print(f'{len(found)} claims, {len(told)} faults')

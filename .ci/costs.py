@@ -9,6 +9,9 @@ import pathlib
 import re
 import sys
 
+sys.dont_write_bytecode = True
+from crates import listed  # noqa: E402
+
 ROOT = pathlib.Path(__file__).resolve().parent.parent
 LINE = re.compile(r'^ {4}([a-z_]+): ((?:proofs|edits|tests|builds) .*)$')
 START = '<!-- .ci/costs.py makes the rest of this section -->\n'
@@ -19,18 +22,11 @@ HEAD = """These are processor minutes of one run of `bash .ci/run` from nothing,
 """
 
 
-def needs():
-    """Each crate with the crates that it names, in the order of crates.txt."""
-    lines = (ROOT / 'crates.txt').read_text().splitlines()
-    named = {line.split(':')[0].split()[0]: set(line.split(':')[1].split()) for line in lines if ':' in line and not line.startswith('#')}
-    return {crate: {one for one in lower if one in named} for crate, lower in named.items()}
-
-
 def above(crate, lower):
     """The crates that depend on one, itself among them."""
     found = {crate}
     for other, named in lower.items():
-        if named & found:
+        if not found.isdisjoint(named):
             found.add(other)
     return found
 
@@ -51,7 +47,7 @@ def main():
     text = log.read_text()
     if 'all proved in this run' not in text:
         sys.exit('costs: this run kept proofs of earlier ones, so its minutes say little')
-    minutes, lower = minutes_of(text), needs()
+    minutes, lower = minutes_of(text), listed()
     edits = {crate: minutes.get(crate, {}).get('edits', 0) for crate in lower}
     own = {crate: sum(minutes.get(crate, {}).values()) - edits[crate] for crate in lower}
     whole = {crate: sum(own[one] + edits[one] for one in above(crate, lower)) for crate in lower}

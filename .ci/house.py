@@ -57,9 +57,9 @@ def wide_clauses():
 
 
 def wide_lines(part, width):
-    """Lines of .antt files that are too wide."""
-    for file, text in sources(part, '.antt'):
-        for number, line in enumerate(text.split('\n'), 1):
+    """Lines of .antt files that are too wide, in the crates of tests too."""
+    for file in sorted(ROOT.glob(f'crates/*/{part}/**/*.antt')):
+        for number, line in enumerate(file.read_text(encoding='utf-8').split('\n'), 1):
             if len(line) > width:
                 yield place(file, number)
 

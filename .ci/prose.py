@@ -21,7 +21,6 @@ A block of README.md that begins with ```sh is run by tests/documents/test_comma
 
 Usage: .ci/prose.py [--sizes] [DOCUMENT ..]
 """
-import functools
 import os
 import re
 import shutil
@@ -161,27 +160,6 @@ def anchors(path):
     with open(path, encoding="utf-8") as file:
         heads = re.findall(r"^#+ (.*)$", file.read(), re.M)
     return {re.sub(r"[^\w\- ]", "", head.lower()).replace(" ", "-") for head in heads}
-
-
-@functools.cache
-def sources(ending=(".rt", ".antt")):
-    """The texts of all code and definitions, or of those alone whose names have this ending."""
-    texts = []
-    for folder, folders, names in os.walk(os.path.join(ROOT, "crates")):
-        folders[:] = [f for f in folders if f not in ("out", "must-fail", "proofs", "tests")]
-        for name in names:
-            if name.endswith(ending):
-                with open(os.path.join(folder, name), encoding="utf-8") as file:
-                    texts.append(file.read())
-    return texts
-
-
-def names_in(text):
-    """The names in code of a text, each without what stands before its last `::`."""
-    for code in re.findall(r"`([^`]*)`", text):
-        name = code.split("::")[-1]
-        if re.fullmatch(r"\w+", name):
-            yield name
 
 
 def edit_faults(lines):
