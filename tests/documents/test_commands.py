@@ -2,7 +2,7 @@
 with what the page shows.
 
 README's folder has a copy of what its commands name, with the program where a build leaves it. So its commands of installing are
-run, and install this very program below a home of their own.
+run, and install this very program below a home of their own. As on a new account, nothing of that is on the PATH.
 
 A block that begins with ```sh is run; it must end with status 0. A following block that begins with ```text is all that it prints,
 on standard output and standard error. One that begins with ```sh build is not run: its commands would prove everything again,
@@ -86,7 +86,6 @@ def plain_blocks(page):
 @pytest.mark.parametrize('page', [page for page in PAGES if page != 'RECIPES' or plain_blocks(page)])
 def test_commands(kept, page, tmp_path):
     program = kept.program('nonobench')
-    install_program(program, tmp_path / 'bin')
     (tmp_path / 'home').mkdir()
     here = tmp_path / page
     here.mkdir()
@@ -97,6 +96,8 @@ def test_commands(kept, page, tmp_path):
         (here / 'docs').mkdir()
         shutil.copy(ROOT / 'docs' / 'nonobench.1', here / 'docs')
         install_program(program, here / 'crates' / 'nonobench' / 'out')
+    else:
+        install_program(program, tmp_path / 'bin')
     blocks = plain_blocks(page)
     assert blocks
     env = {**os.environ, 'PATH': f'{tmp_path}/bin:{os.environ["PATH"]}', 'HOME': f'{tmp_path}/home', 'NONOBENCH': str(ROOT)}
