@@ -30,22 +30,19 @@ class PictureFault(Fault):
         return self._place
 
 
-class CertificateFault(Fault):
+class _LineFault(Fault):
+    @property
+    def line(self) -> int:
+        """Where the fault is."""
+        return self._place
+
+
+class CertificateFault(_LineFault):
     """The certificate is refused, at a line that is counted from 1."""
 
-    @property
-    def line(self) -> int:
-        """Where the fault is."""
-        return self._place
 
-
-class GivensFault(Fault):
+class GivensFault(_LineFault):
     """The cells that are published are refused, at one of them that is counted from 1."""
-
-    @property
-    def line(self) -> int:
-        """Where the fault is."""
-        return self._place
 
 
 class UnpublishedGiven(CertificateFault):

@@ -19,15 +19,15 @@ from typing import Iterator, NamedTuple, Optional
 from ._answers import Fault
 from ._hints import hint_of
 from ._library import version
+from .collection import finding
 from .collection.arguments import _above_0, _memory, _seconds, _shard
-from .collection.finding import shown
 from .collection.puzzles import MOST_BYTES, Triple, Unreadable, one_line
 from .collection.readers import bytes_of, ground_of
 from .worker import Worker
 
 ACCEPTED, REFUSED, WRONG, UNREAD = range(4)  # the exit statuses; WRONG is that of wrong arguments
 INTERRUPTED = 130
-ENDINGS = (".cert", ".proof")  # of certificates: the second is an older one
+ENDINGS = tuple(f".{ending}" for ending in finding.ENDINGS)  # of certificates
 MOST_BACKGROUND = 64  # bytes
 PACK = 64  # certificates that wait for a worker, for each one
 
@@ -106,11 +106,11 @@ class Site:
             raise Unreadable(f"its background {error}") from error
 
     def _beside(self, stem: str, ending: str, most: int) -> Optional[bytes]:
-        """What the site has beside a picture, by the names that an audit looks for; nothing where it has no such file."""
+        """What the site has beside a picture; nothing where it has no such file."""
         if self._published is None:
             return None
-        names = [f"{front}.{end}" for front in (f"{stem}.ppm", stem) for end in (ending, ending.upper())]
-        path = next((path for name in names if os.path.lexists(path := os.path.join(self._published, name))), None)
+        paths = [os.path.join(self._published, name) for name in finding.called_beside(f"{stem}.ppm", stem, f".{ending}")]
+        path = next(filter(os.path.lexists, paths), None)
         return None if path is None else _read(f"its {ending}: ", path, most)
 
 
@@ -163,7 +163,7 @@ class Checks:
 
 def line_of(answer: Answer) -> str:
     """What is printed of an answer, in one line, whatever its name holds, and in signs that the output has."""
-    name = re.sub(r"[\x00-\x1f\x7f-\x9f\u2028\u2029]", lambda sign: f"\\x{ord(sign[0]):02x}", shown(answer.file))
+    name = re.sub(r"[\x00-\x1f\x7f-\x9f\u2028\u2029]", lambda sign: f"\\x{ord(sign[0]):02x}", finding.shown(answer.file))
     coding = sys.stdout.encoding or "utf-8"
     return f"{name}: {one_line(answer.why)}".encode(coding, "backslashreplace").decode(coding)
 

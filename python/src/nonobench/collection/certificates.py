@@ -48,6 +48,11 @@ def holds(desk: Desk, puzzle: Puzzle, row: Row, held: bytes, beside: list[bytes]
     return wanted == {name: value for name, value in row.items() if name not in UNBOUND}
 
 
+def numbered_name(name: str, number: int) -> str:
+    """What the certificate and the picture of a puzzle are called, without the ending."""
+    return name if number == 1 else f"{name}.{number}"
+
+
 def write(name: str, text: str) -> str:
     """Writes a certificate. Answers a note why it could not be written, and then nothing is left of it; empty where it was.
 
@@ -123,8 +128,7 @@ def _write_new(path: str, data: bytes) -> None:
 def delivered(answer: Answer, to: Optional[str]) -> str:
     """Writes the certificate that came with a row from another machine, and answers the row."""
     row = row_of(answer.text)
-    number = row.get("puzzle", 1)
-    note = write(f"{to if number == 1 else f'{to}.{number}'}", unpacked(answer.certificate))
+    note = write(numbered_name(f"{to}", row.get("puzzle", 1)), unpacked(answer.certificate))
     return text_of(noted(row, note)) if note else answer.text
 
 

@@ -7,10 +7,11 @@ import os
 import re
 from typing import BinaryIO, Optional
 
+from .certificates import numbered_name
 from .outputs import Failure, failure, lines_of
 from .reading_rows import checked_row
 from .rows import Row, row_of, text_of
-from .serving import File, numbered_name
+from .serving import File
 
 
 # How a row begins: with its file, and the number of the puzzle where the file has several. The rest is read where it is wanted.
@@ -57,10 +58,6 @@ class Earlier:
         self._lines.seek(place)
         row: Row = row_of(self._lines.readline())
         return row
-
-    def close(self) -> None:
-        """Lets the file go."""
-        self._lines.close()
 
 
 def no_row(name: str, number: int, why: str) -> Failure:

@@ -235,5 +235,10 @@ def _is_puzzle(folder: Folder, name: str) -> bool:
 
 
 def _named(name: str, stem: str, end: str, names: Names, prefix: str) -> list[str]:
-    """The files that go with a puzzle and have an ending, in small or capital letters: NAME.png.cert, then NAME.cert."""
-    return [prefix + front + ending for front in (name, stem) for ending in (end, end.upper()) if front + ending in names]
+    """The files that go with a puzzle and have an ending."""
+    return [prefix + called for called in called_beside(name, stem, end) if called in names]
+
+
+def called_beside(name: str, stem: str, end: str) -> list[str]:
+    """What a file that goes with a puzzle may be called, its ending in small or capital letters: NAME.png.cert, then NAME.cert."""
+    return [front + ending for front in (name, stem) for ending in (end, end.upper())]

@@ -279,7 +279,7 @@ class Judging:
         """The row of a puzzle, and its certificate where that goes back."""
         settings = self._settings
         number = about.front.get("puzzle", 1)
-        name, published = (None if place is None else numbered_name(place, number) for place in (task.to, task.published))
+        name, published = (None if place is None else certificates.numbered_name(place, number) for place in (task.to, task.published))
         making = self._making = Making(self._desk, puzzle, beside, name, settings.is_inline, published)
 
         def tell(known: Judged) -> None:
@@ -319,11 +319,6 @@ def numbered(puzzles: Iterator[Union[Puzzle, Unreadable]]) -> Iterator[tuple[int
         if puzzle is None:
             return
         number, held = number + 1, puzzle
-
-
-def numbered_name(name: str, number: int) -> str:
-    """What the certificate and the picture of a puzzle are called, without the ending."""
-    return name if number == 1 else f"{name}.{number}"
 
 
 class Files(NamedTuple):
