@@ -28,6 +28,7 @@ import nonobench  # noqa: E402
 from nonobench import check_site  # noqa: E402
 from nonobench.collection import arguments, certificates, judging, readers, running, serving, tally, workers  # noqa: E402
 from nonobench.collection.puzzles import Unreadable  # noqa: E402
+from odd_images import BROKEN, odd_images  # noqa: E402
 
 # One solution, whose certificate says much twice: it is three times as long as one with lemmas.
 LEARNT = (
@@ -187,6 +188,22 @@ class Reading(unittest.TestCase):
         # What is half transparent has no colour of its own.
         with self.assertRaisesRegex(Unreadable, "the image is refused: half transparent"):
             one(image("PNG", "RGBA", [(0, 0, 0, 128)] * 4))
+
+    def test_odd_images(self):
+        """The pixels that a browser shows, with a colour for what is transparent, or why there is no puzzle."""
+        ground = (1, 2, 3)
+        for odd in odd_images():
+            with self.subTest(odd.name):
+                if odd.pixels is not None:
+                    triples = [pixel[:3] if pixel[3] else ground for row in odd.pixels for pixel in row]
+                    text = nonobench.picture_of(len(odd.pixels[0]), len(odd.pixels), triples)
+                    self.assertEqual(one(odd.data, ground=readers.Ground(ground)).text, text)
+                elif odd.reason == BROKEN:
+                    with self.assertRaises((Unreadable, nonobench.PictureFault)):
+                        nonobench.clues(one(odd.data).text)
+                elif odd.reason:
+                    with self.assertRaisesRegex(Unreadable, f"^the image is refused: {odd.reason}$"):
+                        one(odd.data)
 
     def test_background(self):
         self.assertEqual(one(image("PNG"), ground=readers.ground_of("corner")).background, BLACK)

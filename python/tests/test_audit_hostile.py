@@ -20,6 +20,7 @@ from pathlib import Path
 sys.path.insert(0, str(Path(__file__).resolve().parent))
 import pytest  # noqa: E402
 from audit_parts import AMBIGUOUS, PATIENCE, ROOT, UNIQUE, Case, chequered, eventually, p3, webpbn  # noqa: E402
+from odd_images import BITS, FRAMES, GAMMA, SMALL, odd_images  # noqa: E402
 from processes import children, seen  # noqa: E402
 from test_audit import p3_of_letters  # noqa: E402
 
@@ -69,6 +70,15 @@ class Files(Case):
         self.assertIsNone(errors["bomb.png"])
         self.assertIsNone(errors["text.png"])
         self.assertIsNone(errors["whole.png"])
+
+    def test_images_that_a_browser_shows_otherwise(self):
+        """No verdict is that of another picture than the one that a browser shows."""
+        odd = {image.name: image.data for image in odd_images()}
+        why = {"png-cross-16-clear": BITS, "png-grey-gamma": GAMMA, "apng-hidden": FRAMES, "gif-cross": SMALL}
+        for name in why:
+            self.put(f"{name}.{'gif' if name == 'gif-cross' else 'png'}", odd[name])
+        errors = self.errors("--allow", "9")
+        self.assertEqual({name[:-4]: error for name, error in errors.items()}, {name: f"the image is refused: {reason}" for name, reason in why.items()})
 
     def test_the_same_files_give_the_same_bytes(self):
         # What a decoder says may have the address of an object in it.
@@ -220,6 +230,19 @@ class Strangers(Case):
         self.assertEqual({name: row.get("error") for name, row in rows.items()}, {"mine/folder": "this is a link", "mine/out.ppm": "this is a link", "mine/sub/in.ppm": None})
         self.assertEqual([row.get("error") for row in self.rows_of("mine", "--untrusted").values()], ["this is a link"])
         self.assertEqual([row.get("error") for row in self.rows_of("site/sub/..", "--untrusted").values()].count("this is a link"), 5)
+
+    def test_sizes_are_bounded_before_anything_is_read(self):
+        # Files with holes: read, they would take more memory than there is.
+        told = self.folder / "told"
+        told.mkdir()
+        for name, place in (("one", self.put("one.ppm", "")), ("two", told / "two.cert"), ("three", told / "three.givens")):
+            self.put(f"{name}.ppm", p3(UNIQUE))
+            with open(place, "wb") as file:
+                file.truncate(1 << 36)
+        rows = self.rows_of("site", "--untrusted", "--certificates", "told", "--givens", "told", status=3)
+        self.assertEqual({name: row["error"] for name, row in rows.items()}, {
+            "one.ppm": "more than 16777216 bytes", "three.ppm": "its givens: more than 16777216 bytes", "two.ppm": "its certificate: more than 16777216 bytes",
+        })
 
     @pytest.mark.since("0.7.0")
     def test_no_links_in_the_operators_folders(self):

@@ -5,6 +5,7 @@ What each odd image shows is known from how it was made (odd_images.py). Where t
 
 import json
 import os
+import re
 import shutil
 import subprocess
 import sys
@@ -47,6 +48,11 @@ class Reading(unittest.TestCase):
     def test_there_are_many(self):
         self.assertGreaterEqual(len({odd.data for odd in ODD}), 300)
         self.assertEqual({odd.reason for odd in ODD}, {"", BROKEN, *REASONS})
+
+    def test_formats_names_each_reason(self):
+        formats = (HERE.parent.parent / "docs" / "FORMATS.md").read_text(encoding="utf-8")
+        section = formats.split("### Images that an audit refuses")[1].split("\n## ")[0]
+        self.assertEqual(set(re.findall(r"(?m)^\| `([^`]+)` \|", section)), {*REASONS, "damaged", "of a kind that is not read"})
 
     def test_as_a_browser_shows_them(self):
         browser = os.environ.get("CHROMIUM", "chromium")

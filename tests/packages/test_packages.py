@@ -273,8 +273,10 @@ def test_deb(made, pairs, version, tmp_path):
 def test_deb_scripts(made, tmp_path):
     needs('dpkg-deb')
     passes(['dpkg-deb', '-x', next(made.glob('*.deb')), tmp_path])
-    run = clean([tmp_path / 'usr/bin/nonobench-check-site', tmp_path / 'usr/share/doc/nonobench/examples'])
+    shown = tmp_path / 'usr/share/doc/nonobench'
+    run = clean([tmp_path / 'usr/bin/nonobench-check-site', shown / 'examples'])
     assert run.status == 0, run
+    assert (shown / 'docs/RECIPES.md').read_bytes() == (ROOT / 'docs' / 'RECIPES.md').read_bytes()
 
 
 def test_deb_by_lintian(made):
