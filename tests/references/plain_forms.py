@@ -213,10 +213,17 @@ def read_certificate(data):
 
 
 class Tree:
-    """Where a `nonocert` is: `places` are the branches that have not ended, the one at hand last."""
+    """Where a `nonocert` is: `places` are the branches that have not ended, the one at hand last; `nests` says in how many splits
+    each of them stands."""
 
     def __init__(self, puzzle, facts):
-        self.puzzle, self.places = puzzle, [facts]
+        self.puzzle, self.places, self.nests = puzzle, [facts], [0]
+        self.splits, self.depth = 0, 0
+
+    def end(self):
+        """Ends the branch at hand."""
+        self.places.pop()
+        self.nests.pop()
 
     def step(self, name, *words):
         """The name of the error, or None."""
@@ -226,12 +233,16 @@ class Tree:
         if name == 'split':
             if (x := puzzle.cell(*words)) is None:
                 return 'Place'
-            self.places.pop()
-            self.places += [[*facts[:x], 1 << k, *facts[x + 1 :]] for k in range(15, -1, -1) if facts[x] >> k & 1]
+            nest = self.nests[-1] + 1
+            self.end()
+            branches = [[*facts[:x], 1 << k, *facts[x + 1 :]] for k in range(15, -1, -1) if facts[x] >> k & 1]
+            self.places += branches
+            self.nests += [nest] * len(branches)
+            self.splits, self.depth = self.splits + 1, max(self.depth, nest)
         elif name == 'done':
             if not puzzle.is_done(facts):
                 return 'NotDone'
-            self.places.pop()
+            self.end()
         elif words not in puzzle.lines:
             return 'Place'
         elif name == 'line':
@@ -239,7 +250,7 @@ class Tree:
         elif not puzzle.is_dead(facts, words):
             return 'NotDead'
         else:
-            self.places.pop()
+            self.end()
         return None
 
 
@@ -249,6 +260,9 @@ class Lemmas(Tree):
     def __init__(self, puzzle, facts):
         super().__init__(puzzle, facts)
         self.kept, self.begun, self.literals, self.total, self.may_deny = {}, 0, None, 0, False
+
+    def end(self):
+        self.places.pop()
 
     def step(self, name, *words):
         may_deny, self.may_deny = self.may_deny, name in ('lemma', 'deny')
@@ -293,6 +307,8 @@ class Lemmas(Tree):
             self.places.pop()
         elif fault := super().step(name, *words):
             return fault
+        self.splits += name in ('part', 'lemma')
+        self.depth = max(self.depth, len(self.places) - 1)
         if len(self.places) == 1 and self.literals is not None:
             self.kept[self.begun] = self.literals
             self.literals = None
@@ -307,7 +323,8 @@ def start(puzzle, form, givens):
 
 
 def check(puzzle, data, published=None):
-    """The givens of a right certificate."""
+    """How many givens a right certificate has, how many splits, and how deep they stand: in a tree, how many stand in each other; with
+    lemmas, parts and lemmas, and the most that waits."""
     form, givens, steps, lines = read_certificate(data)
     cells = [puzzle.cell(*given) for given in givens]
     if None in cells:
@@ -321,7 +338,7 @@ def check(puzzle, data, published=None):
     for at, given in enumerate(givens, 2):
         if published is not None and given not in published:
             raise Fault('UnpublishedGiven', at)
-    return givens
+    return len(givens), state.splits, state.depth
 
 
 def read_published(puzzle, data):
@@ -350,10 +367,10 @@ def answer(picture, certificate, published=None):
     except Fault as fault:
         return f'givens {fault.name} at line {fault.place}'
     try:
-        givens = check(puzzle, certificate, cells)
+        givens, splits, depth = check(puzzle, certificate, cells)
     except Fault as fault:
         return f'{fault.name} at line {fault.place}'
-    return f'accepted, givens {len(givens)}' if givens else 'accepted'
+    return f'accepted{f", givens {givens}" if givens else ""}, splits {splits}, depth {depth}'
 
 
 # Texts: certificates from walks through the checker itself, mostly along right steps; then the same with changes.
@@ -542,13 +559,16 @@ def shown(rows):
 
 
 def worked():
-    """The texts of tests/cases, with the answers that are written there."""
+    """The texts of tests/cases, with the answers that are written there, and with the figures of those that are graded."""
     for kind in ('certificates', 'lemmas'):
         for line in (Path(__file__).parents[1] / 'cases' / f'{kind}.case').read_text().splitlines():
             if line and line[0] != '#':
                 asked, told = line.split(' => ')
                 rows, text = asked.split(' ', 1)
                 yield shown(rows), text.encode().decode('unicode_escape').encode('latin-1'), re.sub('^(! )?certificate ', '', told)
+    grades = (Path(__file__).parents[1] / 'cases/grade.case').read_text()
+    for rows, text, figures in re.findall(r'^([.ab/]+) (?:map \S+ )?cert (.*) => .*(, splits \d+, depth \d+)$', grades, re.M):
+        yield shown(rows), text.encode().decode('unicode_escape').encode('latin-1'), f'accepted{figures}'
 
 
 def longest():
@@ -565,28 +585,32 @@ def longest():
     two, blank = shown('a./.b'), shown('/'.join(['.' * 40] * 40))
     return [
         (two, lines(form, ([wide], depth)), f'Ended at line {depth + 2}'),
-        (two, lines(form, ([wide], depth), (dies, 1), ([b'dead c 1'], depth - 1), (end, 1)), 'accepted'),
+        (two, lines(form, ([wide], depth), (dies, 1), ([b'dead c 1'], depth - 1), (end, 1)),
+         f'accepted, splits {depth}, depth {depth}'),
         (two, lines(form, ([b'part 1 1 .bcdefghijklmno', *end, b'line r 1', b'line c 2'], 1), ([b'lemma', b'dead r 1'], many),
-                    ([b'dead l 1'], 1)), 'accepted'),
+                    ([b'dead l 1'], 1)), f'accepted, splits {many + 1}, depth 1'),
         (two, lines(form, ([b'lemma'], 1), ([deny], 1025)), 'Full at line 1027'),
         (two, lines(form, (full, 1), ([b'lemma', deny], 1)), f'Full at line {64 * 1027 + 3}'),
-        (two, lines(form, (full, 1), ([b'drop 1', b'lemma', deny, *dies, b'use 65', *end], 1)), 'accepted'),
-        (two, lines(form, (full, 1), ([wide], 1), ([b'use 1'], 10_000), ([b'dead l 1', *end], 1)), 'accepted'),
-        (two, lines(form, ([b'lemma', deny, *dies], 60_000), ([b'use 60000', *end], 1)), 'accepted'),
-        (shown('a./.a'), lines(b'nonocert 2', ([b'given 1 1'], 1), ([b'split 1 1'], 1_000_000), (end, 1)), 'accepted, givens 1'),
+        (two, lines(form, (full, 1), ([b'drop 1', b'lemma', deny, *dies, b'use 65', *end], 1)), 'accepted, splits 65, depth 1'),
+        (two, lines(form, (full, 1), ([wide], 1), ([b'use 1'], 10_000), ([b'dead l 1', *end], 1)), 'accepted, splits 65, depth 1'),
+        (two, lines(form, ([b'lemma', deny, *dies], 60_000), ([b'use 60000', *end], 1)), 'accepted, splits 60000, depth 1'),
+        (shown('a./.a'), lines(b'nonocert 2', ([b'given 1 1'], 1), ([b'split 1 1'], 1_000_000), (end, 1)),
+         'accepted, givens 1, splits 1000000, depth 1000000'),
         (blank, lines(b'nonocert 1', splits), 'Ended at line 100002'),
         (blank, lines(b'nonocert 1', splits, (ends[:-1], 1)), 'Ended at line 124002'),
-        (blank, lines(b'nonocert 1', splits, (ends, 1)), 'accepted'),
+        (blank, lines(b'nonocert 1', splits, (ends, 1)), 'accepted, splits 100000, depth 100000'),
     ]
 
 
 def main(program, seed='1', count='4000'):
     cases = [(b'P3 1 1 9 9 9 9', '\n'.join(lines).encode(), None) for lines in bounds()]
     cases += seeded(random.Random(int(seed)), int(count))
-    told = list(worked())
-    for picture, text, wanted in told:
-        if answer(picture, text) != wanted:
-            sys.exit(f'{text}\nplain_forms: {answer(picture, text)}\ntests/cases: {wanted}')
+    told = []
+    for picture, text, wanted in worked():
+        found = answer(picture, text)
+        if wanted not in (found, found.split(', splits')[0]):
+            sys.exit(f'{text}\nplain_forms: {found}\ntests/cases: {wanted}')
+        told.append((picture, text, found))
     told += longest()
     wanted = [answer(*case) for case in cases] + [one for _, _, one in told]
     cases += [(picture, text, None) for picture, text, _ in told]

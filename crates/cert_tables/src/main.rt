@@ -1,10 +1,11 @@
-//! A program for tests and for measuring: it checks certificates of every form. Each line of standard input names the files of a P3
-//! picture, of a certificate and, if its givens are to be compared, of the givens that are published, with single spaces between
-//! them. What the checker answers is printed.
+//! A program for tests and for measuring: it checks certificates of every form, and takes their figures. Each line of standard input
+//! names the files of a P3 picture, of a certificate and, if its givens are to be compared, of the givens that are published, with
+//! single spaces between them. What the checker answers is printed, with the figures of a certificate that it accepts.
 #![tactic(auto)]
 
 use anyhow::Result;
 use cert_check::{check_cert, check_published};
+use cert_figures::{Guesses, guesses_of};
 use cert_text::{CertFault, read_cert};
 use givens_text::published_cells;
 use line_settle::MaskEngine;
@@ -49,11 +50,16 @@ fn tell(rt: &(impl AllocGlobal + Print + Files), file: &str, rest: &str) -> Resu
     }
 }
 
-// Prints how many givens a certificate has that is accepted, or its first error.
-fn print_answer(rt: &impl Print, answer: Result<usize, CertFault>) -> Result<()> {
+// Prints how many givens a certificate has that is accepted, and its figures; or its first error.
+fn print_answer(rt: &impl Print, answer: Result<(usize, Guesses), CertFault>) -> Result<()> {
     match answer {
-        Ok(0) => println!(rt; "accepted")?,
-        Ok(givens) => println!(rt; "accepted, givens {givens}")?,
+        Ok((givens, Guesses { splits, depth })) => {
+            print!(rt; "accepted")?;
+            if givens > 0 {
+                print!(rt; ", givens {givens}")?;
+            }
+            println!(rt; ", splits {splits}, depth {depth}")?;
+        }
         Err(fault) => {
             let line = fault.place().unwrap_or(0);
             println!(rt; "{} at line {line}", fault.name())?;
@@ -62,13 +68,13 @@ fn print_answer(rt: &impl Print, answer: Result<usize, CertFault>) -> Result<()>
     Ok(())
 }
 
-// How many givens a certificate has, if it is accepted and names no other cells than those that are published.
+// How many givens a certificate has, and its figures, if it is accepted and names no other cells than those that are published.
 fn checked(
     alloc: Global,
     picture: &Picture,
     text: &[u8],
     published: Option<&CellSet>,
-) -> Result<usize, CertFault> {
+) -> Result<(usize, Guesses), CertFault> {
     let cert = read_cert(alloc, text)?;
     let _ = picture.height();
     let mut engine = MaskEngine::make(alloc, MAX_SIDE)?;
@@ -76,5 +82,6 @@ fn checked(
         None => check_cert(alloc, &mut engine, picture, &cert)?,
         Some(cells) => check_published(alloc, &mut engine, picture, &cert, cells)?,
     }
-    Ok(cert.givens().len())
+    let guesses = guesses_of(alloc, &mut engine, picture, &cert)?;
+    Ok((cert.givens().len(), guesses))
 }
