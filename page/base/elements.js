@@ -21,6 +21,9 @@ export const make = (name, attributes = {}, ...children) => {
   return element;
 };
 
+/** Makes a choice of some values, pairs of a value and its text; one may be chosen at first. */
+export const choiceOf = (attributes, options, chosen = null) => make('select', attributes, ...options.map(([value, text]) => make('option', { value, selected: value === chosen }, text)));
+
 /** Makes a part of an SVG drawing. */
 export function svgPart(name, attributes, ...children) {
   const element = document.createElementNS('http://www.w3.org/2000/svg', name);

@@ -4,6 +4,8 @@ import { hexOf, lightness, tintOf } from '../document/colours.js';
 import { columnOf, eightBitDoc, rowOf } from '../document/document.js';
 import { LETTERS } from '../document/limits.js';
 import { coloursOf, drawClue, drawGiven, drawRules, drawSign, edges, textSize, wholeFrame } from './board.js';
+import { penOf } from './small.js';
+import { CanvasSurface } from './surface.js';
 
 export const PAPER_INK = '#1a1a1a';
 export const PAPER_FAMILY = 'system-ui, "Liberation Sans", "DejaVu Sans", sans-serif';
@@ -62,6 +64,15 @@ export function drawPaper(surface, puzzle, { x, y, cell, show = 'colours', solut
   if (!solution) for (const [row, col] of givensIn(board)) drawGiven(surface, frame.x + col * cell, frame.y + row * cell, cell);
   if (hasClues) drawPaperClues(board, puzzle.clues);
   if (hasNumbers) drawPaperNumbers(board);
+}
+
+/** The empty puzzle on a white canvas of its own, as a surface. */
+export function canvasPaper(puzzle, cell) {
+  const { width, height } = sizeOfPaper(puzzle);
+  const surface = new CanvasSurface(penOf(Math.ceil(width * cell), Math.ceil(height * cell)));
+  surface.rect(0, 0, surface.pen.canvas.width, surface.pen.canvas.height, '#fff');
+  drawPaper(surface, puzzle, { x: 0, y: 0, cell });
+  return surface;
 }
 
 /** How large the smallest text of the clues is on paper, by the side of a cell. */

@@ -4,9 +4,8 @@
 import { $, make, say } from '../base/elements.js';
 import { bareName, clamp } from '../base/words.js';
 import { docOf, eightBitDoc, sameDoc } from '../document/document.js';
-import { drawPaper, sizeOfPaper } from '../draw/papers.js';
-import { drawSmall, penOf } from '../draw/small.js';
-import { CanvasSurface } from '../draw/surface.js';
+import { canvasPaper } from '../draw/papers.js';
+import { drawSmall } from '../draw/small.js';
 import { bench } from '../engine/bench.js';
 import { ppmTextOf } from '../formats/ppm_notes.js';
 import { writeZip } from '../formats/zip.js';
@@ -42,19 +41,11 @@ async function exportPicture(side) {
   exportPng(canvas, side === 1 ? '-cells' : '-picture');
 }
 
-function puzzleImage(puzzle, cell) {
-  const { width, height } = sizeOfPaper(puzzle);
-  const surface = new CanvasSurface(penOf(Math.ceil(width * cell), Math.ceil(height * cell)));
-  surface.rect(0, 0, surface.pen.canvas.width, surface.pen.canvas.height, '#fff');
-  drawPaper(surface, puzzle, { x: 0, y: 0, cell });
-  return surface.pen.canvas;
-}
-
 async function exportEmpty() {
   await asSeen();
   const near = nearText(bench.state);
   if (near) return say(phrase('export.coloursPuzzleCannotTold', { near }), 'alarm');
-  return exportPng(puzzleImage(atHand(), pngCell(bench.state)), '-puzzle', warningText());
+  return exportPng(canvasPaper(atHand(), pngCell(bench.state)).pen.canvas, '-puzzle', warningText());
 }
 
 async function exportText(form) {

@@ -1,6 +1,6 @@
 // Print for books: the picture at hand, and on wish others of the library, as sheets, for the browser's print or as SVG.
 
-import { $, make, say } from '../base/elements.js';
+import { $, choiceOf, make, say } from '../base/elements.js';
 import { clamp, sizeText } from '../base/words.js';
 import { docOf } from '../document/document.js';
 import { smallestText } from '../draw/papers.js';
@@ -65,7 +65,7 @@ function saveSvg(sheets) {
 
 // ---- what is asked
 
-const choice = (id, options, value) => make('select', { id }, ...Object.entries(options).map(([name, text]) => make('option', { value: name, selected: name === String(value) }, text)));
+const choice = (id, options, value) => choiceOf({ id }, Object.entries(options), String(value));
 
 // Puzzles come in the order of their names, as they are called in the library: "2 cat" before "10 dog".
 const byName = (one, other) => one.name.localeCompare(other.name, LANGUAGE, { numeric: true });

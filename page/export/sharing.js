@@ -1,6 +1,6 @@
 // Links: the puzzle at hand in an address, to be solved or to be changed. Nothing is sent anywhere.
 
-import { make, say } from '../base/elements.js';
+import { choiceOf, make, say } from '../base/elements.js';
 import { docOf } from '../document/document.js';
 import { bench } from '../engine/bench.js';
 import { fragmentOf } from '../formats/link.js';
@@ -49,7 +49,7 @@ async function share() {
   const doc = docOf(bench.state);
   const title = doc.about.title || bench.name;
   const fragments = { [PLAY]: await fragmentOf(doc, PLAY), [EDIT]: await fragmentOf(doc, EDIT) };
-  const kind = make('select', { id: 'share-kind' }, ...Object.entries(KINDS).map(([value, name]) => make('option', { value }, name)));
+  const kind = choiceOf({ id: 'share-kind' }, Object.entries(KINDS));
   const address = make('input', { type: 'url', id: 'share-address', value: ownAddress(), placeholder: 'https://example.org/nonobench.html' });
   const field = make('textarea', { id: 'share-link', readonly: true, rows: 4, cols: 60 });
   const note = make('p', { id: 'share-note', class: 'faint', role: 'status' });

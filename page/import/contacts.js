@@ -8,7 +8,7 @@ import { Judge } from '../engine/judging.js';
 import { verdictName } from '../grade/names.js';
 import { phrase } from '../texts/phrase.js';
 import { openDialog } from '../view/dialogs.js';
-import { coloursApart } from './proposing.js';
+import { docApart } from './proposing.js';
 
 const SIDES = [15, 20, 25, 30, 40]; // cells of the longer side
 const COUNTS = [2, 3, 4, 6, 8, 12]; // of colours with the background
@@ -27,8 +27,7 @@ export function sizesFor({ width, height }, own) {
 export function docsFor(size, docOf) {
   const docs = new Map();
   for (const count of COUNTS) {
-    const colours = coloursApart(count, (number) => docOf(size, number));
-    const doc = docOf(size, colours);
+    const { colours, doc } = docApart(count, (number) => docOf(size, number));
     const key = [...doc.picture, ...doc.colours].join();
     if (!docs.has(key)) docs.set(key, { size, colours, doc });
   }

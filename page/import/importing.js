@@ -19,7 +19,7 @@ import { isTransparent, scaledTo } from './images.js';
 import { Inks } from './inks.js';
 import { Judging, judgedText } from './judging.js';
 import { Maker } from './making.js';
-import { coloursApart, proposalFor, withoutMargin } from './proposing.js';
+import { docApart, proposalFor, withoutMargin } from './proposing.js';
 import { thresholdFor, toned } from './tone.js';
 
 const TEXT = {
@@ -68,7 +68,7 @@ class Importing {
     Object.assign(this, { frame: 0, timer: 0, spent: 0 });
     this.make();
     this.change();
-    this.colours.value = coloursApart(this.proposal.colours, (colours) => this.maker.doc(this.part(), this.size, { ...this.options(), colours }));
+    this.colours.value = docApart(this.proposal.colours, (colours) => this.maker.doc(this.part(), this.size, { ...this.options(), colours })).colours;
     this.showFields();
   }
 

@@ -1,7 +1,7 @@
 // Palette files beside a picture that is open: their colours are added, or the picture's become the nearest of them; and the picture's
 // colours as such a file.
 
-import { make, say } from '../base/elements.js';
+import { choiceOf, make, say } from '../base/elements.js';
 import { cleanName } from '../base/words.js';
 import { hexOf, isAmong, nameOf } from '../document/colours.js';
 import { eightBitDoc } from '../document/document.js';
@@ -92,7 +92,7 @@ export function paletteOf(doc, name) {
 }
 
 async function savePalette() {
-  const choice = make('select', { 'aria-label': TEXT.format, id: 'palette-kind' }, ...Object.entries(TEXT.kinds).map(([kind, name]) => make('option', { value: kind }, name)));
+  const choice = choiceOf({ 'aria-label': TEXT.format, id: 'palette-kind' }, Object.entries(TEXT.kinds));
   const kind = await openDialog({ title: TEXT.save.replace(' …', ''), content: make('label', {}, TEXT.format, choice), buttons: [{ name: TEXT.save.split(' ')[0], value: () => choice.value, main: true }] });
   if (!kind) return;
   await asSeen();

@@ -37,11 +37,14 @@ function dotsOf(image) {
   return { columns, rows, dot, sharp: true, cells, colours: coloursFor(cells, { isExact: true, some: MOST_COLOURS }) };
 }
 
-/** At most so many colours that no two which cells have look alike; at least two. `docOf` makes the document with a number of colours. */
-export function coloursApart(most, docOf) {
-  let colours = most;
-  while (colours > 2 && nearPairs(docOf(colours)).length) colours--;
-  return colours;
+/**
+ * A document with at most so many colours of which no two that cells have look alike, but at least two, and how many these are. `docOf`
+ * makes the document with a number of colours.
+ */
+export function docApart(most, docOf) {
+  let [colours, doc] = [most, docOf(most)];
+  while (colours > 2 && nearPairs(doc).length) doc = docOf(--colours);
+  return { colours, doc };
 }
 
 /** What the dialog proposes for an image, where colours that look alike are not made fewer yet: one cell a dot of a pixel picture, else 40 cells on the longer side. */
@@ -58,7 +61,7 @@ export function docProposed(image) {
   const proposal = proposalFor(image);
   const maker = new Maker();
   const docOf = (colours) => maker.doc({ image, box: { x: 0, y: 0, width: image.width, height: image.height } }, [proposal.columns, proposal.rows], { ...proposal, colours });
-  return docOf(coloursApart(proposal.colours, docOf));
+  return docApart(proposal.colours, docOf).doc;
 }
 
 /**
@@ -73,7 +76,7 @@ export function docByItself(image, background = null) {
   if (exact || background) return exact;
   const all = spotsOf(dots.cells).length + Number(hasClear(dots.cells));
   const docOf = (colours) => docOfCells(dots.cells, { ...dots, colours });
-  return { ...docOf(all > dots.colours ? coloursApart(dots.colours, docOf) : dots.colours), all };
+  return { ...(all > dots.colours ? docApart(dots.colours, docOf).doc : docOf(dots.colours)), all };
 }
 
 /** The part of an image without the lines at its edges that are transparent, or of the colour of its corner, all along. */

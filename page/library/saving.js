@@ -1,7 +1,7 @@
 // Saving: Ctrl+S writes the document under the file's name, by the browser's file access where it has one, else as a download.
 // A new document is saved as Web Paint-by-Number's XML, which holds all of it; what was opened as PPM or .non is saved as that.
 
-import { $, make, say } from '../base/elements.js';
+import { $, choiceOf, make, say } from '../base/elements.js';
 import { behindFrame, on } from '../base/events.js';
 import { bareName } from '../base/words.js';
 import { docOf, eightBitDoc } from '../document/document.js';
@@ -140,7 +140,7 @@ export async function saveAs() {
   checkForm();
   if (globalThis.showSaveFilePicker) return saveByPicker();
   const name = make('input', { type: 'text', value: bench.name, maxlength: '80' });
-  const form = make('select', {}, ...DOCUMENT_FORMS.map((one) => make('option', { value: one, selected: one === saving.form }, SAVE_TYPES[one].what)));
+  const form = choiceOf({}, DOCUMENT_FORMS.map((one) => [one, SAVE_TYPES[one].what]), saving.form);
   const content = make('div', { class: 'rows' }, make('label', {}, phrase('view.name'), name), make('label', {}, phrase('library.form'), form));
   if (!(await openDialog({ title: phrase('library.saveAs'), content, buttons: [{ name: phrase('library.save'), value: true, main: true }] }))) return false;
   bench.name = bareName(name.value);

@@ -6,10 +6,18 @@ import { puzzleOf } from './hints.js';
 
 const SLICE = 40; // milliseconds of work at a time
 
+/** Works on a path for some milliseconds. */
+export function workOn(walk, milliseconds) {
+  const until = performance.now() + milliseconds;
+  walk.grow(() => performance.now() < until);
+}
+
+/** A path that goes on by a certificate, where lines alone do not end it. */
+export const followed = (walk, tree) => walk.and([...treeSteps(walk.puzzle, tree), onlyStep(walk.puzzle)]);
+
 async function lengthen(walk) {
   while (!walk.isWhole) {
-    const until = performance.now() + SLICE;
-    walk.grow(() => performance.now() < until);
+    workOn(walk, SLICE);
     await new Promise((go) => { setTimeout(go); });
   }
 }
@@ -20,6 +28,6 @@ export async function pathOf(state) {
   const walk = new Walk(puzzle, easiestSteps(puzzle));
   await lengthen(walk);
   const tree = state.open > 0 && state.verdict.word === 'unique' ? await searches.certify() : null;
-  if (tree) await lengthen(walk.and([...treeSteps(puzzle, tree), onlyStep(puzzle)]));
+  if (tree) await lengthen(followed(walk, tree));
   return walk;
 }

@@ -1,14 +1,15 @@
 // Walk through: the solving path on the field, step by step, with a slider, the hardest step, and the heat map.
 
-import { $, make } from '../base/elements.js';
+import { $, choiceOf, make } from '../base/elements.js';
 import { clamp } from '../base/words.js';
 import { LETTERS } from '../document/limits.js';
 import { nameOf } from '../document/colours.js';
 import { phrase } from '../texts/phrase.js';
 import { runAction } from '../view/actions.js';
 import { searches } from '../view/verdict.js';
-import { Walk, bookSteps, easiestSteps, onlyStep, roundsOf, treeSteps } from '../walk/steps.js';
+import { Walk, bookSteps, easiestSteps, roundsOf } from '../walk/steps.js';
 import { puzzleOf, stepText } from './hints.js';
+import { followed, workOn } from './path.js';
 import { play, playSays } from './play.js';
 import { drawPlay } from './playdraw.js';
 
@@ -33,7 +34,7 @@ export function walkBar() {
     make('input', { type: 'range', id: 'walk-at', min: 0, value: 0, 'aria-label': phrase('play.step'), oninput: (event) => goTo(Number(event.target.value)) }),
     button('walk-on', '▸', () => goTo(walking.at + 1), { 'aria-label': phrase('play.stepOn') }),
     button('walk-play', phrase('play.playSteps'), turnPlaying), button('walk-hardest', phrase('play.hardestStep'), () => goTo(walking.walk.hardest)),
-    make('label', {}, phrase('play.order'), make('select', { id: 'walk-order', onchange: (event) => takeOrder(event.target.value) }, ...ORDERS.map(([value, name]) => make('option', { value }, name)))),
+    make('label', {}, phrase('play.order'), choiceOf({ id: 'walk-order', onchange: (event) => takeOrder(event.target.value) }, ORDERS)),
     make('label', {}, make('input', { type: 'checkbox', id: 'walk-heat', onchange: showHeat }), phrase('play.heatMap')),
     button('walk-save', 'GIF', () => runAction('export-path'), { title: phrase('play.savePath'), 'aria-label': phrase('play.savePath') }),
     button('walk-end', phrase('play.solveYourself'), endWalk));
@@ -74,18 +75,13 @@ async function complete(walk) {
   const tree = await searches.certify();
   if (!isShown(walk)) return;
   walking.isToCome = false;
-  if (tree) await lengthen(walk.and([...treeSteps(walk.puzzle, tree), onlyStep(walk.puzzle)]));
+  if (tree) await lengthen(followed(walk, tree));
   else showLength();
 }
 
 const isShown = (walk) => walking.walk === walk && $('walk-bar') !== null;
 // Whether all steps of the path are known.
 const isKnown = () => walking.walk.isWhole && !walking.isToCome;
-
-function workOn(walk, milliseconds) {
-  const until = performance.now() + milliseconds;
-  walk.grow(() => performance.now() < until);
-}
 
 // Works out the rest of the path while its steps are looked at already.
 async function lengthen(walk) {

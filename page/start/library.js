@@ -1,6 +1,6 @@
 // The library on the start screen: all pictures that the browser keeps, to be found, opened, renamed, copied and taken away.
 
-import { $, make, say } from '../base/elements.js';
+import { $, choiceOf, make, say } from '../base/elements.js';
 import { on } from '../base/events.js';
 import { cleanName, sizeText } from '../base/words.js';
 import { smallPicture } from '../draw/small.js';
@@ -48,7 +48,7 @@ export function makeLibrary(goBack) {
   view.list = make('ul', { class: 'tiles', id: 'library' });
   view.room = make('p', { class: 'faint', id: 'room' });
   const search = make('input', { type: 'search', id: 'library-search', 'aria-label': phrase('start.searchName'), placeholder: phrase('start.search'), oninput: showCards });
-  const order = make('select', { id: 'library-order', 'aria-label': phrase('play.order'), onchange: showCards }, ...Object.entries(ORDERS).map(([value, [name]]) => make('option', { value }, name)));
+  const order = choiceOf({ id: 'library-order', 'aria-label': phrase('play.order'), onchange: showCards }, Object.entries(ORDERS).map(([value, [name]]) => [value, name]));
   view.section = make('section', { id: 'kept', class: 'card wide', 'aria-labelledby': 'kept-title', hidden: true },
     make('div', { class: 'library-head' }, make('h2', { id: 'kept-title' }, phrase('start.library')), search, order,
       make('button', { type: 'button', id: 'library-export', onclick: exportAll }, phrase('import.saveAllZip'))),

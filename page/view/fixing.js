@@ -1,7 +1,7 @@
 // Fix it, below the picture: proposals of cells to repaint, to give, or some of both, until the picture needs no guessing or is at least
 // the only solution. They are seen side by side, place by place; one click takes one, and one undo takes it back.
 
-import { $, make, say } from '../base/elements.js';
+import { $, choiceOf, make, say } from '../base/elements.js';
 import { on, tell } from '../base/events.js';
 import { number } from '../base/words.js';
 import { placeOf, sameBenchPart } from '../document/document.js';
@@ -38,8 +38,7 @@ const isOfThis = () => fixing.of !== null && bench.state !== null && sameBenchPa
 /** Whether there is something to mend. */
 export const canFix = () => bench.state !== null && (bench.state.verdict.word !== 'unique' || bench.state.open > 0);
 
-const option = (chosen) => ([value, name]) => make('option', { value, selected: value === chosen }, name);
-const choice = (id, values, chosen, change) => make('select', { id, onchange: (event) => change(event.target.value) }, ...values.map(option(chosen)));
+const choice = (id, values, chosen, change) => choiceOf({ id, onchange: (event) => change(event.target.value) }, values, chosen);
 const button = (id, name, run) => make('button', { type: 'button', id, onclick: run }, name);
 
 export function openFix() {

@@ -1,6 +1,6 @@
 // The tool bar, and the panels for the cell that is pointed at and for its row and column.
 
-import { $, make, say, svgPart } from '../base/elements.js';
+import { $, choiceOf, make, say, svgPart } from '../base/elements.js';
 import { on } from '../base/events.js';
 import { radioGroup } from '../base/radios.js';
 import { MOST_CELLS } from '../document/limits.js';
@@ -14,7 +14,7 @@ import { setDown } from './select.js';
 import { TOOLS, sendStroke, tools, useSymmetry, useTool } from './tools.js';
 
 const SYMMETRY_NAMES = { none: phrase('view.noSymmetry'), across: phrase('view.leftRight'), down: phrase('view.topBottom'), both: phrase('view.both'), quarter: phrase('view.quarterTurns') };
-const bar = { row: make('div', { id: 'tool-row', role: 'radiogroup', 'aria-label': phrase('view.tool') }), hint: make('p', { id: 'hint', class: 'faint' }), symmetry: make('select', { id: 'symmetry', 'aria-label': phrase('view.symmetry'), title: phrase('view.symmetricPens') }, ...Object.entries(SYMMETRY_NAMES).map(([kind, name]) => make('option', { value: kind }, name))) };
+const bar = { row: make('div', { id: 'tool-row', role: 'radiogroup', 'aria-label': phrase('view.tool') }), hint: make('p', { id: 'hint', class: 'faint' }), symmetry: choiceOf({ id: 'symmetry', 'aria-label': phrase('view.symmetry'), title: phrase('view.symmetricPens') }, Object.entries(SYMMETRY_NAMES)) };
 
 // The picture of a tool beside its name: lines on a field of 16 by 16.
 function iconOf(name, { icon }) {

@@ -1,7 +1,7 @@
 // The panel that tells the verdict: its words, the second picture, hatching with its legend, the time of searches, and the
 // line that tells what is searched.
 
-import { $, make, say } from '../base/elements.js';
+import { $, choiceOf, make, say } from '../base/elements.js';
 import { on } from '../base/events.js';
 import { cellsThatDiffer } from '../document/shapes.js';
 import { sheet } from '../draw/sheet.js';
@@ -50,9 +50,6 @@ export const searches = new Searches({
 
 // ---- the panel
 
-const option = ([value, name]) => make('option', { value }, name);
-const choiceOf = (id, values, change) => make('select', { id, onchange: (event) => change(event.target.value) }, ...values.map(option));
-
 function makeVerdictPanel() {
   $('audit').append(
     make('div', { id: 'verdict-line' }, make('h2', { id: 'verdict' }, '…'), make('span', { id: 'verdict-short' }),
@@ -62,9 +59,9 @@ function makeVerdictPanel() {
       make('p', { id: 'verdict-why' }),
       make('div', { id: 'verdict-do', class: 'group' }),
       make('dl', {}, make('dt', { id: 'grade-name' }, phrase('view.gradeNotProved')), make('dd', { id: 'grade' }), make('dt', { id: 'open-name' }, phrase('view.needGuessing')), make('dd', { id: 'open' }), make('dt', {}, phrase('view.cluesChanged')), make('dd', { id: 'changed' })),
-      make('p', {}, make('label', {}, phrase('view.show'), choiceOf('hatching', HATCHINGS, (value) => setHatching(value)))),
+      make('p', {}, make('label', {}, phrase('view.show'), choiceOf({ id: 'hatching', onchange: (event) => setHatching(event.target.value) }, HATCHINGS))),
       make('p', { id: 'legend', class: 'faint' }),
-      make('p', {}, make('label', {}, phrase('view.searchTime'), choiceOf('seconds', TIMES, setSeconds)))),
+      make('p', {}, make('label', {}, phrase('view.searchTime'), choiceOf({ id: 'seconds', onchange: (event) => setSeconds(event.target.value) }, TIMES)))),
   );
   $('audit').append(make('p', { id: 'verdict-heard', class: 'unseen', role: 'status' }));
   $('seconds').value = verdictView.seconds;

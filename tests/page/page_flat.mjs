@@ -8,7 +8,7 @@ import { mergedNumbers, nearPairs } from '../../page/document/near.js';
 import { docsFor, sizesFor } from '../../page/import/contacts.js';
 import { countFlat } from '../../page/import/flat.js';
 import { Maker } from '../../page/import/making.js';
-import { coloursApart, proposalFor } from '../../page/import/proposing.js';
+import { docApart, proposalFor } from '../../page/import/proposing.js';
 import { ICONS, drawn } from './page_icons.mjs';
 
 const LEAST = 0.02; // of the area of an icon
@@ -90,7 +90,7 @@ function barsOf(triples) {
 const proposed = (image) => {
     const proposal = proposalFor(image);
     const docOf = (colours) => made(image, proposal.columns, { ...proposal, colours });
-    return docOf(coloursApart(proposal.colours, docOf));
+    return docApart(proposal.colours, docOf).doc;
 };
 
 test('what is proposed has no two colours that look alike', () => {
