@@ -159,7 +159,7 @@ export async function printedOnWhite({ browser, url, folder }) {
     assert.deepEqual(await printedPoints(page, [[0.002, 0.002], [0.002, 0.998], [0.5, 0.002]]), Array(3).fill('255,255,255'), 'the sheet');
     const fills = await page.run(() => [...document.querySelectorAll('.printed')].map((sheet) => [...sheet.querySelectorAll('rect')].filter((one) => !one.hasAttribute('stroke')).map((one) => one.getAttribute('fill'))));
     assert.ok(!fills[0].includes('#000028') && fills[1].includes('#000028'), 'the background is on the solution alone');
-    assert.match(await trial.text('.printed'), /red\s+white\s+background: dark blue/);
+    assert.match(await trial.text('.printed'), /red\s+white\s+background: very dark blue/);
     const { data } = await page.send('Page.printToPDF', { printBackground: true });
     writeFileSync(join(own, 'night.pdf'), Buffer.from(data, 'base64'));
     await page.close();
