@@ -1,0 +1,2 @@
+pub mod GradeText
+pub mod PathText

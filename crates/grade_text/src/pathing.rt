@@ -1,0 +1,78 @@
+//! A path as text: a line for each look that excluded something.
+
+ghost use Rattle.std.specs.Prelude.{◌≡◌, ◌%◌, ◌++◌, OnOk};
+ghost use Rattle.std.specs.List.{flat_map};
+ghost use Rattle.grade_text.specs.PathText.{fall_text, look_text, path_text};
+ghost use Rattle.report_text.specs.ClueText.{letter_of};
+ghost use Rattle.report_text.specs.Shown.{letter};
+
+use crate::numbers::push_numbers;
+use grade::{Advance, Fall, Path};
+use picture::{Axis, MAX_COLOURS};
+use std::alloc::AllocError;
+
+#[tactic(auto, using(std::proofs::lemmas::List::append_assoc))]
+/// Appends a path to a text: a line for each look, as `r 2 1 2 1=a 3=.`, and how many cells are open. Where memory is refused,
+/// a part may have been appended.
+pub fn push_path(text: &mut Vec<u8>, path: &Path) -> Result<(), AllocError>
+    ensures { OnOk result (text.new.items
+        ≡ text.old.items ++ path_text path.now.looks.items path.now.«open») }
+{
+    for look in &path.looks {
+        push_look(text, look)?;
+    }
+    text.extend_from_slice(b"open")?;
+    push_numbers(text, &[path.open])?;
+    Ok(text.push(b'\n')?)
+}
+
+#[tactic(auto, using(std::proofs::lemmas::List::append_assoc))]
+// A look: its line, the round, how many exclusions it made, and the cells that fell.
+fn push_look(text: &mut Vec<u8>, look: &Advance) -> Result<(), AllocError>
+    ensures { OnOk result (text.new.items ≡ text.old.items ++ look_text look.now) }
+{
+    let line = look.line();
+    text.push(axis_letter(line.axis))?;
+    let number = u64::from(line.at) + 1;
+    push_numbers(text, &[number, look.round(), u64::from(look.excluded())])?;
+    push_falls(text, look.falls())?;
+    Ok(text.push(b'\n')?)
+}
+
+// The cells that fell.
+fn push_falls(text: &mut Vec<u8>, falls: &[Fall]) -> Result<(), AllocError>
+    ensures { OnOk result (text.new.items ≡ text.old.items ++ flat_map fall_text falls.now) }
+{
+    for fall in falls {
+        push_fall(text, *fall)?;
+    }
+    Ok(())
+}
+
+#[tactic(auto, using(std::proofs::lemmas::List::append_assoc))]
+// A cell that fell: its place along the line, from 1, and the letter of its colour.
+fn push_fall(text: &mut Vec<u8>, fall: Fall) -> Result<(), AllocError>
+    ensures { OnOk result (text.new.items ≡ text.old.items ++ fall_text fall) }
+{
+    push_numbers(text, &[u64::from(fall.place) + 1])?;
+    text.push(b'=')?;
+    Ok(text.push(colour_letter(fall.colour))?)
+}
+
+// `r` for a row and `c` for a column.
+fn axis_letter(axis: Axis) -> u8
+    ensures { result ≡ letter_of axis }
+{
+    match axis {
+        Axis::Across => b'r',
+        Axis::Down => b'c',
+    }
+}
+
+// The letter of a colour, which is one of sixteen.
+fn colour_letter(colour: u8) -> u8
+    ensures { result ≡ letter (colour % 16) }
+{
+    let colour = colour % MAX_COLOURS;
+    if colour == 0 { b'.' } else { b'a' - 1 + colour }
+}
