@@ -28,7 +28,7 @@ returns-clause-few g c =
     let scene = scene_is c.args.book.now d.picture d.givens c.args.map.now c.height.ensures.picture c.requires.book c.requires.map in
     let parts = few_parts c.args.book.now d.givens c.args.map.now d.picture c.in_ok-keeper.keeper scene c.in_ok-keeper.ensures in
     let counts = c.judge.ensures.counts in
-    in_parts d.picture c.args.map.now c.args.allowance _ counts.0 _ _ scene.sound.same_shape parts counts.1.1 counts.1.0.calls
+    in_parts d.picture c.args.map.now c.args.allowance _ counts.0 _ _ scene.sound.same_shape parts counts.2 counts.1.calls
 
 pub returns-in_err-verdict-clause-few : goal.returns-in_err-verdict-clause-few
 returns-in_err-verdict-clause-few g c =
@@ -36,7 +36,7 @@ returns-in_err-verdict-clause-few g c =
     let scene = scene_is c.args.book.now d.picture d.givens c.args.map.now c.height.ensures.picture c.requires.book c.requires.map in
     let parts = few_parts c.args.book.now d.givens c.args.map.now d.picture c.in_ok-keeper.keeper scene c.in_ok-keeper.ensures in
     let counts = c.judge.ensures.counts in
-    in_parts d.picture c.args.map.now c.args.allowance _ counts.0 _ _ scene.sound.same_shape parts counts.1.1 counts.1.0.calls
+    in_parts d.picture c.args.map.now c.args.allowance _ counts.0 _ _ scene.sound.same_shape parts counts.2 counts.1.calls
 
 pub returns-in_err-judged-clause-few : goal.returns-in_err-judged-clause-few
 returns-in_err-judged-clause-few g c =
@@ -44,7 +44,7 @@ returns-in_err-judged-clause-few g c =
     let scene = scene_is c.args.book.now d.picture d.givens c.args.map.now c.height.ensures.picture c.requires.book c.requires.map in
     let parts = few_parts c.args.book.now d.givens c.args.map.now d.picture c.in_ok-keeper.keeper scene c.in_ok-keeper.ensures in
     let counts = c.judge.ensures.counts in
-    in_parts d.picture c.args.map.now c.args.allowance _ counts.0 _ _ scene.sound.same_shape parts counts.1.1 counts.1.0.calls
+    in_parts d.picture c.args.map.now c.args.allowance _ counts.0 _ _ scene.sound.same_shape parts counts.2 counts.1.calls
 
 pub returns-in_err-keeper-clause-few : goal.returns-in_err-keeper-clause-few
 returns-in_err-keeper-clause-few g c = no_calls c.args.document.now.picture c.args.allowance _
