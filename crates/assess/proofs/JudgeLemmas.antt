@@ -132,7 +132,7 @@ verdict_told {X = X} picture givens allowance map kept last clues result answer 
     let judges = subst (λ (c : Clues). Judges (board c map picture) allowance kept last k.0 k.1.1.searched k.1.1.splits) e k.1.1.is in
     let true_answer = subst (λ (c : Clues). IsAnswer c givens picture answer) e told in
     subst (IsVerdict picture givens allowance) (sym same)
-        (verdict_as picture givens allowance map kept last k.1.1.searched k.1.1.splits is_map starts answer k.0 k.1.0 judges true_answer)
+    (verdict_as picture givens allowance map kept last k.1.1.searched k.1.1.splits is_map starts answer k.0 k.1.0 judges true_answer)
 
 -- ---- an assessment
 

@@ -71,8 +71,8 @@ returns-clause-assessment g c =
       colours = c.count_colours.ensures;
       givens = c.len.ensures.value;
       figures =
-        has_figures c.in_ok-book.book d.picture d.givens c.in_ok-map.map line.new.facts run.0 line.result c.height.ensures.picture c.in_ok-book.ensures c.in_ok-map.ensures.start
-        line.ensures.least run.1 run.2;
+          has_figures c.in_ok-book.book d.picture d.givens c.in_ok-map.map line.new.facts run.0 line.result c.height.ensures.picture c.in_ok-book.ensures c.in_ok-map.ensures.start
+          line.ensures.least run.1 run.2;
       blank = ap not c.is_painted.ensures;
       background = c.lacks_background.ensures;
       spare = c.in_ok-spare.ensures.spare;

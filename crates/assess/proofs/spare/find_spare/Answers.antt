@@ -21,7 +21,9 @@ loop-col-preserved-then-not-has g c =
     let d = c.args.document.now in
     let i = c.loop-col.invariant in
     record {
-      tried = skipped d.picture d.givens c.args.allowance c.loop-col.waiting c.loop-col.spare c.loop-row.row c.loop-col.col _ _ i.tried (λ h. false≢true (sym c.if-not-has.true ∙ c.has.ensures.value.1 h));
+      tried =
+          skipped d.picture d.givens c.args.allowance c.loop-col.waiting c.loop-col.spare c.loop-row.row c.loop-col.col _ _ i.tried
+          (λ h. false≢true (sym c.if-not-has.true ∙ c.has.ensures.value.1 h));
       same_longest = i.same_longest;
     }
 
@@ -32,9 +34,9 @@ loop-col-preserved g c =
     let has = c.has.ensures.value.0 c.if-not-has.false in
     record {
       tried =
-        one_more d.picture d.givens c.args.allowance c.loop-col.waiting c.take_out.new.self c.loop-col.spare c.spare_after-spare.result c.in_ok-verdict.verdict c.loop-row.row c.loop-col.col _ _ _
-        i.tried has c.take_out.ensures.members (c.take_out.ensures.fewer has) c.in_ok-verdict.ensures.without c.judge_without.ensures.few c.spare_after-spare.ensures
-        (sym c.is_given.ensures ∙ c.if-is_given.false);
+          one_more d.picture d.givens c.args.allowance c.loop-col.waiting c.take_out.new.self c.loop-col.spare c.spare_after-spare.result c.in_ok-verdict.verdict c.loop-row.row c.loop-col.col _ _ _
+          i.tried has c.take_out.ensures.members (c.take_out.ensures.fewer has) c.in_ok-verdict.ensures.without c.judge_without.ensures.few c.spare_after-spare.ensures
+          (sym c.is_given.ensures ∙ c.if-is_given.false);
       same_longest = c.judge_without.ensures.same_longest ∙ i.same_longest;
     }
 
