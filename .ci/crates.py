@@ -20,7 +20,7 @@ ROOMS = {
     'Settling': ('all lines together, with a reason for each step', 'justify worklist fixpoint grade propagate retract'),
     'Checking': ('certificates as texts, and their checker', 'trail cert_text cert_check cert_figures givens_text'),
     'Search': ('other pictures, and certificates that there is none',
-               'split_choice lemma_search lemma_proof second_search certificate'),
+               'split_choice lemma_search lemma_proof second_search certificate assess'),
     'Bench': ('a picture kept up to date while it is edited', 'edits kept_audit live_audit'),
     'Outside': ('texts, sessions, the program and its hosts',
                 'ppm_text non_text command_text report_text grade_text session program_options command_line answers published program '

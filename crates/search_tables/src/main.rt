@@ -3,6 +3,7 @@
 //! `cannot read:` and the line.
 #![tactic(auto)]
 
+mod assessing;
 mod bounded;
 mod puzzles;
 mod search;

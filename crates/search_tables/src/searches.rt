@@ -8,6 +8,7 @@
 
 ghost use Rattle.second_search.specs.Parts.{IsScene};
 
+use crate::assessing::assess_text;
 use crate::bounded::{decide, push_cert};
 use crate::puzzles::{Puzzle, puzzle_in};
 use crate::search::{Said, Tally, judge, settled};
@@ -44,7 +45,19 @@ fn told_of(alloc: Global, words: &[&str]) -> Result<String> {
             let bounds = bounds_in(splits, again, window, conflicts, first)?;
             within_text(alloc, bounds, picture)
         }
-        _ => bail!("settle, first, turns, parts, judge, cost or within"),
+        ["assess", more @ ..] => assess_words(alloc, more),
+        _ => bail!("settle, first, turns, parts, judge, cost, within or assess"),
+    }
+}
+
+// The answer to a call of `assess`.
+fn assess_words(alloc: Global, words: &[&str]) -> Result<String> {
+    match words {
+        [picture] => assess_text(alloc, picture, false, None),
+        ["named", picture] => assess_text(alloc, picture, true, None),
+        [picture, most] => assess_text(alloc, picture, false, Some(splits_in(most)?)),
+        ["named", picture, most] => assess_text(alloc, picture, true, Some(splits_in(most)?)),
+        _ => bail!("assess [named] PICTURE [ALLOWANCE]"),
     }
 }
 

@@ -1,0 +1,174 @@
+-- Judgements as verdicts, and how often they call the engine at most.
+use Rattle.std.proofs.Common.{◌≡◌, ℕ, zero, suc, ◌+◌, ◌*◌, ◌<◌, ◌≤◌, List, [], Option, None, Some, Result, Ok, MatchResult, length, refl, sym, ap, subst, arith, inl, inr}
+use Rattle.std.proofs.lemmas.Bool.{cases_eq}
+use Rattle.std.proofs.lemmas.List.{length-map}
+use Rattle.std.proofs.lemmas.Nat.{mul-add-lt}
+use Rattle.std.proofs.Math.Nat.{mul-le-mul_right, mul_comm}
+use Rattle.picture.specs.CellSet.{HasCell, cell_count}
+use Rattle.picture.specs.Rows.{width_of, Rows}
+use Rattle.clues.specs.ClueBook.{Clues, clues_of}
+use Rattle.clues.specs.Solution.{IsOnlySolution, IsOther}
+use Rattle.line_facts.specs.Counts.{counted}
+use Rattle.line_facts.specs.declared.meter.Meter.{Meter}
+use Rattle.line_facts.specs.FactSets.{SameShape}
+use Rattle.line_facts.specs.Masks.{Masks}
+use Rattle.grade.specs.Looks.{Look}
+use Rattle.second_search.specs.declared.keeper.Judged.{Judged}
+use Rattle.second_search.specs.declared.keeper.Judged.TheVariants as judged
+use Rattle.second_search.specs.declared.keeper.KeptPart.{KeptPart}
+use Rattle.second_search.specs.Answer.{IsAnswer}
+use Rattle.second_search.specs.Evaluations.{AreFew, most_to_close, most_to_search}
+use Rattle.second_search.specs.JudgedParts.{AnswersAs, Done, Judges, Starts, parts_of}
+use Rattle.second_search.specs.Parts.{AreParts, IsBefore, IsScene, board}
+use Rattle.second_search.specs.Verdict.{Verdict as Judgement}
+use Rattle.second_search.specs.Verdict as judgement
+use Rattle.second_search.proofs.DrawLemmas.{few_alike}
+use Rattle.second_search.proofs.PartLemmas.{open_in_picture}
+use Rattle.second_search.proofs.PickLemmas.{same_list}
+use Rattle.assess.specs.declared.assessment.Verdict.{Verdict}
+use Rattle.assess.specs.Calls.{AreFewInAll, AreFewInParts, AreFewJudged, most_in_parts, most_to_judge}
+use Rattle.assess.specs.Judging.{AreJudged, IsVerdict, verdict_of}
+use Rattle.assess.specs.Settling.{AreLooks, IsMap}
+
+-- ---- how many parts there are
+
+later_place : (row col r c width : ℕ) → col < width → IsBefore row col r c → row * width + col < r * width + c
+later_place row col r c width w (inl l) =
+    let up : suc row * width ≤ r * width = mul-le-mul_right width (let x : suc row ≤ r = omega arith in x) in
+    omega arith
+later_place row col r c width w (inr (e, l)) =
+    let same = ap (λ (x : ℕ). x * width) e in
+    omega arith
+
+module _ (clues : Clues) (givens : List ℕ) (facts : Masks) (picture : Rows) (parts : Rows) (scene : IsScene clues givens facts picture) (are : AreParts facts parts) where
+  inside : (i : ℕ) (l : i < length parts) → ((are.each i l).row < length picture) × ((are.each i l).col < width_of picture)
+  inside i l = let from = (are.each i l).from in open_in_picture clues givens facts picture (are.each i l).row (are.each i l).col scene from.is_open
+
+  -- the first cell of part i has at least i cells before it
+  placed : (i : ℕ) (l : i < length parts) → i ≤ (are.each i l).row * width_of picture + (are.each i l).col
+  placed zero l = omega arith
+  placed (suc i) l =
+      let m : i < length parts = omega arith in
+      let one = are.each i m in
+      let next = are.each (suc i) l in
+      let here = placed i m in
+      let up = later_place one.row one.col next.row next.col (width_of picture) (inside i m).1 (are.ordered i (suc i) one.row one.col next.row next.col (omega arith) l one.from next.from) in
+      omega arith
+
+  parts_within : (n : ℕ) → n ≡ length parts → n ≤ length picture * width_of picture
+  parts_within zero e = omega arith
+  parts_within (suc n) e =
+      let l : n < length parts = omega arith in
+      let here = placed n l in
+      let cell = inside n l in
+      let last = mul-add-lt (are.each n l).row (width_of picture) (are.each n l).col (length picture) cell.0 cell.1 in
+      omega (arith, mul_comm (width_of picture) (length picture))
+
+pub few_parts : (clues : Clues) (givens : List ℕ) (facts : Masks) (picture : Rows) (kept : List KeptPart) → IsScene clues givens facts picture → Starts facts kept
+    → length kept ≤ length picture * width_of picture
+few_parts clues givens facts picture kept scene starts =
+    parts_within clues givens facts picture (parts_of kept) scene starts.parts (length kept) (sym (length-map kept (λ (part : KeptPart). part.cells)))
+
+-- ---- how often the engine is called
+
+pub in_parts : (picture : Rows) (facts : Masks) (allowance : Option ℕ) (parts n before after : ℕ) → SameShape picture facts → parts ≤ length picture * width_of picture
+    → AreFew allowance facts parts n → after ≡ counted before (n + 0) → AreFewInParts picture allowance before after
+unfolding most_in_parts
+in_parts picture facts None parts n before after s p few e = tt
+in_parts picture facts (Some splits) parts n before after s p few e =
+    let least : n ≤ parts * most_to_search picture splits = few_alike (Some splits) picture facts parts n s few in
+    let all : parts * most_to_search picture splits ≤ length picture * width_of picture * most_to_search picture splits = mul-le-mul_right (most_to_search picture splits) p in
+    omega arith
+
+pub no_calls : (picture : Rows) (allowance : Option ℕ) (calls : ℕ) → AreFewInParts picture allowance calls calls
+no_calls picture None calls = tt
+no_calls picture (Some splits) calls = omega arith
+
+-- closing the facts of the givens, and then the search of the parts
+pub closed_then : (picture : Rows) (allowance : Option ℕ) (before between after : ℕ) → between ≤ before + most_to_close picture → AreFewInParts picture allowance between after
+    → AreFewJudged picture allowance 1 before after
+unfolding most_to_judge
+closed_then picture None before between after c few = tt
+closed_then picture (Some splits) before between after c few = omega arith
+
+pub closed_only : (picture : Rows) (allowance : Option ℕ) (before after : ℕ) → after ≤ before + most_to_close picture → AreFewJudged picture allowance 1 before after
+closed_only picture allowance before after c = closed_then picture allowance before after after c (no_calls picture allowance after)
+
+-- ---- verdicts
+
+only_one : (clues : Clues) (givens : List ℕ) (picture : Rows) → ((other : Rows) → IsOther clues (HasCell givens) picture other → ⊥) → IsOnlySolution clues (HasCell givens) picture
+only_one clues givens picture none other s = elim (same_list (same_list cases_eq) other picture) [
+  | inl e ↦ e
+  | inr d ↦ absurd (none other (record { solves = s; differs = d }))
+]
+
+module _ (picture : Rows) (givens : List ℕ) (allowance : Option ℕ) (map : Masks) (kept last : List KeptPart) (searched splits : ℕ) (is_map : IsMap picture givens map) (starts : Starts map kept) where
+  judged_so : (j as : Judgement) → j ≡ as → Judges (board (clues_of picture) map picture) allowance kept last j searched splits → AreJudged picture givens allowance as
+  judged_so j as e judges = record {
+    map = map;
+    is_map = is_map;
+    kept = kept;
+    last = last;
+    searched = searched;
+    splits = splits;
+    starts = starts;
+    judges = subst (λ (v : Judgement). Judges (board (clues_of picture) map picture) allowance kept last v searched splits) e judges;
+  }
+
+  verdict_as : (answer : Judged) (j : Judgement) → AnswersAs last answer j → Judges (board (clues_of picture) map picture) allowance kept last j searched splits
+      → IsAnswer (clues_of picture) givens picture answer → IsVerdict picture givens allowance (verdict_of answer)
+  verdict_as judged.Unique j a judges is = (judged_so j judgement.Unique a judges, only_one (clues_of picture) givens picture is)
+  verdict_as (judged.Other other) j a judges is = (judged_so j judgement.Other a.0 judges, is)
+  verdict_as judged.Undecided j a judges is = judged_so j judgement.Undecided a judges
+
+pub verdict_told : {X : Type 0} → (picture : Rows) (givens : List ℕ) (allowance : Option ℕ) (map : Masks) (kept last : List KeptPart) (clues : Clues) (result : Result Judged X) (answer : Judged)
+    (verdict : Verdict) (sb sa pb pa : ℕ) (mb ma : Meter) (cb ca : ℕ) → clues ≡ clues_of picture → IsMap picture givens map → Starts map kept → result ≡ Ok answer
+    → IsAnswer clues givens picture answer → verdict ≡ verdict_of answer
+    → MatchResult result (λ judged. (j : Judgement) × (AnswersAs last judged j × Done sb sa pb pa mb ma cb ca (Judges (board clues map picture) allowance kept last j))) (λ _. last ≡ kept)
+    → IsVerdict picture givens allowance verdict
+verdict_told {X = X} picture givens allowance map kept last clues result answer verdict sb sa pb pa mb ma cb ca e is_map starts is told same h =
+    let Done_so : Judgement → Type 0 = λ (j : Judgement). Done sb sa pb pa mb ma cb ca (Judges (board clues map picture) allowance kept last j) in
+    let k = subst (λ (x : Result Judged X). MatchResult x (λ judged. (j : Judgement) × (AnswersAs last judged j × Done_so j)) (λ _. last ≡ kept)) is h in
+    let judges = subst (λ (c : Clues). Judges (board c map picture) allowance kept last k.0 k.1.1.searched k.1.1.splits) e k.1.1.is in
+    let true_answer = subst (λ (c : Clues). IsAnswer c givens picture answer) e told in
+    subst (IsVerdict picture givens allowance) (sym same)
+        (verdict_as picture givens allowance map kept last k.1.1.searched k.1.1.splits is_map starts answer k.0 k.1.0 judges true_answer)
+
+-- ---- an assessment
+
+pub no_verdicts : (picture : Rows) (allowance : Option ℕ) (verdicts calls : ℕ) → AreFewJudged picture allowance verdicts calls calls
+no_verdicts picture None verdicts calls = tt
+no_verdicts picture (Some splits) verdicts calls = omega arith
+
+pub alike_judged : (shown picture : Rows) (allowance : Option ℕ) (before after : ℕ) → shown ≡ picture → AreFewJudged shown allowance 1 before after
+    → AreFewJudged picture allowance 1 before after
+alike_judged shown picture allowance before after e few = subst (λ (rows : Rows). AreFewJudged rows allowance 1 before after) e few
+
+parts_few : (picture : Rows) (splits : ℕ) → most_in_parts picture splits ≤ most_to_judge picture splits
+unfolding most_to_judge
+parts_few picture splits = omega arith
+
+more_judged : (picture : Rows) (allowance : Option ℕ) (verdicts before between after : ℕ) → AreFewInParts picture allowance before between
+    → AreFewJudged picture allowance verdicts between after → AreFewJudged picture allowance (1 + verdicts) before after
+more_judged picture None verdicts before between after one more = tt
+more_judged picture (Some splits) verdicts before between after one more =
+    let all : (1 + verdicts) * most_to_judge picture splits ≡ most_to_judge picture splits + verdicts * most_to_judge picture splits = omega arith in
+    omega (arith, parts_few picture splits)
+
+pub none_yet : (picture : Rows) (givens : List ℕ) (allowance : Option ℕ) (calls : ℕ) → AreFewInAll picture givens allowance calls calls
+none_yet picture givens allowance calls =
+    let none = no_verdicts picture allowance (1 + cell_count givens) calls in
+    let e : calls ≡ calls + 0 = omega arith in
+    ([], (inl refl, subst (λ (n : ℕ). AreFewJudged picture allowance (1 + cell_count givens) n calls) e none))
+
+from_later : (picture : Rows) (allowance : Option ℕ) (verdicts before between after : ℕ) → before ≤ between → AreFewJudged picture allowance verdicts before after
+    → AreFewJudged picture allowance verdicts between after
+from_later picture None verdicts before between after l few = tt
+from_later picture (Some splits) verdicts before between after l few = omega arith
+
+pub few_in_all : (picture : Rows) (givens : List ℕ) (allowance : Option ℕ) (looks : List Look) (end : Masks) (n before looked between after : ℕ) → AreLooks picture givens looks end
+    → n ≡ length looks → looked ≡ counted before n → AreFewInParts picture allowance looked between → AreFewJudged picture allowance (cell_count givens) between after
+    → AreFewInAll picture givens allowance before after
+few_in_all picture givens allowance looks end n before looked between after are e called one more =
+    let all = more_judged picture allowance (cell_count givens) looked between after one more in
+    (looks, (inr (end, are), from_later picture allowance (1 + cell_count givens) looked (before + length looks) after (let l : looked ≤ before + length looks = omega arith in l) all))

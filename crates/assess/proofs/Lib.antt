@@ -1,0 +1,3 @@
+pub mod JudgeLemmas
+pub mod MapLemmas
+pub mod SpareLemmas

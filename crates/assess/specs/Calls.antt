@@ -1,0 +1,34 @@
+-- How often an assessment calls the engine at most under an allowance.
+use Rattle.std.specs.Prelude.{◌≡◌, ◌⊎◌, ℕ, ◌+◌, ◌*◌, ◌≤◌, List, [], Option, None, Some, length}
+use Rattle.line_facts.specs.Masks.{Masks}
+use Rattle.picture.specs.CellSet.{cell_count}
+use Rattle.picture.specs.Rows.{width_of, Rows}
+use Rattle.grade.specs.Looks.{Look}
+use Rattle.second_search.specs.Evaluations.{most_to_close, most_to_search}
+use Rattle.assess.specs.Settling.{AreLooks}
+
+-- the search of the parts of a map, of which there are at most as many as cells
+unfoldable pub most_in_parts : Rows → ℕ → ℕ
+most_in_parts picture splits = length picture * width_of picture * most_to_search picture splits
+
+abbrev pub AreFewInParts : Rows → Option ℕ → ℕ → ℕ → Type 0
+AreFewInParts picture None before after = Unit {0}
+AreFewInParts picture (Some splits) before after = after ≤ before + most_in_parts picture splits
+
+-- a verdict closes the facts of the givens, and searches the parts
+unfoldable pub most_to_judge : Rows → ℕ → ℕ
+most_to_judge picture splits = most_to_close picture + most_in_parts picture splits
+
+-- at most so many verdicts
+abbrev pub AreFewJudged : Rows → Option ℕ → ℕ → ℕ → ℕ → Type 0
+AreFewJudged picture None verdicts before after = Unit {0}
+AreFewJudged picture (Some splits) verdicts before after = after ≤ before + verdicts * most_to_judge picture splits
+
+-- no look, or those of line logic on the puzzle
+abbrev pub AreLooksIfAny : Rows → List ℕ → List Look → Type 0
+AreLooksIfAny picture givens looks = (looks ≡ []) ⊎ ((end : Masks) × AreLooks picture givens looks end)
+
+-- the looks of line logic, a verdict, and one without each given
+abbrev pub AreFewInAll : Rows → List ℕ → Option ℕ → ℕ → ℕ → Type 0
+AreFewInAll picture givens allowance before after = (looks : List Look) × (AreLooksIfAny picture givens looks
+    × AreFewJudged picture allowance (1 + cell_count givens) (before + length looks) after)
