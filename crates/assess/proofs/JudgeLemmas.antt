@@ -103,8 +103,8 @@ only_one clues givens picture none other s = elim (same_list (same_list cases_eq
 ]
 
 module _ (picture : Rows) (givens : List ℕ) (allowance : Option ℕ) (map : Masks) (kept last : List KeptPart) (searched splits : ℕ) (is_map : IsMap picture givens map) (starts : Starts map kept) where
-  judged_so : (j as : Judgement) → j ≡ as → Judges (board (clues_of picture) map picture) allowance kept last j searched splits → AreJudged picture givens allowance as
-  judged_so j as e judges = record {
+  judged_so : (j kind : Judgement) → j ≡ kind → Judges (board (clues_of picture) map picture) allowance kept last j searched splits → AreJudged picture givens allowance kind
+  judged_so j kind e judges = record {
     map = map;
     is_map = is_map;
     kept = kept;

@@ -113,33 +113,33 @@ module _ (picture : Rows) (givens : List ℕ) (allowance : Option ℕ) where
   known_then : (spare : Spare) (verdict : Verdict) (row col : ℕ) → HasCell givens row col → IsWithout picture givens allowance row col verdict
       → is_given (spare_after spare verdict (place row col)) ≡ false → IsSpareBefore picture givens allowance row col spare
       → IsSpareBefore picture givens allowance row (col + 1) (spare_after spare verdict (place row col))
-  known_then spare Unique row col g w no s = absurd (false≢true (sym no))
-  known_then Nothing (Ambiguous other) row col g w no s =
+  known_then spare Unique row col g w is_false s = absurd (false≢true (sym is_false))
+  known_then Nothing (Ambiguous other) row col g w is_false s =
       (further is_unique row col (λ _. (Ambiguous other, (w, refl))) s.0, further is_undecided row col (λ _. (Ambiguous other, (w, refl))) s.1)
-  known_then (Given first) (Ambiguous other) row col g w no s = absurd s
-  known_then (Unknown first) (Ambiguous other) row col g w no s = (further is_unique row col (λ _. (Ambiguous other, (w, refl))) s.0, s.1)
-  known_then Nothing Undecided row col g w no s =
+  known_then (Given first) (Ambiguous other) row col g w is_false s = absurd s
+  known_then (Unknown first) (Ambiguous other) row col g w is_false s = (further is_unique row col (λ _. (Ambiguous other, (w, refl))) s.0, s.1)
+  known_then Nothing Undecided row col g w is_false s =
       (further is_unique row col (λ _. (Undecided, (w, refl))) s.0, record { given = g; here = (Undecided, (w, refl)); before = s.1 })
-  known_then (Given first) Undecided row col g w no s = absurd s
-  known_then (Unknown first) Undecided row col g w no s = (further is_unique row col (λ _. (Undecided, (w, refl))) s.0, s.1)
+  known_then (Given first) Undecided row col g w is_false s = absurd s
+  known_then (Unknown first) Undecided row col g w is_false s = (further is_unique row col (λ _. (Undecided, (w, refl))) s.0, s.1)
 
   found_then : (spare : Spare) (verdict : Verdict) (row col : ℕ) → HasCell givens row col → IsWithout picture givens allowance row col verdict
       → is_given (spare_after spare verdict (place row col)) ≡ true → IsSpareBefore picture givens allowance row col spare
       → IsSpare picture givens allowance (spare_after spare verdict (place row col))
-  found_then spare Unique row col g w yes s = record { given = g; here = (Unique, (w, refl)); before = none_unique spare row col s }
-  found_then Nothing (Ambiguous other) row col g w yes s = absurd (false≢true yes)
-  found_then (Given first) (Ambiguous other) row col g w yes s = absurd s
-  found_then (Unknown first) (Ambiguous other) row col g w yes s = absurd (false≢true yes)
-  found_then Nothing Undecided row col g w yes s = absurd (false≢true yes)
-  found_then (Given first) Undecided row col g w yes s = absurd s
-  found_then (Unknown first) Undecided row col g w yes s = absurd (false≢true yes)
+  found_then spare Unique row col g w is_true s = record { given = g; here = (Unique, (w, refl)); before = none_unique spare row col s }
+  found_then Nothing (Ambiguous other) row col g w is_true s = absurd (false≢true is_true)
+  found_then (Given first) (Ambiguous other) row col g w is_true s = absurd s
+  found_then (Unknown first) (Ambiguous other) row col g w is_true s = absurd (false≢true is_true)
+  found_then Nothing Undecided row col g w is_true s = absurd (false≢true is_true)
+  found_then (Given first) Undecided row col g w is_true s = absurd s
+  found_then (Unknown first) Undecided row col g w is_true s = absurd (false≢true is_true)
 
   pub one_more : (waiting rest : List ℕ) (spare next : Spare) (verdict : Verdict) (row col before now later : ℕ)
       → Tried picture givens allowance waiting spare row col before now → HasCell waiting row col
       → TakesOutCell waiting rest row col → cell_count rest + 1 ≡ cell_count waiting → IsWithout picture givens allowance row col verdict → AreFewJudged picture allowance 1 now later
       → next ≡ spare_after spare verdict (place row col) → is_given next ≡ false → Tried picture givens allowance rest next row (col + 1) before later
-  one_more waiting rest spare next verdict row col before now later t h takes count w one e no = record {
-    so_far = subst (IsSpareBefore picture givens allowance row (col + 1)) (sym e) (known_then spare verdict row col (t.are row col h) w (sym (ap is_given e) ∙ no) t.so_far);
+  one_more waiting rest spare next verdict row col before now later t h takes count w one e is_false = record {
+    so_far = subst (IsSpareBefore picture givens allowance row (col + 1)) (sym e) (known_then spare verdict row col (t.are row col h) w (sym (ap is_given e) ∙ is_false) t.so_far);
     waits = λ r c g b. (takes r c).1 (t.waits r c g (still_waits row col r c b), (λ same. b (inr (same.0, (let l : c < col + 1 = (let x = same.1 in omega arith) in l)))));
     are = λ r c x. t.are r c ((takes r c).0 x).0;
     few = tried_more picture allowance (cell_count givens) (cell_count waiting) (cell_count rest) before now later count t.few one;
@@ -147,8 +147,8 @@ module _ (picture : Rows) (givens : List ℕ) (allowance : Option ℕ) where
 
   pub given_found : (waiting : List ℕ) (spare next : Spare) (verdict : Verdict) (row col before now : ℕ) → Tried picture givens allowance waiting spare row col before now → HasCell waiting row col
       → IsWithout picture givens allowance row col verdict → next ≡ spare_after spare verdict (place row col) → is_given next ≡ true → IsSpare picture givens allowance next
-  given_found waiting spare next verdict row col before now t h w e yes =
-      subst (IsSpare picture givens allowance) (sym e) (found_then spare verdict row col (t.are row col h) w (sym (ap is_given e) ∙ yes) t.so_far)
+  given_found waiting spare next verdict row col before now t h w e is_true =
+      subst (IsSpare picture givens allowance) (sym e) (found_then spare verdict row col (t.are row col h) w (sym (ap is_given e) ∙ is_true) t.so_far)
 
   none_before : (r c : ℕ) → ComesBefore r c 0 0 → ⊥
   none_before r c (inl l) = absurd (omega arith)

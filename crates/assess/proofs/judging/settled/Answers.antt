@@ -13,3 +13,7 @@ returns-in-Ok-clause-map g c =
 pub returns-in-Ok-clause-few : goal.returns-in-Ok-clause-few
 returns-in-Ok-clause-few g c =
     settling_few c.args.book.now c.args.document.now.picture c.in_ok-base.base c.settle_afresh.result _ _ _ _ c.height-2.ensures.facts c.in_ok-base.ensures.same_shape c.settle_afresh.ensures.works
+
+pub returns-in-Err-Dead-clause-few : goal.returns-in-Err-Dead-clause-few
+returns-in-Err-Dead-clause-few g c =
+    settling_few c.args.book.now c.args.document.now.picture c.in_ok-base.base c.settle_afresh.result _ _ _ _ c.height-2.ensures.facts c.in_ok-base.ensures.same_shape c.settle_afresh.ensures.works
