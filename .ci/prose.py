@@ -102,7 +102,7 @@ BUILDS = ["bash .ci/run", "(cd crates/nonobench && rt try ", "(cd crates/nonoben
 
 def documents():
     for folder, folders, names in os.walk(ROOT):
-        folders[:] = sorted(f for f in folders if f not in (".git", "out", "must-fail", "target"))
+        folders[:] = sorted(f for f in folders if f not in (".git", "env", "out", "must-fail", "target"))
         for name in sorted(names):
             path = os.path.relpath(os.path.join(folder, name), ROOT)
             if name.endswith(".md") and path not in MADE:

@@ -863,7 +863,7 @@ export const DE = /** @type {const} */ ({
   'start.heart': 'Herz',
   'start.mushroom': 'Pilz',
   'start.boat': 'Boot',
-  'start.mendExample': 'zwei Lösungen: mit einem Klick zu reparieren',
+  'start.mendExample': 'zwei Lösungen, zu reparieren',
   'start.uniqueExample': 'eine Lösung',
   'start.examples': 'Beispiele',
   'start.back': 'Zurück zu {name}',

@@ -863,7 +863,7 @@ export const EN = /** @type {const} */ ({
   'start.heart': 'heart',
   'start.mushroom': 'mushroom',
   'start.boat': 'boat',
-  'start.mendExample': 'two solutions: mend it with one click',
+  'start.mendExample': 'two solutions, to be mended',
   'start.uniqueExample': 'one solution',
   'start.examples': 'Examples',
   'start.back': 'Back to {name}',

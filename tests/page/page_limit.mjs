@@ -1,5 +1,6 @@
-// Tests of the page's limits: how many bytes the build lets it have, and how soon it is ready on a slow processor. The page is the
-// one of PAGE, else that of web/out; the parts that lack a tool are left out. Run: node --test tests/page/page_limit.mjs
+// Tests of the page's limits: how many bytes the build lets it have, how soon it is ready on a slow processor, and which part of the
+// window the picture has. The page is the one of PAGE, else that of web/out; the parts that lack a tool are left out.
+// Run: node --test tests/page/page_limit.mjs
 import assert from 'node:assert/strict';
 import { spawnSync } from 'node:child_process';
 import { randomBytes } from 'node:crypto';
@@ -72,6 +73,30 @@ test(`ready within ${MOST_MS} ms on a processor slowed ${SLOWED} times`, { skip:
         for (let turn = 0; turn < TURNS && least > MOST_MS; turn += 1) least = Math.min(least, SLOWED * await readyAfter(browser, pathToFileURL(PAGE).href));
         t.diagnostic(`ready after ${least.toFixed(0)} ms`);
         assert.ok(least > 0 && least <= MOST_MS, `the page of ${statSync(PAGE).size} bytes is ready after ${least.toFixed(0)} ms`);
+    } finally {
+        await browser.close();
+    }
+});
+
+const WINDOWS = [[768, 1024], [900, 700], [1024, 768], [1280, 800], [1920, 1080]];
+test('the picture has the most room, and nothing overlaps', { skip: missing }, async () => {
+    const browser = new Browser();
+    try {
+        for (const [width, height] of WINDOWS) {
+            const page = await browser.page({ width, height });
+            await page.goto(pathToFileURL(PAGE).href);
+            await page.until(() => document.querySelector('#examples button') !== null, 60000);
+            await page.run(() => document.querySelector('#examples button').click());
+            await page.until(() => !document.body.classList.contains('starting'), 60000);
+            const [tools, stage, panel] = await page.run(() => ['#tools', '#stage', '#work > aside'].map((one) => document.querySelector(one).getBoundingClientRect().toJSON()));
+            const what = `${width} by ${height}: ${JSON.stringify({ tools, stage, panel })}`;
+            for (const other of [tools, panel]) assert.ok(stage.width * stage.height > other.width * other.height, what);
+            for (const [one, other] of [[tools, stage], [tools, panel], [stage, panel]]) {
+                const [wide, high] = [Math.min(one.right, other.right) - Math.max(one.left, other.left), Math.min(one.bottom, other.bottom) - Math.max(one.top, other.top)];
+                assert.ok(wide < 1 || high < 1, what);
+            }
+            await page.close();
+        }
     } finally {
         await browser.close();
     }

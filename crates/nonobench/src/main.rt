@@ -1,6 +1,10 @@
 //! The program nonobench: it passes the arguments, files and streams of the operating system to the crate `program`.
 #![tactic(auto)]
 
+ghost use Rattle.std.specs.Prelude.{◌≡◌, ◌⊎◌};
+ghost use Rattle.std.specs.declared.io.ErrorKind.TheVariants.{OutOfMemory};
+ghost use Rattle.program_options.specs.declared.fault.ProgramFault.TheVariants.{Memory, NotText};
+
 mod log;
 mod system;
 
@@ -30,9 +34,20 @@ fn main(rt: HostRuntime) -> ExitCode {
 
 // The arguments after the program's own name.
 fn arguments(rt: &(impl AllocGlobal + Env)) -> Result<Vec<String>, ProgramFault> {
-    let arguments = env::args(rt).map_err(|error| match error.kind() {
+    match env::args(rt) {
+        Ok(arguments) => Ok(arguments.skip(1).collect(rt.alloc())?),
+        Err(error) => Err(fault_of(error.kind())),
+    }
+}
+
+// Why there are no arguments: memory ran out, or one is no text.
+fn fault_of(kind: io::ErrorKind) -> ProgramFault
+    ensures memory { kind ≡ OutOfMemory → result ≡ Memory }
+    ensures text { result ≡ Memory → kind ≡ OutOfMemory }
+    ensures either { (result ≡ Memory) ⊎ (result ≡ NotText) }
+{
+    match kind {
         io::ErrorKind::OutOfMemory => ProgramFault::Memory,
         _ => ProgramFault::NotText,
-    })?;
-    Ok(arguments.skip(1).collect(rt.alloc())?)
+    }
 }
