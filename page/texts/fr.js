@@ -863,7 +863,7 @@ export const FR = /** @type {const} */ ({
   'start.heart': 'cœur',
   'start.mushroom': 'champignon',
   'start.boat': 'bateau',
-  'start.mendExample': 'deux solutions : à réparer d’un clic',
+  'start.mendExample': 'deux solutions, à réparer',
   'start.uniqueExample': 'une seule solution',
   'start.examples': 'Exemples',
   'start.back': 'Retour à {name}',
