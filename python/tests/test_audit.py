@@ -1193,7 +1193,7 @@ class Again(Case):
         cases += [(near, {name: value for name, value in first[near].items() if name != "near"}, None)]
         cases += [(given, {**first[given], "certificate": {"accepted": True, "givens": [[1, 1]]}}, None), (given, {**first[given], "givens": [[2, 2]]}, None)]
         cases += [(one, {**first[one], **changes}, None) for changes in (
-            {"picture": ".b/a."}, {"palette": ["ffffff", "ff0000", "000000"]}, {"open": 3}, {"lines": 99}, {"title": "x"}, {"certificate": {"accepted": True}}, {"error": "x"})]
+            {"picture": ".b/a."}, {"palette": ["ffffff", "ff0000", "000000"]}, {"open": 3}, {"lines": 99}, {"title": "x"}, {"certificate": {"accepted": True}}, {"error": "x"}, {"sha256": first[two]["sha256"]})]
         cases += [(one, {**first[one], "lines": text.count("\n")}, text) for text in ("", CERT[:-5], GIVEN_CERT)]
         for name, row, certificate in cases:
             rows = {**first, name: row}
