@@ -23,6 +23,9 @@ from werkzeug.exceptions import HTTPException
 
 MOST_TITLE = 100
 MOST_SHOWN = 200
+MOST_PARTS = 8  # of a form, with what stands before and behind them
+MOST_HEAD = 4096  # bytes of what is said of a part
+ODD_CODING = re.compile(rb"charset(?!=\"?utf-?8\b)", re.IGNORECASE)
 PNG = b"\x89PNG\r\n\x1a\n"
 WHITE = (255, 255, 255)
 
@@ -183,6 +186,29 @@ def reason_of(fault, certificate):
     return WORDS.get(fault.name, fault.text) + (f" It seems that {hint}." if hint else "") + (f" ({place})" if " at " in fault.text else "")
 
 
+def look_at_form():
+    """Refuses a form before Flask reads it, where that takes long: the time for what is said of a part grows with the square of its
+    length, and so it does for a title in some codings.
+    """
+    if (request.content_length or 0) > request.max_content_length:
+        abort(413)
+    mark = b"--" + request.mimetype_params.get("boundary", "").encode()
+    heads = [part.partition(b"\r\n\r\n")[0] for part in request.get_data(parse_form_data=False).split(mark)]
+    if len(heads) > MOST_PARTS or any(len(head) > MOST_HEAD or ODD_CODING.search(head) for head in heads):
+        abort(400)
+
+
+def files_of_form():
+    """The files of a form by their names."""
+    try:
+        if request.mimetype != "multipart/form-data":
+            return {}
+        look_at_form()
+        return request.files
+    except (LookupError, UnicodeError):  # a parameter is in a coding that Python does not have, or not in the one that it names
+        abort(400)
+
+
 def wants_json():
     """Whether a client asks for JSON before a page."""
     return request.accept_mimetypes.best_match(["text/html", "application/json"]) == "application/json"
@@ -314,7 +340,8 @@ def add_pages(app, site):
 
     @app.post("/puzzles")
     def take():
-        files = [request.files.get(name) for name in ("picture", "certificate")]
+        sent = files_of_form()
+        files = [sent.get(name) for name in ("picture", "certificate")]
         if not all(files):
             raise Refused("Choose a picture and a certificate.")
         picture, certificate = (file.read() for file in files)

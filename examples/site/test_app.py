@@ -7,6 +7,7 @@ import random
 import re
 import signal
 import tempfile
+import time
 import unittest
 import unittest.mock
 from collections import Counter
@@ -259,6 +260,31 @@ class Site(Case):
         self.assert_refused(self.client.post("/puzzles"), "Choose a picture and a certificate.")
         self.assert_refused(self.bring(b"P3 121 1 1", b""), "The picture has more than 120 rows or columns. (byte 3)")
         self.assert_refused(self.bring(b" " * (3 << 20), b""), "The files have more than 2 MiB.", 413)
+
+    def test_forms_are_looked_at_before_they_are_read(self):
+        """Each would take Flask long, or is in a coding that it does not have."""
+        front = b'--x\r\nContent-Disposition: form-data; name="title"'
+        files = b"".join(
+            b'\r\n--x\r\nContent-Disposition: form-data; name="%s"; filename="x"\r\n\r\n' % name + text
+            for name, text in ((b"picture", DIAGONAL), (b"certificate", DIAGONAL_CERT))
+        ) + b"\r\n--x--\r\n"
+
+        def send(head, text=b"Duck", kind="multipart/form-data; boundary=x"):
+            before = time.process_time()
+            answer = self.client.post("/puzzles", data=front + head + b"\r\n\r\n" + text + files, content_type=kind)
+            self.assertLess(time.process_time() - before, 2)
+            return answer
+
+        for head in (b"; a=b" * 300_000, b"; a=b--x" * 200_000, b"\r\na: b" * 300_000, b"\r\nContent-Type: text/plain; charset=hex",
+                     b"\r\nContent-Type: text/plain; charset=utf-8; charset=punycode", b"; filename*=hex''00"):
+            with self.subTest(head[:60]):
+                self.assertEqual(send(head, b"a" * 200_000).status_code, 400)
+        self.assertEqual(send(b"", b"\r\n--x" * 300_000).status_code, 400)
+        self.assertEqual(send(b"", b"a&" * 1_000_000, "application/x-www-form-urlencoded").status_code, 422)
+        self.assertEqual(send(b"", b"a" * (3 << 20)).status_code, 413)
+        self.assertEqual(send(b"", kind="multipart/form-data; boundary*=hex''00").status_code, 400)
+        self.assertIn("None yet.", self.client.get("/").text)
+        self.assertEqual(send(b"\r\nContent-Type: text/plain; charset=UTF-8").status_code, 303)
 
     def test_names_are_not_trusted(self):
         self.bring(DIAGONAL, DIAGONAL_CERT, "<script>alert(1)</script>" + "x" * 500, "../../etc/passwd")

@@ -190,7 +190,7 @@ def png_colours():
         ("dots", [chunk(b"pHYs", struct.pack(">IIB", 1000, 2000, 1))], ""), ("text", [chunk(b"tEXt", b"Title\0x")], ""),
         ("suggested", [PALETTE], ""), ("unknown", [chunk(b"vpAg", bytes(9))], ""), ("time", [chunk(b"tIME", bytes([7, 228, 1, 1, 0, 0, 0]))], ""),
         ("turned", [chunk(b"eXIf", exif(6))], TURNED), ("turned-intel", [chunk(b"eXIf", exif(3, "<"))], TURNED), ("upright", [chunk(b"eXIf", exif(1))], ""),
-        ("upright-intel", [chunk(b"eXIf", exif(1, "<"))], ""), ("gamma-twice", [PLAIN_GAMMA, chunk(b"gAMA", struct.pack(">I", 1000))], GAMMA),
+        ("turned-within", [chunk(b"eXIf", TURNED_WITHIN)], TURNED), ("upright-intel", [chunk(b"eXIf", exif(1, "<"))], ""), ("gamma-twice", [PLAIN_GAMMA, chunk(b"gAMA", struct.pack(">I", 1000))], GAMMA),
         ("srgb-4", [chunk(b"sRGB", b"\4"), PLAIN_GAMMA, OTHERS], BROKEN), ("srgb-long", [chunk(b"sRGB", bytes(2)), PLAIN_GAMMA, OTHERS], BROKEN),
         ("srgb-last", [PLAIN_GAMMA, OTHERS, SRGB], ""),
         ("luminance", [chunk(b"mDCV", bytes(24)), chunk(b"cLLI", struct.pack(">2I", 10000000, 4000000))], ""),
@@ -211,6 +211,10 @@ def png_colours():
     yield Odd("png-grey-gamma", png(grey, 8, GREY, [chunk(b"gAMA", struct.pack(">I", 1000))]), None, GAMMA)
     yield Odd("png-bits-palette", png(*png_samples(8, INDEXED)[:1], 8, INDEXED, [chunk(b"sBIT", b"\1\1\1"), PALETTE]), shown(COLOURS))
     yield Odd("png-bits-grey-2", png(*png_samples(2, GREY)[:1], 2, GREY, [chunk(b"sBIT", b"\1")]), png_samples(2, GREY)[2])
+
+
+# Exif with an orientation of 6, whose first byte ends, with the odd entry before it, what looks like an orientation of 1.
+TURNED_WITHIN = b"MM\0*" + struct.pack(">IHHHII", 8, 2, 0x111, 1, 0x12000300, 0x100) + struct.pack(">HHIHHI", 0x112, 3, 1, 6, 0, 0)
 
 
 def exif(number, order=">"):
@@ -481,7 +485,8 @@ def webps():
         ("canvas-opaque", riff(canvas(), (b"VP8L", clear_stream)), None), ("canvas-large", riff(canvas(size=(9, 9)), (b"VP8L", stream)), BROKEN),
         ("profile", riff(canvas(32), (b"ICCP", bytes(128)), (b"VP8L", stream)), PROFILE), ("profile-unsaid", riff(canvas(), (b"ICCP", bytes(128)), (b"VP8L", stream)), PROFILE),
         ("one-frame", riff(canvas(2), (b"ANIM", bytes(6)), one), FRAMES), ("one-frame-unsaid", riff(canvas(), (b"ANIM", bytes(6)), one), FRAMES),
-        ("turned", riff(canvas(8), (b"VP8L", stream), turned), TURNED), ("upright", riff(canvas(8), (b"VP8L", stream), upright), pixels),
+        ("turned", riff(canvas(8), (b"VP8L", stream), turned), TURNED), ("turned-within", riff(canvas(8), (b"VP8L", stream), (b"EXIF", TURNED_WITHIN)), TURNED),
+        ("upright", riff(canvas(8), (b"VP8L", stream), upright), pixels),
         ("opacity", riff(canvas(16), (b"ALPH", bytes(9)), (b"VP8L", stream)), LOSSY), ("no-size", riff((b"VP8L", stream[:3])), BROKEN), ("cut", plain[:-9], BROKEN), ("sign", plain[:12], BROKEN), ("more", plain + b"more", pixels),
         ("two", riff((b"VP8L", stream), (b"VP8L", clear_stream)), None), ("unknown", riff(canvas(), (b"ABCD", b"xy"), (b"VP8L", stream)), pixels),
         ("reserved", riff((b"VP8X", b"\1" + canvas()[1][1:]), (b"VP8L", stream)), BROKEN), ("first", riff((b"VPxX", canvas()[1]), (b"VP8L", stream)), BROKEN), ("canvas-late", riff((b"VP8L", stream), canvas()), BROKEN),

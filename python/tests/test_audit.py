@@ -638,6 +638,36 @@ class Running(Case):
         self.assertEqual(check_site.main([str(out), "--quiet"]), 0)
 
     @pytest.mark.since("0.7.0")
+    def test_pictures_of_names_that_end_as_pictures_do(self):
+        """What is written of `one.ppm.xml` lies beside the picture of `one.png`, and is not taken for what goes with that."""
+        self.put("one.png", p3(UNIQUE))
+        given = '<solution type="saved" id="givens"><image>|?X||??|</image></solution>'
+        self.put("one.ppm.xml", webpbn([".a", "a."], more=given).replace("<puzzle ", '<puzzle backgroundcolor="red" '))
+        self.rows("site", "--untrusted", "--ppm", "out", "--certify", "out", status=0)
+        self.assertEqual((self.folder / "out" / "one.ppm.givens").read_bytes(), b"given 1 2\n")
+        self.assertEqual(check_site.main([str(self.folder / "out"), "--quiet"]), 0)
+        again = self.rows("out", status=0)
+        self.assertEqual([row["certificate"] for row in again.values()], [{"accepted": True}, {"accepted": True, "givens": [[1, 2]]}])
+
+    @pytest.mark.since("0.7.0")
+    def test_no_two_files_are_called_alike(self):
+        names = (b"\xff.ppm", b"\\xff.ppm", b"\\x5cxff.ppm", b"\\x41.ppm")
+        for name, picture in zip(names, (AMBIGUOUS, UNIQUE, UNIQUE, UNIQUE)):
+            Path(os.fsdecode(os.path.join(os.fsencode(self.site), name))).write_bytes(p3(picture))
+        rows = self.rows("site", "--allow", "9", status=1)
+        self.assertEqual({name: row["verdict"] for name, row in rows.items()}, {
+            "site/\\xff.ppm": "ambiguous", "site/\\x5cxff.ppm": "unique", "site/\\x5cx5cxff.ppm": "unique", "site/\\x41.ppm": "unique"})
+        self.run_audit("merge", "rows.jsonl", "--jsonl", "joined", status=1)
+        self.assertEqual((self.folder / "joined").read_bytes(), (self.folder / "rows.jsonl").read_bytes())
+
+    @pytest.mark.since("0.7.0")
+    def test_merge_reads_files_alone(self):
+        os.mkfifo(self.folder / "pipe")
+        for name in ("pipe", "/dev/zero", "site"):
+            with self.subTest(name):
+                self.assertEqual(self.run_audit("merge", name, status=3).stderr, f"nonobench-audit: {name}: this is not a file\n")
+
+    @pytest.mark.since("0.7.0")
     def test_pictures_are_not_written_where_puzzles_are_read(self):
         self.put("in/one.ppm", p3(UNIQUE))
         os.symlink("site", self.folder / "other")
@@ -1193,7 +1223,7 @@ class Again(Case):
         cases += [(near, {name: value for name, value in first[near].items() if name != "near"}, None)]
         cases += [(given, {**first[given], "certificate": {"accepted": True, "givens": [[1, 1]]}}, None), (given, {**first[given], "givens": [[2, 2]]}, None)]
         cases += [(one, {**first[one], **changes}, None) for changes in (
-            {"picture": ".b/a."}, {"palette": ["ffffff", "ff0000", "000000"]}, {"open": 3}, {"lines": 99}, {"title": "x"}, {"certificate": {"accepted": True}}, {"error": "x"})]
+            {"picture": ".b/a."}, {"palette": ["ffffff", "ff0000", "000000"]}, {"open": 3}, {"lines": 99}, {"title": "x"}, {"certificate": {"accepted": True}}, {"error": "x"}, {"sha256": first[two]["sha256"]})]
         cases += [(one, {**first[one], "lines": text.count("\n")}, text) for text in ("", CERT[:-5], GIVEN_CERT)]
         for name, row, certificate in cases:
             rows = {**first, name: row}

@@ -125,6 +125,36 @@ def test_givens_are_those_that_are_published(site, checked):
     ])
 
 
+def test_a_folder_that_is_a_link_is_not_followed(site, checked, tmp_path):
+    pair(tmp_path / "certs", "sub/one", None)
+    pair(tmp_path / "else", "one", certificate=None, givens="")
+    (site / "sub").symlink_to("../else")
+    whys = ["certs/sub/one.cert: its picture: a part of its path is a link"]
+    assert checked("site", "--certificates", "certs", "--untrusted") == (3, whys)
+    (site / "sub").unlink()
+    pair(site, "sub/one", certificate=None)
+    (tmp_path / "ours").mkdir()
+    (tmp_path / "ours" / "sub").symlink_to("../else")
+    whys = ["certs/sub/one.cert: its givens: a part of its path is a link"]
+    assert checked("site", "--certificates", "certs", "--givens", "ours") == (3, whys)
+    # The folders themselves may be links, or lie behind one.
+    (tmp_path / "ours" / "sub").unlink()
+    (tmp_path / "link").symlink_to(".")
+    (tmp_path / "way").symlink_to("certs")
+    assert checked("link/site", "--certificates", "way", "--givens", "link/ours") == (0, [])
+
+
+def test_files_of_a_picture_that_is_called_as_another_one_with_its_suffix(site, checked, tmp_path):
+    """`one.ppm.givens` lies beside `one.ppm` and `one.ppm.ppm`: it is that of the second."""
+    pair(site, "one", CROSS, ONE)
+    pair(tmp_path / "ours", "one.ppm", None, None, givens="given 1 1\n")
+    assert checked("site", "--givens", "ours") == (0, [])
+    pair(site, "one.ppm", CROSS, ONE)
+    assert checked("site", "--givens", "ours") == (1, ["site/one.cert: certificate UnpublishedGiven at line 2"])
+    pair(tmp_path / "ours", "one", None, None, givens="given 1 1\n")
+    assert checked("site", "--givens", "ours") == (0, [])
+
+
 def test_givens_and_backgrounds_of_the_site_and_not_of_strangers(site, checked, tmp_path):
     # By a magenta background, which no cell has, the white cells are coloured too, and the cross has one solution.
     filled = "nonocert 1\nline r 1\nline r 2\ndone\n"

@@ -112,13 +112,13 @@ def _table(colours: bytes, entry: int = 3) -> list[Pixel]:
     return [(*colours[at : at + 3], 255) for at in range(0, len(colours), entry)]
 
 
-# How an orientation that turns nothing stands in Exif, and how each one begins.
+# How an orientation that turns nothing stands in Exif, and where each one begins, even within another.
 _UPRIGHT = re.compile(rb"\x01\x12\0\x03\0\0\0\x01\0\x01|\x12\x01\x03\0\x01\0\0\0\x01\0")
-_ORIENTED = re.compile(rb"\x01\x12|\x12\x01")
+_ORIENTED = re.compile(rb"(?=\x01\x12|\x12\x01)")
 
 
 def _need_upright(exif: bytes) -> None:
-    _need(not _ORIENTED.search(_UPRIGHT.sub(b"", exif)), TURNED)
+    _need(all(_UPRIGHT.match(exif, found.start()) for found in _ORIENTED.finditer(exif)), TURNED)
 
 
 # PNG: what chunks are, in their order. `s` may stand where decoders heed sRGB, `a` is what they may leave out.

@@ -54,9 +54,12 @@ class Site:
     """Where the files of a site are."""
 
     def __init__(self, told: argparse.Namespace) -> None:
-        self._folder = told.folder
         self._certificates = told.certificates or told.folder
-        self._published = told.givens or (None if told.untrusted else told.folder)
+        published = told.givens or (None if told.untrusted else told.folder)
+        # The real paths, of which nothing below them may be a link.
+        self._folder, self._held, self._published = (
+            folder and os.path.realpath(folder) for folder in (told.folder, self._certificates, published)
+        )
         self._shard = told.shard
         self.unsearched: list[Answer] = []
         self.unread: list[str] = []  # those of the older ending with a certificate beside them
@@ -83,8 +86,12 @@ class Site:
         return [os.path.relpath(file, self._certificates) for file in sorted({*found}.difference(self.unread))][first - 1 :: step]
 
     def path(self, name: str) -> str:
-        """The path of a certificate."""
+        """The path of a certificate, as it is shown."""
         return os.path.join(self._certificates, name)
+
+    def certificate(self, name: str) -> bytes:
+        """The bytes of a certificate."""
+        return _read("", os.path.join(self._held, name), MOST_BYTES)
 
     def picture(self, stem: str) -> bytes:
         """The bytes of a picture."""
@@ -109,14 +116,16 @@ class Site:
         """What the site has beside a picture; nothing where it has no such file."""
         if self._published is None:
             return None
-        paths = [os.path.join(self._published, name) for name in finding.called_beside(f"{stem}.ppm", stem, f".{ending}")]
+        # A file that is called after the whole name is that of the picture with this name and the suffix, where there is one.
+        whole = stem if os.path.lexists(os.path.join(self._folder, f"{stem}.ppm.ppm")) else f"{stem}.ppm"
+        paths = [os.path.join(self._published, name) for name in finding.called_beside(whole, stem, f".{ending}")]
         path = next(filter(os.path.lexists, paths), None)
         return None if path is None else _read(f"its {ending}: ", path, most)
 
 
 def _read(whose: str, path: str, most: int) -> bytes:
     try:
-        return bytes_of(path, most, follows=False)
+        return bytes_of(path, most, follows=False, is_real=True)
     except Unreadable as error:
         raise Unreadable(f"{whose}{error}") from error
 
@@ -142,7 +151,7 @@ class Checks:
         file, certificate = self._site.path(name), b""
         worker = self._workers.get()
         try:
-            certificate = _read("", file, MOST_BYTES)
+            certificate = self._site.certificate(name)
             self._check(worker, name, certificate)
         except Fault as fault:
             hint = hint_of(fault, certificate)

@@ -14,6 +14,7 @@ Names = frozenset[str]
 NONE: Names = frozenset()
 Named = tuple[int, str, str]  # a certificate: the puzzle of the file that it is for, from 1; how its name ends; its path
 _NUMBER = re.compile(r"(.+)\.[1-9][0-9]{0,5}", re.DOTALL)
+_LIKE_BYTES = re.compile(rb"\\(?=x(?:[89a-f][0-9a-f]|5c))")
 _NUMBERED = re.compile(rf"(.+)\.([1-9][0-9]{{0,5}})\.({'|'.join(ENDINGS)})", re.DOTALL | re.IGNORECASE)
 
 
@@ -55,8 +56,10 @@ class Folder(NamedTuple):
 
 
 def shown(path: str) -> str:
-    """A path in letters: bytes that are no UTF-8 stand as \\xNN."""
-    return path.encode("utf-8", "surrogateescape").decode("utf-8", "backslashreplace")
+    """A path in letters: bytes that are no UTF-8 stand as \\xNN. So does a backslash of a name that looks so: no two files are called
+    alike.
+    """
+    return _LIKE_BYTES.sub(rb"\\x5c", path.encode("utf-8", "surrogateescape")).decode("utf-8", "backslashreplace")
 
 
 def order_of(name: str) -> str:
@@ -199,10 +202,12 @@ def _found(folder: Folder, name: str) -> Found:
     stem, suffix = os.path.splitext(name)
     is_only = _is_only(folder, stem, suffix.lower())
     called = stem if is_only else name
+    # A file that is called after the whole name is that of the puzzle with this name and a suffix, where there is one.
+    whole = stem if folder.stems[name] else name
     beside = list(folder.unlisted)
     for ending in ENDINGS:
         # What is called after the name alone may belong to the other puzzle of that name.
-        places = _named(name, stem, f".{ending}", folder.held, folder.held_in)
+        places = _named(whole if is_only else name, stem, f".{ending}", folder.held, folder.held_in)
         beside += [(1, ending, place) for place in places[: None if is_only else 1]]
     if suffix.lower() == ".xml":
         own = folder.numbered.get(name, [])
@@ -210,7 +215,7 @@ def _found(folder: Folder, name: str) -> Found:
         others = folder.numbered.get(stem, []) if folder.stems[stem] == 1 else []
         beside += sorted([*own, *(other for other in others if f"{stem}.{other[0]}" not in folder.stems)] if not is_only else others)
     told = folder.told or NONE
-    givens, background = (next(iter(_named(name, stem, end, told, folder.told_in)), None) for end in (".givens", ".background"))
+    givens, background = (next(iter(_named(whole, stem, end, told, folder.told_in)), None) for end in (".givens", ".background"))
     if folder.told is None:
         givens = folder.told_in or "."
     newer = {of for of, ending, _ in beside if ending == ENDINGS[0]}
@@ -241,4 +246,4 @@ def _named(name: str, stem: str, end: str, names: Names, prefix: str) -> list[st
 
 def called_beside(name: str, stem: str, end: str) -> list[str]:
     """What a file that goes with a puzzle may be called, its ending in small or capital letters: NAME.png.cert, then NAME.cert."""
-    return [front + ending for front in (name, stem) for ending in (end, end.upper())]
+    return [front + ending for front in dict.fromkeys((name, stem)) for ending in (end, end.upper())]

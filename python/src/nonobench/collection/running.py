@@ -128,6 +128,8 @@ class Run:
         rows: dict[tuple[str, int], tuple[int, int]] = {}
         files = []
         for at, path in enumerate(self._options.paths):
+            if os.path.exists(path) and not os.path.isfile(path):
+                raise Failure(f"{path}: this is not a file")  # it is read twice, and nothing waits for a pipe
             try:
                 files.append(open(path, "rb"))
             except OSError as error:

@@ -222,10 +222,11 @@ class Judging:
         kept = {number: (row_of(text), held) for number, text, held in files.kept}
         if not kept:
             return True
+        sha256 = hashlib.sha256(files.file).hexdigest()
         with contextlib.suppress(Unreadable):
             for number, _, puzzle in numbered(self._puzzles(task.name, files)):
                 row, held = kept.pop(number, (None, b""))
-                if row is None or (row and isinstance(puzzle, Unreadable)):
+                if row is None or (row and (isinstance(puzzle, Unreadable) or row.get("sha256") != sha256)):
                     return False
                 if row and isinstance(puzzle, Puzzle) and not certificates.holds(self._desk, puzzle, row, held, files.of(number)):
                     return False
