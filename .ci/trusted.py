@@ -46,13 +46,13 @@ def reached(lines):
     for crate, names, more in re.findall(r'^axioms (\w+): ([\w:, ]*?)(, \.\.\. )?\((?:\d+) of the', '\n'.join(lines), re.M):
         named = [f'`{name.split("::")[-1].strip()}`' for name in names.split(',')]
         found.setdefault(crate, [*named, 'and others'] if more else named)
-    return '; '.join(f'of the crate `{crate}` {", ".join(names)}' for crate, names in found.items()) or 'none'
+    return ' '.join(f'In C, of `{crate}`: {", ".join(names)}.' for crate, names in found.items()) or 'Nothing in C.'
 
 
 def item(crate, lines):
     """What the check of a crate printed, as an item of the list."""
     words = last_words(lines)
-    return f'- `{crate}`, {SHIPPED[crate]}: {" ".join(f"`{word}`" for word in words)}. Functions in C: {reached(lines)}.\n'
+    return f'- `{crate}`, {SHIPPED[crate]}: {" ".join(f"`{word}`" for word in words)}. {reached(lines)}\n'
 
 
 def faults(found, kept):
