@@ -64,8 +64,8 @@ SHARED = {
 LONG = 35
 # What README.md says of the lines that a claim needs.
 FIGURES = {
-    'The verdict is true': '{} lines for the verdict, or {} with the definitions by which its clause sees a bench',
-    'A certificate proves uniqueness': 'It is {} for a certificate with the givens that you publish',
+    'The verdict is true': '{} lines for the verdict ({} with what its clause sees of a bench)',
+    'A certificate proves uniqueness': 'and {} for a certificate with published givens',
 }
 # The claims whose definitions docs/BASE.md quotes, and does not only list.
 QUOTED = 'The verdict is true', 'A certificate proves uniqueness'
