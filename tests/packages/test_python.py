@@ -43,8 +43,9 @@ def test_report_of_the_examples(library, tmp_path):
         pytest.importorskip(name, reason=f'there is no {title}')
     report, shown = tmp_path / 'audit.html', ROOT / 'docs' / 'audit.html'
     words = ['--allow', '10000', '--quiet', '--title', 'The examples of nonobench', '--html', report]
+    puzzles = [f'examples/{file.name}' for ending in ('ppm', 'non') for file in sorted(EXAMPLES.glob(f'*.{ending}'))]
     run = ended(
-        [sys.executable, '-m', 'nonobench.audit', 'examples', *words],
+        [sys.executable, '-m', 'nonobench.audit', *puzzles, *words],
         cwd=ROOT,
         env={**os.environ, 'PYTHONPATH': str(ROOT / 'python' / 'src')},
     )
