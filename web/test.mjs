@@ -829,6 +829,10 @@ test('the example checks an upload in a thread of its own, and its status tells 
     assert.equal(said('none.ppm', 'diagonal.cert')[1], 3);
     assert.deepEqual(said('given.ppm', 'given.cert', cross), ['refused: givens BadLine at line 1\n', 1]);
     assert.equal(said('given.ppm')[1], 2);
+    for (const ground of ['', '1,2', '1,2,3,4', '-1,0,0', '1e1,0,0', '65536,0,0', '1, 2,3']) {
+      assert.deepEqual(said('given.ppm', 'given.cert', one, ground), ['check_upload: the background must be R,G,B\n', 2]);
+    }
+    assert.deepEqual(said('given.ppm', 'given.cert', one, '255,00255,255'), ['certificate accepted, givens 1\n', 0]);
     const [text, status] = uploadedBy(join(folder, 'none.wasm'), join(root, 'examples'), 'diagonal.ppm', 'diagonal.cert');
     assert.match(text, /^check_upload: the package nonobench is not installed here, and ENOENT: .*none\.wasm'\n$/);
     assert.equal(status, 3);

@@ -14,8 +14,10 @@ import logging
 import os
 import queue
 import re
+import resource
 import sqlite3
 import unicodedata
+from collections import Counter
 
 import nonobench
 from flask import Flask, abort, g, jsonify, redirect, render_template_string, request, url_for
@@ -23,6 +25,8 @@ from werkzeug.exceptions import HTTPException
 
 MOST_TITLE = 100
 MOST_SHOWN = 200
+MOST_OPEN = 500  # connections
+MOST_FILES = 4096  # descriptors: waitress takes up to three for each connection
 MOST_PARTS = 8  # of a form, with what stands before and behind them
 MOST_HEAD = 4096  # bytes of what is said of a part
 ODD_CODING = re.compile(rb"charset(?!=\"?utf-?8\b)", re.IGNORECASE)
@@ -192,7 +196,10 @@ def look_at_form():
     """
     if (request.content_length or 0) > request.max_content_length:
         abort(413)
-    mark = b"--" + request.mimetype_params.get("boundary", "").encode()
+    boundary = request.mimetype_params.get("boundary", "")
+    if boundary is None:  # of `boundary` without `=`
+        abort(400)
+    mark = b"--" + boundary.encode()
     heads = [part.partition(b"\r\n\r\n")[0] for part in request.get_data(parse_form_data=False).split(mark)]
     if len(heads) > MOST_PARTS or any(len(head) > MOST_HEAD or ODD_CODING.search(head) for head in heads):
         abort(400)
@@ -381,10 +388,39 @@ def create_app(**config):
     return app
 
 
+def to_close(channels):
+    """Which of many connections makes room: of the address that has the most, the one that has been silent for the longest."""
+    counts = Counter(channel.addr[0] for channel in channels)
+    silent = [channel for channel in channels if not channel.requests]
+    return min(silent, key=lambda channel: (-counts[channel.addr[0]], channel.last_activity), default=None)
+
+
+def bound_connections():
+    """Lets waitress close a connection where there are too many, so that nobody who opens many shuts out the others."""
+    from waitress.channel import HTTPChannel
+    from waitress.server import BaseWSGIServer
+
+    class Channel(HTTPChannel):
+        """A connection, for which another one may have to go."""
+
+        def __init__(self, *place, **named):
+            super().__init__(*place, **named)
+            channels = [channel for channel in list(self._map.values()) if isinstance(channel, HTTPChannel) and not channel.will_close]
+            last = to_close(channels) if len(channels) > MOST_OPEN else None
+            if last is not None:
+                last.will_close = True
+
+    BaseWSGIServer.channel_class = Channel
+    most = resource.getrlimit(resource.RLIMIT_NOFILE)[1]
+    files = MOST_FILES if most == resource.RLIM_INFINITY else min(MOST_FILES, most)
+    resource.setrlimit(resource.RLIMIT_NOFILE, (files, most))
+
+
 def main():
     """Serves the site by waitress, to which slow clients cost a connection and no thread."""
     import waitress
 
+    bound_connections()
     app = create_app()
     logging.getLogger("waitress.queue").setLevel(logging.ERROR)
     waitress.serve(

@@ -283,6 +283,8 @@ class Site(Case):
         self.assertEqual(send(b"", b"a&" * 1_000_000, "application/x-www-form-urlencoded").status_code, 422)
         self.assertEqual(send(b"", b"a" * (3 << 20)).status_code, 413)
         self.assertEqual(send(b"", kind="multipart/form-data; boundary*=hex''00").status_code, 400)
+        for mark in ("", "=", "=;", "*0", "=\ud800"):
+            self.assertIn(send(b"", kind=f"multipart/form-data; boundary{mark}").status_code, (400, 422))
         self.assertIn("None yet.", self.client.get("/").text)
         self.assertEqual(send(b"\r\nContent-Type: text/plain; charset=UTF-8").status_code, 303)
 

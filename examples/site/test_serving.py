@@ -9,6 +9,7 @@ import http.client
 import importlib.util
 import os
 import random
+import resource
 import socket
 import subprocess
 import sys
@@ -92,7 +93,8 @@ class Serving(unittest.TestCase):
             free.bind(("127.0.0.1", 0))
             self.port = free.getsockname()[1]
         env = {**os.environ, "SITE_LISTEN": f"127.0.0.1:{self.port}", "SITE_DATABASE": os.path.join(folder.name, "puzzles")}
-        self.server = subprocess.Popen([sys.executable, str(HERE / "app.py")], env=env, stdout=subprocess.DEVNULL)
+        words = ["sh", "-c", 'ulimit -S -n 1024; exec "$0" "$1"', sys.executable, str(HERE / "app.py")]  # the usual bound of open files
+        self.server = subprocess.Popen(words, env=env, stdout=subprocess.DEVNULL)
         self.addCleanup(self.server.wait)
         self.addCleanup(self.server.kill)
         end = time.monotonic() + STARTING
@@ -154,6 +156,21 @@ class Serving(unittest.TestCase):
         self.assertLess(seconds, SECONDS + waited(self.server.pid) - idle)
         # Less than a fifth of what they sent is held.
         self.assertLess(sum(map(peak, family(self.server.pid))), 100 << 10)
+
+    def test_who_opens_many_connections_shuts_nobody_out(self):
+        """Those that are silent make room for others, also where each has a file of what it sent."""
+        resource.setrlimit(resource.RLIMIT_NOFILE, (4096, resource.getrlimit(resource.RLIMIT_NOFILE)[1]))
+        (pair,) = pairs(1)
+        for sent in (b"", b"GET / HT", b"POST /puzzles HTTP/1.1\r\nHost: x\r\nContent-Length: 1000000\r\n\r\n" + b"x" * 70000):
+            with self.subTest(sent[:9]), contextlib.ExitStack() as opened:
+                for _ in range(1100):
+                    client = opened.enter_context(socket.create_connection(("127.0.0.1", self.port)))
+                    client.setblocking(False)
+                    client.send(sent)
+                idle = waited(self.server.pid)
+                status, seconds = self.bring(form(*pair, b"#" * 100000))
+                self.assertEqual(status, 409 if sent else 303)
+                self.assertLess(seconds, SECONDS + waited(self.server.pid) - idle)
 
     def test_what_is_far_too_long_is_refused(self):
         (pair,) = pairs(1)

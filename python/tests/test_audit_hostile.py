@@ -24,7 +24,7 @@ from odd_images import BITS, FRAMES, GAMMA, SMALL, odd_images  # noqa: E402
 from processes import children, seen  # noqa: E402
 from test_audit import p3_of_letters  # noqa: E402
 
-from nonobench.collection import arguments, cluster, running, serving  # noqa: E402
+from nonobench.collection import arguments, cluster, finding, running, serving  # noqa: E402
 from nonobench.collection.outputs import Failure, Output  # noqa: E402
 
 SIGN = b"\x89PNG\r\n\x1a\n"
@@ -100,6 +100,14 @@ class Files(Case):
         })
 
     @pytest.mark.since("0.7.0")
+    def test_first_pixels_that_are_not_there(self):
+        """The ways to take zeros and blanks apart are not tried one after the other."""
+        self.put("blanks.ppm", b"P3 " + b"000000000 " * 5 + b" " * 20000 + b"x")
+        self.put("comments.ppm", b"P3 " + b"000000000 " * 5 + b"#\n" * 20000 + b"x")
+        self.put("one.ppm", p3(UNIQUE))
+        errors = self.errors("--background", "corner", "--allow", "9")
+        self.assertEqual(errors, {"blanks.ppm": "ppm EmptySize at byte 3", "comments.ppm": "ppm EmptySize at byte 3", "one.ppm": None})
+
     def test_what_lies_beside(self):
         for ending in ("cert", "proof"):
             for name in ("folder", "gone", "long", "most", "zeros"):
@@ -274,6 +282,20 @@ class Strangers(Case):
         settings = running.settings_of(arguments.options_of([str(self.site), "--untrusted"]))
         (pack,) = cluster._packs(iter([serving.Task(0, "one.ppm", str(self.site / "one.ppm"), (), None, None, None, "", 1, serving.FULL)]), settings)
         self.assertEqual([json.loads(answer.text)["error"] for answer in pack[1]], ["this is a link"])
+
+    def test_packs_for_a_scheduler_are_bounded(self):
+        """What lies beside puzzles counts, too, and one file has no more of it than a worker has memory."""
+        for at in range(3):
+            self.put(f"{at}.ppm", p3(UNIQUE))
+            self.put(f"{at}.givens", b"#" * cluster.MOST_BYTES)
+        self.put("set.xml", "<puzzleset></puzzleset>")
+        for at in range(2, 11):
+            self.put(f"set.{at}.cert", bytes(16 << 20))
+        settings = running.settings_of(arguments.options_of([str(self.site), "--memory", "128"]))
+        found = enumerate(finding.find([str(self.site)]))
+        packs = list(cluster._packs((serving.Task(at, one.name, one.path, *one[3:6], None, "", 1, serving.FULL) for at, one in found), settings))
+        self.assertEqual([len(pack) for pack, _ in packs], [1, 1, 1, 0])
+        self.assertEqual([json.loads(answer.text)["error"] for answer in packs[-1][1]], ["out of memory: more than 128 MiB"])
 
 
 class Names(Case):

@@ -93,6 +93,21 @@ class Pictures(unittest.TestCase):
             self.assertEqual(caught.exception.name, name)
             self.assertIn(text or name, str(caught.exception))
 
+    def test_long_texts_take_little_memory(self):
+        """15 MiB of blanks, comments or numbers: nothing is held for each."""
+        for data, times in ((b"P6 %s1 1 255\n\1\2\3", b" "), (b"P6 %s1 1 255\n\1\2\3", b"#\n"), (b"P1 1 1 %s1", b"#\n"), (b"P1 9 9%s", b" 1"), (b"P2 9 9 9%s", b" 1")):
+            code = f"""if True:
+                import nonobench, resource
+                data = {data!r}.replace(b"%s", {times!r} * ((15 << 20) // {len(times)}))
+                resource.setrlimit(resource.RLIMIT_AS, (300 << 20, 300 << 20))
+                try:
+                    print(nonobench.picture_of_image(data).split()[4:])
+                except nonobench.ImageFault as fault:
+                    print(fault.name)"""
+            found = subprocess.run([sys.executable, "-c", code], check=True, capture_output=True, text=True).stdout.strip()
+            with self.subTest(data):
+                self.assertEqual(found, "damaged" if b" 9 9" in data else "[b'1', b'2', b'3']" if b"P6" in data else "[b'0', b'0', b'0']")
+
     def test_what_is_missing_is_not_black(self):
         from PIL import ImageFile
 

@@ -6,6 +6,7 @@ A file is looked at here as a whole. Pillow unpacks the pixels of PNG, GIF and W
 from __future__ import annotations
 
 import io
+import itertools
 import re
 import struct
 import zlib
@@ -317,22 +318,42 @@ def _webp_stream(stream: bytes, canvas: bytes) -> Pixels:
     return _painted(columns, values, tuple)
 
 
-# Between the words of a header: blanks, and comments to the end of the line.
-_BLANK = rb"(?:[ \t\n\v\f\r]|#[^\r\n]*[\r\n])+"
-_NUMBER = _BLANK + rb"([0-9]+)"
+# Between the numbers of a header: blanks and comments, some of them at a time, since a pattern takes memory for each.
+_BLANK = re.compile(rb"(?:[ \t\n\v\f\r]+|#[^\r\n]*[\r\n]){1,999}")
+_DIGITS = re.compile(rb"[0-9]+")
+_WORD = re.compile(rb"(?:#[^\r\n]*\s*){1,999}|[^\s#]+")
+
+
+def header_of(data: bytes, count: int) -> Optional[tuple[list[bytes], int]]:
+    """So many numbers behind the sign of a PPM, PGM or PBM, without zeros before them, and where they end; nothing where one lacks."""
+    words: list[bytes] = []
+    at = 2
+    for _ in range(count):
+        blank = _BLANK.match(data, at)
+        if blank is None:
+            return None
+        while blank is not None:
+            at = blank.end()
+            blank = _BLANK.match(data, at)
+        digits = _DIGITS.match(data, at)
+        if digits is None:
+            return None
+        words.append(digits[0].lstrip(b"0") or b"0")
+        at = digits.end()
+    return words, at
 
 
 def _pnm(data: bytes) -> Pixels:
     kind = data[1] - 48
-    head = re.match(rb"P." + _NUMBER * (2 if kind in (1, 4) else 3), data)
+    head = header_of(data, 2 if kind in (1, 4) else 3)
     _need(head)
     assert head is not None
-    columns, rows, most = (int(word.lstrip(b"0")[:9] or b"0") for word in (*head.groups(), b"1")[:3])
+    columns, rows, most = (int(word[:9]) for word in [*head[0], b"1"][:3])
     _bounded(columns, rows)
     _need(most > 0)
     _need(most < 256, DEEP)
-    rest, step = data[head.end() :], 3 if kind == 6 else 1
-    samples = _raw_samples(rest, rows, columns * step, kind == 4) if kind > 3 else _plain_samples(rest, kind == 1)
+    rest, step = data[head[1] :], 3 if kind == 6 else 1
+    samples = _raw_samples(rest, rows, columns * step, kind == 4) if kind > 3 else _plain_samples(rest, rows * columns, kind == 1)
     _need(len(samples) == rows * columns * step and max(samples) <= most)
     if kind in (1, 4):
         samples = [1 - sample for sample in samples]
@@ -340,10 +361,14 @@ def _pnm(data: bytes) -> Pixels:
     return Pixels(columns, [(*colour_shown((red, green, blue), most), 255) for red, green, blue in triples])
 
 
-def _plain_samples(text: bytes, is_bits: bool) -> list[int]:
-    words = re.sub(rb"#[^\r\n]*", b" ", text).split()
+def _plain_samples(text: bytes, count: int, is_bits: bool) -> list[int]:
+    """The samples behind a header: where they are too many, one more than there are to be."""
+    every = (found[0] for found in _WORD.finditer(text))
+    words = list(itertools.islice((word for word in every if word[:1] != b"#"), count + 1))
     _need(all(map(bytes.isdigit, words)))
-    return [digit - 48 for digit in b"".join(words)] if is_bits else [int(word.lstrip(b"0") or b"0") for word in words]
+    if is_bits:
+        return [digit - 48 for digit in b"".join(words)[: count + 1]]
+    return [int(word.lstrip(b"0")[:9] or b"0") for word in words]
 
 
 def _raw_samples(raster: bytes, rows: int, count: int, is_bits: bool) -> list[int]:

@@ -124,12 +124,13 @@ def _packs(tasks: Iterator[Task], settings: Settings) -> Iterator[tuple[list[Tas
     size = 0
     for task in tasks:
         try:
-            files = files_of(task, settings.is_untrusted)
+            files = files_of(task, settings)
         except Unreadable as error:
             answers.append(Answer(task.number, True, "error", unread(task.name, error, settings.has_times)))
         else:
             pack.append(task._replace(**files._asdict()))
-            size += len(files.file) + sum(len(held) for _, held in files.beside)
+            size += len(files.file) + len(files.givens or b"") + len(files.background)
+            size += sum(len(held) for *_, held in (*files.beside, *files.kept))
         if len(pack) + len(answers) >= MOST_FILES or size >= MOST_BYTES:
             yield pack, answers
             pack, answers, size = [], [], 0

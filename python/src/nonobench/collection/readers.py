@@ -10,7 +10,7 @@ from typing import Iterator, NamedTuple, Optional, Union
 
 from .._answers import ImageFault
 from .._calls import picture_of
-from .._images import is_image, pixels_of
+from .._images import header_of, is_image, pixels_of
 from . import webpbn
 from .puzzles import MOST_BYTES, MOST_COLOURS, WHITE, Missing, Puzzle, Triple, Unreadable, one_line
 
@@ -133,9 +133,8 @@ def _is_xml(data: bytes) -> bool:
 
 def first_triple(data: bytes) -> Optional[Triple]:
     """The first pixel of a P3 text, where it has one."""
-    numbers = re.match(rb"P3(?:(?:\s|#[^\r\n]*(?:[\r\n]|$))+0*[0-9]{1,9}(?![0-9])){6}", data)
-    if numbers is None:
+    head = header_of(data, 6)
+    if head is None or any(len(word) > 9 for word in head[0]):
         return None
-    words = re.sub(rb"#[^\r\n]*", b" ", data[: numbers.end()]).split()
-    red, green, blue = (int(word.lstrip(b"0") or b"0") for word in words[-3:])
+    red, green, blue = map(int, head[0][3:])
     return red, green, blue

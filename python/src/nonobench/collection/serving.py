@@ -186,7 +186,7 @@ class Judging:
     def _answer(self, task: Task) -> None:
         begun = time.perf_counter()
         try:
-            files = files_of(task, self._settings.is_untrusted)
+            files = files_of(task, self._settings)
         except Unreadable as error:
             self._answers.put(task.number, "last", "error", unread(task.name, error, self._settings.has_times))
             return
@@ -336,15 +336,24 @@ class Files(NamedTuple):
         return [held for of, held in self.beside if of == number]
 
 
-def files_of(task: Task, is_untrusted: bool) -> Files:
-    """The bytes of a task's files. Raises Unreadable, which names what lies beside the file where that is not read."""
-    def bytes_of(file: Optional[File], whose: str = "", is_ours: bool = not is_untrusted) -> bytes:
+def files_of(task: Task, settings: Settings) -> Files:
+    """The bytes of a task's files. Raises Unreadable, which names what lies beside the file where that is not read. All together
+    they are no more than the memory that judges them.
+    """
+    room = settings.memory << 20
+
+    def bytes_of(file: Optional[File], whose: str = "", is_ours: bool = not settings.is_untrusted) -> bytes:
+        nonlocal room
         if file is None or isinstance(file, bytes):
             return file or b""
         try:
-            return readers.bytes_of(file, follows=is_ours, is_real=not is_ours)
+            data = readers.bytes_of(file, follows=is_ours, is_real=not is_ours)
         except Unreadable as error:
             raise Unreadable(f"{whose}{error}") from error
+        room -= len(data)
+        if room < 0:
+            raise Unreadable(f"out of memory: more than {settings.memory} MiB")
+        return data
 
     def made(file: File) -> bytes:
         with contextlib.suppress(Unreadable):
