@@ -80,7 +80,8 @@ if (isMainThread) {
   if (names.length < 2 || names.length > 4) leave('usage: check_upload.mjs PICTURE CERTIFICATE [GIVENS [R,G,B]]', 2);
   const background = names[3] ?? null;
   const samples = background?.split(',') ?? [0, 0, 0];
-  if (samples.length !== 3 || !samples.every((sample) => /^\d{1,5}$/.test(sample) && sample < 65536)) leave('the background must be R,G,B', 2);
+  const isGround = samples.length === 3 && samples.every((sample) => /^\d{1,5}$/.test(sample) && sample < 65536);
+  if (!isGround) leave('the background must be R,G,B', 2);
   try {
     const module = installed ? null : await readFile(process.env.WASM ?? new URL('../web/out/nonobench.wasm', import.meta.url)).catch((error) => {
       throw new Error(`the package nonobench is not installed here, and ${error.message}`);

@@ -5,6 +5,7 @@ that die, hang or take too much. Each test names what must come out.
 """
 
 import contextlib
+import io
 import json
 import os
 import pty
@@ -14,6 +15,7 @@ import struct
 import subprocess
 import sys
 import unittest
+import unittest.mock
 import zlib
 from pathlib import Path
 
@@ -24,7 +26,7 @@ from odd_images import BITS, FRAMES, GAMMA, SMALL, odd_images  # noqa: E402
 from processes import children, seen  # noqa: E402
 from test_audit import p3_of_letters  # noqa: E402
 
-from nonobench.collection import arguments, cluster, finding, running, serving  # noqa: E402
+from nonobench.collection import arguments, cluster, finding, outputs, readers, running, serving  # noqa: E402
 from nonobench.collection.outputs import Failure, Output  # noqa: E402
 
 SIGN = b"\x89PNG\r\n\x1a\n"
@@ -282,6 +284,23 @@ class Strangers(Case):
         settings = running.settings_of(arguments.options_of([str(self.site), "--untrusted"]))
         (pack,) = cluster._packs(iter([serving.Task(0, "one.ppm", str(self.site / "one.ppm"), (), None, None, None, "", 1, serving.FULL)]), settings)
         self.assertEqual([json.loads(answer.text)["error"] for answer in pack[1]], ["this is a link"])
+
+    def test_a_file_that_is_replaced_while_it_is_read(self):
+        place = os.path.realpath(self.put("one.ppm", p3(UNIQUE)))
+        opened = os.open
+
+        def replaced(*words):
+            handle = opened(*words)
+            os.unlink(place)
+            return handle
+
+        with unittest.mock.patch.object(os, "open", replaced), self.assertRaisesRegex(readers.Unreadable, "^it was replaced while it was read$"):
+            readers.bytes_of(place, follows=False, is_real=True)
+
+    def test_lines_of_rows_are_bounded(self):
+        with unittest.mock.patch.object(outputs, "MOST_LINE", 4):
+            self.assertEqual(list(outputs.lines_of(io.BytesIO(b"abcdefgh\nab"))), [(0, b"abcd"), (4, b"efgh"), (8, b"\n"), (9, b"ab")])
+        self.assertIn("Input/output error\n", self.run_audit("merge", "/proc/self/mem", status=3).stderr[-19:])
 
     def test_packs_for_a_scheduler_are_bounded(self):
         """What lies beside puzzles counts, too, and one file has no more of it than a worker has memory."""

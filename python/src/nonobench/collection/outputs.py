@@ -17,6 +17,7 @@ from .rows import COLUMNS, HEAD, Row, csv_cells, table_line
 
 SOME = 1 << 16  # bytes that are written together
 MOMENT = 0.25  # seconds until a row is in its file
+MOST_LINE = 64 << 20  # bytes of a row
 CLOSED = "standard output was closed"
 
 
@@ -273,8 +274,8 @@ class Table:
 
 
 def lines_of(file: BinaryIO) -> Iterator[tuple[int, bytes]]:
-    """The lines of a file, each with its place."""
+    """The lines of a file, each with its place. One that is longer than any row comes in parts, of which none is a row."""
     place = 0
-    for line in file:
+    for line in iter(lambda: file.readline(MOST_LINE), b""):
         yield place, line
         place += len(line)

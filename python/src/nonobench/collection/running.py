@@ -132,11 +132,11 @@ class Run:
                 raise Failure(f"{path}: this is not a file")  # it is read twice, and nothing waits for a pipe
             try:
                 files.append(open(path, "rb"))
+                for number, (place, line) in enumerate(lines_of(files[-1]), 1):
+                    row = read_row(path, number, line)
+                    rows[order_of(row["file"]), row.get("puzzle", 1)] = (at, place)
             except OSError as error:
                 raise Failure(f"{path}: {error.strerror}") from error
-            for number, (place, line) in enumerate(lines_of(files[-1]), 1):
-                row = read_row(path, number, line)
-                rows[order_of(row["file"]), row.get("puzzle", 1)] = (at, place)
         self._open()
         return self._guarded(lambda: self._join(files, rows))
 
