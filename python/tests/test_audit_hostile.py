@@ -110,6 +110,7 @@ class Files(Case):
         errors = self.errors("--background", "corner", "--allow", "9")
         self.assertEqual(errors, {"blanks.ppm": "ppm EmptySize at byte 3", "comments.ppm": "ppm EmptySize at byte 3", "one.ppm": None})
 
+    @pytest.mark.since("0.7.0")
     def test_what_lies_beside(self):
         for ending in ("cert", "proof"):
             for name in ("folder", "gone", "long", "most", "zeros"):
