@@ -14,7 +14,7 @@ from crates import listed  # noqa: E402
 
 ROOT = pathlib.Path(__file__).resolve().parent.parent
 LINE = re.compile(r'^ {4}([a-z_]+): ((?:proofs|edits|tests|builds) .*)$')
-START = '<!-- .ci/costs.py makes the rest of this section -->\n'
+START, END = '<!-- .ci/costs.py makes this part -->\n', '<!-- .ci/costs.py made this part -->\n'
 HEAD = """These are processor minutes of one run of `bash .ci/run` from nothing, on {date}, in the order of the last column.
 
 | crate | its proofs, tests and builds | its must-fail edits | with all crates above it |
@@ -55,8 +55,8 @@ def main():
     date = datetime.date.fromtimestamp(log.stat().st_mtime)
     page = ROOT / 'crates' / 'README.md'
     before, rest = page.read_text().split(START)
-    after = rest[rest.index('\n## '):]
-    page.write_text(before + START + HEAD.format(date=f'{date.day} {date:%B %Y}') + ''.join(rows) + after)
+    after = rest.split(END)[1]
+    page.write_text(before + START + HEAD.format(date=f'{date.day} {date:%B %Y}') + ''.join(rows) + END + after)
 
 
 if __name__ == '__main__':

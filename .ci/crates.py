@@ -2,8 +2,8 @@
 """Keeps the list of crates in one order: .ci/crates.py [--write]
 
 Each crate has a room, by ROOMS. crates.txt must name the crates room by room, each after those that it depends on. The first list of
-crates/README.md must be what this script makes of crates.txt and the first sentence of each crate's root file. What follows it, from
-ENTRIES on, is kept, and begins with a list that must have the same order. With --write all three are put into order.
+crates/README.md, between two marks, must be what this script makes of crates.txt and the first sentence of each crate's root file. What
+follows it, from ENTRIES on, is kept, and begins with a list that must have the same order. With --write all three are put into order.
 """
 import re
 import sys
@@ -29,7 +29,11 @@ ROOMS = {
 }
 HEAD = '''# Crates
 
-This page is for those who look for a place in the code. It lists the crates in reading order: each depends only on earlier ones, the crates *below* it. `crates.txt` has what each depends on, and [ARCHITECTURE.md](../docs/ARCHITECTURE.md) says how they work together. `.ci/crates.py --write` makes this list; [where to enter the crates](#where-to-enter-them), what [a change costs](#what-a-change-costs) and [the must-fail edits](#the-must-fail-edits) follow it.
+The crates in reading order, each after those that it depends on (`crates.txt`); [where to enter them](#where-to-enter-them), what [a change costs](#what-a-change-costs), and [what no must-fail edit guards](#what-no-must-fail-edit-guards). [ARCHITECTURE.md](../docs/ARCHITECTURE.md) says how they work together.
+
+<!-- .ci/crates.py makes this part -->
+'''
+FOOT = '''<!-- .ci/crates.py made this part -->
 
 '''
 
@@ -83,8 +87,8 @@ def page(crates, rest):
     text = HEAD
     for room, (what, _) in ROOMS.items():
         items = ''.join(f'- [`{name}`]({name}): {told(name)}\n' for name in crates if room_of(name) == room)
-        text += f'## {room}: {what}\n\n{items}\n' if items else ''
-    return text + rest
+        text += f'\n## {room}: {what}\n\n{items}' if items else ''
+    return text + FOOT + rest
 
 
 def put_in_order():

@@ -4,13 +4,12 @@
 For each *.md of the repository, or those that are named: a sentence above 35 words, a link or a path that
 does not exist. Of some documents also:
 - README.md: a command that CI does not run, sentences that are too long on average;
-- crates/README.md: a must-fail edit without its row, or a row without its edit;
 - docs/THEOREMS.md: a name that the file, which is named after it, does not have;
 - docs/TRUST.md: a file that has another number of lines than is written after its name.
 
-Each document is READ or LOOKED_UP. Those that people read have at most MOST_READ words together, as `wc -w` counts them, and those of
-MOST their own number; --sizes lists them. No run of TWICE words may be in two that are read: each thing is said once, and linked. Code,
-tables and the sentences of ALLOWED are left out.
+Each document is READ or LEFT_OUT. Those that people read have at most MOST_READ words together, as `wc -w` counts them, and those of
+MOST their own number; --sizes lists all. Only what a script makes, between its two marks, is not counted. No run of TWICE words may be
+in two that are read: each thing is said once, and linked. Code, tables and the sentences of ALLOWED are left out.
 
 A sentence's words are those that have a letter or a digit. And the file KIT must have a line with the logic that `rt version`
 prints, if there is an rt. A word for which INSTEAD has a better one is an error, except in sentences that come from the heads of
@@ -81,12 +80,19 @@ INSTEAD = {
 OF_CRATES = {os.path.join("crates", "README.md")}
 # Documents that a script makes of the sources, which says itself whether they are in order.
 MADE = {os.path.join("docs", "BASE.md"), os.path.join("docs", "PROMISES.md")}
-# The documents that people read from top to bottom, those that they look things up in, and how many words they may have.
+# The documents that people read, and how many words they may have. packages/dist-README.txt is what a release writes to dist/README.md.
 READ = ["README.md", "CONTRIBUTING.md", *(f"docs/{name}.md" for name in ("ARCHITECTURE", "COMPARISON", "FORMATS", "GLOSSARY", "RECIPES",
                                                                         "THEOREMS", "TRUST", "TUTORIAL")),
-        "examples/README.md", "examples/site/README.md", "page/README.md", "packages/linux/README.md", "packages/npm/README.md",
-        "python/README.md"]
-LOOKED_UP = ["CHANGELOG.md", "crates/README.md", "dist/README.md", "docs/DECISIONS.md", "measure/README.md"]
+        "crates/README.md", "examples/README.md", "examples/site/README.md", "measure/README.md", "packages/dist-README.txt",
+        "packages/linux/README.md", "packages/npm/README.md", "page/README.md", "python/README.md"]
+# The others, each with the reason why it is not counted among them.
+LEFT_OUT = {"CHANGELOG.md": "what changed, looked up by version",
+            "docs/DECISIONS.md": "why something is as it is, looked up by maintainers; it has its own bound",
+            "docs/BASE.md": "looked up; .ci/base.py makes it of the definitions",
+            "docs/PROMISES.md": "looked up; .ci/promises.py makes it of the contracts",
+            "dist/README.md": "a release made it, of packages/dist-README.txt, which is counted"}
+# A part of a document that a script makes, which no one writes or reads from top to bottom: lists and tables.
+MADE_PART = re.compile(r"<!-- (\.ci/\w+\.py) makes this part -->\n.*?<!-- \1 made this part -->\n", re.S)
 MOST_READ = 30000
 MOST = {"README.md": 900, "docs/DECISIONS.md": 2000}
 # How many words in a row are a repetition, and what may be said twice: the licence in each package, and the claims that README.md
@@ -162,21 +168,6 @@ def anchors(path):
     return {re.sub(r"[^\w\- ]", "", head.lower()).replace(" ", "-") for head in heads}
 
 
-def edit_faults(lines):
-    """The rows of crates/README.md without an edit, and the edits without a row: an item for each, `CRATE/EDIT`."""
-    edits = {(os.path.basename(os.path.dirname(folder)), name[:-5])
-             for folder, _, names in os.walk(os.path.join(ROOT, "crates")) if os.path.basename(folder) == "must-fail"
-             for name in names if name.endswith(".edit")}
-    for number, line in enumerate(lines, 1):
-        row = re.match(r"- `(\w+)/(\w+)`:", line)
-        if row and row.groups() not in edits:
-            yield number, f"a row without its edit: {'/'.join(row.groups())}"
-        elif row:
-            edits.discard(row.groups())
-    for edit in sorted(edits):
-        yield len(lines), f"an edit without its row: {'/'.join(edit)}"
-
-
 def length_faults(lines):
     """The files of docs/TRUST.md, as `PATH` (N lines), that have another number of lines."""
     for number, line in enumerate(lines, 1):
@@ -238,8 +229,7 @@ def citation_faults(lines):
             names = []
 
 
-OF_DOCUMENT = {os.path.join("crates", "README.md"): (edit_faults,), os.path.join("docs", "THEOREMS.md"): (citation_faults,),
-               os.path.join("docs", "TRUST.md"): (length_faults,)}
+OF_DOCUMENT = {os.path.join("docs", "THEOREMS.md"): (citation_faults,), os.path.join("docs", "TRUST.md"): (length_faults,)}
 
 
 def faults_of(name):
@@ -312,18 +302,18 @@ def repetitions():
 def size_faults(is_listed):
     """The documents that have too many words, or that are in neither list."""
     sizes = {}
-    for name in [*READ, *LOOKED_UP]:
+    for name in READ + list(LEFT_OUT):
         with open(os.path.join(ROOT, name), encoding="utf-8") as file:
-            sizes[name] = len(file.read().split())
+            sizes[name] = len(MADE_PART.sub("", file.read()).split())
         if is_listed:
-            print(f"{sizes[name]:6,} {name}")
+            print(f"{sizes[name]:6,} {name}" + (f" (not counted: {LEFT_OUT[name]})" if name in LEFT_OUT else ""))
         if sizes[name] > MOST.get(name, sizes[name]):
             yield f"{name} has {sizes[name]:,} words, of at most {MOST[name]:,}"
     read = sum(sizes[name] for name in READ)
     print(f"prose: {read:,} words are read")
     if read > MOST_READ:
         yield f"{read:,} words are read, of at most {MOST_READ:,}"
-    for name in sorted(set(documents()) - set(sizes)):
+    for name in sorted({*documents(), *MADE} - set(sizes)):
         yield f"{name} is in neither list of documents"
 
 

@@ -190,7 +190,7 @@ def tables(rows):
     """The lines of each table; the third leaves out the pictures on which nonobench was improved."""
     others = [row for row in rows if not row['tuned']]
     made = [answer_table(rows), class_table(rows), answer_table(others) if len(others) < len(rows) else [],
-            size_table(rows, CERTIFY, CHECK, 'certificates'), size_table(rows, PROVE, VERIFY, 'proofs by lemmas'), clausal_table(rows)]
+            size_table(rows, CERTIFY, CHECK, 'certificates'), size_table(rows, PROVE, VERIFY, 'certificates with lemmas'), clausal_table(rows)]
     return [lines for lines in map(list, made) if lines]
 
 
