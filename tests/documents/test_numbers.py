@@ -7,13 +7,16 @@ from statistics import median
 import pytest
 from tried import ROOT
 
-WORDS = {'two': 2, 'ten': 10}
+WORDS = {'two': 2, 'six': 6, 'ten': 10}
 MIB = 1 << 20
 # Each number of a document, as the words around it with N in its place; what the code counts in, by the document's unit; and the places
 # that have it, as a file and the words before the number.
 PICTURE = ('crates/picture/src/picture.rt', 'MAX_SIDE: u8 =')
 COLOURS = ('crates/picture/src/picture.rt', 'MAX_COLOURS: u8 =')
 INPUT = ('crates/program/src/input.rt', 'MAX_INPUT: usize =')
+MAXVAL = ('crates/ppm_text/src/fault.rt', 'the maxval is not from 1 to')
+READS = ('crates/command_text/src/lines.rt', 'MOST_READS: u32 =')
+LINE = ('crates/command_text/src/request.rt', 'MOST_BYTES: usize =')
 DEPTH = ('crates/edits/src/studio.rt', 'MAX_DEPTH: u16 =')
 HISTORY = ('crates/command_line/src/words.rt', 'DEPTH: u16 =')
 ALLOWANCE = ('crates/live_audit/src/bench.rt', 'MAX_ALLOWANCE: u32 =')
@@ -22,6 +25,9 @@ AUDIT = 'python/src/nonobench/collection/arguments.py'
 SITE = 'python/src/nonobench/check_site.py'
 EXAMPLE = 'examples/site/app.py'
 UPLOAD = 'examples/check_upload.mjs'
+IMAGE = ('python/src/nonobench/_images.py', 'MOST_CELLS =')
+FILES = ('python/src/nonobench/collection/puzzles.py', 'MOST_BYTES =')
+REDMEAN = 'python/src/nonobench/_colours.py'
 GRADES = ('page/grade/grade.js', 'python/src/nonobench/_grade.py')
 STATED = [
     ('README.md', 'A puzzle has up to N by', 1, [PICTURE]),
@@ -30,8 +36,14 @@ STATED = [
     ('docs/FORMATS.md', 'it is at most N, else TooLarge', 1, [PICTURE]),
     ('docs/FORMATS.md', 'a row inserted where there are N rows', 1, [PICTURE]),
     ('docs/FORMATS.md', 'a colour added where there are N', 1, [COLOURS]),
-    ('docs/FORMATS.md', 'A line of more than N bytes is LongLine', 1, [('crates/command_text/src/request.rt', 'MOST_BYTES: usize =')]),
-    ('docs/FORMATS.md', 'A session makes at most N reads', 1, [('crates/command_text/src/lines.rt', 'MOST_READS: u32 =')]),
+    ('docs/FORMATS.md', 'It is from 1 to N, else BadMaxval', 1, [MAXVAL]),
+    ('docs/FORMATS.md', 'there are fewer than N colours so far', 1, [COLOURS]),
+    ('docs/FORMATS.md', 'digits only and is from 1 to N, else BadSize', 1, [PICTURE]),
+    ('docs/FORMATS.md', 'A line of more than N bytes is LongLine', 1, [LINE]),
+    ('docs/FORMATS.md', 'A session makes at most N reads', 1, [READS]),
+    ('docs/FORMATS.md', 'each with room for N bytes', 1, [('crates/command_text/src/lines.rt', ' ROOM: usize =')]),
+    ('docs/FORMATS.md', 'a place is from 1 to N', 1, [('crates/command_text/src/numbers.rt', 'A place: a number from 1 to')]),
+    ('docs/FORMATS.md', 'a sample from 0 to N', 1, [('crates/command_text/src/numbers.rt', 'with a value up to')]),
     ('docs/FORMATS.md', 'the lemma that began has N literals', 1, [('crates/cert_text/src/cert_line.rt', 'MAX_LEMMA_LITERALS: usize =')]),
     ('docs/FORMATS.md', 'has 1,024 literals already, or N together', 1, [('crates/cert_text/src/cert_line.rt', 'MAX_LITERALS: usize =')]),
     ('docs/FORMATS.md', '`line`, `use` and `drop` have 1 to N words', 1, [('crates/cert_text/src/runs.rt', 'MAX_RUN: usize =')]),
@@ -41,6 +53,17 @@ STATED = [
     ("docs/FORMATS.md", "other than a session's commands has at most N bytes", 1, [INPUT]),
     ('docs/FORMATS.md', 'An image has at most N MiB', MIB, [('page/import/decoding.js', 'MOST_IMAGE =')]),
     ('docs/FORMATS.md', 'an archive at most N GiB', 1024 * MIB, [('page/import/taking.js', 'MOST_ARCHIVE =')]),
+    ('docs/FORMATS.md', 'any other file at most N bytes', 1, [('page/formats/ppm.js', 'MOST_BYTES_READ =')]),
+    ('docs/FORMATS.md', 'A picture of at most N by 120 pixels', 1, [PICTURE]),
+    ('docs/FORMATS.md', 'name cells, at most N a line', 1, [('page/formats/ppm_notes.js', 'places.length; at \\+=')]),
+    ('docs/FORMATS.md', 'stored or deflated, of at most N MiB each', MIB, [('page/formats/zip.js', 'MOST_ENTRY =')]),
+    ('docs/FORMATS.md', 'a picture is searched for up to N seconds', 1000, [('page/import/reading.js', 'MOST_SEARCH =')]),
+    ('docs/FORMATS.md', 'a regular one of at most N MiB', MIB, [FILES]),
+    ('docs/FORMATS.md', 'or is longer than N MiB, the row has an error', MIB, [FILES]),
+    ('docs/FORMATS.md', 'An image of more than N by 120 pixels', 1, [IMAGE]),
+    ('docs/FORMATS.md', '(N + s) dr dr', 1, [(REDMEAN, 'return \\(')]),
+    ('docs/FORMATS.md', 'dr dr + N dg dg', 1, [(REDMEAN, r'red \* red \+')]),
+    ('docs/FORMATS.md', 'dg dg + (N - s) db db', 1, [(REDMEAN, r'green \* green \+ \(')]),
     ('docs/FORMATS.md', 'a PPM picture at most N pixels a side', 1, [('page/formats/ppm.js', 'MOST_PIXELS =')]),
     ('docs/FORMATS.md', 'An image has at most N pixels', 1, [('page/import/decoding.js', 'MOST_DECODED =')]),
     ('docs/FORMATS.md', 'If an image has more than N pixels a side', 1, [('page/import/decoding.js', 'MOST_SIDE =')]),
@@ -58,6 +81,9 @@ STATED = [
     ),
     ('docs/FORMATS.md', 'TooMany (more than N)', 1, [('page/formats/palettes.js', 'MOST_COLOURS =')]),
     ('docs/FORMATS.md', 'in at most N characters', 1, [('page/library/records.js', 'MOST_SIGNS =')]),
+    ('docs/FORMATS.md', 'A puzzle of more than N rows or columns', 1, [('page/export/sheets.js', 'MOST_LINES =')]),
+    ('docs/FORMATS.md', 'sizes but the last are multiples of N', 1, [('page/export/sheets.js', r'/ MOST_LINES\) /')]),
+    ('docs/FORMATS.md', '`nonobench: input too long`: more than N bytes', 1, [INPUT]),
     ('docs/FORMATS.md', 'is cut into parts of at most N', 1, [('page/export/sheets.js', 'MOST_LINES =')]),
     ('docs/FORMATS.md', 'the page reads at most N files', 1, [('page/import/folders.js', 'MOST_UNITS =')]),
     ('docs/FORMATS.md', 'db db < N', 1, [('python/src/nonobench/_colours.py', '_BOUND =')]),
@@ -70,6 +96,7 @@ STATED = [
     ('docs/ARCHITECTURE.md', 'or up to N splits if none is set', 1, [(BOUNDS, 'fixed_splits:')]),
     ('docs/ARCHITECTURE.md', 'once more, up to N splits', 1, [(BOUNDS, 'again_splits:')]),
     ('docs/ARCHITECTURE.md', 'searches with lemmas, up to N conflicts', 1, [(BOUNDS, r'window_splits: \d+,\n    conflicts:')]),
+    ('docs/RECIPES.md', 'Regular files alone are read, each of at most N MiB', MIB, [FILES]),
     ('docs/RECIPES.md', 'Each puzzle has N seconds', 1, [(AUDIT, r'seconds: Optional\[float\] =')]),
     ('docs/RECIPES.md', '(`--seconds`), and each process N MiB', 1, [(AUDIT, '"--memory".*default=')]),
     ('docs/RECIPES.md', 'A check has N seconds of processor time', 1, [(SITE, '"--processor".*default=')]),
@@ -81,10 +108,31 @@ STATED = [
     ('packages/npm/README.md', 'regular files of at most N MiB', MIB, [(UPLOAD, 'MOST_BYTES =')]),
     ('packages/npm/README.md', 'allows N seconds of processor time', 1, [(UPLOAD, 'MOST_PROCESSOR =')]),
     ('packages/npm/README.md', 'of processor time, or N of wall-clock time', 1, [(UPLOAD, 'MOST_CLOCK =')]),
+    ('packages/npm/README.md', 'The module has at most N GiB', 1024 * MIB, [('web/build', '--max-memory=')]),
+    ('packages/npm/README.md', 'takes at most N by 120 cells', 1, [PICTURE]),
+    ('packages/npm/README.md', 'by 120 cells in N colours', 1, [COLOURS]),
+    ('packages/npm/README.md', 'the call returns status N', 1, [('web/guard.c', 'OPTIONS ='), ('c/nonobench.h', 'NONOBENCH_OPTIONS =')]),
+    ('python/README.md', 'a triple of numbers from 0 to N', 1, [('python/src/nonobench/_calls.py', 'NO_TRIPLE =.* to')]),
+    ('examples/site/README.md', 'an image at most N by 120 pixels', 1, [IMAGE]),
+    ('examples/site/README.md', 'N uploads are checked at once', 1, [(EXAMPLE, ' WORKERS=')]),
+    ('examples/site/README.md', 'a third waits for at most N seconds', 1, [(EXAMPLE, ' SECONDS=')]),
+    ('examples/site/README.md', 'Where more than N are open', 1, [(EXAMPLE, 'MOST_OPEN =')]),
+    # Twice the bytes of an upload.
+    ('examples/site/README.md', 'A body of more than N MiB', MIB // 2, [(EXAMPLE, 'MAX_CONTENT_LENGTH=')]),
     ('examples/site/README.md', 'An upload has at most N MiB', MIB, [(EXAMPLE, 'MAX_CONTENT_LENGTH=')]),
     ('examples/site/README.md', 'each is ended after N seconds', 1, [(EXAMPLE, ' SECONDS=')]),
     ('examples/site/README.md', 'in a process with at most N GiB', 1024 * MIB, [(EXAMPLE, ' MEMORY=')]),
     ('examples/site/README.md', 'Titles are cut at N characters', 1, [(EXAMPLE, 'MOST_TITLE =')]),
+    ('docs/THEOREMS.md', 'm rows and n columns, 1 ≤ m, n ≤ N', 1, [PICTURE]),
+    ('docs/THEOREMS.md', 'A blank line of at most N bytes', 1, [LINE]),
+    ('docs/THEOREMS.md', 'refuses a file of more than N MiB', MIB, [INPUT]),
+    ('docs/TRUST.md', 'it needed more than N reads', 1, [READS]),
+    ('docs/TUTORIAL.md', 'Pictures have at most N rows', 1, [PICTURE]),
+    ('docs/TUTORIAL.md', 'at most 120 rows, N columns', 1, [PICTURE]),
+    ('docs/TUTORIAL.md', '120 columns and N colours', 1, [COLOURS]),
+    ('CONTRIBUTING.md', 'Lines have at most N characters in', 1, [('.ci/house.py', r"wide_lines\('specs',")]),
+    ('CONTRIBUTING.md', 'in `specs/` and N in `proofs/`', 1, [('.ci/house.py', r"wide_lines\('proofs',")]),
+    ('page/README.md', 'on a processor slowed N times', 1, [('tests/page/page_limit.mjs', 'SLOWED =')]),
     ('page/README.md', 'The page may have at most N bytes', 1, [('web/join.mjs', 'MOST ='), ('tests/page/page_limit.mjs', 'MOST_BYTES =')]),
 ]
 
@@ -105,14 +153,24 @@ def said(document, words):
     before, _, after = words.rpartition('N')
     text = ' '.join((ROOT / document).read_text().split())
     [number] = set(re.findall(re.escape(before) + r'([\w,]*\w)' + re.escape(after), text))
-    return WORDS.get(number) or counted(number)
+    return WORDS.get(number.lower()) or counted(number)
 
 
 @pytest.mark.parametrize(('document', 'words', 'unit', 'places'), STATED, ids=[f'{row[0]}: {row[1]}' for row in STATED])
 def test_number(document, words, unit, places):
     for file, before in places:
-        [number] = set(re.findall(before + r' ?([\d_.e]+(?: (?:<<|\*) \d+)*)', (ROOT / file).read_text(), re.IGNORECASE))
-        assert said(document, words) * unit == counted(number), file
+        found = re.findall(before + r' ?([\d_.e]+(?: (?:<<|\*) \d+)*)', (ROOT / file).read_text(), re.IGNORECASE)
+        assert {said(document, words) * unit} == set(map(counted, found)), file
+
+
+def test_oldest_versions():
+    """The Python and the Node.js that documents ask for are those that the packages name."""
+    [python] = re.findall(r'requires-python = ">=(.*)"', (ROOT / 'python' / 'pyproject.toml').read_text())
+    [node] = re.findall(r'"node": ">=(.*)"', (ROOT / 'packages' / 'npm' / 'package.json').read_text())
+    documents = ('docs/RECIPES.md', 'packages/npm/README.md', 'packages/linux/README.md', 'packages/dist-README.txt')
+    text = ' '.join((ROOT / name).read_text() for name in documents)
+    assert set(re.findall(r'Python (\d+\.\d+) ', text)) == {python}
+    assert set(re.findall(r'(?i)node(?:\.js)? (\d+\.\d+) ', text)) == {node}
 
 
 def test_sentences_of_the_comparison():
