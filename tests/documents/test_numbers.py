@@ -85,6 +85,7 @@ STATED = [
     ('docs/FORMATS.md', 'sizes but the last are multiples of N', 1, [('page/export/sheets.js', r'/ MOST_LINES\) /')]),
     ('docs/FORMATS.md', '`nonobench: input too long`: more than N bytes', 1, [INPUT]),
     ('docs/FORMATS.md', 'is cut into parts of at most N', 1, [('page/export/sheets.js', 'MOST_LINES =')]),
+    ('docs/FORMATS.md', 'with every tint is at least N to 1', 1, [('tests/page/page_sheets.mjs', 'least >=')]),
     ('docs/FORMATS.md', 'the page reads at most N files', 1, [('page/import/folders.js', 'MOST_UNITS =')]),
     ('docs/FORMATS.md', 'db db < N', 1, [('python/src/nonobench/_colours.py', '_BOUND =')]),
     ('docs/FORMATS.md', '| easy | none | at most N rounds', 1, [(file, r'easy.*rounds"?:') for file in GRADES]),
