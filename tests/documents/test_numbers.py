@@ -184,7 +184,22 @@ def test_sentences_of_the_comparison():
     icon, hard = sorted(tuned, key=lambda picture: seconds.get(('nonobench', picture), 0))[:-3:-1]
     ratios = [size / sizes['nonobench prove', picture] for (program, picture), size in sizes.items() if program == 'cadical, DRAT']
     took = {program: f'{seconds[program, icon]:.2f}' for program in ('nonobench', 'minisat', 'cadical', 'gringo, clasp')}
+    solvers = ('nonobench', 'minisat', 'cadical', 'gringo, clasp', 'gecode')
+    unique = sum(row['answer'] == 'unique' for row in rows if row['program'] == 'nonobench')
+    decided = {program: {picture for solver, picture in seconds if solver == program} for program in solvers}
+    [left] = set(tuned) - set().union(*decided.values())
+    [board] = {(row['height'], row['width'], row['colours']) for row in rows if row['picture'] == left}
+    plain = [seconds.get(('nonobench', picture), 10) for picture, is_tuned in tuned.items() if not is_tuned]
+    sides = sorted(int(row['width']) for row in rows if row['picture'].startswith('hard-') and row['program'] == 'nonobench')
+    assert decided['nonobench'] == set(tuned) - {left}
+    others = {program: sum(not tuned[picture] for picture in pictures) for program, pictures in decided.items()}
+    assert others['nonobench'] == others['gecode']
     sentences = [
+        f'one picture, a chequerboard of {board[0]} by {board[1]} cells in {board[2]} colours',
+        f'10 of its {sum(plain):.1f} seconds are those of the open picture',
+        f'three hard pictures of {sides[0]} to {sides[2]} cells a side',
+        f'for each of the {unique} pictures that nonobench found unique',
+        f'for the {unique} pictures that are unique',
         f'We ran each program on {len(tuned)} pictures',
         f'{sum(tuned.values())} of the {len(tuned)} pictures were chosen because',
         f'the table of the other {len(tuned) - sum(tuned.values())}',
