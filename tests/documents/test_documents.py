@@ -1,6 +1,7 @@
 """The documents: sentences, paths and links, the lists that scripts make, the definitions behind claims, and what is counted of the
 code."""
 
+import re
 import sys
 
 import pytest
@@ -15,6 +16,12 @@ CHECKS = ('prose', 'crates', 'base', 'promises', 'memory', 'house')
 @pytest.mark.parametrize('name', CHECKS)
 def test_check(name):
     passes([sys.executable, ROOT / '.ci' / f'{name}.py'])
+
+
+def test_quoted_function():
+    """The function that CONTRIBUTING.md shows is written so in its file."""
+    [quoted] = re.findall(r'(?ms)^```\n( +fn .*?)^```$', (ROOT / 'CONTRIBUTING.md').read_text())
+    assert quoted in (ROOT / 'crates' / 'worklist' / 'src' / 'in_order.rt').read_text()
 
 
 def test_tables_of_the_comparison():
