@@ -267,13 +267,9 @@ export async function tutorialSteps({ browser, url, folder }) {
     await trial.action('fix');
     await listed(page);
     assert.match(await trial.text('#fix-said'), /No smaller one exists/);
-    for (const corner of [/^1 cell: row 3, column 4:/, /^1 cell: row 3, column 13:/]) {
-        await listed(page);
-        const card = (await proposals(page)).findIndex((text) => corner.test(text));
-        assert.ok(card >= 0, (await proposals(page)).join('\n'));
-        await page.run((at) => document.querySelectorAll('#fix-list button')[at].click(), card);
-        await trial.judged();
-    }
+    const square = (await proposals(page)).findIndex((text) => /2 cells: row 3, column 4; row 3, column 13/.test(text));
+    assert.ok(square >= 0, (await proposals(page)).join('\n'));
+    await page.run((at) => document.querySelectorAll('#fix-list button')[at].click(), square);
     await page.until(() => bench.state.picture[2] === '...aaaaaaaaaa...', 5000 * SLACK);
     assert.equal(await trial.judged(), 'unique');
     assert.equal((await trial.state()).open, 0, 'nothing needs guessing');
@@ -284,7 +280,6 @@ export async function tutorialSteps({ browser, url, folder }) {
     assert.deepEqual(await page.run(() => play.marks.map((row) => row.join(''))), await trial.picture(), 'solved step by step');
     await page.press('Escape');
 
-    await trial.press('Control+z');
     await trial.press('Control+z');
     await page.click('#fix-give');
     await page.until(() => bench.state.givens.size > 0, 10000 * SLACK);
