@@ -195,7 +195,7 @@ def test_sentences_of_the_comparison():
     others = {program: sum(not tuned[picture] for picture in pictures) for program, pictures in decided.items()}
     assert others['nonobench'] == others['gecode']
     sentences = [
-        f'one picture, a chequerboard of {board[0]} by {board[1]} cells in {board[2]} colours',
+        f'One picture, a chequerboard of {board[0]} by {board[1]} cells in {board[2]} colours',
         f'10 of its {sum(plain):.1f} seconds are those of the open picture',
         f'three hard pictures of {sides[0]} to {sides[2]} cells a side',
         f'for each of the {unique} pictures that nonobench found unique',
