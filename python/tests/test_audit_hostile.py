@@ -153,6 +153,46 @@ class Files(Case):
         self.assertIsNone(errors["broken.xml#1"])
         self.assertIsNone(errors["typed.xml"])
 
+    def test_clues_that_cannot_be_seen(self):
+        """Clues alone are judged as black ones on white, so they must be seen before their background."""
+        side = "".join(f"<line><count>{length}</count></line>" for length in (2, 2))
+        clues = "".join(f'<clues type="{axis}">{side}</clues>' for axis in ("rows", "columns"))
+        colours = '<color name="ink">{}</color><color name="sky">0000ff</color>'
+        for name, words, more in (
+            ("same", 'backgroundcolor="black"', ""), ("alike", 'backgroundcolor="sky" defaultcolor="ink"', colours.format("0000f8")),
+            ("lost", 'defaultcolor="ink"', ""), ("ground", 'backgroundcolor="sky"', ""),
+            ("seen", 'backgroundcolor="sky" defaultcolor="ink"', colours.format("ffff00")), ("white", 'backgroundcolor="black" defaultcolor="white"', ""),
+        ):
+            self.put(f"{name}.xml", f"<puzzle {words}>{more}{clues}</puzzle>")
+        hidden = "the puzzle has clues in a colour that looks like its background"
+        lost = "the puzzle has clues, or a background, in a colour that it does not have"
+        self.assertEqual(self.errors("--allow", "9"), {
+            "same.xml": hidden, "alike.xml": hidden, "lost.xml": lost, "ground.xml": lost, "seen.xml": None, "white.xml": None,
+        })
+
+    def test_xml_that_takes_long(self):
+        """What makes expat take much longer than the file is long is refused, and files of too many puzzles are."""
+        for name, text in (
+            ("attributes", '<!DOCTYPE a [<!ATTLIST a b CDATA "c">]>' + webpbn(UNIQUE)),
+            ("comment", f"<!--{'-a' * 600_000}-->" + webpbn(UNIQUE)),
+            ("tag", f"<puzzle b='{'a' * 1_100_000}'></puzzle>"),
+            ("space", f"<puzzleset xmlns='{'a' * 1000}'>{webpbn(UNIQUE)}</puzzleset>"),
+            ("short", f"<!--{'-a' * 1000}--><puzzleset xmlns:b='http://example.org/'>{webpbn(UNIQUE)}</puzzleset>"),
+            ("set", f"<puzzleset>{'<puzzle/>' * 20_000}</puzzleset>"),
+        ):
+            self.put(f"{name}.xml", text)
+        errors = self.errors("--allow", "9")
+        self.assertEqual({name: error for name, error in errors.items() if "set" not in name}, {
+            "attributes.xml": "the XML cannot be read: it declares attributes",
+            "comment.xml": "the XML cannot be read: a tag or a comment of it has more than 1048576 bytes",
+            "tag.xml": "the XML cannot be read: a tag or a comment of it has more than 1048576 bytes",
+            "space.xml": "the XML cannot be read: a name space of it has more than 200 signs",
+            "short.xml": None,
+        })
+        self.assertEqual(errors["set.xml#10000"], "the puzzle has neither a solution nor all clues")
+        self.assertEqual(errors["set.xml#10001"], "the XML has more than 10000 puzzles")
+        self.assertNotIn("set.xml#10002", errors)
+
     def test_folders_however_deep(self):
         here = os.getcwd()
         self.addCleanup(os.chdir, here)
