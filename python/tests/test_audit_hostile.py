@@ -26,7 +26,7 @@ from odd_images import BITS, FRAMES, GAMMA, SMALL, odd_images  # noqa: E402
 from processes import children, seen  # noqa: E402
 from test_audit import p3_of_letters  # noqa: E402
 
-from nonobench.collection import arguments, cluster, finding, outputs, readers, running, serving  # noqa: E402
+from nonobench.collection import arguments, cluster, finding, outputs, readers, running, serving, workers  # noqa: E402
 from nonobench.collection.outputs import Failure, Output  # noqa: E402
 
 SIGN = b"\x89PNG\r\n\x1a\n"
@@ -624,6 +624,47 @@ class Processes(Case):
         rows = self.rows("site", "--seconds", "3", "--jobs", "1", status=1)
         self.assertEqual([row["verdict"] for row in rows.values()], ["unique", "undecided", "ambiguous", "undecided"])
         self.assertEqual([row.get("more", False) for row in rows.values()], [True, True, True, False])
+
+    def test_a_set_that_takes_long_in_all(self):
+        """One file does not hold a process for each of its puzzles' seconds."""
+        letters = "".join(f'<color name="{letter}" char="{letter}">{at}{at}0000</color>' for at, letter in enumerate("abc", 3))
+        image = "".join(f"|{row}|" for row in chequered(60, 4))
+        hard = f'<puzzle>{letters}<solution type="goal"><image>{image}</image></solution></puzzle>'
+        self.put("set.xml", "<puzzleset>" + webpbn(UNIQUE) + hard * 9 + "</puzzleset>")
+        self.put("z.ppm", p3(UNIQUE))
+        settings = running.settings_of(arguments.options_of([str(self.site), "--seconds", "0.5", "--no-grade"]))
+        found = list(finding.find([str(self.site)]))
+        tasks = [serving.Task(at, one.name, one.path, *one[3:6], None, "", 1, serving.FULL) for at, one in enumerate(found)]
+        pool = workers.Pool(settings, 1, 0.5)
+        self.addCleanup(pool.close)
+        with unittest.mock.patch.object(workers, "MOST_TIMES", 4):
+            answers = [answer for answer in pool.answers(iter(tasks)) if answer is not None]
+        rows = [json.loads(answer.text) for answer in answers if answer.number == 0]
+        self.assertEqual([row["verdict"] for row in rows], ["unique", *["undecided"] * (len(rows) - 2), "error"])
+        self.assertLess(len(rows), 8)
+        self.assertEqual([row.get("puzzle") for row in rows], [*range(1, len(rows) + 1)])
+        self.assertEqual([row.get("more", False) for row in rows], [*[True] * (len(rows) - 1), False])
+        self.assertEqual(rows[-1]["error"], "the puzzles before it have taken more than 2 seconds: neither it nor those behind it are judged")
+        self.assertEqual([answer.verdict for answer in answers if answer.number == 1], ["unique"])
+
+    def test_rows_of_a_set_that_is_not_judged_whole(self):
+        """They are numbered, and merge takes them, whatever ended it."""
+        self.put("set.xml", "<puzzleset>" + webpbn(UNIQUE) * 2 + "<puzzle>" + "".join(f'<a{at} b="{at}"/>' for at in range(190_000)))
+        self.put("z.ppm", p3(UNIQUE))
+        self.run_audit("site", "--memory", "128", "--jobs", "1", "--jsonl", "rows", "--no-grade", status=3)
+        rows = [json.loads(line) for line in (self.folder / "rows").read_text().splitlines()]
+        self.assertEqual([row.get("puzzle") for row in rows], [1, 2, None])
+        self.assertEqual(rows[1]["error"], "out of memory: more than 128 MiB")
+        self.run_audit("merge", "rows", "--jsonl", "joined", status=3)
+        self.assertEqual((self.folder / "joined").read_bytes(), (self.folder / "rows").read_bytes())
+        # A row without what it was judged by comes of a process that was ended. It hides no other run.
+        told = [{"file": "a.xml", "puzzle": at, "more": True, "verdict": "error", "error": "x", "content": "ab"} for at in (1, 2, 3)]
+        del told[1]["content"], told[2]["more"]
+        for content, status in (("ab", 3), ("cd", 3)):
+            told[2]["content"] = content
+            (self.folder / "rows").write_text("".join(json.dumps(row, separators=(",", ":")) + "\n" for row in told))
+            done = self.run_audit("merge", "rows", "--jsonl", "joined", status=status)
+            self.assertEqual("of another run" in done.stderr, content == "cd")
 
     def test_a_library_that_is_not_there(self):
         done = self.run_audit("site", NONOBENCH_LIBRARY="/nowhere/libnonobench.so")
