@@ -338,6 +338,24 @@ class Strangers(Case):
         with unittest.mock.patch.object(os, "open", replaced), self.assertRaisesRegex(readers.Unreadable, "^it was replaced while it was read$"):
             readers.bytes_of(place, follows=False, is_real=True)
 
+    def test_rows_that_no_output_could_show(self):
+        """Givens of a picture without a size, and numbers that are larger than any that is printed."""
+        row = {"file": "a", "verdict": "error", "error": "x"}
+        for more, why in (({"givens": [[1, 1]]}, "the field 'rows' is missing"), ({"seconds": 10**400}, "the field 'seconds' is wrong"), ({"seconds": 1e300}, "the field 'seconds' is wrong")):
+            (self.folder / "rows").write_text(json.dumps({**row, **more}) + "\n")
+            for words in ([], ["--html", "report.html"]):
+                with self.subTest((more, words)):
+                    said = self.run_audit("merge", "rows", *words, status=3).stderr
+                    self.assertEqual(said, f"nonobench-audit: rows: line 1 is not a row of an audit: {why}\n")
+
+    def test_a_long_line_takes_little_memory(self):
+        (self.folder / "rows").write_bytes(b'{"file":"' + b"a" * (60 << 20) + b"\n")
+        bound = lambda: resource.setrlimit(resource.RLIMIT_AS, (500 << 20, 500 << 20))  # noqa: E731
+        for words in (["merge", "rows"], ["site", "--jsonl", "rows", "--resume", "--memory", "200", "--jobs", "1"]):
+            done = subprocess.run(self.words(*words), cwd=self.folder, env=self.env(), capture_output=True, text=True, preexec_fn=bound)
+            self.assertRegex(done.stderr, "^nonobench-audit: rows: line 1 is not a row of an audit: .*\n$")
+            self.assertEqual(done.returncode, 3)
+
     def test_lines_of_rows_are_bounded(self):
         with unittest.mock.patch.object(outputs, "MOST_LINE", 4):
             self.assertEqual(list(outputs.lines_of(io.BytesIO(b"abcdefgh\nab"))), [(0, b"abcd"), (4, b"efgh"), (8, b"\n"), (9, b"ab")])
