@@ -30,6 +30,7 @@ MOST_OPEN = 500  # connections
 MOST_FILES = 4096  # descriptors: waitress takes up to three for each connection
 MOST_PARTS = 8  # of a form, with what stands before and behind them
 MOST_HEAD = 4096  # bytes of what is said of a part
+BLANKS = re.compile(rb"[ \t]{100}")  # of a request's header, for which waitress takes long; as it does for bodies in small pieces
 ODD_CODING = re.compile(rb"charset(?!=\"?utf-?8\b)", re.IGNORECASE)
 PNG = b"\x89PNG\r\n\x1a\n"
 WHITE = (255, 255, 255)
@@ -428,15 +429,19 @@ def bound_connections():
     answer.
     """
     from waitress.channel import HTTPChannel
-    from waitress.parser import HTTPRequestParser
+    from waitress.parser import HTTPRequestParser, ParsingError, TransferEncodingNotImplemented
     from waitress.server import BaseWSGIServer
 
     class Request(HTTPRequestParser):
         """A request, the only one of its connection."""
 
         def parse_header(self, header_plus):
+            if BLANKS.search(header_plus):
+                raise ParsingError("Invalid header")
             super().parse_header(header_plus)
             self.headers["CONNECTION"] = "close"
+            if self.chunked:
+                raise TransferEncodingNotImplemented("Send a Content-Length")
 
         def received(self, data):
             taken = super().received(data)

@@ -218,6 +218,19 @@ class Serving(unittest.TestCase):
         self.assertEqual(Counter(status for status, _ in answers), {303: 200})
         self.assertLess(max(seconds for _, seconds in answers), SECONDS + waited(self.server.pid) - idle)
 
+    def test_requests_that_take_waitress_long(self):
+        """A header of blanks, for which its time grows with the square of the length, and a body in pieces of one byte."""
+        front = b"POST /puzzles HTTP/1.1\r\nHost: x\r\n"
+        for more, status in ((b"a:" + b" \t" * 15000 + b"x\r\n\r\n", b"400"), (b"Transfer-Encoding: chunked\r\n\r\n" + b"1\r\na\r\n" * 9, b"501")):
+            with self.subTest(status), contextlib.ExitStack() as opened:
+                idle, began = waited(self.server.pid), time.monotonic()
+                for _ in range(20):
+                    client = opened.enter_context(socket.create_connection(("127.0.0.1", self.port), STARTING, ("127.0.0.2", 0)))
+                    client.sendall(front + more)
+                self.listed()
+                self.assertEqual(client.recv(1 << 16).split()[1], status)
+                self.assertLess(time.monotonic() - began, SECONDS + waited(self.server.pid) - idle)
+
     def test_a_connection_has_one_request(self):
         with socket.create_connection(("127.0.0.1", self.port), timeout=STARTING) as client:
             client.sendall(b"\r\n\r\nGET /new HTTP/1.1\r\nHost: x\r\n\r\n" * 9)
