@@ -186,7 +186,7 @@ class Files(Case):
             "attributes.xml": "the XML cannot be read: it declares attributes",
             "comment.xml": "the XML cannot be read: a tag or a comment of it has more than 1048576 bytes",
             "tag.xml": "the XML cannot be read: a tag or a comment of it has more than 1048576 bytes",
-            "space.xml": "the XML cannot be read: a name space of it has more than 200 signs",
+            "space.xml": "the XML cannot be read: a namespace of it has more than 200 characters",
             "short.xml": None,
         })
         self.assertEqual(errors["set.xml#10000"], "the puzzle has neither a solution nor all clues")

@@ -18,7 +18,7 @@ MOST_ELEMENTS = 200_000  # in one puzzle
 MOST_DEPTH = 32
 MOST_PUZZLES = 10_000  # in one file
 MOST_PART = 1 << 20  # bytes of a tag or a comment, about: expat reads it again with each piece of the file
-MOST_SPACE = 200  # signs of a name space, which each name in it repeats
+MOST_SPACE = 200  # characters of a namespace, which each name in it repeats
 NO_MEMORY = 1  # an error of expat
 GIVENS = "givens"
 BLACK: Triple = (0, 0, 0)
@@ -75,7 +75,7 @@ def _refuse_attributes(*_declared: Any) -> None:
 
 def _look_at_space(_prefix: Optional[str], space: Optional[str]) -> None:
     if len(space or "") > MOST_SPACE:
-        raise Unreadable(f"the XML cannot be read: a name space of it has more than {MOST_SPACE} signs")
+        raise Unreadable(f"the XML cannot be read: a namespace of it has more than {MOST_SPACE} characters")
 
 
 def _puzzles(events: Any) -> Iterator[Puzzle | Unreadable]:
