@@ -17,10 +17,11 @@ import re
 import resource
 import sqlite3
 import unicodedata
-from collections import Counter
+from collections import Counter, deque
 
 import nonobench
-from flask import Flask, abort, g, jsonify, redirect, render_template_string, request, url_for
+from flask import Flask, abort, g, jsonify, redirect, render_template, request, url_for
+from jinja2 import DictLoader
 from werkzeug.exceptions import HTTPException
 
 MOST_TITLE = 100
@@ -29,6 +30,7 @@ MOST_OPEN = 500  # connections
 MOST_FILES = 4096  # descriptors: waitress takes up to three for each connection
 MOST_PARTS = 8  # of a form, with what stands before and behind them
 MOST_HEAD = 4096  # bytes of what is said of a part
+BLANKS = re.compile(rb"[ \t]{100}")  # of a request's header, for which waitress takes long; as it does for bodies in small pieces
 ODD_CODING = re.compile(rb"charset(?!=\"?utf-?8\b)", re.IGNORECASE)
 PNG = b"\x89PNG\r\n\x1a\n"
 WHITE = (255, 255, 255)
@@ -79,6 +81,7 @@ WORDS = {
     "TooLong": "A file is too long.",
 }
 
+# Each page is compiled once. Their names end in .html, so that what is shown is escaped.
 PAGE = """<!doctype html>
 <html lang="en"><head><meta charset="utf-8"><title>{{ title }}</title>
 <meta name="viewport" content="width=device-width"><style>
@@ -111,6 +114,7 @@ PUZZLE = PAGE + """{% macro clue(blocks) %}{% for length, letter in blocks %}<sp
 <td{% if given %} class="given" style="{{ given.style }}">{{ given.mark }}{% else %}>{% endif %}</td>{% endfor %}</tr>{% endfor %}
 </tbody></table><p>It has one solution{% if givens %} with the {{ givens|length }} framed
 {{ "cell that is" if givens|length == 1 else "cells that are" }} given (×: it stays empty){% endif %}: this was proved when it was uploaded.</p>"""
+PAGES = DictLoader({"list.html": LIST, "form.html": FORM, "puzzle.html": PUZZLE})
 
 
 class Refused(Exception):
@@ -320,7 +324,7 @@ def guard(app):
     def refuse(error):
         if wants_json():
             return jsonify(refused=str(error)), error.status
-        return render_template_string(FORM, title="Not published", reason=str(error)), error.status
+        return render_template("form.html", title="Not published", reason=str(error)), error.status
 
     @app.errorhandler(HTTPException)
     def fail(error):
@@ -339,11 +343,11 @@ def add_pages(app, site):
         found = site.database().execute("SELECT id, title FROM published ORDER BY id DESC LIMIT ?", (MOST_SHOWN,)).fetchall()
         if wants_json():
             return jsonify(puzzles=[{"number": row["id"], "title": row["title"], "address": address_of(row["id"])} for row in found])
-        return render_template_string(LIST, title="Puzzles", found=found)
+        return render_template("list.html", title="Puzzles", found=found)
 
     @app.get("/new")
     def form():
-        return render_template_string(FORM, title="Upload a puzzle", reason="")
+        return render_template("form.html", title="Upload a puzzle", reason="")
 
     @app.post("/puzzles")
     def take():
@@ -367,8 +371,8 @@ def add_pages(app, site):
         puzzle = json.loads(found["puzzle"])
         if wants_json():
             return jsonify(number=int(number), title=found["title"], **puzzle)
-        return render_template_string(
-            PUZZLE, title=found["title"], rows=puzzle["rows"], columns=puzzle["columns"],
+        return render_template(
+            "puzzle.html", title=found["title"], rows=puzzle["rows"], columns=puzzle["columns"],
             inks={letter: ink_of(triple) for letter, triple in puzzle["colours"].items()},
             givens={(row, column): given_of(triple) for row, column, triple in puzzle["givens"]},
         )
@@ -377,6 +381,7 @@ def add_pages(app, site):
 def create_app(**config):
     """The site. DATABASE is its file, SECONDS and MEMORY (bytes) bound a check, WORKERS is how many run at once."""
     app = Flask(__name__)
+    app.jinja_loader = PAGES
     app.config.update(
         DATABASE=os.environ.get("SITE_DATABASE", "puzzles.sqlite"), SECONDS=5.0, MEMORY=1 << 30, WORKERS=2,
         MAX_CONTENT_LENGTH=2 << 20,
@@ -389,26 +394,69 @@ def create_app(**config):
 
 
 def to_close(channels):
-    """Which of many connections makes room: of the address that has the most, the one that has been silent for the longest."""
+    """Which of many connections makes room: of the address that has the most, the one that has been silent for the longest. One that
+    waits for its answer comes last.
+    """
     counts = Counter(channel.addr[0] for channel in channels)
-    silent = [channel for channel in channels if not channel.requests]
-    return min(silent, key=lambda channel: (-counts[channel.addr[0]], channel.last_activity), default=None)
+    return min(channels, key=lambda channel: (-counts[channel.addr[0]], bool(channel.requests), channel.last_activity))
+
+
+class Turns:
+    """Requests that wait for a thread: the addresses take turns, so that nobody who asks much holds up the others."""
+
+    def __init__(self):
+        self.waiting = {}  # of each address that has some, the one first whose turn it is
+
+    def __len__(self):
+        return sum(map(len, self.waiting.values()))
+
+    def append(self, channel):
+        """Puts a connection behind those of its address."""
+        self.waiting.setdefault(channel.addr[0], deque()).append(channel)
+
+    def popleft(self):
+        """Takes the first connection of the address whose turn it is."""
+        address = next(iter(self.waiting))
+        channels = self.waiting.pop(address)
+        channel = channels.popleft()
+        if channels:
+            self.waiting[address] = channels
+        return channel
 
 
 def bound_connections():
-    """Lets waitress close a connection where there are too many, so that nobody who opens many shuts out the others."""
+    """Lets waitress close a connection where there are too many, so that nobody who opens many shuts out the others, and after one
+    answer.
+    """
     from waitress.channel import HTTPChannel
+    from waitress.parser import HTTPRequestParser, ParsingError, TransferEncodingNotImplemented
     from waitress.server import BaseWSGIServer
+
+    class Request(HTTPRequestParser):
+        """A request, the only one of its connection."""
+
+        def parse_header(self, header_plus):
+            if BLANKS.search(header_plus):
+                raise ParsingError("Invalid header")
+            super().parse_header(header_plus)
+            self.headers["CONNECTION"] = "close"
+            if self.chunked:
+                raise TransferEncodingNotImplemented("Send a Content-Length")
+
+        def received(self, data):
+            taken = super().received(data)
+            return len(data) if self.completed and not self.empty else taken  # what comes behind it is not read
 
     class Channel(HTTPChannel):
         """A connection, for which another one may have to go."""
 
+        parser_class = Request
+
         def __init__(self, *place, **named):
             super().__init__(*place, **named)
             channels = [channel for channel in list(self._map.values()) if isinstance(channel, HTTPChannel) and not channel.will_close]
-            last = to_close(channels) if len(channels) > MOST_OPEN else None
-            if last is not None:
-                last.will_close = True
+            if len(channels) > MOST_OPEN:
+                to_close(channels).will_close = True
 
     BaseWSGIServer.channel_class = Channel
     most = resource.getrlimit(resource.RLIMIT_NOFILE)[1]
@@ -423,11 +471,15 @@ def main():
     bound_connections()
     app = create_app()
     logging.getLogger("waitress.queue").setLevel(logging.ERROR)
-    waitress.serve(
+    server = waitress.create_server(
         app, listen=os.environ.get("SITE_LISTEN", "127.0.0.1:5000"), threads=8, connection_limit=1000, asyncore_use_poll=True,
         channel_timeout=30, max_request_header_size=1 << 15, max_request_body_size=2 * app.config["MAX_CONTENT_LENGTH"],
         inbuf_overflow=1 << 16, ident=None,
     )
+    server.task_dispatcher.queue = Turns()
+    logging.basicConfig()
+    server.print_listen("Serving on http://{}:{}")
+    server.run()
 
 
 if __name__ == "__main__":

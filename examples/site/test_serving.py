@@ -82,6 +82,32 @@ def peak(pid):
     return int(next(line.split()[1] for line in Path(f"/proc/{pid}/status").read_text().splitlines() if line.startswith("VmHWM")))
 
 
+def crowded(port, until):
+    """Keeps 560 connections from another address open, each with as many requests as it can send, until it is to end."""
+    asked, clients = b"GET / HTTP/1.1\r\nHost: x\r\n\r\n" * 290, []
+    while not until.is_set():
+        while len(clients) < 560:
+            client = socket.socket()
+            client.bind(("127.0.0.2", 0))
+            client.connect(("127.0.0.1", port))
+            client.setblocking(False)
+            clients.append(client)
+        for client in list(clients):
+            try:
+                client.send(asked)
+                is_closed = client.recv(1 << 20) == b""
+            except BlockingIOError:
+                continue
+            except OSError:
+                is_closed = True
+            if is_closed:
+                clients.remove(client)
+                client.close()
+        until.wait(0.01)
+    for client in clients:
+        client.close()
+
+
 @unittest.skipIf(importlib.util.find_spec("waitress") is None, "there is no waitress")
 class Serving(unittest.TestCase):
     """The site, served by the command of its README."""
@@ -119,12 +145,9 @@ class Serving(unittest.TestCase):
         connection.close()
         return status, time.monotonic() - began
 
-    def test_200_uploads_side_by_side(self):
-        made = pairs(100)
-        # Each puzzle twice, and some as long as an upload may be.
-        bodies = [form(*pair, b"#" * (1 << 20 if at % 20 == 0 else 0)) for at, pair in enumerate(made * 2)]
+    def bring_all(self, bodies):
+        """The same of uploads side by side."""
         answers, start = [None] * len(bodies), threading.Barrier(len(bodies))
-        spent, idle = processor(self.server.pid), waited(self.server.pid)
 
         def ask(at):
             start.wait()
@@ -135,6 +158,14 @@ class Serving(unittest.TestCase):
             thread.start()
         for thread in threads:
             thread.join()
+        return answers
+
+    def test_200_uploads_side_by_side(self):
+        made = pairs(100)
+        # Each puzzle twice, and some as long as an upload may be.
+        bodies = [form(*pair, b"#" * (1 << 20 if at % 20 == 0 else 0)) for at, pair in enumerate(made * 2)]
+        spent, idle = processor(self.server.pid), waited(self.server.pid)
+        answers = self.bring_all(bodies)
         self.assertEqual(Counter(status for status, _ in answers), {303: 100, 409: 100})
         for one, other in zip(answers, answers[100:]):
             self.assertEqual({one[0], other[0]}, {303, 409})
@@ -171,6 +202,41 @@ class Serving(unittest.TestCase):
                 status, seconds = self.bring(form(*pair, b"#" * 100000))
                 self.assertEqual(status, 409 if sent else 303)
                 self.assertLess(seconds, SECONDS + waited(self.server.pid) - idle)
+
+    def test_who_asks_much_holds_up_nobody_else(self):
+        """560 connections of another address, each with as many requests as it can send."""
+        resource.setrlimit(resource.RLIMIT_NOFILE, (4096, resource.getrlimit(resource.RLIMIT_NOFILE)[1]))
+        made = pairs(200)
+        until = threading.Event()
+        crowd = threading.Thread(target=crowded, args=(self.port, until), daemon=True)
+        crowd.start()
+        self.addCleanup(crowd.join)
+        self.addCleanup(until.set)
+        time.sleep(2)
+        idle = waited(self.server.pid)
+        answers = self.bring_all([form(*pair) for pair in made])
+        self.assertEqual(Counter(status for status, _ in answers), {303: 200})
+        self.assertLess(max(seconds for _, seconds in answers), SECONDS + waited(self.server.pid) - idle)
+
+    def test_requests_that_take_waitress_long(self):
+        """A header of blanks, for which its time grows with the square of the length, and a body in pieces of one byte."""
+        front = b"POST /puzzles HTTP/1.1\r\nHost: x\r\n"
+        for more, status in ((b"a:" + b" \t" * 15000 + b"x\r\n\r\n", b"400"), (b"Transfer-Encoding: chunked\r\n\r\n" + b"1\r\na\r\n" * 9, b"501")):
+            with self.subTest(status), contextlib.ExitStack() as opened:
+                idle, began = waited(self.server.pid), time.monotonic()
+                for _ in range(20):
+                    client = opened.enter_context(socket.create_connection(("127.0.0.1", self.port), STARTING, ("127.0.0.2", 0)))
+                    client.sendall(front + more)
+                self.listed()
+                self.assertEqual(client.recv(1 << 16).split()[1], status)
+                self.assertLess(time.monotonic() - began, SECONDS + waited(self.server.pid) - idle)
+
+    def test_a_connection_has_one_request(self):
+        with socket.create_connection(("127.0.0.1", self.port), timeout=STARTING) as client:
+            client.sendall(b"\r\n\r\nGET /new HTTP/1.1\r\nHost: x\r\n\r\n" * 9)
+            said = b"".join(iter(lambda: client.recv(1 << 16), b""))
+        self.assertEqual(said.count(b"HTTP/1.1 200 OK"), 1)
+        self.assertIn(b"\r\nConnection: close\r\n", said)
 
     def test_what_is_far_too_long_is_refused(self):
         (pair,) = pairs(1)

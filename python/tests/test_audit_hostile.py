@@ -26,7 +26,7 @@ from odd_images import BITS, FRAMES, GAMMA, SMALL, odd_images  # noqa: E402
 from processes import children, seen  # noqa: E402
 from test_audit import p3_of_letters  # noqa: E402
 
-from nonobench.collection import arguments, cluster, finding, outputs, readers, running, serving  # noqa: E402
+from nonobench.collection import arguments, cluster, finding, outputs, readers, running, serving, workers  # noqa: E402
 from nonobench.collection.outputs import Failure, Output  # noqa: E402
 
 SIGN = b"\x89PNG\r\n\x1a\n"
@@ -152,6 +152,46 @@ class Files(Case):
                 self.assertRegex(errors[name], words)
         self.assertIsNone(errors["broken.xml#1"])
         self.assertIsNone(errors["typed.xml"])
+
+    def test_clues_that_cannot_be_seen(self):
+        """Clues alone are judged as black ones on white, so they must be seen before their background."""
+        side = "".join(f"<line><count>{length}</count></line>" for length in (2, 2))
+        clues = "".join(f'<clues type="{axis}">{side}</clues>' for axis in ("rows", "columns"))
+        colours = '<color name="ink">{}</color><color name="sky">0000ff</color>'
+        for name, words, more in (
+            ("same", 'backgroundcolor="black"', ""), ("alike", 'backgroundcolor="sky" defaultcolor="ink"', colours.format("0000f8")),
+            ("lost", 'defaultcolor="ink"', ""), ("ground", 'backgroundcolor="sky"', ""),
+            ("seen", 'backgroundcolor="sky" defaultcolor="ink"', colours.format("ffff00")), ("white", 'backgroundcolor="black" defaultcolor="white"', ""),
+        ):
+            self.put(f"{name}.xml", f"<puzzle {words}>{more}{clues}</puzzle>")
+        hidden = "the puzzle has clues in a colour that looks like its background"
+        lost = "the puzzle has clues, or a background, in a colour that it does not have"
+        self.assertEqual(self.errors("--allow", "9"), {
+            "same.xml": hidden, "alike.xml": hidden, "lost.xml": lost, "ground.xml": lost, "seen.xml": None, "white.xml": None,
+        })
+
+    def test_xml_that_takes_long(self):
+        """What makes expat take much longer than the file is long is refused, and files of too many puzzles are."""
+        for name, text in (
+            ("attributes", '<!DOCTYPE a [<!ATTLIST a b CDATA "c">]>' + webpbn(UNIQUE)),
+            ("comment", f"<!--{'-a' * 600_000}-->" + webpbn(UNIQUE)),
+            ("tag", f"<puzzle b='{'a' * 1_100_000}'></puzzle>"),
+            ("space", f"<puzzleset xmlns='{'a' * 1000}'>{webpbn(UNIQUE)}</puzzleset>"),
+            ("short", f"<!--{'-a' * 1000}--><puzzleset xmlns:b='http://example.org/'>{webpbn(UNIQUE)}</puzzleset>"),
+            ("set", f"<puzzleset>{'<puzzle/>' * 20_000}</puzzleset>"),
+        ):
+            self.put(f"{name}.xml", text)
+        errors = self.errors("--allow", "9")
+        self.assertEqual({name: error for name, error in errors.items() if "set" not in name}, {
+            "attributes.xml": "the XML cannot be read: it declares attributes",
+            "comment.xml": "the XML cannot be read: a tag or a comment of it has more than 1048576 bytes",
+            "tag.xml": "the XML cannot be read: a tag or a comment of it has more than 1048576 bytes",
+            "space.xml": "the XML cannot be read: a namespace of it has more than 200 characters",
+            "short.xml": None,
+        })
+        self.assertEqual(errors["set.xml#10000"], "the puzzle has neither a solution nor all clues")
+        self.assertEqual(errors["set.xml#10001"], "the XML has more than 10000 puzzles")
+        self.assertNotIn("set.xml#10002", errors)
 
     def test_folders_however_deep(self):
         here = os.getcwd()
@@ -297,6 +337,24 @@ class Strangers(Case):
 
         with unittest.mock.patch.object(os, "open", replaced), self.assertRaisesRegex(readers.Unreadable, "^it was replaced while it was read$"):
             readers.bytes_of(place, follows=False, is_real=True)
+
+    def test_rows_that_no_output_could_show(self):
+        """Givens of a picture without a size, and numbers that are larger than any that is printed."""
+        row = {"file": "a", "verdict": "error", "error": "x"}
+        for more, why in (({"givens": [[1, 1]]}, "the field 'rows' is missing"), ({"seconds": 10**400}, "the field 'seconds' is wrong"), ({"seconds": 1e300}, "the field 'seconds' is wrong")):
+            (self.folder / "rows").write_text(json.dumps({**row, **more}) + "\n")
+            for words in ([], ["--html", "report.html"]):
+                with self.subTest((more, words)):
+                    said = self.run_audit("merge", "rows", *words, status=3).stderr
+                    self.assertEqual(said, f"nonobench-audit: rows: line 1 is not a row of an audit: {why}\n")
+
+    def test_a_long_line_takes_little_memory(self):
+        (self.folder / "rows").write_bytes(b'{"file":"' + b"a" * (60 << 20) + b"\n")
+        bound = lambda: resource.setrlimit(resource.RLIMIT_AS, (500 << 20, 500 << 20))  # noqa: E731
+        for words in (["merge", "rows"], ["site", "--jsonl", "rows", "--resume", "--memory", "200", "--jobs", "1"]):
+            done = subprocess.run(self.words(*words), cwd=self.folder, env=self.env(), capture_output=True, text=True, preexec_fn=bound)
+            self.assertRegex(done.stderr, "^nonobench-audit: rows: line 1 is not a row of an audit: .*\n$")
+            self.assertEqual(done.returncode, 3)
 
     def test_lines_of_rows_are_bounded(self):
         with unittest.mock.patch.object(outputs, "MOST_LINE", 4):
@@ -584,6 +642,47 @@ class Processes(Case):
         rows = self.rows("site", "--seconds", "3", "--jobs", "1", status=1)
         self.assertEqual([row["verdict"] for row in rows.values()], ["unique", "undecided", "ambiguous", "undecided"])
         self.assertEqual([row.get("more", False) for row in rows.values()], [True, True, True, False])
+
+    def test_a_set_that_takes_long_in_all(self):
+        """One file does not hold a process for each of its puzzles' seconds."""
+        letters = "".join(f'<color name="{letter}" char="{letter}">{at}{at}0000</color>' for at, letter in enumerate("abc", 3))
+        image = "".join(f"|{row}|" for row in chequered(60, 4))
+        hard = f'<puzzle>{letters}<solution type="goal"><image>{image}</image></solution></puzzle>'
+        self.put("set.xml", "<puzzleset>" + webpbn(UNIQUE) + hard * 9 + "</puzzleset>")
+        self.put("z.ppm", p3(UNIQUE))
+        settings = running.settings_of(arguments.options_of([str(self.site), "--seconds", "0.5", "--no-grade"]))
+        found = list(finding.find([str(self.site)]))
+        tasks = [serving.Task(at, one.name, one.path, *one[3:6], None, "", 1, serving.FULL) for at, one in enumerate(found)]
+        pool = workers.Pool(settings, 1, 0.5)
+        self.addCleanup(pool.close)
+        with unittest.mock.patch.object(workers, "MOST_TIMES", 4):
+            answers = [answer for answer in pool.answers(iter(tasks)) if answer is not None]
+        rows = [json.loads(answer.text) for answer in answers if answer.number == 0]
+        self.assertEqual([row["verdict"] for row in rows], ["unique", *["undecided"] * (len(rows) - 2), "error"])
+        self.assertLess(len(rows), 8)
+        self.assertEqual([row.get("puzzle") for row in rows], [*range(1, len(rows) + 1)])
+        self.assertEqual([row.get("more", False) for row in rows], [*[True] * (len(rows) - 1), False])
+        self.assertEqual(rows[-1]["error"], "the puzzles before it have taken more than 2 seconds: neither it nor those behind it are judged")
+        self.assertEqual([answer.verdict for answer in answers if answer.number == 1], ["unique"])
+
+    def test_rows_of_a_set_that_is_not_judged_whole(self):
+        """They are numbered, and merge takes them, whatever ended it."""
+        self.put("set.xml", "<puzzleset>" + webpbn(UNIQUE) * 2 + "<puzzle>" + "".join(f'<a{at} b="{at}"/>' for at in range(190_000)))
+        self.put("z.ppm", p3(UNIQUE))
+        self.run_audit("site", "--memory", "128", "--jobs", "1", "--jsonl", "rows", "--no-grade", status=3)
+        rows = [json.loads(line) for line in (self.folder / "rows").read_text().splitlines()]
+        self.assertEqual([row.get("puzzle") for row in rows], [1, 2, None])
+        self.assertEqual(rows[1]["error"], "out of memory: more than 128 MiB")
+        self.run_audit("merge", "rows", "--jsonl", "joined", status=3)
+        self.assertEqual((self.folder / "joined").read_bytes(), (self.folder / "rows").read_bytes())
+        # A row without what it was judged by comes of a process that was ended. It hides no other run.
+        told = [{"file": "a.xml", "puzzle": at, "more": True, "verdict": "error", "error": "x", "content": "ab"} for at in (1, 2, 3)]
+        del told[1]["content"], told[2]["more"]
+        for content, status in (("ab", 3), ("cd", 3)):
+            told[2]["content"] = content
+            (self.folder / "rows").write_text("".join(json.dumps(row, separators=(",", ":")) + "\n" for row in told))
+            done = self.run_audit("merge", "rows", "--jsonl", "joined", status=status)
+            self.assertEqual("of another run" in done.stderr, content == "cd")
 
     def test_a_library_that_is_not_there(self):
         done = self.run_audit("site", NONOBENCH_LIBRARY="/nowhere/libnonobench.so")

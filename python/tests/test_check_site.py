@@ -272,12 +272,12 @@ def test_odd_names(site, checked, tmp_path):
         pair(site, name)
     assert checked("site") == (0, [])
     pair(site, "x.cert/y")
-    pair(site, "line\nfeed\x1b[31m\u2028", certificate=cut)
+    pair(site, "line\nfeed\x1b[31m\u2028\u202e", certificate=cut)
     odd = os.fsdecode(bytes(site) + b"/\xff")
     for end, text in (("ppm", DIAGONAL), ("cert", cut)):
         Path(f"{odd}.{end}").write_text(text)
     assert checked("site") == (3, [
-        "site/line\\x0afeed\\x1b[31m\\x2028.cert: certificate Ended at line 2",
+        "site/line\\x0afeed\\x1b[31m\\x2028\\x202e.cert: certificate Ended at line 2",
         "site/x.cert: this folder is not read",
         "site/\\xff.cert: certificate Ended at line 2",
     ])

@@ -11,11 +11,13 @@ import subprocess
 import sys
 import tempfile
 import unittest
+import unittest.mock
 from pathlib import Path
 
 HERE = Path(__file__).resolve().parent
 sys.path.insert(0, str(HERE))
 import nonobench  # noqa: E402
+from nonobench import _images  # noqa: E402
 from nonobench._images import pixels_of  # noqa: E402
 from odd_images import BROKEN, CLEAR, REASONS, odd_images  # noqa: E402
 
@@ -48,6 +50,15 @@ class Reading(unittest.TestCase):
     def test_there_are_many(self):
         self.assertGreaterEqual(len({odd.data for odd in ODD}), 300)
         self.assertEqual({odd.reason for odd in ODD}, {"", BROKEN, *REASONS})
+
+    def test_pillow_is_handed_one_chunk_of_data(self):
+        """It takes long for many, however short they are."""
+        data = next(odd.data for odd in ODD if odd.name == "png-parts")
+        self.assertGreater(data.count(b"IDAT"), 5)
+        unpacked = _images._unpacked
+        with unittest.mock.patch.object(_images, "_unpacked", side_effect=unpacked) as handed:
+            pixels_of(data)
+        self.assertEqual(handed.call_args.args[1].count(b"IDAT"), 1)
 
     def test_formats_names_each_reason(self):
         formats = (HERE.parent.parent / "docs" / "FORMATS.md").read_text(encoding="utf-8")

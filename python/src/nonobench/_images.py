@@ -161,9 +161,11 @@ def _png(data: bytes) -> Pixels:
     )
     packed = b"".join(body for name, body in chunks if name == b"IDAT")
     _need(len(zlib.decompressobj().decompress(packed, size)) == size)
+    # Its data as one chunk: Pillow takes long for many.
+    parts = {**held, b"IDAT": packed}
     kept = b"".join(
-        struct.pack(">I", len(body)) + name + body + struct.pack(">I", zlib.crc32(name + body))
-        for name, body in chunks if name in (b"IHDR", b"PLTE", b"IDAT", b"IEND")
+        struct.pack(">I", len(parts[name])) + name + parts[name] + struct.pack(">I", zlib.crc32(name + parts[name]))
+        for name in (b"IHDR", b"PLTE", b"IDAT", b"IEND") if name in parts
     )
     pixels = _painted(columns, _unpacked("PNG", data[:8] + kept), _png_pixel(kind, depth, held.get(b"PLTE"), held.get(b"tRNS")))
     _need(not is_converted or all({*pixel} <= {0, 255} for pixel in set(pixels.cells) if pixel[3]), PROFILE)

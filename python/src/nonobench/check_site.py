@@ -10,7 +10,6 @@ import argparse
 import itertools
 import os
 import queue
-import re
 import sys
 import traceback
 from concurrent.futures import ThreadPoolExecutor
@@ -172,7 +171,7 @@ class Checks:
 
 def line_of(answer: Answer) -> str:
     """What is printed of an answer, in one line, whatever its name holds, and in signs that the output has."""
-    name = re.sub(r"[\x00-\x1f\x7f-\x9f\u2028\u2029]", lambda sign: f"\\x{ord(sign[0]):02x}", finding.shown(answer.file))
+    name = "".join(sign if sign.isprintable() else f"\\x{ord(sign):02x}" for sign in finding.shown(answer.file))
     coding = sys.stdout.encoding or "utf-8"
     return f"{name}: {one_line(answer.why)}".encode(coding, "backslashreplace").decode(coding)
 

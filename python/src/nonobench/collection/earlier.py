@@ -15,6 +15,7 @@ from .serving import File
 
 
 # How a row begins: with its file, and the number of the puzzle where the file has several. The rest is read where it is wanted.
+MOST_FRONT = 1 << 16  # bytes
 _FRONT = re.compile(rb'\{"file":("(?:[^"\\]|\\.)*"),(?:"puzzle":([0-9]+),)?"')
 
 
@@ -29,7 +30,7 @@ class Earlier:
         except OSError as error:
             raise failure(name, error) from error
         for number, (place, line) in enumerate(lines_of(self._lines), 1):
-            front = _FRONT.match(line)
+            front = _FRONT.match(line, 0, MOST_FRONT)
             if front is None or not line.endswith(b"}\n"):
                 raise no_row(name, number, "it does not begin or end as one")
             try:

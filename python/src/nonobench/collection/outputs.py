@@ -17,7 +17,7 @@ from .rows import COLUMNS, HEAD, Row, csv_cells, table_line
 
 SOME = 1 << 16  # bytes that are written together
 MOMENT = 0.25  # seconds until a row is in its file
-MOST_LINE = 64 << 20  # bytes of a row
+MOST_LINE = 1 << 20  # bytes of a row
 CLOSED = "standard output was closed"
 
 

@@ -3,13 +3,13 @@
 from __future__ import annotations
 
 import json
-import math
 import re
 from typing import Any, Callable
 
 from .puzzles import MOST_CELLS, MOST_COLOURS
 from .rows import FIGURES, GRADES, VERDICTS, Row
 
+MOST_SECONDS = 1e9
 _LETTERS = ".abcdefghijklmno"
 
 
@@ -49,7 +49,7 @@ def _compare(row: Row) -> None:
     """What fields say together."""
     verdict = row.get("verdict")
     wanted = ["file", "verdict"]
-    if verdict in ("unique", "ambiguous") or any(name in row for name in _SHOWN):
+    if verdict in ("unique", "ambiguous") or any(name in row for name in (*_SHOWN, "givens")):
         wanted += _SHOWN
     wanted += ["error"] if verdict == "error" else ["other"] if verdict == "ambiguous" else ["figures"] if "grade" in row else []
     for name in wanted:
@@ -124,5 +124,5 @@ _FIELDS: dict[str, Callable[[Any], bool]] = {
     "near": lambda value: _is_list(value, _is_like("#[0-9a-f]{6} and #[0-9a-f]{6}")),
     "grade": lambda value: value in GRADES,
     "figures": lambda value: isinstance(value, dict) and value.keys() == {*FIGURES} and all(map(_count, value.values())),
-    "seconds": lambda value: type(value) in (int, float) and 0 <= value < math.inf,
+    "seconds": lambda value: type(value) in (int, float) and 0 <= value <= MOST_SECONDS,
 }

@@ -32,7 +32,8 @@ def _follows(before: Row, row: Row) -> bool:
     """Whether a row comes directly behind another one where files are joined: a file's puzzles are told whole, and by one run."""
     if row["file"] != before.get("file"):
         return not before.get("more") and row.get("puzzle", 1) == 1
-    return bool(before.get("more")) and row.get("puzzle") == before["puzzle"] + 1 and row.get("content") == before.get("content")
+    contents = {one["content"] for one in (before, row) if one.get("content")}
+    return bool(before.get("more")) and row.get("puzzle") == before["puzzle"] + 1 and len(contents) < 2
 
 
 class Stopped(BaseException):
@@ -148,7 +149,8 @@ class Run:
             row = row_of(files[at].readline())
             if not _follows(before, row):
                 raise Failure(f"{printable((before if before.get('more') else row)['file'])}: {MIXED}")
-            before = row
+            # One whose process was ended does not tell its content.
+            before = {**row, "content": before.get("content")} if before.get("more") and "content" not in row else row
             self._deliver(row["verdict"], text_of(row))  # written anew: other programs may have put blanks in
         if before.get("more"):
             raise Failure(f"{printable(before['file'])}: {MIXED}")

@@ -68,6 +68,7 @@ class Task(NamedTuple):
     published: Optional[str] = None  # where its picture is written, without the ending
     kept: tuple[tuple[int, str, File], ...] = ()  # rows to be checked again: number, text where it has one solution, certificate
     spent: float = 0.0  # the seconds of a try that took too long
+    used: float = 0.0  # the seconds that the puzzles before took
 
 
 def serve() -> None:
@@ -162,15 +163,17 @@ class Judging:
         self._ground = readers.ground_of(settings.ground)
         self._desk = Desk()
         self._making: Optional[Making] = None  # what is known of the puzzle at hand
+        self._front: Row = {}  # how its row begins, if its file is not read further
         self._spare = bytes(SPARE)  # let go where memory is out, so that this can be told
 
     def answer(self, task: Task) -> None:
         """Answers the puzzles of a file."""
+        self._front = {"file": task.name}
         try:
             self._answer(task)
         except MemoryError:  # in reading it
             self._spare = b""
-            row = {"file": task.name, "verdict": "error", "error": self._too_much()}
+            row = {**self._front, "verdict": "error", "error": self._too_much()}
             self._answers.put(task.number, "last", "error", text_of(row))
             self._leave(task)
 
@@ -213,6 +216,7 @@ class Judging:
             self._judge(task, about, puzzle, files.of(number))
             if task.mode == GLANCE:
                 return
+            self._front = {"file": task.name, "puzzle": number + 1}
             begun = time.perf_counter()
         if number < task.start:
             self._answers.put(task.number, "none", "")

@@ -11,10 +11,14 @@ import re
 from typing import Any, Iterator, NamedTuple, Optional
 
 from .._calls import picture_of
+from .._colours import colours_too_near
 from .puzzles import MOST_CELLS, MOST_COLOURS, WHITE, Missing, Puzzle, Triple, Unreadable, one_line
 
 MOST_ELEMENTS = 200_000  # in one puzzle
 MOST_DEPTH = 32
+MOST_PUZZLES = 10_000  # in one file
+MOST_PART = 1 << 20  # bytes of a tag or a comment, about: expat reads it again with each piece of the file
+MOST_SPACE = 200  # characters of a namespace, which each name in it repeats
 NO_MEMORY = 1  # an error of expat
 GIVENS = "givens"
 BLACK: Triple = (0, 0, 0)
@@ -38,13 +42,40 @@ def puzzles_of_xml(data: bytes) -> Iterator[Puzzle | Unreadable]:
     except ImportError:
         raise Missing("defusedxml", "reads XML") from None
     try:
-        yield from _puzzles(ElementTree.iterparse(io.BytesIO(data), events=("start", "end"), forbid_entities=True))
+        parser = ElementTree.XMLParser(forbid_entities=True)
+        parser.parser.AttlistDeclHandler = _refuse_attributes
+        parser.parser.StartNamespaceDeclHandler = _look_at_space
+        yield from _puzzles(ElementTree.iterparse(_Pieces(data, parser.parser), events=("start", "end"), parser=parser))
     except DefusedXmlException as error:
         raise Unreadable(f"the XML cannot be read: it declares entities ({type(error).__name__})") from error
     except (ElementTree.ParseError, ValueError, LookupError) as error:
         if getattr(error, "code", 0) == NO_MEMORY:
             raise MemoryError from error
         raise Unreadable(f"the XML cannot be read: {one_line(str(error))}") from error
+
+
+class _Pieces(io.BytesIO):
+    """A text as expat takes it, piece by piece, as long as none of its parts is too long."""
+
+    def __init__(self, data: bytes, expat: Any) -> None:
+        super().__init__(data)
+        self._expat = expat
+
+    def read(self, size: Optional[int] = -1) -> bytes:
+        """The next piece. What expat has taken and not yet told of is the beginning of one part."""
+        if self.tell() - self._expat.CurrentByteIndex > MOST_PART:
+            raise Unreadable(f"the XML cannot be read: a tag or a comment of it has more than {MOST_PART} bytes")
+        return super().read(size)
+
+
+def _refuse_attributes(*_declared: Any) -> None:
+    """Each element would get all attributes that are declared for it: thousands, for thousands of elements."""
+    raise Unreadable("the XML cannot be read: it declares attributes")
+
+
+def _look_at_space(_prefix: Optional[str], space: Optional[str]) -> None:
+    if len(space or "") > MOST_SPACE:
+        raise Unreadable(f"the XML cannot be read: a namespace of it has more than {MOST_SPACE} characters")
 
 
 def _puzzles(events: Any) -> Iterator[Puzzle | Unreadable]:
@@ -64,6 +95,8 @@ def _puzzles(events: Any) -> Iterator[Puzzle | Unreadable]:
         if depth > 1 or (depth == 1 and outer.tag != "puzzleset"):
             raise Unreadable("the XML has a puzzle that is not directly in its set")
         found += 1
+        if found > MOST_PUZZLES:
+            raise Unreadable(f"the XML has more than {MOST_PUZZLES} puzzles")
         try:
             yield puzzle_of(element)
         except Unreadable as error:
@@ -83,7 +116,13 @@ def puzzle_of(element: Any) -> Puzzle:
     solutions = element.findall("solution")
     goals = [one for one in solutions if one.get("type", "goal") == "goal"] or [one for one in solutions if one.get("type") == "solution"]
     if not goals:
-        return Puzzle(_non_text(clues), is_non=True, title=title)
+        text, colours, ground = _non_text(clues), _colours(element), element.get("backgroundcolor", "white")
+        used = {name for lines in clues.values() for line in lines or () for _, name in line}
+        if not used | {ground} <= colours.keys():
+            raise Unreadable("the puzzle has clues, or a background, in a colour that it does not have")
+        if any(name == ground or colours_too_near(colours[name].triple, colours[ground].triple) for name in used):
+            raise Unreadable("the puzzle has clues in a colour that looks like its background")
+        return Puzzle(text, is_non=True, title=title)
     signs, *others = map(_image, goals)
     if any(other != signs for other in others):
         raise Unreadable("the puzzle has several goals, and they are different pictures")

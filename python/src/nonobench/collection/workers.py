@@ -19,6 +19,7 @@ from .serving import FULL, GLANCE, HEAD, Settings, Task
 _START = "import sys; sys.path[:0] = [{!r}]; sys.path += {!r}; from nonobench.collection.serving import serve; serve()"
 SLACK = 0.25  # seconds that a line may be late
 STUCK = 0.5  # seconds after which others take over what waits for one puzzle
+MOST_TIMES = 100  # a file of several puzzles has so many times the seconds of one
 STARTING = 60.0  # seconds for a process to begin
 MOST_PACKED = 64  # files in a pack
 PACK_SECONDS = 0.1  # what a pack shall take
@@ -55,6 +56,7 @@ class Hand(Child):
         self.is_ready = False
         self.is_left = False  # what waited here was handed to others
         self.since = time.monotonic()  # the last sign of life
+        self.quiet = 0.0  # seconds before this one that no puzzle was charged for
         self.cost = PACK_SECONDS  # seconds of a file, about
         self.reached = 0  # the puzzle of the first task's file that is being judged, where the file has several
         self.known: Optional[list[str]] = None  # the row of the puzzle whose certificate or grade is being made
@@ -175,6 +177,7 @@ class Pool:
             yield from self._end(hand, "")
             return
         now = time.monotonic()
+        hand.quiet = now - hand.since
         *lines, hand.torn = (hand.torn + data).split(b"\n")
         before = len(hand.tasks)
         is_further = False
@@ -212,13 +215,14 @@ class Pool:
     def _take(self, hand: Hand, task: Task, answer: Answer) -> Iterator[Answer]:
         """Takes the answer to the first task of a process."""
         hand.known, hand.reached = None, 0
+        used, hand.quiet = task.used + hand.quiet, 0.0
         yield answer
         if answer.is_last or task.mode == GLANCE:
             hand.tasks.popleft()
             if not answer.is_last:
-                self._again.appendleft(task._replace(start=task.start + 1, mode=FULL, spent=0.0))
+                self._again.appendleft(task._replace(start=task.start + 1, mode=FULL, spent=0.0, used=used))
         else:
-            hand.tasks[0] = task._replace(start=json.loads(answer.text)["puzzle"] + 1)
+            hand.tasks[0] = task._replace(start=json.loads(answer.text)["puzzle"] + 1, used=used)
 
     def _end_late(self) -> Iterator[Answer]:
         """Ends what takes too long, and hands to others what waits for a puzzle that takes long."""
@@ -228,7 +232,7 @@ class Pool:
             if not hand.is_ready:
                 if quiet > STARTING:
                     yield from self._end(hand, "")
-            elif hand.tasks and self._seconds is not None and quiet > self._seconds + SLACK:
+            elif hand.tasks and self._seconds is not None and (quiet > self._seconds + SLACK or self._is_over(hand.tasks[0])):
                 yield from self._end(hand, f"no answer within {self._seconds:g} seconds")
             elif len(hand.tasks) > 1 and quiet > STUCK:
                 hand.is_left = True
@@ -251,14 +255,22 @@ class Pool:
         tasks = hand.tasks
         if tasks and hand.is_ready and hand.reached >= 0:
             task = tasks.popleft()
+            task = task._replace(used=task.used + time.monotonic() - hand.since)
             why = late or (f"its process ended by signal {-status}" if status < 0 else f"its process ended with status {status}")
             yield from self._blame(hand, task, why, bool(late))
         while tasks:
             self._again.appendleft(tasks.pop())
 
+    def _is_over(self, task: Task) -> bool:
+        """Whether the puzzles of a file have taken all the time that one file has."""
+        return self._seconds is not None and task.used > MOST_TIMES * self._seconds
+
     def _blame(self, hand: Hand, task: Task, why: str, is_late: bool) -> Iterator[Answer]:
         """What becomes of a puzzle whose process was ended, or ended: it is told, or tried once more."""
-        if hand.known is not None:
+        if self._is_over(task) and task.start > 1:
+            over = f"the puzzles before it have taken more than {MOST_TIMES * (self._seconds or 0):g} seconds: neither it nor those behind it are judged"
+            yield from self._give_up(task, {"file": task.name, "puzzle": task.start, "verdict": "error", "error": over}, False)
+        elif hand.known is not None:
             _, _, _, text, rest = hand.known
             kind, _, certificate = rest.partition(" ")
             row: Row = unfinished(json.loads(text), why)
