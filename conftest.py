@@ -205,11 +205,31 @@ def made_by(*words, **env):
 
 
 @pytest.fixture(scope='session')
-def made(kept, shared):
+def compiled(shared):
+    """A folder with the object file of the program, and with LLVM's module of which it was made."""
+    return tried.once(shared / 'compiled', lambda folder: made_by(tried.ROOT / 'packages' / 'object', folder / 'nonobench.o'))
+
+
+@pytest.fixture(scope='session')
+def others(shared, compiled):
+    """Library and program for other systems, a folder for each that has a compiler here."""
+    tried.needs('rt', 'node')
+    modules = {'MODULE': tried.needs_file(tried.ROOT / 'web/out/module.bc', 'bash .ci/run'), 'PROGRAM': compiled / 'nonobench.bc'}
+
+    def build(folder):
+        run = tried.ended([tried.ROOT / 'platforms' / 'build', folder], env={**os.environ, **modules})
+        return '' if run.status in (0, 77) else (run.wrote + run.said).decode()[-4000:]
+
+    return tried.once(shared / 'others', build)
+
+
+@pytest.fixture(scope='session')
+def made(kept, shared, request):
     """The folder of the packages: made of what rt ci left, or dist/."""
     if kept.released:
         return tried.ROOT / 'dist'
-    return tried.once(shared / 'made', lambda folder: made_by(tried.ROOT / 'release', folder, OBJECT=str(shared / 'nonobench.o')))
+    object_file = request.getfixturevalue('compiled') / 'nonobench.o'
+    return tried.once(shared / 'made', lambda folder: made_by(tried.ROOT / 'release', folder, OBJECT=str(object_file)))
 
 
 def lay_scripts(package):

@@ -150,7 +150,7 @@ uint32_t nonobench_verdict(const void *picture, size_t size, const char *backgro
 /* A ruling, and a certificate if it is UNIQUE. */
 typedef struct nonobench_audited {
     nonobench_ruling ruling;
-    char *certificate;       /* followed by a NUL, for free(); null if there is none */
+    char *certificate;       /* followed by a NUL, for free(), on Windows that of msvcrt.dll; null if there is none */
     size_t certificate_size; /* without the NUL */
 } nonobench_audited;
 

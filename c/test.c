@@ -495,7 +495,11 @@ static void test_stack(void) {
     pthread_t thread;
     pthread_attr_t words;
     bool holds = false;
+#ifdef _WIN32
+    long least = 0; /* Windows rounds up itself */
+#else
     long least = sysconf(_SC_THREAD_STACK_MIN);
+#endif
     size_t size = least > (long)NONOBENCH_STACK ? (size_t)least : NONOBENCH_STACK;
     if (pthread_attr_init(&words) != 0 || pthread_attr_setstacksize(&words, size) != 0) exit(2);
     if (pthread_create(&thread, &words, call_each, &holds) != 0) exit(2);

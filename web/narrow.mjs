@@ -8,22 +8,17 @@
 // text already. Constant offsets are marked as ones that no address overflows by: memory ends at 1 GiB. Shifts of 128 bits by
 // distances that vary are put out as such of 64 bits. A fence of a number is the number: arithmetic that may be reordered is refused.
 // Each line must have a form that is named here; any other ends this with status 1.
-import { readFileSync, writeFileSync } from 'node:fs';
+import { readFileSync } from 'node:fs';
+import { number, refuse, retargeted, rewrite, targetOf } from './module.mjs';
 
 const [wide, layout, narrow] = process.argv.slice(2);
 const MOST = 2 ** 30;
-const WIDE_LAYOUT = 'target datalayout = "e-m:e-p270:32:32-p271:32:32-p272:64:64-i64:64-i128:128-f80:128-n8:16:32:64-S128"';
+const TIES = ['target-cpu', 'target-features', 'tune-cpu', 'frame-pointer', 'probe-stack', 'stack-probe-size'];
 const CALLED = [
   'declare { i64, i64 } @rattle_alloc(i64 noundef, i64 noundef)',
   'declare { i64, i64 } @rattle_realloc(ptr noundef, i64 noundef, i64 noundef, i64 noundef)',
   'declare void @rattle_dealloc(ptr noundef)',
 ];
-
-let number = 0;
-function refuse(line) {
-  console.error(`web/narrow.mjs: line ${number} has a form that is not known: ${line}`);
-  process.exit(1);
-}
 
 // Types: numbers, vectors of them, and rows of bytes. Pointers stand alone or in a record of two.
 const NUMBER = 'i1|i8|i16|i32|i64|i128|double';
@@ -157,13 +152,11 @@ const OUTSIDE = [
   /^declare (?:void @llvm\.trap\(\)|i\d+ @llvm\.(?:ctlz|cttz|ctpop)\.i\d+\(i\d+(?:, i1 immarg)?\))(?: #\d+)?$/,
   form(`define (?:internal )?(?:noundef |zeroext |signext |range\\([^)]*\\) )*${TYPE} @(?:[\\w.]+|"[^"]*")\\((?:(?:PLAIN|ptr)(?: noundef| zeroext| signext)* NAME(?:, )?)*\\)(?: unnamed_addr)?(?: #\\d+)? \\{`),
 ];
-const LABEL = form('(?:[\\w.]+|"[^"]*"):(?: +;.*)?');
-const target = readFileSync(layout, 'utf8').split('\n').filter((line) => line.startsWith('target '));
+const target = targetOf(layout);
 
 function outside(line) {
-  if (line.startsWith('target datalayout')) return line === WIDE_LAYOUT ? target : refuse(line);
-  if (line === 'target triple = "x86_64-unknown-linux-gnu"') return [];
-  if (line.startsWith('attributes #')) return [line.replace(/ "(?:target-cpu|target-features|tune-cpu|frame-pointer|probe-stack|stack-probe-size)"="[^"]*"/g, '').replace('{ }', '{ nounwind }')];
+  const about = retargeted(line, target, TIES);
+  if (about) return about;
   if (line.startsWith('declare void @llvm.memset.p0.i64(')) return ['declare void @llvm.memset.p0.i32(ptr, i8, i32, i1)'];
   if (/^declare double @llvm\.arithmetic\.fence\.f64\(double\)(?: #\d+)?$/.test(line)) return [];
   if (line.startsWith('declare void @llvm.memmove.p0.p0.i64(')) return ['declare void @llvm.memmove.p0.p0.i32(ptr, ptr, i32, i1)'];
@@ -172,15 +165,4 @@ function outside(line) {
   return [line];
 }
 
-let isInside = false;
-const made = [];
-for (const line of readFileSync(wide, 'utf8').split('\n')) {
-  number += 1;
-  if (isInside && line.startsWith('  ')) made.push(...instruction(line.slice(2)).map((one) => `  ${one}`));
-  else if (isInside && line !== '' && line !== '}' && !LABEL.test(line)) refuse(line);
-  else if (isInside) made.push(line);
-  else made.push(...outside(line));
-  if (line.startsWith('define')) isInside = true;
-  if (line === '}') isInside = false;
-}
-writeFileSync(narrow, made.join('\n'));
+rewrite(readFileSync(wide, 'utf8'), narrow, instruction, outside);

@@ -98,3 +98,19 @@ def test_a_newer_source(checkout):
     assert 'proves all crates, since low has a source that is newer' in said
     assert 'called rt lib' in said
     assert 'called rattle build --crate-name web' in checkout.run(0, LEFT='1')[0]
+
+
+# ---- web/keep
+
+# A compiler that writes its module in two steps and removes it; it ends with the status that it is given.
+COMPILER = 'mkdir "$TMPDIR/a" && printf one >"$TMPDIR/a/module.bc" && sleep 1 && printf two >>"$TMPDIR/a/module.bc" && rm -r "$TMPDIR/a"; exit "$0"'
+
+
+@pytest.mark.parametrize(
+    ('command', 'status', 'kept'), [((COMPILER, '0'), 0, 'onetwo'), ((COMPILER, '3'), 3, None), (('exit 0', '0'), 1, None)]
+)
+def test_a_module_is_kept(command, status, kept, tmp_path):
+    """It is whole although its compiler removes it; without one, or of a compiler that fails, nothing is kept."""
+    run = subprocess.run([ROOT / 'web' / 'keep', 'kept.bc', 'sh', '-c', *command], cwd=tmp_path, check=False)
+    assert run.returncode == status
+    assert [file.read_text() for file in tmp_path.iterdir()] == ([kept] if kept else [])

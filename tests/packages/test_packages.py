@@ -69,8 +69,8 @@ def test_no_toolchain_in_clean_folders():
 
 
 @pytest.mark.toolchain
-def test_made_again_they_have_the_same_bytes(made, shared, tmp_path):
-    passes([ROOT / 'release', tmp_path / 'again'], env={'OBJECT': str(shared / 'nonobench.o')})
+def test_made_again_they_have_the_same_bytes(made, compiled, tmp_path):
+    passes([ROOT / 'release', tmp_path / 'again'], env={'OBJECT': str(compiled / 'nonobench.o')})
     passes(['diff', '-r', made, tmp_path / 'again'])
 
 

@@ -1,0 +1,4 @@
+// Of macOS' <stdio.h> what c/pair.c calls.
+#include <stddef.h>
+int sprintf(char *to, const char *form, ...);
+int snprintf(char *to, size_t room, const char *form, ...);

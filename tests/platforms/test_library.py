@@ -1,0 +1,143 @@
+"""The library for other systems, as platforms/build makes it of the module of the crate web. That for Linux on arm64 is run by
+qemu-aarch64, and that for Windows by wine; those for macOS are only looked at."""
+
+import os
+import re
+import shutil
+import signal
+import struct
+from pathlib import Path
+
+import pytest
+from systems import ON_EACH, Windows, linked
+from tried import CASES, EXAMPLES, ROOT, Ended, ended, needs_file, passes
+
+pytestmark = [pytest.mark.toolchain, pytest.mark.compiler, pytest.mark.emulator]
+HERE = Path(__file__).parent
+CROSS = 'P3\n2 2\n1\n0 0 0 1 1 1\n1 1 1 0 0 0\n'
+ALL_GIVEN = 'nonocert 2\ngiven 1 1\ngiven 1 2\ngiven 2 1\ngiven 2 2\ndone\n'
+# How many bytes of stack are left for some calls: with those of the header they are done (Windows keeps some for itself).
+STACKS = (512, 2048, 5000, 9000, 15000, 25000, 65536 + 32768)
+# Linux ends the process by a signal, and Windows by an exception; 8 is said where wine ends the thread alone (stack.c).
+ENDED_BY_OVERFLOW = {-signal.SIGSEGV, 0xC00000FD & 0xFF, 0xC0000005 & 0xFF, 8}
+# How many pictures are made by chance.
+COUNT = 10000
+
+
+def with_archive(system, folder, *words):
+    return linked(system, folder, *words, '-static', system.made / 'libnonobench.a')
+
+
+def test_made_twice_they_have_the_same_bytes(others, compiled, tmp_path):
+    run = ended([ROOT / 'platforms' / 'build', tmp_path], env={**os.environ, 'PROGRAM': str(compiled / 'nonobench.bc')})
+    assert run.status in (0, 77), run
+    passes(['diff', '-r', others, tmp_path])
+
+
+@ON_EACH
+def test_its_tests(system, tmp_path):
+    run = system.run(with_archive(system, tmp_path, ROOT / 'c' / 'test.c'), CASES, 200)
+    assert (run.status, run.wrote.split()[-2:]) == (0, [b'0', b'failed']), run
+
+
+# What the example is called with, and how it ends: certificates that are accepted, refused, and that name a given which is not
+# published.
+EXAMPLE = {
+    'diagonal.ppm diagonal.cert': (0, b'certificate accepted\n'),
+    'given.ppm given.cert 1,1': (0, b'certificate accepted, givens 1\n'),
+    'given.ppm given.cert': (1, b'refused: certificate UnpublishedGiven at line 2\n'),
+    'given.ppm diagonal.cert': (1, b'refused: certificate NotDead at line 5\n'),
+    'cross.ppm cross.cert 1,2 1,1 2,2': (1, b'refused: certificate UnpublishedGiven at line 4\n'),
+}
+
+
+@ON_EACH
+def test_shared_library(system, tmp_path):
+    shutil.copy(system.made / system.shared_library, tmp_path)
+    if isinstance(system, Windows):
+        library = [system.made / 'libnonobench.dll.a']
+    else:
+        library = [tmp_path / system.shared_library]
+    program = linked(system, tmp_path, ROOT / 'c' / 'example.c', *library)
+    for name in ('diagonal.ppm', 'diagonal.cert', 'given.ppm', 'given.cert'):
+        shutil.copy(EXAMPLES / name, tmp_path)
+    (tmp_path / 'cross.ppm').write_text(CROSS)
+    (tmp_path / 'cross.cert').write_text(ALL_GIVEN)
+    for words, (status, wrote) in EXAMPLE.items():
+        run = system.run(program, *words.split(), cwd=tmp_path)
+        assert (run.status, run.wrote.rstrip()) == (status, wrote.rstrip()), (words, run)
+
+
+@ON_EACH
+def test_answers_as_on_x86_64(system, library, tmp_path):
+    """Pictures and certificates made by chance."""
+    archive = needs_file(library.with_suffix('.a'), 'c/build')
+    here = tmp_path / 'here'
+    passes(['cc', '-std=c11', '-O1', f'-I{ROOT}/c', HERE / 'answers.c', archive, '-o', here])
+    wanted = ended([here, '1', str(COUNT)])
+    assert (wanted.status, wanted.wrote.count(b'\n')) == (0, COUNT)
+    assert {b'000000', b'000111', b'111111'} <= {line.split()[0] for line in wanted.wrote.splitlines()}
+    run = system.run(with_archive(system, tmp_path, HERE / 'answers.c'), 1, COUNT)
+    assert run.status == 0, run
+    differ = [pair for pair in zip(wanted.wrote.splitlines(), run.wrote.splitlines()) if pair[0] != pair[1]]
+    assert (run.wrote.count(b'\n'), differ[:3]) == (COUNT, [])
+
+
+@ON_EACH
+def test_refused_growths(system, tmp_path):
+    run = system.run(with_archive(system, tmp_path, HERE / 'refusals.c', '-Wl,--wrap=malloc,--wrap=realloc'))
+    assert (run.status, run.wrote.count(b'growths refused')) == (0, 6), run
+
+
+@ON_EACH
+def test_overflow_of_the_stack(system, tmp_path):
+    """It ends the process, and no byte below the stack has changed."""
+    program = with_archive(system, tmp_path, HERE / 'stack.c')
+    statuses = []
+    for left in STACKS:
+        statuses.append(system.run(program, 'below', left, cwd=tmp_path).status)
+        assert set((tmp_path / 'below').read_bytes()) == {ord('Z')}, left
+    assert statuses[-1] == 0
+    assert set(statuses) - {0} and set(statuses) - {0} <= ENDED_BY_OVERFLOW, statuses
+
+
+@ON_EACH
+def test_upper_bits_of_a_bool(system, tmp_path):
+    """A caller leaves them as they are."""
+    run = system.run(with_archive(system, tmp_path, HERE / 'upper_bits.c'))
+    assert run == Ended(0, b'', b'')
+
+
+def symbols(archive):
+    """The names that the objects of an archive for macOS define and want."""
+    defined, wanted = set(), set()
+    for begin in (found.start() for found in re.finditer(rb'\xcf\xfa\xed\xfe', archive)):
+        at = begin + 32
+        for _ in range(struct.unpack_from('<I', archive, begin + 16)[0]):
+            command, size = struct.unpack_from('<II', archive, at)
+            if command == 2:
+                table, count, texts, _ = struct.unpack_from('<IIII', archive, at + 8)
+                for one in range(count):
+                    name, kind, _, _, value = struct.unpack_from('<IBBHQ', archive, begin + table + 16 * one)
+                    text = archive[begin + texts + name :].split(b'\0', 1)[0].decode() if kind & 1 else ''
+                    (defined if kind & 0xE else wanted).add(text)
+            at += size
+    return defined - {''}, wanted - {''}
+
+
+# What the C library of macOS has.
+FROM_C = set(
+    'malloc realloc free memcpy memmove memset memcmp bcmp bzero __bzero memset_pattern16 strlen strcmp strncmp sprintf snprintf '
+    '__stack_chk_fail __stack_chk_guard'.split()
+)
+
+
+@pytest.mark.parametrize('name', ['macos-arm64', 'macos-x86_64'])
+def test_symbols_for_macos(others, name):
+    """The functions of the header, and nothing is wanted but of the C library."""
+    header = (ROOT / 'c' / 'nonobench.h').read_text()
+    functions = set(re.findall(r'^(?:\w+ )+\*?(nonobench_\w+)\(', header, re.MULTILINE))
+    defined, wanted = symbols((others / name / 'libnonobench.a').read_bytes())
+    assert functions
+    assert {f'_{function}' for function in functions} <= defined
+    assert wanted - defined <= {f'_{function}' for function in FROM_C}
