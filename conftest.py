@@ -228,8 +228,8 @@ def made(kept, shared, request):
     """The folder of the packages: made of what rt ci left, or dist/."""
     if kept.released:
         return tried.ROOT / 'dist'
-    object_file = request.getfixturevalue('compiled') / 'nonobench.o'
-    return tried.once(shared / 'made', lambda folder: made_by(tried.ROOT / 'release', folder, OBJECT=str(object_file)))
+    parts = {'OBJECT': str(request.getfixturevalue('compiled') / 'nonobench.o'), 'OTHERS': str(request.getfixturevalue('others'))}
+    return tried.once(shared / 'made', lambda folder: made_by(tried.ROOT / 'release', folder, **parts))
 
 
 def lay_scripts(package):

@@ -71,6 +71,11 @@ def test_another_digest(copy):
     refused(copy(DATED, told('x' + DIGEST[1:])), 'does not have the digest', '--tag')
 
 
+def test_nothing_to_compare(copy):
+    top = copy(DATED, told(DIGEST))
+    refused(top, 'release: skipped: no rt' if not shutil.which('rt') else 'there is no program of these sources', '--check')
+
+
 def test_other_files(copy):
     top = copy(DATED, told(DIGEST))
     with open(top / 'dist' / 'nonobench.html', 'ab') as page:

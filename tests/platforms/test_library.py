@@ -1,7 +1,6 @@
 """The library for other systems, as platforms/build makes it of the module of the crate web. That for Linux on arm64 is run by
 qemu-aarch64, and that for Windows by wine; those for macOS are only looked at."""
 
-import os
 import re
 import shutil
 import signal
@@ -26,12 +25,6 @@ COUNT = 10000
 
 def with_archive(system, folder, *words):
     return linked(system, folder, *words, '-static', system.made / 'libnonobench.a')
-
-
-def test_made_twice_they_have_the_same_bytes(others, compiled, tmp_path):
-    run = ended([ROOT / 'platforms' / 'build', tmp_path], env={**os.environ, 'PROGRAM': str(compiled / 'nonobench.bc')})
-    assert run.status in (0, 77), run
-    passes(['diff', '-r', others, tmp_path])
 
 
 @ON_EACH

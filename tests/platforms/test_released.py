@@ -1,0 +1,104 @@
+"""The packages for other systems: they have what was made for these systems, which the tests beside this file run, and are unpacked, and
+asked for a check, as their users would."""
+
+import os
+import shutil
+import sys
+
+import pytest
+from systems import ON_LINUX, ON_WINDOWS, linked
+from tried import EXAMPLES, ROOT, Ended, clean, ended, needs, passes
+
+pytestmark = [pytest.mark.all, pytest.mark.toolchain, pytest.mark.compiler, pytest.mark.emulator]
+YES = Ended(0, b'certificate accepted\n', b'')
+
+
+def named(made, pattern):
+    """The package of that name, unless it was left out with a compiler."""
+    found = list(made.glob(pattern))
+    if not found:
+        pytest.skip(f'there is no {pattern}, which a compiler for another system makes')
+    return found[0]
+
+
+def are_those(folder, files, tested):
+    """The files that are packed are those that were tested."""
+    for place, name in files.items():
+        assert (folder / place).read_bytes() == (tested / name).read_bytes(), place
+
+
+@ON_LINUX
+def test_archive(system, made, tmp_path):
+    package = named(made, 'nonobench-*-linux-aarch64.tar.gz')
+    passes(['tar', 'xzf', package, '-C', tmp_path])
+    folder = tmp_path / package.name[: -len('.tar.gz')]
+    places = ('bin/nonobench', 'lib/libnonobench.a', 'lib/libnonobench.so', 'include/nonobench.h', 'lib/nonobench/nonobench/libnonobench.so')
+    are_those(folder, {place: place.split('/')[-1] for place in places}, system.made)
+    pair = [folder / 'share/doc/nonobench/examples' / f'diagonal.{kind}' for kind in ('ppm', 'cert')]
+    assert system.run(folder / 'bin/nonobench', 'check', *pair) == YES
+    run = clean([folder / 'install', '--prefix', tmp_path / 'prefix'])
+    assert (run.status, run.said.startswith(b'install: this is for Linux on aarch64, not for Linux on ')) == (1, True), run
+    assert not (tmp_path / 'prefix').exists()
+
+
+@ON_LINUX
+def test_deb(system, made, tmp_path):
+    needs('dpkg-deb')
+    package = named(made, 'nonobench_*_arm64.deb')
+    passes(['dpkg-deb', '-x', package, tmp_path])
+    are_those(tmp_path, {'usr/bin/nonobench': 'nonobench', 'usr/lib/nonobench/nonobench/libnonobench.so': 'libnonobench.so'}, system.made)
+    assert passes(['dpkg-deb', '-f', package, 'Architecture', 'Depends']).splitlines() == [
+        'Architecture: arm64',
+        'Depends: libc6 (>= 2.17), python3 (>= 3.9)',
+    ]
+
+
+def test_deb_by_lintian(made):
+    """What the missing licence makes is all that lintian may call an error."""
+    needs('lintian')
+    said = passes(['lintian', '--no-cfg', '--fail-on', 'none', named(made, 'nonobench_*_arm64.deb')])
+    assert [line for line in said.splitlines() if line.startswith('E:') and 'copyright' not in line] == []
+
+
+@ON_LINUX
+def test_wheel(system, made, tmp_path):
+    """Its library is called from C."""
+    package = named(made, 'nonobench-*-py3-none-manylinux_2_17_aarch64.whl')
+    passes([sys.executable, '-m', 'zipfile', '-e', package, tmp_path])
+    are_those(tmp_path, {'nonobench/libnonobench.so': 'libnonobench.so'}, system.made)
+    [about] = tmp_path.glob('nonobench-*.dist-info/WHEEL')
+    assert 'Tag: py3-none-manylinux_2_17_aarch64\n' in about.read_text()
+    program = linked(system, tmp_path / 'nonobench', ROOT / 'c' / 'example.c', tmp_path / 'nonobench' / 'libnonobench.so')
+    assert system.run(program, *(EXAMPLES / f'diagonal.{kind}' for kind in ('ppm', 'cert'))) == YES
+
+
+@ON_LINUX
+def test_wheel_in_python(system, made, tmp_path):
+    """Debian's Python for arm64, below the folder ARM64_ROOT."""
+    root = os.environ.get('ARM64_ROOT')
+    if not root:
+        pytest.skip('there is no Python for arm64, which a folder ARM64_ROOT has')
+    passes([sys.executable, '-m', 'zipfile', '-e', named(made, '*_aarch64.whl'), tmp_path])
+    shutil.copy(ROOT / 'packages' / 'trials' / 'ask.py', tmp_path)
+    pair = [EXAMPLES / f'given.{kind}' for kind in ('ppm', 'cert')]
+    alone = ['qemu-aarch64', '-L', root, '-U', 'NONOBENCH_LIBRARY', '-U', 'PYTHONPATH']
+    python = [*alone, f'{root}/usr/bin/python3.11', tmp_path / 'ask.py', *pair]
+    assert ended(python) == Ended(1, b'refused: certificate UnpublishedGiven at line 2\n', b'')
+    assert ended([*python, '1,1']) == Ended(0, b'certificate accepted, givens 1\n', b'')
+
+
+@ON_WINDOWS
+def test_archive_for_windows(system, made, tmp_path):
+    """The commands of its README, in the Command Prompt of its folder; MinGW's compiler is that of this machine."""
+    package = named(made, 'nonobench-*-windows-x86_64.zip')
+    passes([sys.executable, '-m', 'zipfile', '-e', package, tmp_path])
+    folder = tmp_path / package.stem
+    places = ('nonobench.exe', 'c/nonobench.dll', 'c/libnonobench.a', 'c/libnonobench.dll.a', 'c/nonobench.h')
+    are_those(folder, {place: place.split('/')[-1] for place in places}, system.made)
+    commands = [line.strip() for line in (folder / 'README.txt').read_text().splitlines() if line.startswith('    ')]
+    [build] = [command for command in commands if command.startswith('gcc ')]
+    passes([system.compiler, *build.replace('\\', '/').split()[1:]], cwd=folder)
+    runs = system.launch([(f'cmd /d /c {command}', '-', '', '') for command in commands if command != build], folder)
+    assert [(run.status, run.said) for run in runs] == [(0, b'')] * 4, runs
+    assert [run.wrote.split(b'.')[0].strip() for run in runs] == [YES.wrote.strip(), b'', b'Multicolour nonograms', YES.wrote.strip()]
+    assert (folder / 'heart.cert').read_bytes().startswith(b'nono')
