@@ -88,6 +88,11 @@ def test_sources(made, kept):
         assert listed == engine_now()
 
 
+def put_sums(folder):
+    names = sorted(file.name for file in folder.iterdir() if file.name != 'SHA256SUMS')
+    (folder / 'SHA256SUMS').write_bytes(ended(['sha256sum', '--', *names], cwd=folder).wrote)
+
+
 def test_a_changed_byte_is_told(made, tmp_path):
     """A release with a byte changed, or with another sum, is told from what was made."""
     marred = tmp_path / 'marred'
@@ -97,9 +102,18 @@ def test_a_changed_byte_is_told(made, tmp_path):
     with open(marred / 'nonobench.html', 'ab') as page:
         page.write(b'x')
     assert ended(compare).status != 0
-    names = sorted(file.name for file in marred.iterdir() if file.name != 'SHA256SUMS')
-    (marred / 'SHA256SUMS').write_bytes(ended(['sha256sum', '--', *names], cwd=marred).wrote)
+    put_sums(marred)
     assert ended(compare).status != 0
+
+
+def test_bytes_of_other_tools_are_not_compared(made, tmp_path):
+    others = tmp_path / 'others'
+    shutil.copytree(made, others)
+    readme = (others / 'README.md').read_text()
+    assert readme.count('esbuild ') == 1
+    (others / 'README.md').write_text(readme.replace('esbuild ', 'esbuild 0.'))
+    put_sums(others)
+    assert 'left out, since other tools made them' in passes([ROOT / 'packages' / 'compare', made, others])
 
 
 def test_dist_is_what_was_made(made, kept):
