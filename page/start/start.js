@@ -2,7 +2,7 @@
 
 import { $, make } from '../base/elements.js';
 import { on } from '../base/events.js';
-import { sizeText } from '../base/words.js';
+import { freeName, sizeText } from '../base/words.js';
 import { emptyDoc } from '../document/document.js';
 import { MOST_CELLS } from '../document/limits.js';
 import { smallPicture } from '../draw/small.js';
@@ -10,6 +10,7 @@ import { bench } from '../engine/bench.js';
 import { readPpm } from '../formats/ppm.js';
 import { docOfImage } from '../import/images.js';
 import { chooseFile } from '../import/taking.js';
+import { keep } from '../library/keep.js';
 import { openDoc } from '../library/open.js';
 import { save, saveAs } from '../library/saving.js';
 import { phrase } from '../texts/phrase.js';
@@ -26,12 +27,18 @@ function newCard() {
     make('h2', { id: 'new-title' }, phrase('start.new')),
     make('p', { class: 'fields' }, make('label', {}, phrase('view.columns'), columns), make('label', {}, phrase('view.rows'), rows), make('label', {}, phrase('import.background'), ground)),
     make('button', { type: 'submit', class: 'main', id: 'new-go' }, phrase('start.startPainting')));
-  form.addEventListener('submit', (event) => {
+  form.addEventListener('submit', async (event) => {
     event.preventDefault();
     const background = [1, 3, 5].map((at) => parseInt(ground.value.slice(at, at + 2), 16));
-    openDoc(emptyDoc(Number(columns.value), Number(rows.value), background), { name: 'picture', isBlank: true });
+    openDoc(emptyDoc(Number(columns.value), Number(rows.value), background), { name: await newName(), isBlank: true });
   });
   return form;
+}
+
+// A name that no picture of the library has.
+async function newName() {
+  const cards = await keep.ready().then((keeper) => keeper.cards()).catch(() => []);
+  return freeName(phrase('start.newName'), new Set(cards.map(({ name }) => name.toLowerCase())));
 }
 
 function openCard() {

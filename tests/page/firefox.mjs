@@ -8,13 +8,13 @@ import { connect } from 'node:net';
 import { tmpdir } from 'node:os';
 import { join, resolve } from 'node:path';
 import { pathToFileURL } from 'node:url';
+import { pause, until } from './page_browser.mjs';
 import { Trial, eightColours, hookedPage } from './page_trial.mjs';
 
 const KEYS = {
     Shift: '\ue008', Control: '\ue009', Alt: '\ue00a', Enter: '\ue007', Escape: '\ue00c', Tab: '\ue004', Backspace: '\ue003', Delete: '\ue017', Home: '\ue011',
     End: '\ue010', ArrowLeft: '\ue012', ArrowUp: '\ue013', ArrowRight: '\ue014', ArrowDown: '\ue015', PageUp: '\ue00e', PageDown: '\ue00f',
 };
-const pause = (ms) => new Promise((go) => setTimeout(go, ms));
 
 /** A headless Firefox with a profile of its own, by its protocol: a length, a colon and JSON. It has one tab. */
 export class Firefox {
@@ -98,14 +98,8 @@ export class Tab {
         return value;
     }
 
-    async until(what, ms, ...words) {
-        const end = Date.now() + ms;
-        for (;;) {
-            const value = await this.run(what, ...words);
-            if (value) return value;
-            if (Date.now() > end) throw new Error(`not within ${ms} ms: ${what}`);
-            await pause(15);
-        }
+    until(what, ms, ...words) {
+        return until(this, what, ms, ...words);
     }
 
     act(actions) {
