@@ -3,8 +3,11 @@
 //     await repair({ board, goal: 'unique', say, seconds: 10 }, { found: (proposal) => ..., nearer: (near) => ..., told: (text) => ... })
 //
 // `say` puts lines to a proved session that shows the board's picture, and gives its text or a promise of it. Every proposal was
-// judged by the session. `give` looks for cells to give, and `mix` for some of both.
+// judged by the session. `give` looks for cells to give, `mix` for some of both, and `aim` for a grade.
 
+import { gradeByLines } from '../grade/grade.js';
+import { Puzzle } from '../grade/puzzle.js';
+import { Aiming } from './aiming.js';
 import { Asker } from './asker.js';
 import { climb, dive } from './descents.js';
 import { Giving, givensForLines } from './givens.js';
@@ -189,4 +192,32 @@ export async function give({ board, goal, say, seconds, ...bounds }, { found = n
   };
   await bounded(asker, () => (goal === 'lines' ? givensForLines(board, asker, limit, hooks) : new Giving(board, asker, limit, hooks).run()));
   return { ...last, questions: asker.questions };
+}
+
+// Repaints, as lists of moves, after which line logic solves a board's picture.
+async function solvable(board, asker, limit) {
+  const repaints = [];
+  const search = new Search(board, new Judge(asker, 'lines'), limit, { found: ({ moves }) => repaints.push([...moves]), tried() {} });
+  await bounded(asker, () => forLines(search, limit));
+  return repaints;
+}
+
+/**
+ * Looks for few cells to repaint, or one to give, until line logic solves the puzzle and `word` says how hard that is. `grade(puzzle)` gives
+ * the figures of line logic with their word, or a promise of them. Answers `{ isThere, isThrough, questions }`: whether the picture has
+ * the word as it is, and whether the search came through.
+ */
+export async function aim({ board, word, say, seconds, grade = gradeByLines, ...bounds }, { found = null } = {}) {
+  const limit = new Limit({ seconds, ...bounds });
+  const asker = new Asker(board, say);
+  const now = await grade(new Puzzle(board.rows, board.columns, board.cells, board.givens, board.clues));
+  if (now.word === word) return { isThere: true, isThrough: true, questions: 0 };
+  const told = (one) => found?.(one.given ? { goal: word, given: one.given, isLeast: true } : proposalOf(one, word, { open: 0 }));
+  const aiming = new Aiming({ board, word, grade, asker, limit, found: told });
+  const isThrough = await bounded(asker, async () => {
+    await aiming.give();
+    const begun = now.open > 0 ? await solvable(board, asker, new Limit({ seconds: seconds / 2, ...bounds })) : [];
+    await aiming.repaint(begun);
+  });
+  return { isThere: false, isThrough, questions: asker.questions };
 }

@@ -7,6 +7,8 @@ import { boxAround } from '../document/regions.js';
 import { cutOut } from '../document/shapes.js';
 import { givenCorners } from '../draw/given.js';
 import { smallPicture } from '../draw/small.js';
+import { LINE_WORDS } from '../grade/grade.js';
+import { gradeName } from '../grade/names.js';
 import { phrase } from '../texts/phrase.js';
 import { inkName } from './dress.js';
 
@@ -101,6 +103,7 @@ const namedOf = (state, places) => `${places.slice(0, MOST_NAMED).map((index) =>
 
 // What a repaint leaves, where that is not all: how far it is from the goal, or what is to be guessed then.
 function leftOf({ goal, far, open }) {
+  if (LINE_WORDS.includes(goal)) return phrase('view.thenGrade', { grade: gradeName(goal) });
   if (far) return phrase('view.nearerOnly', { far });
   if (goal === 'lines' || open === undefined) return '';
   return open ? phrase('view.thenCellsGuess', { cells: open }) : phrase('view.thenNoGuessing');

@@ -41,6 +41,35 @@ export async function mendingPoint(hands) {
     assert.equal((await trial.state()).open, 0, 'no guessing');
 }
 
+/** A grade is aimed for: what is proposed changes at most four cells or gives one, has the grade once it is taken, and goes by one undo. */
+export async function aimPoint(hands) {
+    const { page, trial } = hands;
+    await trial.example('flower');
+    assert.equal(await trial.judged(), 'unique');
+    const before = await trial.picture();
+    await moreOf(hands);
+    await hands.press('#verdict-do [data-action="aim"]');
+    for (const word of ['easy', 'hard']) {
+        if (word === 'hard') await hands.choose('#fix-goal', word);
+        assert.equal(await page.run(() => document.getElementById('fix-goal').value), word);
+        await page.until(() => /found\./.test(document.getElementById('fix-said').textContent), 30000 * SLACK);
+        const texts = await page.run(() => [...document.querySelectorAll('#fix-list button')].map((button) => button.ariaLabel));
+        assert.ok(texts.every((text) => text.endsWith(`; then the grade is “${word}”`) || text.startsWith('Give 1 cell, the fewest: ')), texts.join('\n'));
+        await hands.press('#fix-list button');
+        await page.until((rows) => bench.state.picture.join() !== rows, 5000 * SLACK, before.join());
+        assert.equal(await trial.judged(), 'unique');
+        assert.equal((await trial.state()).open, 0);
+        assert.ok(differing(before, await trial.picture()) <= 4);
+        await page.until((wanted) => document.getElementById('grade').textContent.startsWith(wanted), 20000 * SLACK, `${word} (`);
+        assert.equal(await trial.text('#fix-said'), `The grade is “${word}” already. Choose another one.`);
+        await hands.undo();
+        assert.deepEqual(await trial.picture(), before, 'one undo takes it back');
+        assert.ok(await page.run(() => document.querySelectorAll('#fix-list button').length > 0), 'the list is there again');
+    }
+    await hands.press('#fix-close');
+    assert.equal(await page.run(() => document.getElementById('fix').hidden), true);
+}
+
 /** The solving path by its buttons, slider and keys; hints that tell more each time. */
 export async function walkingPoint(hands) {
     const { page, trial } = hands;
