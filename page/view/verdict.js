@@ -90,7 +90,7 @@ export function setHatching(value) {
 
 function showHatching(state) {
   if (!state) return;
-  const fitting = isFixing() ? 'open' : { unique: 'off', ambiguous: 'differing', undecided: 'open' }[state.verdict.word];
+  const fitting = isFixing() && state.open ? 'open' : { unique: 'off', ambiguous: 'differing', undecided: 'open' }[state.verdict.word];
   sheet.hatching = verdictView.hatching ?? fitting;
   $('hatching').value = sheet.hatching;
   $('legend').textContent = {

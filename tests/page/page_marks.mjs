@@ -2,7 +2,7 @@
 // archive that comes back, what is refused in the palette, tiles. Each is a test of the runner tests/page/page_test.mjs.
 import assert from 'node:assert/strict';
 import { clean, coloursAt, downloaded, drop, fresh, isKept, isOpen, said } from './page_hands.mjs';
-import { SIZES, SLACK, ppmOf } from './page_trial.mjs';
+import { SIZES, SLACK, noise, ppmOf } from './page_trial.mjs';
 
 const THREE = ['aabb.', 'a..b.', 'cc...'];
 
@@ -45,6 +45,8 @@ export async function helpOnPhones({ browser, url, folder }) {
     await page.press('Escape');
     await page.run(() => runAction('play'));
     await page.until(() => document.querySelector('#play-help'), 3000 * SLACK);
+    const high = await page.run(() => ['play-bar', 'play-palette'].reduce((sum, id) => sum + document.getElementById(id).getBoundingClientRect().height, 0));
+    assert.ok(high <= 130, `${high} px of 844 are for buttons`);
     await page.tap('#play-help');
     await page.until(() => document.querySelector('#version'), 3000 * SLACK);
     await page.close();
@@ -211,4 +213,20 @@ export async function roomAgain({ browser, url, folder }) {
     await isKept(page);
     await page.until(() => document.getElementById('said').textContent === '', 3000 * SLACK);
     await page.close();
+}
+
+/** How high the smallest numbers are on paper is said where they are hard to read, and not where they are not. */
+export async function smallNumbersTold({ trial, page }) {
+    const told = async (size, show) => {
+        await trial.open(ppmOf(noise(size, size, 'aaaa.')), 'print');
+        await page.run(() => { runAction('print'); });
+        await page.until(() => document.querySelector('#print-show'), 5000 * SLACK);
+        await page.run((value) => { const choice = document.getElementById('print-show'); choice.value = value; choice.dispatchEvent(new Event('change', { bubbles: true })); }, show);
+        const text = await trial.text('#print-small');
+        await page.press('Escape');
+        await page.until(() => !document.querySelector('dialog[open]'), 3000 * SLACK);
+        return text;
+    };
+    assert.equal(await told(15, 'colours'), '');
+    assert.match(await told(50, 'symbols'), /^The smallest (numbers|cells) are [12]\.\d mm /);
 }

@@ -149,6 +149,27 @@ export async function repairsHeedLocks({ trial, page }) {
     assert.deepEqual([after[0], after[1]], ['a.....', 'aa....'], 'locked cells stay: of the two cells that would do, the other one is painted');
 }
 
+// Of the cells of this picture only row 3, column 2 may change, and black there leaves one solution and 13 cells to guess. Found by trying
+// pictures in turn.
+const GUESSED = ['a.a...', 'a.a.aa', 'a....a', 'a..aa.', '.aa..a'];
+
+/** Where no few cells leave nothing to guess, repairs that leave one solution are listed instead, and that is said. */
+export async function oneSolutionInstead({ trial, page }) {
+    await trial.open(ppmOf(GUESSED), 'guessed');
+    assert.equal(await trial.judged(), 'ambiguous');
+    await page.run(() => bench.become((doc) => ({ ...doc, locks: new Set([...Array(30).keys()].filter((at) => at !== 13)) })).then(() => true));
+    await trial.judged();
+    await trial.action('fix');
+    assert.equal(await page.run(() => document.getElementById('fix-goal').value), 'lines');
+    await listed(page);
+    await page.until(() => document.getElementById('fix-said').textContent === 'No few cells were found after which nothing needs guessing. These leave one solution.', 20000 * SLACK);
+    assert.match(await page.run(() => document.querySelector('#fix-list button').ariaLabel), /^1 cell: row 3, column 2: white to black; then 13 cells to guess$/);
+    await page.click('#fix-list button');
+    assert.equal(await trial.judged(), 'unique');
+    assert.equal((await trial.state()).open, 13);
+    await trial.check('one solution');
+}
+
 export async function gradeBeside({ trial, page }) {
     const graded = (wanted) => page.until((text) => document.getElementById('grade').textContent.startsWith(text), 20000 * SLACK, wanted);
     await trial.open(ppmOf(['.a.', 'aa.', '...']), 'small');
