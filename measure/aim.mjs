@@ -14,7 +14,6 @@ import { aim } from '../page/repair/repair.js';
 
 const { positionals: [wasm, folder], values } = parseArgs({ allowPositionals: true, options: { most: { type: 'string', default: '200' }, seconds: { type: 'string', default: '4' } } });
 const engine = await load(readFileSync(wasm));
-const LETTERS = '.abcdefghijklmno';
 
 // Milliseconds of the processor so far.
 function now() {
@@ -41,12 +40,9 @@ function wordAnew({ picture, colours }, { cells = [], given = [] }) {
     for (const { index, colour } of cells) numbers[index] = colour;
     const bench = engine.open(`P3\n${columns} ${picture.length}\n255\n${[...numbers].map((colour) => colours[colour]).join('\n')}\n`, { background: colours[0].replaceAll(' ', ',') });
     for (const index of given) bench.say(`pin ${Math.floor(index / columns) + 1} ${(index % columns) + 1}\n`);
-    const report = bench.say('allow 20000\nreport\n').split('\n').slice(1);
-    const map = report.slice(report.indexOf('map') + 1, report.indexOf('map') + 1 + picture.length);
-    const verdict = report.find((line) => line.startsWith('verdict ')).split(' ')[1];
+    const { word } = reportOf(bench);
     bench.close();
-    const rows = picture.map((_, row) => [...numbers.subarray(row * columns, (row + 1) * columns)].map((colour) => LETTERS[colour]).join(''));
-    return map.join('').includes('?') ? null : gradeOf({ picture: rows, givens: given, verdict, map }).word;
+    return word;
 }
 
 const rows = [];

@@ -15,7 +15,7 @@ import { openDoc } from '../library/open.js';
 import { save, saveAs } from '../library/saving.js';
 import { phrase } from '../texts/phrase.js';
 import { addAction } from '../view/actions.js';
-import { makeLibrary, startLibrary } from './library.js';
+import { libraryListed, makeLibrary, startLibrary } from './library.js';
 
 const START_SIZE = [20, 15];
 
@@ -49,6 +49,7 @@ function openCard() {
     make('button', { type: 'button', class: 'main', id: 'open-go', onclick: () => chooseFile() }, phrase('start.chooseFile')));
 }
 
+const LISTED = 1000; // milliseconds until the library is not waited for
 const EXAMPLE_SIDE = 96; // pixels
 const EXAMPLES = { balloon: phrase('start.balloon'), heart: phrase('start.heart'), mushroom: phrase('start.mushroom'), boat: phrase('start.boat') };
 const MEND = 'balloon'; // it has two solutions
@@ -63,12 +64,21 @@ function exampleItem(source) {
     smallPicture(doc, EXAMPLE_SIDE), make('span', {}, make('b', {}, name), make('span', { class: 'faint' }, sizeText(doc)), make('span', { class: 'faint' }, facts))));
 }
 
+// Shows what stands below the library once that is listed, so that it does not move under the pointer.
+async function comesLater(element, is) {
+  delete $('start').dataset.listed;
+  await Promise.race([libraryListed(), new Promise((go) => setTimeout(go, LISTED))]);
+  element.hidden = !is;
+  $('start').dataset.listed = '';
+}
+
 /** Shows the start screen, over what is open. */
 export function showStart() {
   const examples = [...document.querySelectorAll('script[data-example]')].map(exampleItem).filter(Boolean);
-  const shown = make('section', { id: 'examples', class: 'card wide', 'aria-labelledby': 'examples-title', hidden: examples.length === 0 }, make('h2', { id: 'examples-title' }, phrase('start.examples')), make('ul', { class: 'tiles' }, ...examples));
+  const shown = make('section', { id: 'examples', class: 'card wide', 'aria-labelledby': 'examples-title', hidden: true }, make('h2', { id: 'examples-title' }, phrase('start.examples')), make('ul', { class: 'tiles' }, ...examples));
   const back = bench.state ? [make('p', {}, make('button', { type: 'button', id: 'start-back', onclick: hideStart }, phrase('start.back', { name: bench.name })))] : [];
   $('start').replaceChildren(make('p', { class: 'lead' }, phrase('start.drawPictureOpenOne')), ...back, make('div', { class: 'cards' }, newCard(), openCard(), makeLibrary(hideStart), shown));
+  comesLater(shown, examples.length > 0);
   $('start').hidden = false;
   $('work').hidden = true;
   document.body.classList.add('starting');

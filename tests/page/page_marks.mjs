@@ -230,3 +230,20 @@ export async function smallNumbersTold({ trial, page }) {
     assert.equal(await told(15, 'colours'), '');
     assert.match(await told(50, 'symbols'), /^The smallest (numbers|cells) are [12]\.\d mm /);
 }
+
+/** On the start screen the examples stay where they are once they are seen, also where the library stands above them. */
+export async function examplesStay({ browser, url, folder }) {
+    const { page, trial } = await fresh(browser, url, folder, 'examples', { before: `window.places = new Set();
+        const look = () => { const shown = document.getElementById('examples'); if (shown?.checkVisibility()) window.places.add(shown.getBoundingClientRect().top); requestAnimationFrame(look); };
+        requestAnimationFrame(look);` });
+    await clean(page);
+    for (const name of ['one', 'two']) {
+        await page.run((title, rows) => openDoc({ rows: 3, columns: 5, maxval: 255, colours: [[255, 255, 255], [0, 0, 0], [200, 40, 40], [40, 80, 200]], picture: rows, givens: new Set() }, { name: title, isSaved: false }), name, THREE);
+        await isKept(page);
+    }
+    await trial.load();
+    await page.until(() => document.querySelectorAll('#library .kept').length === 2 && window.places.size, 5000 * SLACK);
+    await page.run(() => new Promise((go) => setTimeout(go, 600)));
+    assert.equal(await page.run(() => window.places.size), 1, 'one place');
+    await page.close();
+}
