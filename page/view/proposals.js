@@ -10,7 +10,7 @@ import { smallPicture } from '../draw/small.js';
 import { LINE_WORDS } from '../grade/grade.js';
 import { gradeName } from '../grade/names.js';
 import { phrase } from '../texts/phrase.js';
-import { inkName } from './dress.js';
+import { inkName, letterName } from './dress.js';
 
 const MOST_NAMED = 3; // cells that are named one by one
 const SIDE = 96; // pixels of a picture
@@ -113,7 +113,10 @@ function leftOf({ goal, far, open }) {
 function paintedText({ state, cells }) {
   if (cells.length > 1) return `${phrase('view.cells', { cells: cells.length })}: ${namedOf(state, cells.map(({ index }) => index))}`;
   const [{ index, colour }] = cells;
-  return `${phrase('view.oneCell', { place: placeText(state, index) })}${inkName(state, letterAt(state, index))}${phrase('view.to')}${inkName(state, LETTERS[colour])}`;
+  const ends = [letterAt(state, index), LETTERS[colour]];
+  const names = ends.map((letter) => inkName(state, letter));
+  const [from, to] = names[0] === names[1] ? ends.map((letter) => letterName(state, letter)) : names;
+  return `${phrase('view.oneCell', { place: placeText(state, index) })}${from}${phrase('view.to')}${to}`;
 }
 
 const givenText = ({ state, given, isLeast }) => `${phrase('view.cells', { cells: given.length })}${isLeast ? phrase('view.fewest') : ''}: ${namedOf(state, given)}`;

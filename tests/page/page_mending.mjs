@@ -136,6 +136,15 @@ export async function repairsOfSeveralCells({ trial, page }) {
     assert.deepEqual(await trial.picture(), before);
 }
 
+/** Where two colours have one name, a proposal has their letters, too. */
+export async function sameNamesToldApart({ trial, page }) {
+    await trial.open(ppmOf(PAIR, { '.': '255 255 255', a: '250 250 250' }), 'whites');
+    assert.equal(await trial.judged(), 'ambiguous');
+    await trial.action('fix');
+    await listed(page);
+    assert.match(await page.run(() => document.querySelector('#fix-list button').ariaLabel), /^1 cell: row [12], column [12]: the background to “white” \(a\)/);
+}
+
 export async function repairsHeedLocks({ trial, page }) {
     await trial.open(ppmOf(PAIR), 'pair');
     assert.equal(await trial.judged(), 'ambiguous');
