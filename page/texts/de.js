@@ -121,7 +121,7 @@ export const DE = /** @type {const} */ ({
   'view.findWeakSpot': 'Die Schwachstelle finden.',
   'view.tourWeakSpot': 'Umrahmte Felder sind im anderen Bild anders. Schraffierte Felder lassen sich nicht Linie für Linie bestimmen (h zeigt sie). Das Werkzeug „Warum“ (w) erklärt jedes Feld.',
   'view.tourFix': 'Reparieren.',
-  'view.fixLooksCellRepaint': '„Reparieren“ sucht wenige Felder, die Sie ummalen oder vorgeben, oder etwas von beidem. Vorgegebene Felder haben eine Raute ◆ und werden mit dem Rätsel gedruckt.',
+  'view.fixLooksCellRepaint': '„Reparieren“ sucht wenige Felder, die Sie ummalen oder vorgeben, oder etwas von beidem. Vorgegebene Felder haben eine Raute ◆ und werden mit dem Rätsel gedruckt. „Leichter oder schwerer“ sucht solche Änderungen, bis das Rätsel leicht, mittel oder schwer ist.',
   'view.play': 'Lösen.',
   'view.playMenuCheckShows': '„Lösen“ im Menü „Prüfen“ zeigt das Rätsel, wie man es zum Lösen bekommt.',
   'view.checkColours': 'Die Farben prüfen.',

@@ -121,7 +121,7 @@ export const EN = /** @type {const} */ ({
   'view.findWeakSpot': 'Find the weak spot.',
   'view.tourWeakSpot': 'Framed cells differ in the other picture. Hatched cells are not settled line by line (h shows them). The tool Why (w) explains any cell.',
   'view.tourFix': 'Fix it.',
-  'view.fixLooksCellRepaint': '“Fix it” looks for a few cells to repaint, to give, or some of both. Given cells have a diamond ◆ and are printed with the puzzle.',
+  'view.fixLooksCellRepaint': '“Fix it” looks for a few cells to repaint, to give, or some of both. Given cells have a diamond ◆ and are printed with the puzzle. “Easier or harder” looks for such changes until the puzzle is easy, medium or hard.',
   'view.play': 'Play it.',
   'view.playMenuCheckShows': '“Play” in the Check menu shows the puzzle as a solver gets it.',
   'view.checkColours': 'Check the colours.',

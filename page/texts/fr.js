@@ -121,7 +121,7 @@ export const FR = /** @type {const} */ ({
   'view.findWeakSpot': 'Trouvez le point faible.',
   'view.tourWeakSpot': 'Les cases encadrées diffèrent dans l’autre image. Les cases hachurées ne se déduisent pas ligne par ligne (h les montre). L’outil Pourquoi (w) explique chaque case.',
   'view.tourFix': 'Réparez.',
-  'view.fixLooksCellRepaint': '« Réparer » cherche quelques cases à repeindre, à donner, ou un peu des deux. Les cases données portent un losange ◆ et s’impriment avec la grille.',
+  'view.fixLooksCellRepaint': '« Réparer » cherche quelques cases à repeindre, à donner, ou un peu des deux. Les cases données portent un losange ◆ et s’impriment avec la grille. « Plus facile ou plus difficile » cherche de tels changements jusqu’à ce que la grille soit facile, moyenne ou difficile.',
   'view.play': 'Jouez.',
   'view.playMenuCheckShows': '« Jouer » dans le menu Vérifier montre la grille telle qu’on la reçoit pour la résoudre.',
   'view.checkColours': 'Vérifiez les couleurs.',
