@@ -26,6 +26,7 @@ const MOST_NEAR = 8; // cells of what is told as nearer
 const MOST_MIXED = 9; // changes that a mixture stays below
 const FOR_PLACES = 0.15; // of the time, for repairs of one place each
 const PLACE = 150; // milliseconds for one place
+const MOST_TOGETHER = 4; // repairs of all places that are put together of theirs
 
 /** The end of a search: by the clock, or by the number of questions. */
 class Limit {
@@ -112,22 +113,34 @@ function proposalOf(candidate, goal, { open }) {
   };
 }
 
-// Where a picture has several places to mend, looks for repairs of each by itself; the best of all together is a repair of the whole.
+// Where a picture has several places to mend, looks for repairs of each by itself; those of all together are repairs of the whole.
 async function inPlaces(search, limit, goal, told) {
   const { board, judge: { asker } } = search;
   const places = placesOf(board, () => limit.share(FOR_PLACES / 3));
   told?.(places);
   if (places.length < 2 || board.mirror) return;
-  const best = [];
+  const repaints = places.map(() => []);
   const others = elsewhere(places);
   for (let at = 0; at < places.length && limit.share(FOR_PLACES); at++) {
-    const found = (candidate, finding) => candidate.codes.length && told?.(places, { ...proposalOf(candidate, goal, finding), place: at });
+    const found = (candidate, finding) => {
+      if (!candidate.codes.length) return;
+      repaints[at].push([...candidate.moves]);
+      told?.(places, { ...proposalOf(candidate, goal, finding), place: at });
+    };
     const one = new Search(board.holding(others[at]), new Judge(asker, goal, new Set(others[at])), limit, { found, tried() {} });
     if (!(await one.all(1, PLACE / 2, MOST_ONES))) await one.all(2, PLACE, MOST_TWOS);
-    best.push(...(one.best ?? []));
   }
-  search.candidate.become(best);
-  if (best.length > 0 && search.candidate.isNeat() && (await search.evaluate()).isGoal) search.record();
+  for (const moves of togethers(repaints)) {
+    search.candidate.become(moves);
+    if (search.candidate.isNeat() && (await search.evaluate()).isGoal) search.record();
+  }
+}
+
+// The smallest repaint of each place together, then the next ones of that size.
+function togethers(repaints) {
+  const smallest = repaints.map((list) => list.filter((one) => one.length === Math.min(...list.map((moves) => moves.length))));
+  const turns = Math.min(MOST_TOGETHER, ...smallest.map((list) => list.length || 1));
+  return Array.from({ length: turns }, (_, turn) => smallest.flatMap((list) => list[turn] ?? [])).filter((moves) => moves.length > 0);
 }
 
 // Runs a search until it is through or its bounds are spent; answers whether it came through. The session is then as before.

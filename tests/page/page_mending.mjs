@@ -122,6 +122,7 @@ export async function repairsOfSeveralCells({ trial, page }) {
     await listed(page);
     const sizes = await page.run(() => [...document.querySelectorAll('#fix-list button')].map((button) => button.ariaLabel));
     assert.match(sizes[0], /2 cells/);
+    assert.ok(await page.run(() => document.querySelectorAll('#fix-list section:first-child button').length) >= 2, 'several repairs of both places');
     assert.match(await trial.text('#fix-said'), /No smaller one exists/);
     assert.match(sizes.at(-1), /Give \d+ cells?, the fewest/, 'given cells stand beside');
     assert.equal(await page.run(() => document.querySelector('#fix-list canvas').width >= 80), true, 'large enough to be seen');
