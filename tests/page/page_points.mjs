@@ -212,6 +212,7 @@ async function meaning(hands) {
     assert.equal((await trial.state()).givens.length, 0, 'one undo takes it back');
     await trial.open(ppmOf(['aa.', '.bb', 'a.a']), 'small');
     await trial.judged();
+    await moreOf(hands); // the proposals had closed it
     await hands.press('#verdict-do [data-action="play"]');
     await page.until(() => document.querySelector('#play-room')?.open, 3000 * SLACK);
     await hands.mark('b', [[2, 2], [2, 3]]);
