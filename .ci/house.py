@@ -256,7 +256,7 @@ COUNTS = (
     # French has 880 lines of texts; the page reads SVG, BMP, AVIF and sheets of sprites, and cuts pictures into places; the example
     # site bounds connections, and headers are read in bounded memory.
     # The page aims for a grade, and a script measures how often that is reached.
-    ('lines of JavaScript and Python without tests', lambda: tracked('*.js', '*.mjs', '*.py'), 31750),
+    ('lines of JavaScript and Python without tests', lambda: tracked('*.js', '*.mjs', '*.py'), 31800),
     ('lines of bash', bash_lines, 1400),
 )
 
