@@ -254,8 +254,9 @@ COUNTS = (
     # `assess`, which has 1,060, `cert_figures` and `grade_text` stand beside what they are to replace in scripts
     ('lines of specs, lemmas and answers', proof_lines, 51200),
     # French has 880 lines of texts; the page reads SVG, BMP, AVIF and sheets of sprites, and cuts pictures into places; the example
-    # site bounds connections, and headers are read in bounded memory. Modules are made those of other systems, too.
-    ('lines of JavaScript and Python without tests', lambda: tracked('*.js', '*.mjs', '*.py'), 31500),
+    # site bounds connections, and headers are read in bounded memory. Modules are made those of other systems, too. The page aims for
+    # a grade, and a script measures how often that is reached.
+    ('lines of JavaScript and Python without tests', lambda: tracked('*.js', '*.mjs', '*.py'), 31900),
     # platforms/build makes library and program for other systems, and release their packages.
     ('lines of bash', bash_lines, 1600),
 )

@@ -118,6 +118,7 @@ goal('10 to 40 % open, at most 8 cells', within(some, 8), some.length, 90);
 goal('any number of cells', within(unique, 1e9), unique.length, 90);
 goal('solved by line logic with at most 8 cells', within(lines, 8), lines.length, 70);
 goal('the first proposal within 2 s', unique.filter(({ first }) => first !== null && first <= 2000).length, within(unique, 1e9), 100);
+goal('the first proposal within 0.5 s', [...unique, ...lines].filter(({ first }) => first !== null && first <= 500).length, within([...unique, ...lines], 1e9), 90);
 const small = unique.filter(({ size }) => size <= 2);
 goal('one or two cells within 0.5 s', small.filter(({ best }) => best <= 500).length, small.length, 100);
 goal('answers that were judged anew', [...unique, ...lines].filter(({ isWrong, size }) => size < Infinity && !isWrong).length, within([...unique, ...lines], 1e9), 100);

@@ -13,3 +13,13 @@ export const cleanName = (name) => (name ?? '').replace(/[\u0000-\u001f\\/:*?"<>
 
 /** A file's name without its ending and without what no file name may have. */
 export const bareName = (name) => cleanName((name ?? '').replace(/\.[A-Za-z0-9]{1,5}$/, ''));
+
+/** A name, or that with a number behind it, that `taken` does not have; it has it from now on. Capitals make no other name. */
+export function freeName(name, taken) {
+  for (let count = 1; ; count++) {
+    const tried = count === 1 ? name : `${name} ${count}`;
+    if (taken.has(tried.toLowerCase())) continue;
+    taken.add(tried.toLowerCase());
+    return tried;
+  }
+}

@@ -9,7 +9,8 @@ import { answersTo } from './answers.js';
 import { EngineFault, startEngine } from './client.js';
 import { openedIn, stateOf } from './opening.js';
 
-const MOST_STROKES = 400; // that can be taken back
+/** How many strokes can be taken back. */
+export const MOST_STROKES = 400;
 const MOST_PAINTED = 400; // commands to paint a document back; where it takes more it is opened anew
 const FIRST_MS = 40; // what a verdict may take in the first worker: the rest is searched in the second
 const FIRST_SPLITS = 100;
@@ -22,6 +23,7 @@ export class Bench {
     this.name = 'picture'; // of the file, without an ending
     this.past = []; // strokes: {lines, live, before, after}, documents; `live` where the bench's own history holds it
     this.future = [];
+    this.isCut = false; // strokes before the first that can be taken back were let go
     this.queue = [];
     this.running = false;
     this.term = {}; // another one for each document that is opened
@@ -56,7 +58,7 @@ export class Bench {
       const docs = [...strokes.past, docOf(state), ...strokes.future];
       const made = docs.slice(1).map((after, at) => ({ lines: [], live: false, before: docs[at], after }));
       const [past, future] = [made.slice(0, strokes.past.length), made.slice(strokes.past.length).reverse()];
-      Object.assign(this, { engine, state, name, past, future, running: false, term: {}, savedDoc: isSaved ? docOf(state) : null, searched: null });
+      Object.assign(this, { engine, state, name, past, future, isCut: past.length >= MOST_STROKES, running: false, term: {}, savedDoc: isSaved ? docOf(state) : null, searched: null });
     } catch (fault) {
       engine.end();
       throw fault;
@@ -235,7 +237,10 @@ export class Bench {
   keep(stroke) {
     this.past.push(stroke);
     this.future = [];
-    if (this.past.length > MOST_STROKES) this.past.shift();
+    if (this.past.length > MOST_STROKES) {
+      this.past.shift();
+      this.isCut = true;
+    }
     // The bench's history holds so many commands: older strokes are painted back.
     let count = 0;
     for (let at = this.past.length - 1; at >= 0; at--) {

@@ -4,7 +4,7 @@
 import { hintOf } from '../../web/nonobench.mjs';
 import { gradeOf } from '../grade/grade.js';
 import { Board } from '../repair/board.js';
-import { give, mix, repair } from '../repair/repair.js';
+import { aim, give, mix, repair } from '../repair/repair.js';
 
 /** Lets a worker's scope answer calls; `load` makes an engine of the module's bytes, as web/nonobench.mjs has it. */
 export function serve(scope, load) {
@@ -41,6 +41,9 @@ export function serve(scope, load) {
     },
     mix({ board, goal, near, bound, seconds }, told) {
       return mix({ board: new Board(board), goal, near, bound, seconds, say }, { found: (found) => told({ found }) });
+    },
+    aim({ board, word, seconds }, told) {
+      return aim({ board: new Board(board), word, seconds, say }, { found: (found) => told({ found }) });
     },
     grade({ puzzle }) {
       return gradeOf(puzzle);

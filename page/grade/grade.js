@@ -46,6 +46,27 @@ export function wordFor(figures) {
   return isWithin(figures, BOUNDS.medium) ? 'medium' : 'hard';
 }
 
+/** The words of puzzles that line logic solves, the easiest first. */
+export const LINE_WORDS = ['easy', 'medium', 'hard'];
+
+/** What line logic alone finds of a puzzle: its figures, and the word for them, null where cells stay open. */
+export function gradeByLines(puzzle) {
+  const figures = solveByLines(new Narrowing(puzzle));
+  return { ...figures, word: figures.open > 0 ? null : wordFor(figures) };
+}
+
+const parts = (bounds, of) => Object.entries(bounds).map(([name, most]) => of(name, most) / most);
+const above = (figures, bounds) => parts(bounds, (name, most) => Math.max(0, figures[name] - most)).reduce((sum, one) => sum + one, 0);
+const below = (figures, bounds) => Math.max(0, Math.min(...parts(bounds, (name, most) => most + 1 - figures[name])));
+
+/** How far the figures of line logic are from those of a word: 0 where they have it. An open cell is farther than any figure is. */
+export function farFrom(figures, word) {
+  if (figures.open > 0) return 10 + figures.open;
+  if (figures.word === word) return 0;
+  const easier = LINE_WORDS[LINE_WORDS.indexOf(word) - 1];
+  return (BOUNDS[word] ? above(figures, BOUNDS[word]) : 0) + (easier ? below(figures, BOUNDS[easier]) : 0);
+}
+
 const without = (none) => ({ none });
 
 /**

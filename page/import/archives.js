@@ -1,7 +1,7 @@
 // Archives of the library: all pictures as XML in one zip, and back.
 
 import { say } from '../base/elements.js';
-import { bareName, cleanName } from '../base/words.js';
+import { bareName, cleanName, freeName } from '../base/words.js';
 import { webpbnText } from '../formats/webpbn.js';
 import { writeZip, zipEntries } from '../formats/zip.js';
 import { keep } from '../library/keep.js';
@@ -14,16 +14,6 @@ import { Progress } from '../view/progress.js';
 import { docsOfUnit, grouped } from './beside.js';
 
 const MANY = 200; // files: more are asked for first
-
-// A name that no other file of the archive has.
-function freeName(name, taken) {
-  for (let count = 1; ; count++) {
-    const tried = count === 1 ? name : `${name} ${count}`;
-    if (taken.has(tried.toLowerCase())) continue;
-    taken.add(tried.toLowerCase());
-    return tried;
-  }
-}
 
 /** A zip of records, each as an XML file, and of what else goes with them. Null, told, where a record does not open. */
 export async function archiveOf(records, others = [], start = undefined) {

@@ -1,11 +1,11 @@
-// A contact sheet of an image: puzzles of some sizes and numbers of colours, each with its verdict; one click takes one.
+// A contact sheet of an image: puzzles of some sizes and numbers of colours, each with its verdict and grade; one click takes one.
 
 import { make } from '../base/elements.js';
 import { sizeText } from '../base/words.js';
 import { MOST_CELLS } from '../document/limits.js';
 import { drawSmall } from '../draw/small.js';
 import { Judge } from '../engine/judging.js';
-import { verdictName } from '../grade/names.js';
+import { gradeName, verdictName } from '../grade/names.js';
 import { phrase } from '../texts/phrase.js';
 import { openDialog } from '../view/dialogs.js';
 import { docApart } from './proposing.js';
@@ -63,9 +63,9 @@ export async function contactSheet(sizes, docOf) {
       if (judge.isEnded) return;
     }
     for (const { doc, verdict, element } of tiles) {
-      const found = await judge.judge(doc).catch(() => ({ word: 'undecided' }));
+      const found = await judge.judge(doc).catch(() => ({ word: 'undecided', grade: null }));
       if (!found) return;
-      verdict.textContent = verdictName(found.word);
+      verdict.textContent = [verdictName(found.word), found.grade ? gradeName(found.grade.word) : ''].filter(Boolean).join(', ');
       element.dataset.word = found.word;
     }
   };

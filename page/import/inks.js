@@ -30,7 +30,7 @@ export class Inks {
     this.ground = make('button', { type: 'button', onclick: () => this.edit({ background: this.source }) }, TEXT.background);
     this.locked = make('input', { type: 'checkbox', id: 'import-lock' });
     this.picker = make('input', { type: 'color', 'aria-label': TEXT.replace });
-    this.named = make('input', { type: 'text', 'aria-label': TEXT.name, placeholder: TEXT.nameHint, list: 'colour-names', size: 9 });
+    this.named = make('input', { type: 'text', 'aria-label': TEXT.name, placeholder: TEXT.nameHint, list: 'colour-names', size: 12 });
     this.dropped = make('button', { type: 'button', id: 'import-drop', onclick: () => this.drop() }, TEXT.drop);
     this.file = make('input', { type: 'file', accept: '.gpl,.pal,.hex,.txt', hidden: true });
     this.said = make('p', { class: 'faint', role: 'status' });

@@ -3,8 +3,11 @@
 //     await repair({ board, goal: 'unique', say, seconds: 10 }, { found: (proposal) => ..., nearer: (near) => ..., told: (text) => ... })
 //
 // `say` puts lines to a proved session that shows the board's picture, and gives its text or a promise of it. Every proposal was
-// judged by the session. `give` looks for cells to give, and `mix` for some of both.
+// judged by the session. `give` looks for cells to give, `mix` for some of both, and `aim` for a grade.
 
+import { gradeByLines } from '../grade/grade.js';
+import { Puzzle } from '../grade/puzzle.js';
+import { Aiming } from './aiming.js';
 import { Asker } from './asker.js';
 import { climb, dive } from './descents.js';
 import { Giving, givensForLines } from './givens.js';
@@ -23,6 +26,7 @@ const MOST_NEAR = 8; // cells of what is told as nearer
 const MOST_MIXED = 9; // changes that a mixture stays below
 const FOR_PLACES = 0.15; // of the time, for repairs of one place each
 const PLACE = 150; // milliseconds for one place
+const MOST_TOGETHER = 4; // repairs of all places that are put together of theirs
 
 /** The end of a search: by the clock, or by the number of questions. */
 class Limit {
@@ -109,22 +113,34 @@ function proposalOf(candidate, goal, { open }) {
   };
 }
 
-// Where a picture has several places to mend, looks for repairs of each by itself; the best of all together is a repair of the whole.
+// Where a picture has several places to mend, looks for repairs of each by itself; those of all together are repairs of the whole.
 async function inPlaces(search, limit, goal, told) {
   const { board, judge: { asker } } = search;
   const places = placesOf(board, () => limit.share(FOR_PLACES / 3));
   told?.(places);
   if (places.length < 2 || board.mirror) return;
-  const best = [];
+  const repaints = places.map(() => []);
   const others = elsewhere(places);
   for (let at = 0; at < places.length && limit.share(FOR_PLACES); at++) {
-    const found = (candidate, finding) => candidate.codes.length && told?.(places, { ...proposalOf(candidate, goal, finding), place: at });
+    const found = (candidate, finding) => {
+      if (!candidate.codes.length) return;
+      repaints[at].push([...candidate.moves]);
+      told?.(places, { ...proposalOf(candidate, goal, finding), place: at });
+    };
     const one = new Search(board.holding(others[at]), new Judge(asker, goal, new Set(others[at])), limit, { found, tried() {} });
     if (!(await one.all(1, PLACE / 2, MOST_ONES))) await one.all(2, PLACE, MOST_TWOS);
-    best.push(...(one.best ?? []));
   }
-  search.candidate.become(best);
-  if (best.length > 0 && search.candidate.isNeat() && (await search.evaluate()).isGoal) search.record();
+  for (const moves of togethers(repaints)) {
+    search.candidate.become(moves);
+    if (search.candidate.isNeat() && (await search.evaluate()).isGoal) search.record();
+  }
+}
+
+// The smallest repaint of each place together, then the next ones of that size.
+function togethers(repaints) {
+  const smallest = repaints.map((list) => list.filter((one) => one.length === Math.min(...list.map((moves) => moves.length))));
+  const turns = Math.min(MOST_TOGETHER, ...smallest.map((list) => list.length || 1));
+  return Array.from({ length: turns }, (_, turn) => smallest.flatMap((list) => list[turn] ?? [])).filter((moves) => moves.length > 0);
 }
 
 // Runs a search until it is through or its bounds are spent; answers whether it came through. The session is then as before.
@@ -189,4 +205,32 @@ export async function give({ board, goal, say, seconds, ...bounds }, { found = n
   };
   await bounded(asker, () => (goal === 'lines' ? givensForLines(board, asker, limit, hooks) : new Giving(board, asker, limit, hooks).run()));
   return { ...last, questions: asker.questions };
+}
+
+// Repaints, as lists of moves, after which line logic solves a board's picture.
+async function solvable(board, asker, limit) {
+  const repaints = [];
+  const search = new Search(board, new Judge(asker, 'lines'), limit, { found: ({ moves }) => repaints.push([...moves]), tried() {} });
+  await bounded(asker, () => forLines(search, limit));
+  return repaints;
+}
+
+/**
+ * Looks for few cells to repaint, or one to give, until line logic solves the puzzle and `word` says how hard that is. `grade(puzzle)` gives
+ * the figures of line logic with their word, or a promise of them. Answers `{ isThere, isThrough, questions }`: whether the picture has
+ * the word as it is, and whether the search came through.
+ */
+export async function aim({ board, word, say, seconds, grade = gradeByLines, ...bounds }, { found = null } = {}) {
+  const limit = new Limit({ seconds, ...bounds });
+  const asker = new Asker(board, say);
+  const now = await grade(new Puzzle(board.rows, board.columns, board.cells, board.givens, board.clues));
+  if (now.word === word) return { isThere: true, isThrough: true, questions: 0 };
+  const told = (one) => found?.(one.given ? { goal: word, given: one.given, isLeast: true } : proposalOf(one, word, { open: 0 }));
+  const aiming = new Aiming({ board, word, grade, asker, limit, found: told });
+  const isThrough = await bounded(asker, async () => {
+    await aiming.give();
+    const begun = now.open > 0 ? await solvable(board, asker, new Limit({ seconds: seconds / 2, ...bounds })) : [];
+    await aiming.repaint(begun);
+  });
+  return { isThere: false, isThrough, questions: asker.questions };
 }

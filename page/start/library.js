@@ -37,7 +37,7 @@ function bytesText(bytes) {
   return value.toLocaleString(LANGUAGE, { style: 'unit', unit: ['byte', 'kilobyte', 'megabyte', 'gigabyte'][step], unitDisplay: step ? 'short' : 'long', minimumFractionDigits: digits, maximumFractionDigits: digits });
 }
 
-const view = { list: null, section: null, room: null, cards: [], shown: 0, goBack: () => {} };
+const view = { list: null, section: null, room: null, cards: [], shown: 0, goBack: () => {}, listed: Promise.resolve() };
 const FIRST = 60; // tiles at once; more are shown on wish
 
 // ---- the card on the start screen
@@ -53,9 +53,12 @@ export function makeLibrary(goBack) {
     make('div', { class: 'library-head' }, make('h2', { id: 'kept-title' }, phrase('start.library')), search, order,
       make('button', { type: 'button', id: 'library-export', onclick: exportAll }, phrase('import.saveAllZip'))),
     view.list, view.room);
-  fillLibrary();
+  view.listed = fillLibrary();
   return view.section;
 }
+
+/** Resolves once the library is shown as it is. */
+export const libraryListed = () => view.listed;
 
 /** Reads the library anew. */
 async function fillLibrary() {
@@ -65,7 +68,7 @@ async function fillLibrary() {
   view.shown = FIRST;
   view.section.hidden = view.cards.length === 0;
   showCards();
-  showRoom(keeper);
+  await showRoom(keeper);
 }
 
 function showCards() {

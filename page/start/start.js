@@ -2,7 +2,7 @@
 
 import { $, make } from '../base/elements.js';
 import { on } from '../base/events.js';
-import { sizeText } from '../base/words.js';
+import { freeName, sizeText } from '../base/words.js';
 import { emptyDoc } from '../document/document.js';
 import { MOST_CELLS } from '../document/limits.js';
 import { smallPicture } from '../draw/small.js';
@@ -10,11 +10,12 @@ import { bench } from '../engine/bench.js';
 import { readPpm } from '../formats/ppm.js';
 import { docOfImage } from '../import/images.js';
 import { chooseFile } from '../import/taking.js';
+import { keep } from '../library/keep.js';
 import { openDoc } from '../library/open.js';
 import { save, saveAs } from '../library/saving.js';
 import { phrase } from '../texts/phrase.js';
 import { addAction } from '../view/actions.js';
-import { makeLibrary, startLibrary } from './library.js';
+import { libraryListed, makeLibrary, startLibrary } from './library.js';
 
 const START_SIZE = [20, 15];
 
@@ -26,12 +27,18 @@ function newCard() {
     make('h2', { id: 'new-title' }, phrase('start.new')),
     make('p', { class: 'fields' }, make('label', {}, phrase('view.columns'), columns), make('label', {}, phrase('view.rows'), rows), make('label', {}, phrase('import.background'), ground)),
     make('button', { type: 'submit', class: 'main', id: 'new-go' }, phrase('start.startPainting')));
-  form.addEventListener('submit', (event) => {
+  form.addEventListener('submit', async (event) => {
     event.preventDefault();
     const background = [1, 3, 5].map((at) => parseInt(ground.value.slice(at, at + 2), 16));
-    openDoc(emptyDoc(Number(columns.value), Number(rows.value), background), { name: 'picture', isBlank: true });
+    openDoc(emptyDoc(Number(columns.value), Number(rows.value), background), { name: await newName(), isBlank: true });
   });
   return form;
+}
+
+// A name that no picture of the library has.
+async function newName() {
+  const cards = await keep.ready().then((keeper) => keeper.cards()).catch(() => []);
+  return freeName(phrase('start.newName'), new Set(cards.map(({ name }) => name.toLowerCase())));
 }
 
 function openCard() {
@@ -42,6 +49,7 @@ function openCard() {
     make('button', { type: 'button', class: 'main', id: 'open-go', onclick: () => chooseFile() }, phrase('start.chooseFile')));
 }
 
+const LISTED = 1000; // milliseconds until the library is not waited for
 const EXAMPLE_SIDE = 96; // pixels
 const EXAMPLES = { balloon: phrase('start.balloon'), heart: phrase('start.heart'), mushroom: phrase('start.mushroom'), boat: phrase('start.boat') };
 const MEND = 'balloon'; // it has two solutions
@@ -56,12 +64,21 @@ function exampleItem(source) {
     smallPicture(doc, EXAMPLE_SIDE), make('span', {}, make('b', {}, name), make('span', { class: 'faint' }, sizeText(doc)), make('span', { class: 'faint' }, facts))));
 }
 
+// Shows what stands below the library once that is listed, so that it does not move under the pointer.
+async function comesLater(element, is) {
+  delete $('start').dataset.listed;
+  await Promise.race([libraryListed(), new Promise((go) => setTimeout(go, LISTED))]);
+  element.hidden = !is;
+  $('start').dataset.listed = '';
+}
+
 /** Shows the start screen, over what is open. */
 export function showStart() {
   const examples = [...document.querySelectorAll('script[data-example]')].map(exampleItem).filter(Boolean);
-  const shown = make('section', { id: 'examples', class: 'card wide', 'aria-labelledby': 'examples-title', hidden: examples.length === 0 }, make('h2', { id: 'examples-title' }, phrase('start.examples')), make('ul', { class: 'tiles' }, ...examples));
+  const shown = make('section', { id: 'examples', class: 'card wide', 'aria-labelledby': 'examples-title', hidden: true }, make('h2', { id: 'examples-title' }, phrase('start.examples')), make('ul', { class: 'tiles' }, ...examples));
   const back = bench.state ? [make('p', {}, make('button', { type: 'button', id: 'start-back', onclick: hideStart }, phrase('start.back', { name: bench.name })))] : [];
   $('start').replaceChildren(make('p', { class: 'lead' }, phrase('start.drawPictureOpenOne')), ...back, make('div', { class: 'cards' }, newCard(), openCard(), makeLibrary(hideStart), shown));
+  comesLater(shown, examples.length > 0);
   $('start').hidden = false;
   $('work').hidden = true;
   document.body.classList.add('starting');

@@ -1,5 +1,6 @@
 // The page with its objects by name in the window, for tests in browsers. It is no part of the page that is built.
 
+import { say } from '../base/elements.js';
 import { resized } from '../document/shapes.js';
 import { sheet } from '../draw/sheet.js';
 import { bench } from '../engine/bench.js';
@@ -18,5 +19,5 @@ import { certificateText, searches, setHatching, setSeconds } from '../view/verd
 
 Object.assign(window, {
   bench, sheet, searches, tools, play, keep, takeFile, actions, runAction, useColour, certificateText, selection, showSelection, resized, cursor, openDoc, setHatching,
-  setSeconds, saving, fragmentOf,
+  setSeconds, saving, fragmentOf, say,
 });

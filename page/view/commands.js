@@ -1,11 +1,11 @@
 // What the menus Edit, Picture, View and Help have, with their keys.
 
-import { make } from '../base/elements.js';
+import { make, say } from '../base/elements.js';
 import { LETTERS, MOST_CELLS, MOST_COLOURS } from '../document/limits.js';
 import { outlineOf, placesOfBox, placesOfLetter, shadowOf } from '../document/regions.js';
 import { resized, rowsOfText, shifted, turned } from '../document/shapes.js';
 import { sheet } from '../draw/sheet.js';
-import { bench } from '../engine/bench.js';
+import { MOST_STROKES, bench } from '../engine/bench.js';
 import { phrase } from '../texts/phrase.js';
 import { addAction } from './actions.js';
 import { openDialog } from './dialogs.js';
@@ -18,9 +18,9 @@ import { dropDrag, forgetReason, heard, nextSymmetry, paintPlaces, sendStroke, t
 
 const FAR = 5; // cells that a selection is moved by with Shift
 
-function undoStroke() {
-  if (dropSelectionMove()) return null;
-  return heard(bench.undo());
+async function undoStroke() {
+  if (dropSelectionMove()) return;
+  if (await heard(bench.undo()) && bench.isCut && !bench.past.length) say(phrase('view.undoEnds', { strokes: MOST_STROKES }));
 }
 
 // What floats is dropped by the first undo.

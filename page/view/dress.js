@@ -18,10 +18,12 @@ export function inkName(doc, letter) {
 /** A colour's letter and name in the open document. */
 export const colourText = (letter) => `${wordOf(letter)}, ${inkName(bench.state, letter)}`;
 
+/** A colour's name with its letter, which tells it from others of that name. */
+export const letterName = (doc, letter) => (letter === '.' ? phrase('view.theBackground') : phrase('view.nameLetter', { name: inkName(doc, letter), letter }));
+
 /** Colours of a document that a solver may take for one another, in words; '' where there are none. */
 export function nearText(doc) {
-  const name = (letter) => (letter === '.' ? phrase('view.theBackground') : phrase('view.nameLetter', { name: inkName(doc, letter), letter }));
-  const pairs = nearPairs(doc).map(([one, other]) => phrase('view.andPair', { name: name(one), name2: name(other) }));
+  const pairs = nearPairs(doc).map(([one, other]) => phrase('view.andPair', { name: letterName(doc, one), name2: letterName(doc, other) }));
   if (!pairs.length) return '';
   const more = pairs.length > 2 ? phrase('view.pairs', { pairs: pairs.length - 2 }) : '';
   return phrase('view.tooMuchAlikeTold', { value: pairs.slice(0, 2).join('; '), more });

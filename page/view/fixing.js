@@ -1,5 +1,5 @@
 // Fix it, below the picture: proposals of cells to repaint, to give, or some of both, until the picture needs no guessing or is at least
-// the only solution. They are seen side by side, place by place; one click takes one, and one undo takes it back.
+// the only solution, or has a grade that is aimed for. They are seen side by side, place by place; one click takes one, and one undo takes it back.
 
 import { $, choiceOf, make, say } from '../base/elements.js';
 import { on, tell } from '../base/events.js';
@@ -9,15 +9,19 @@ import { LETTERS } from '../document/limits.js';
 import { cellsThatDiffer } from '../document/shapes.js';
 import { sheet } from '../draw/sheet.js';
 import { bench } from '../engine/bench.js';
-import { boardFields } from '../repair/board.js';
+import { LINE_WORDS, gradeByLines } from '../grade/grade.js';
+import { gradeName } from '../grade/names.js';
+import { Puzzle } from '../grade/puzzle.js';
 import { phrase } from '../texts/phrase.js';
+import { boardOf, limitChoices, showLocks } from './locking.js';
 import { placeText, proposalItem } from './proposals.js';
 import { bySize, ideas, keyOf, mirrorOf, seenOf, sizeOf } from './ranking.js';
-import { selection, setDown } from './select.js';
+import { setDown } from './select.js';
 import { searches, secondsChosen, verdictView } from './verdict.js';
 
 const GOALS = [['lines', phrase('view.noGuessing')], ['unique', phrase('view.oneSolution')]];
-const MIRRORS = [['', phrase('view.comes')], ['x', phrase('view.leftRightSame')], ['y', phrase('view.topBottomSame')]];
+const GRADES = LINE_WORDS.map((word) => [word, phrase('view.aGrade', { grade: gradeName(word) })]);
+const isGrade = (goal) => LINE_WORDS.includes(goal);
 const MOST_SHOWN = 24;
 const MOST_OF_ALL = 4; // proposals for all places together, where each is mended by itself
 const MOST_MIXED = 2;
@@ -31,73 +35,48 @@ const SPARE = 5; // seconds that a search in the worker has left to end by itsel
 const LONGER = phrase('view.longerSearchTimeMay');
 const LOOSE = phrase('view.pictureTooLooseBolder');
 
-// What was found, for which picture (`of`), and what was asked for. It stays while a proposal is tried: an undo shows the list again.
-const fixing = { goal: 'lines', rule: true, mirror: '', of: null, found: [], kept: new Set(), places: NO_PLACES, near: null, said: '', frame: 0, previews: false, isWanted: false, turn: 0, waits: 0 };
+// What was found, for which picture (`of`) and goal (`by`), and what was asked for. It stays while a proposal is tried: an undo shows the list again.
+const fixing = { goal: 'lines', by: 'lines', of: null, found: [], kept: new Set(), places: NO_PLACES, near: null, said: '', frame: 0, previews: false, isWanted: false, turn: 0, waits: 0 };
 const isOfThis = () => fixing.of !== null && bench.state !== null && sameBenchPart(fixing.of, bench.state);
 
 /** Whether there is something to mend. */
 export const canFix = () => bench.state !== null && (bench.state.verdict.word !== 'unique' || bench.state.open > 0);
 
-const choice = (id, values, chosen, change) => choiceOf({ id, onchange: (event) => change(event.target.value) }, values, chosen);
+/** Whether the panel has something to do: a grade may be aimed for by any picture. */
+export const mayFix = () => canFix() || (bench.state !== null && isGrade(fixing.goal));
+
 const button = (id, name, run) => make('button', { type: 'button', id, onclick: run }, name);
 
-export function openFix() {
+/** Opens the panel for what is to be mended, or for a grade that is aimed for. */
+export function openFix(grade = null) {
   const { state } = bench;
-  if (!canFix()) return;
-  if (state.verdict.word === 'unique') fixing.goal = 'lines';
+  if (grade) fixing.goal = grade;
+  else if (state.verdict.word === 'unique' || isGrade(fixing.goal)) fixing.goal = 'lines';
+  if (!mayFix()) return;
   fixing.isWanted = true;
   $('fix').hidden = false;
   $('fix').replaceChildren(
     make('div', { class: 'group' },
-      make('h2', {}, phrase('view.fixTitle')), make('label', {}, phrase('view.until'), choice('fix-goal', GOALS, fixing.goal, (value) => { fixing.goal = value; findRepairs(); })),
+      make('h2', {}, grade ? phrase('view.aimTitle') : phrase('view.fixTitle')), make('label', {}, phrase('view.until'), choiceOf({ id: 'fix-goal', onchange: (event) => aimFor(event.target.value) }, [...(canFix() ? GOALS : []), ...GRADES], fixing.goal)),
       button('fix-paint', phrase('view.findCellsRepaint'), findRepairs), button('fix-give', phrase('view.giveCells'), giveCells), button('fix-close', phrase('view.close'), closeFix)),
     make('p', { id: 'fix-said', role: 'status' }),
     make('div', { id: 'fix-list', role: 'group', 'aria-label': phrase('view.proposals') }),
-    make('details', { id: 'fix-more' }, make('summary', {}, phrase('view.whatMayRepainted')), ...choices()),
+    make('details', { id: 'fix-more' }, make('summary', {}, phrase('view.whatMayRepainted')), ...limitChoices(fixSays)),
   );
+  $('fix-give').hidden = isGrade(fixing.goal);
   showLocks();
   showFound();
   tell('fixing', true);
   $('fix-paint').focus({ preventScroll: true });
-  if (isOfThis() && fixing.found.length) fixSays(fixing.said);
+  if (isOfThis() && fixing.by === fixing.goal && fixing.found.length) fixSays(fixing.said);
   else findRepairs();
 }
 
-function choices() {
-  const rule = make('input', { type: 'checkbox', id: 'fix-rule', checked: fixing.rule, onchange: (event) => { fixing.rule = event.target.checked; } });
-  return [
-    make('p', {}, make('label', {}, rule, phrase('view.onlyNeighboursColourNo'))),
-    make('p', {}, make('label', {}, phrase('view.symmetry'), choice('fix-mirror', MIRRORS, fixing.mirror, (value) => { fixing.mirror = value; }))),
-    make('div', { class: 'group' }, button('fix-lock', phrase('view.lockAllButSelection'), lockOutside), button('fix-unlock', phrase('view.unlockAll'), unlock)),
-    make('p', { id: 'fix-locks', class: 'faint' }),
-  ];
+function aimFor(goal) {
+  fixing.goal = goal;
+  $('fix-give').hidden = isGrade(goal); // one given cell is among what is found
+  findRepairs();
 }
-
-// ---- locks
-
-function lockOutside() {
-  const { box } = selection;
-  if (!box) return fixSays(phrase('view.selectPartMayChange'));
-  return bench.become((doc) => {
-    const locks = new Set();
-    for (let place = 0; place < doc.rows * doc.columns; place++) {
-      const [row, col] = [Math.floor(place / doc.columns), place % doc.columns];
-      if (row < box.top || row > box.bottom || col < box.left || col > box.right) locks.add(place);
-    }
-    return { ...doc, locks };
-  });
-}
-
-const unlock = () => bench.become((doc) => ({ ...doc, locks: new Set(), inks: doc.inks.map(({ locked: _, ...ink }) => ink) }));
-
-function showLocks() {
-  const { state } = bench;
-  if (!state || !$('fix-locks')) return;
-  const colours = state.inks.filter((ink) => ink.locked).length;
-  $('fix-locks').textContent = phrase('view.lockedCellsColoursCells', { cells: state.locks.size, colours });
-}
-
-const boardOf = (state) => boardFields(state, { rule: fixing.rule, mirror: fixing.mirror || null });
 
 // ---- searching
 
@@ -154,7 +133,7 @@ async function takeGivens(state, { given, isLeast }) {
 // Lists proposals, while they are found: the smallest and least seen first.
 async function findRepairs() {
   clearTimeout(fixing.waits);
-  Object.assign(fixing, { found: fixing.found.filter((one) => fixing.kept.has(one) && isOfThis()), places: NO_PLACES, near: null, of: bench.state, said: '', turn: fixing.turn + 1 });
+  Object.assign(fixing, { found: fixing.found.filter((one) => fixing.kept.has(one) && isOfThis()), places: NO_PLACES, near: null, of: bench.state, by: fixing.goal, said: '', turn: fixing.turn + 1 });
   fixSays('');
   showFound();
   const { goal, turn } = fixing;
@@ -174,6 +153,7 @@ async function findRepairs() {
       if (given.given) add(state, given);
       return given.isLeast;
     };
+    if (isGrade(goal)) return copy.work('aim', { board, word: goal, seconds: Math.max(1, secondsChosen() - 1) }, told);
     const isLeast = await give(QUICK);
     const mirror = board.mirror ? null : mirrorOf(state.picture);
     if (mirror) await copy.work('repair', { board: { ...board, mirror }, goal, seconds: MIRRORED }, ({ found }) => found && add(state, found));
@@ -186,6 +166,13 @@ async function findRepairs() {
     return copy.found;
   });
   if (run && turn === fixing.turn) tellFound(run.done);
+}
+
+// Looks for what mends another picture. Where it has the grade that was aimed for, the list stays for an undo.
+function findAgain() {
+  const { goal } = fixing;
+  if (isGrade(goal) && gradeByLines(Puzzle.of(bench.state.picture, bench.state.givens)).word === goal) fixSays(phrase('view.gradeThere', { grade: gradeName(goal) }));
+  else findRepairs();
 }
 
 function add(state, one) {
@@ -219,7 +206,17 @@ function tellFound(done) {
   fixSays(fixing.said);
 }
 
+// What came of the search for a grade.
+function aimedText(done) {
+  const grade = gradeName(fixing.goal);
+  if (done?.isThere) return phrase('view.gradeThere', { grade });
+  const count = wholes().length + givens().length;
+  if (!count) return `${phrase('view.noChangeForGrade', { grade })}${done?.isThrough ? '' : ` ${LONGER}`}`;
+  return phrase('view.proposalsFoundChooseOne', { proposals: count, least: '', loose: '' });
+}
+
 function foundText(done) {
+  if (isGrade(fixing.goal)) return aimedText(done);
   const [best] = wholes();
   const ended = verdictView.ended || !done?.isThrough;
   const mixed = mixtures().length;
@@ -299,14 +296,15 @@ export function startFixing() {
   on('shown', () => {
     if (!fixing.isWanted) return;
     showLocks();
-    if (isOfThis() && !isFixing() && canFix()) {
+    if (isOfThis() && !isFixing() && mayFix()) {
       $('fix').hidden = false;
       fixSays(fixing.said);
       tell('fixing', true);
     }
     showFound();
     clearTimeout(fixing.waits);
-    if (isFixing() && !isOfThis() && canFix()) fixing.waits = setTimeout(findRepairs, REST);
+    if (isFixing() && !isOfThis() && mayFix()) fixing.waits = setTimeout(findAgain, REST);
+    else if (isFixing() && isOfThis()) fixSays(fixing.said);
   });
   on('closed', closeFix);
 }

@@ -3,9 +3,12 @@
 import { $ } from '../base/elements.js';
 import { on, tell } from '../base/events.js';
 import { bench } from '../engine/bench.js';
-import { gradeText } from '../grade/grade.js';
+import { gradeByLines, gradeText } from '../grade/grade.js';
 import { gradeName } from '../grade/names.js';
+import { Puzzle } from '../grade/puzzle.js';
 import { phrase } from '../texts/phrase.js';
+import { addAction } from './actions.js';
+import { openFix } from './fixing.js';
 import { searches, secondsChosen } from './verdict.js';
 
 const REST = 1000; // milliseconds without a stroke or a search
@@ -52,8 +55,16 @@ async function work() {
   } else schedule();
 }
 
+// What one may aim for first: the next word that is easier, or else harder.
+function nextWord({ picture, givens }) {
+  const { word } = gradeByLines(Puzzle.of(picture, givens));
+  return word === 'easy' || word === 'hard' ? 'medium' : 'easy';
+}
+
 /** Hears verdicts. */
 export function startGrading() {
+  const isSolved = () => bench.state.verdict.word === 'unique' && bench.state.open === 0;
+  addAction({ place: 'check', id: 'aim', name: phrase('view.aimAction'), run: () => openFix(nextWord(bench.state)), can: isSolved });
   on('stroke', () => clearTimeout(grading.waits));
   for (const name of ['shown', 'judged']) {
     on(name, () => {

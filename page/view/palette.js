@@ -4,6 +4,7 @@
 import { $, make, say } from '../base/elements.js';
 import { behindFrame, on } from '../base/events.js';
 import { radioGroup } from '../base/radios.js';
+import { number } from '../base/words.js';
 import { eightBits, hexOf, isAmong, nameOf, tripleOf } from '../document/colours.js';
 import { LETTERS, MOST_COLOURS } from '../document/limits.js';
 import { COLOUR_NAMES, colourNamed } from '../document/named.js';
@@ -36,8 +37,8 @@ function showPalette() {
   const { colours, maxval } = bench.state;
   const letters = [...LETTERS.slice(0, colours.length)];
   if (!letters.includes(tools.colour)) tools.colour = letters.at(-1);
-  palette.row.replaceChildren(...letters.map((letter, at) => {
-    const button = make('button', { type: 'button', role: 'radio', 'data-letter': letter, 'aria-label': colourText(letter), title: `${colourText(letter)}${at < 10 ? phrase('view.key', { at }) : ''}` }, letter);
+  palette.row.replaceChildren(...letters.map((letter) => {
+    const button = make('button', { type: 'button', role: 'radio', 'data-letter': letter, 'aria-label': colourText(letter) }, letter);
     dress(button, letter);
     return button;
   }));
@@ -65,11 +66,24 @@ function markColour() {
   tellColours();
 }
 
+// How many cells each letter has.
+function countsOf(picture) {
+  const counts = new Map();
+  for (const row of picture) for (const letter of row) counts.set(letter, (counts.get(letter) ?? 0) + 1);
+  return counts;
+}
+
 // What is counted in the whole picture: no stroke waits for it.
 const tellColours = behindFrame(() => {
   if (!bench.state) return;
-  const count = bench.state.picture.reduce((sum, row) => sum + row.split(tools.colour).length - 1, 0);
-  palette.text.textContent = `${colourText(tools.colour)}: ${phrase('view.cells', { cells: count })}`;
+  const counts = countsOf(bench.state.picture);
+  for (const [at, button] of [...palette.row.children].entries()) {
+    const { letter } = button.dataset;
+    const count = counts.get(letter) ?? 0;
+    button.dataset.cells = number(count);
+    button.title = `${colourText(letter)}: ${phrase('view.cells', { cells: count })}${at < 10 ? phrase('view.key', { at }) : ''}`;
+  }
+  palette.text.textContent = `${colourText(tools.colour)}: ${phrase('view.cells', { cells: counts.get(tools.colour) ?? 0 })}`;
   showNear();
 });
 

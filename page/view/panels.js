@@ -97,7 +97,7 @@ export function makeLinesPanel() {
     const at = () => (word === 'row' ? cursor.row : cursor.col) + 1;
     const button = (text, label, lines) => make('button', { type: 'button', 'aria-label': label, onclick: () => { setDown(); sendStroke([lines()]); } }, text);
     $('lines').append(make('div', { class: 'lines', role: 'group', 'aria-label': word === 'row' ? phrase('view.rowGroup') : phrase('view.columnGroup') },
-      make('b', { id: `${word}-name` }, word),
+      make('b', { id: `${word}-name` }),
       button(word === 'row' ? phrase('view.above') : phrase('view.left'), LINE_TEXTS[word].before, () => `insert ${word} ${at()}`),
       button(word === 'row' ? phrase('view.below') : phrase('view.right'), LINE_TEXTS[word].after, () => `insert ${word} ${at() + 1}`),
       button(phrase('view.delete'), LINE_TEXTS[word].gone, () => `delete ${word} ${at()}`),

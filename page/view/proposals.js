@@ -7,8 +7,10 @@ import { boxAround } from '../document/regions.js';
 import { cutOut } from '../document/shapes.js';
 import { givenCorners } from '../draw/given.js';
 import { smallPicture } from '../draw/small.js';
+import { LINE_WORDS } from '../grade/grade.js';
+import { gradeName } from '../grade/names.js';
 import { phrase } from '../texts/phrase.js';
-import { inkName } from './dress.js';
+import { inkName, letterName } from './dress.js';
 
 const MOST_NAMED = 3; // cells that are named one by one
 const SIDE = 96; // pixels of a picture
@@ -101,6 +103,7 @@ const namedOf = (state, places) => `${places.slice(0, MOST_NAMED).map((index) =>
 
 // What a repaint leaves, where that is not all: how far it is from the goal, or what is to be guessed then.
 function leftOf({ goal, far, open }) {
+  if (LINE_WORDS.includes(goal)) return phrase('view.thenGrade', { grade: gradeName(goal) });
   if (far) return phrase('view.nearerOnly', { far });
   if (goal === 'lines' || open === undefined) return '';
   return open ? phrase('view.thenCellsGuess', { cells: open }) : phrase('view.thenNoGuessing');
@@ -110,7 +113,10 @@ function leftOf({ goal, far, open }) {
 function paintedText({ state, cells }) {
   if (cells.length > 1) return `${phrase('view.cells', { cells: cells.length })}: ${namedOf(state, cells.map(({ index }) => index))}`;
   const [{ index, colour }] = cells;
-  return `${phrase('view.oneCell', { place: placeText(state, index) })}${inkName(state, letterAt(state, index))}${phrase('view.to')}${inkName(state, LETTERS[colour])}`;
+  const ends = [letterAt(state, index), LETTERS[colour]];
+  const names = ends.map((letter) => inkName(state, letter));
+  const [from, to] = names[0] === names[1] ? ends.map((letter) => letterName(state, letter)) : names;
+  return `${phrase('view.oneCell', { place: placeText(state, index) })}${from}${phrase('view.to')}${to}`;
 }
 
 const givenText = ({ state, given, isLeast }) => `${phrase('view.cells', { cells: given.length })}${isLeast ? phrase('view.fewest') : ''}: ${namedOf(state, given)}`;

@@ -10,7 +10,7 @@ import { startEngine } from '../engine/client.js';
 import { Searches } from '../engine/searches.js';
 import { phrase } from '../texts/phrase.js';
 import { actionButton, actions, addAction } from './actions.js';
-import { canFix, hideFix, isFixing, openFix } from './fixing.js';
+import { canFix, hideFix, isFixing, mayFix, openFix } from './fixing.js';
 
 const TIMES = [['5', '5 s'], ['30', '30 s'], ['', phrase('view.untilStopped')]];
 const HATCHINGS = [['off', phrase('view.pictureAlone')], ['differing', phrase('view.cellsDiffer')], ['open', phrase('view.openCells')]];
@@ -90,7 +90,7 @@ export function setHatching(value) {
 
 function showHatching(state) {
   if (!state) return;
-  const fitting = isFixing() ? 'open' : { unique: 'off', ambiguous: 'differing', undecided: 'open' }[state.verdict.word];
+  const fitting = isFixing() && state.open ? 'open' : { unique: 'off', ambiguous: 'differing', undecided: 'open' }[state.verdict.word];
   sheet.hatching = verdictView.hatching ?? fitting;
   $('hatching').value = sheet.hatching;
   $('legend').textContent = {
@@ -166,7 +166,7 @@ function showVerdictButtons() {
     }
     if (action.id === 'search') button.textContent = verdictView.seconds === '' ? phrase('view.searchUntilStopped') : phrase('view.searchS', { seconds: verdictView.seconds });
   }
-  if (!canFix()) hideFix();
+  if (!mayFix()) hideFix();
 }
 
 // ---- what runs
@@ -264,5 +264,5 @@ export function startVerdict() {
 /** Fills the panel. */
 export function showVerdictPanel() {
   makeVerdictPanel();
-  for (const id of ['other', 'fix', 'search', 'play', 'walk']) $('verdict-do').append(actionButton(actions.get(id)));
+  for (const id of ['other', 'fix', 'aim', 'search', 'play', 'walk']) $('verdict-do').append(actionButton(actions.get(id)));
 }

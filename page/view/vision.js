@@ -7,16 +7,15 @@ import { bench } from '../engine/bench.js';
 import { phrase } from '../texts/phrase.js';
 import { addAction } from './actions.js';
 import { openDialog } from './dialogs.js';
-import { inkName } from './dress.js';
+import { letterName } from './dress.js';
 
 const KINDS = { protan: phrase('view.withoutRedCones'), deutan: phrase('view.withoutGreenCones'), tritan: phrase('view.withoutBlueCones') };
 const SHOWN_SIDE = 160; // pixels
 
-const nameOfLetter = (doc, letter) => (letter === '.' ? phrase('view.theBackground') : phrase('view.nameLetter', { name: inkName(doc, letter), letter }));
 
 /** The colours that look alike with one kind of vision, in words. */
 export function clashText(doc, kind) {
-  const pairs = clashesWith(doc, kind).map(([one, other]) => phrase('view.pairColours', { one: nameOfLetter(doc, one), other: nameOfLetter(doc, other) }));
+  const pairs = clashesWith(doc, kind).map(([one, other]) => phrase('view.pairColours', { one: letterName(doc, one), other: letterName(doc, other) }));
   return pairs.length ? phrase('view.lookAlike', { pairs: pairs.join('; ') }) : phrase('view.noTwoColoursLook');
 }
 

@@ -1,20 +1,29 @@
-// The built page in headless Firefox, as a new user meets it: start, paint, verdict, undo, reload, import, exports, print. It is
-// no part of the gate, which has no browser. Usage: [PAGE=dist/nonobench.html] [NONOBENCH=program] node tests/page/firefox.mjs [FOLDER],
-// where FOLDER gets pictures of the page and what it exports. FIREFOX is the browser (firefox-esr), driven by Marionette.
+// The built page in headless Firefox, as a new user meets it: start, paint, verdict, undo, reload, import, exports, print; then points of
+// page_points.mjs by the mouse. It is no part of the gate, which has no browser.
+// Usage: [PAGE=dist/nonobench.html] [NONOBENCH=program] node tests/page/firefox.mjs [FOLDER [STEP ..]], where FOLDER gets pictures of the
+// page and what it exports, and STEP is the beginning of a step's name. FIREFOX is the browser (firefox-esr), driven by Marionette.
 import assert from 'node:assert/strict';
 import { spawn } from 'node:child_process';
 import { existsSync, mkdirSync, mkdtempSync, readFileSync, readdirSync, rmSync, writeFileSync } from 'node:fs';
 import { connect } from 'node:net';
 import { tmpdir } from 'node:os';
-import { join, resolve } from 'node:path';
+import { basename, join, resolve } from 'node:path';
 import { pathToFileURL } from 'node:url';
+import { pause, until } from './page_browser.mjs';
+import { waits } from '../waits.mjs';
+import { clean } from './page_hands.mjs';
+import { Hands } from './page_inputs.mjs';
+import { stillPoint } from './page_lasting.mjs';
+import { smallPoint } from './page_marks.mjs';
+import { aimPoint, firstPoint, mendingPoint } from './page_mending.mjs';
+import { alikePoint, comingPoint, contactsPoint, pickingPoint, spritesPoint, tablePoint } from './page_pictures.mjs';
+import { limitsPoint, placesPoint } from './page_repairs.mjs';
 import { Trial, eightColours, hookedPage } from './page_trial.mjs';
 
 const KEYS = {
     Shift: '\ue008', Control: '\ue009', Alt: '\ue00a', Enter: '\ue007', Escape: '\ue00c', Tab: '\ue004', Backspace: '\ue003', Delete: '\ue017', Home: '\ue011',
     End: '\ue010', ArrowLeft: '\ue012', ArrowUp: '\ue013', ArrowRight: '\ue014', ArrowDown: '\ue015', PageUp: '\ue00e', PageDown: '\ue00f',
 };
-const pause = (ms) => new Promise((go) => setTimeout(go, ms));
 
 /** A headless Firefox with a profile of its own, by its protocol: a length, a colon and JSON. It has one tab. */
 export class Firefox {
@@ -98,14 +107,8 @@ export class Tab {
         return value;
     }
 
-    async until(what, ms, ...words) {
-        const end = Date.now() + ms;
-        for (;;) {
-            const value = await this.run(what, ...words);
-            if (value) return value;
-            if (Date.now() > end) throw new Error(`not within ${ms} ms: ${what}`);
-            await pause(15);
-        }
+    until(what, ms, ...words) {
+        return until(this, what, ms, ...words);
     }
 
     act(actions) {
@@ -157,13 +160,22 @@ async function downloaded(ending) {
     throw new Error(`no download ${ending}: ${readdirSync(downloads)}`);
 }
 
-// A file that is let fall on the page, by the events that a browser sends for one.
-function drop(page, name, bytes) {
-    return page.run(async (one, text) => {
+const drop = (page, name, bytes) => dropAll(page, [[name, bytes.toString('base64')]]);
+
+// Files that are let fall on the page, by the events that a browser sends for them.
+function dropAll(page, files) {
+    return page.run(async (all) => {
         const data = new DataTransfer();
-        data.items.add(new File([Uint8Array.from(atob(text), (letter) => letter.charCodeAt(0))], one));
+        for (const [one, text] of all) data.items.add(new File([Uint8Array.from(atob(text), (letter) => letter.charCodeAt(0))], one));
         for (const type of ['dragenter', 'dragover', 'drop']) document.body.dispatchEvent(new DragEvent(type, { bubbles: true, cancelable: true, dataTransfer: data }));
-    }, name, bytes.toString('base64'));
+    }, files);
+}
+
+// The mouse's hands. Files fall on the page: Marionette knows no chooser of files.
+class FirefoxHands extends Hands {
+    chooseFile(_, ...paths) {
+        return dropAll(this.page, paths.map((path) => [basename(path), readFileSync(path).toString('base64')]));
+    }
 }
 
 const isOpen = (page) => page.until(() => !document.body.classList.contains('starting') && bench.state !== null, 10000);
@@ -287,6 +299,20 @@ const steps = {
     },
 };
 
+const POINTS = { stillPoint, smallPoint, mendingPoint, aimPoint, firstPoint, placesPoint, limitsPoint, alikePoint, pickingPoint, contactsPoint, comingPoint, spritesPoint, tablePoint };
+for (const [name, act] of Object.entries(POINTS)) {
+    steps[name] = async ({ page, trial }) => {
+        await clean(page);
+        await trial.load();
+        await act(new FirefoxHands(page, trial, 'mouse'), { page, trial, own: downloads, folder });
+        await page.run(() => { bench.isSaved = true; });
+    };
+}
+const wanted = process.argv.slice(3);
+// The step with published cells has words of a later engine than that of the release.
+const isLate = (name) => name.startsWith('a certificate') && waits('0.7.0');
+const isWanted = (name) => !isLate(name) && (!wanted.length || wanted.some((one) => name.startsWith(one)));
+
 rmSync(downloads, { recursive: true, force: true });
 mkdirSync(downloads, { recursive: true });
 const url = hookedPage(PAGE, folder);
@@ -295,7 +321,8 @@ let failed = 0;
 try {
     await browser.send('WebDriver:SetWindowRect', { width: 1280, height: 900 });
     const page = new Tab(browser), trial = new Trial(page, url, folder);
-    for (const [name, step] of Object.entries(steps)) {
+    for (const name of Object.keys(steps).filter(isLate)) console.log(`left out: ${name}: ${isLate(name)}`);
+    for (const [name, step] of Object.entries(steps).filter(([one]) => isWanted(one))) {
         try {
             await step({ browser, page, trial });
             console.log(`passed: ${name}`);
@@ -308,5 +335,5 @@ try {
 } finally {
     await browser.close();
 }
-console.log(`${Object.keys(steps).length} steps in Firefox, ${failed} failed; pictures in ${folder}`);
+console.log(`${Object.keys(steps).filter(isWanted).length} steps in Firefox, ${failed} failed; pictures in ${folder}`);
 process.exit(failed ? 1 : 0);

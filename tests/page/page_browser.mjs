@@ -14,6 +14,17 @@ const NAMED = {
 
 export const pause = (ms) => new Promise((go) => setTimeout(go, ms));
 
+/** Waits until a function run in a page gives something true; gives it. */
+export async function until(page, what, ms, ...words) {
+    const end = Date.now() + ms;
+    for (;;) {
+        const value = await page.run(what, ...words);
+        if (value) return value;
+        if (Date.now() > end) throw new Error(`not within ${ms} ms: ${what}`);
+        await pause(15);
+    }
+}
+
 /** A browser with a folder of its own. */
 export class Browser {
     constructor(words = []) {
@@ -118,15 +129,8 @@ export class Page {
         return result.value;
     }
 
-    /** Waits until a function run in the page gives something true; gives it. */
-    async until(what, ms, ...words) {
-        const end = Date.now() + ms;
-        for (;;) {
-            const value = await this.run(what, ...words);
-            if (value) return value;
-            if (Date.now() > end) throw new Error(`not within ${ms} ms: ${what}`);
-            await pause(15);
-        }
+    until(what, ms, ...words) {
+        return until(this, what, ms, ...words);
     }
 
     mouse(type, x, y, { button = 'left', keys = 0, count = 1, wheel = null } = {}) {

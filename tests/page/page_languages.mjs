@@ -1,7 +1,8 @@
 // Tests in the browser of the page's languages: a walk in German by mouse, keys and fingers, another language with all that was done, and
 // what is written from right to left.
 import assert from 'node:assert/strict';
-import { clean, fresh, serve } from './page_hands.mjs';
+import { readFileSync } from 'node:fs';
+import { clean, examples, fresh, serve } from './page_hands.mjs';
 import { SLACK, Trial, ppmOf } from './page_trial.mjs';
 
 const KEPT = 'nonobench-language';
@@ -88,6 +89,8 @@ export async function germanPoint(hands, { page, trial }) {
     assert.deepEqual(await page.run(() => [document.documentElement.lang, document.documentElement.dir]), ['de', 'ltr']);
     await trial.judged();
     assert.equal(await trial.text('#verdict'), '✓ Eindeutig');
+    const [symmetry, tools] = await page.run(() => ['symmetry', 'tools'].map((id) => document.getElementById(id).getBoundingClientRect().right));
+    assert.ok(symmetry <= tools || await page.run(() => innerWidth <= 600), 'the choice of a symmetry stands in its box'); // a phone's row of tools scrolls
     const before = (await trial.picture())[2][2];
     await hands.colour(before === '.' ? 'a' : '.');
     await hands.stroke([3, 3]);
@@ -107,8 +110,19 @@ export async function germanPoint(hands, { page, trial }) {
     await closed(page);
     await overThePage(page, 'German', true);
     await hands.menu('file', 'new');
-    assert.match(await trial.text('#start'), /Beispiele/);
+    assert.match(await trial.text('#start'), /Beispiele.*Ballon.*Herz/);
     assert.deepEqual([await page.run(MISLAID), await page.run(ENGLISH)], [[], []], 'the start screen');
+}
+
+/** In the dialog for pictures nothing is English, and shares are written as the language writes them. */
+export async function germanImport({ trial, page }) {
+    await chooseLanguage(trial, 'de');
+    await page.run((bytes) => { takeFile(new File([Uint8Array.from(bytes)], 'duck.png')); }, [...readFileSync(new URL('duck.png', examples))]);
+    await page.until(() => document.querySelector('#import-ink')?.value, 8000 * SLACK);
+    assert.match(await page.run(() => document.getElementById('import-ink').value), /^Weiß #ffffff, 50,0\s%, Hintergrund$/);
+    await page.until(() => /Mehrdeutig, 6 Felder/.test(document.getElementById('import-verdict').textContent), 20000 * SLACK);
+    assert.deepEqual([await page.run(ENGLISH), await page.run(MISLAID)], [[], []]);
+    await page.press('Escape');
 }
 
 /** French, which has three forms for numbers, is laid out as well. */

@@ -182,7 +182,8 @@ export async function stillPoint(hands) {
     await isKept(page);
     assert.equal(await placeOfGrid(page), before, 'nothing moves');
     assert.equal(await isCut(page), false, 'ten blocks stand whole');
-    await trial.open(ppmOf(noise(60, 60, '.abc')), 'long clues');
+    const side = await page.run(() => innerWidth) > 1500 ? 120 : 60; // a large window has room for all clues of 60 lines
+    await trial.open(ppmOf(noise(side, side, '.abc')), 'long clues');
     await page.until(() => !document.getElementById('cut').hidden, 3000 * SLACK);
     assert.match(await trial.text('#cut'), /^([1-9][0-9]* clues cut off|Zoom in for numbers)$/);
     const { cell } = await page.run(() => ({ cell: sheet.geometry.cell }));

@@ -2,7 +2,7 @@
 // archive that comes back, what is refused in the palette, tiles. Each is a test of the runner tests/page/page_test.mjs.
 import assert from 'node:assert/strict';
 import { clean, coloursAt, downloaded, drop, fresh, isKept, isOpen, said } from './page_hands.mjs';
-import { SIZES, SLACK, ppmOf } from './page_trial.mjs';
+import { SIZES, SLACK, noise, ppmOf } from './page_trial.mjs';
 
 const THREE = ['aabb.', 'a..b.', 'cc...'];
 
@@ -45,6 +45,8 @@ export async function helpOnPhones({ browser, url, folder }) {
     await page.press('Escape');
     await page.run(() => runAction('play'));
     await page.until(() => document.querySelector('#play-help'), 3000 * SLACK);
+    const high = await page.run(() => ['play-bar', 'play-palette'].reduce((sum, id) => sum + document.getElementById(id).getBoundingClientRect().height, 0));
+    assert.ok(high <= 130, `${high} px of 844 are for buttons`);
     await page.tap('#play-help');
     await page.until(() => document.querySelector('#version'), 3000 * SLACK);
     await page.close();
@@ -126,4 +128,122 @@ export async function equalTiles({ page }) {
     const heights = await page.run(() => [...document.querySelectorAll('#examples .kept')].map((one) => Math.round(one.getBoundingClientRect().height)));
     assert.ok(heights.length >= 3);
     assert.equal(new Set(heights).size, 1, heights.join());
+}
+
+/** A second new picture has a name of its own, each colour tells how many cells it has, and where undo ends is said. */
+export async function smallPoint(hands) {
+    const { page, trial } = hands;
+    await hands.press('#new-go');
+    await isOpen(page);
+    assert.equal(await page.run(() => bench.name), 'picture');
+    await hands.stroke([1, 1], [1, 3]);
+    await page.until(() => document.querySelector('#palette [data-letter="a"]').dataset.cells === '3', 3000 * SLACK);
+    assert.match(await page.run(() => document.querySelector('#palette [data-letter="."]').title), /: 297 cells \(key 0\)$/);
+    await page.run(async () => { for (let at = 0; at < 400; at++) await bench.stroke([`paint 2 ${(at % 20) + 1} ${at % 40 < 20 ? 'a' : '.'}`]); });
+    await page.run(async () => { for (let at = 0; at < 399; at++) await bench.undo(); });
+    await hands.undo();
+    await page.until(() => document.getElementById('said').textContent === 'Undo ends here: the page keeps the last 400 strokes.', 3000 * SLACK);
+    assert.deepEqual((await trial.picture()).slice(0, 2), ['aaa.................', '.'.repeat(20)], 'the first stroke stays');
+    await isKept(page);
+    await hands.menu('file', 'new');
+    await hands.press('#new-go');
+    await page.until(() => bench.name === 'picture 2', 5000 * SLACK);
+}
+
+/** What is said lies over no button that was scrolled into view. An alarm goes once painting goes on; one with a button stays. */
+export async function messagesCoverNothing({ browser, url, folder }) {
+    const text = 'a message that takes some lines, since it tells of everything that a file of this kind does not hold: names, signs, locks and texts';
+    for (const [name, size] of Object.entries(SIZES)) {
+        const { page, trial } = await fresh(browser, url, folder, `said-${name}`, { size });
+        await trial.open(ppmOf(['a.....', '.a....', '......', '...aaa', '...aaa', '...aaa']), 'said');
+        await trial.judged();
+        await page.run(() => { if (document.getElementById('verdict-open').checkVisibility()) document.getElementById('verdict-open').click(); runAction('fix'); });
+        await page.until(() => document.querySelector('#fix-list button') && !searches.running, 30000 * SLACK);
+        await page.run((words) => { say(words, 'alarm'); }, text);
+        const covered = await page.run(() => [...document.querySelectorAll('header button, #work button, #work select')].filter((one) => one.checkVisibility({ visibilityProperty: true }) && !one.closest('#said')).filter((one) => {
+            one.scrollIntoView({ block: 'nearest', inline: 'nearest' });
+            const { left, top, width, height } = one.getBoundingClientRect();
+            return document.getElementById('said').contains(document.elementFromPoint(left + width / 2, top + height / 2));
+        }).map((one) => one.outerHTML.slice(0, 80)));
+        await page.shot(`${folder}/said-${name}.png`);
+        assert.deepEqual(covered, [], name);
+        assert.equal(await trial.text('#said'), text);
+        const paint = () => page.run(() => { performance.now = ((now, late) => () => now() + late)(performance.now.bind(performance), 5000); return bench.stroke([bench.state.picture[2][5] === '.' ? 'paint 3 6 a' : 'paint 3 6 .']).then(() => true); }); // read for 5 seconds
+        await paint();
+        assert.equal(await trial.text('#said'), '', `${name}: it was read`);
+        await page.run((words) => { say(words, 'alarm', { name: 'Do', run: () => {} }); }, text);
+        await paint();
+        assert.match(await trial.text('#said'), / Do$/, `${name}: it wants an answer`);
+        assert.deepEqual(page.faults, []);
+        await page.close();
+    }
+}
+
+/** While the button is held, neither a message nor a verdict moves the picture or the panels. */
+export async function heldPointer({ trial, page }) {
+    await trial.open(ppmOf(THREE), 'held');
+    await trial.judged();
+    const places = () => page.run(() => {
+        const { left, top } = sheet.view.getBoundingClientRect();
+        return [left + sheet.geometry.x(0), top + sheet.geometry.y(0), sheet.geometry.cell, ...['tools', 'audit', 'colours', 'out'].map((id) => document.getElementById(id).getBoundingClientRect().top)].join();
+    });
+    const before = await places();
+    await page.drag([await trial.cell(3, 3), await trial.cell(3, 4)], { release: false });
+    await page.run(() => { say('something to be read', 'alarm'); });
+    await page.run(() => bench.stroke(['paint 2 2 b', 'paint 2 3 a']).then(() => true));
+    await trial.judged();
+    assert.equal(await places(), before);
+    await page.mouse('mouseReleased', ...page.at);
+    await trial.settled();
+    assert.equal(await places(), before);
+}
+
+/** Where a storage that was full has room again, that is told no more. */
+export async function roomAgain({ browser, url, folder }) {
+    const { page, trial } = await fresh(browser, url, folder, 'room-again', { before: `const put = IDBObjectStore.prototype.put; window.isFull = false;
+        IDBObjectStore.prototype.put = function (...words) { if (window.isFull) throw new DOMException('full', 'QuotaExceededError'); return put.apply(this, words); };` });
+    await clean(page);
+    await trial.open(ppmOf(THREE), 'room');
+    await page.run((rows) => openDoc({ rows: 3, columns: 5, maxval: 255, colours: [[255, 255, 255], [0, 0, 0], [200, 40, 40], [40, 80, 200]], picture: rows, givens: new Set() }, { name: 'room' }), THREE);
+    await page.run(() => { window.isFull = true; });
+    await trial.drag([[3, 5]]);
+    await page.until(() => /storage is full/.test(document.getElementById('said').textContent), 5000 * SLACK);
+    await page.run(() => { window.isFull = false; });
+    await trial.drag([[3, 4]]);
+    await isKept(page);
+    await page.until(() => document.getElementById('said').textContent === '', 3000 * SLACK);
+    await page.close();
+}
+
+/** How high the smallest numbers are on paper is said where they are hard to read, and not where they are not. */
+export async function smallNumbersTold({ trial, page }) {
+    const told = async (size, show) => {
+        await trial.open(ppmOf(noise(size, size, 'aaaa.')), 'print');
+        await page.run(() => { runAction('print'); });
+        await page.until(() => document.querySelector('#print-show'), 5000 * SLACK);
+        await page.run((value) => { const choice = document.getElementById('print-show'); choice.value = value; choice.dispatchEvent(new Event('change', { bubbles: true })); }, show);
+        const text = await trial.text('#print-small');
+        await page.press('Escape');
+        await page.until(() => !document.querySelector('dialog[open]'), 3000 * SLACK);
+        return text;
+    };
+    assert.equal(await told(15, 'colours'), '');
+    assert.match(await told(50, 'symbols'), /^The smallest (numbers|cells) are [12]\.\d mm /);
+}
+
+/** On the start screen the examples stay where they are once they are seen, also where the library stands above them. */
+export async function examplesStay({ browser, url, folder }) {
+    const { page, trial } = await fresh(browser, url, folder, 'examples', { before: `window.places = new Set();
+        const look = () => { const shown = document.getElementById('examples'); if (shown?.checkVisibility()) window.places.add(shown.getBoundingClientRect().top); requestAnimationFrame(look); };
+        requestAnimationFrame(look);` });
+    await clean(page);
+    for (const name of ['one', 'two']) {
+        await page.run((title, rows) => openDoc({ rows: 3, columns: 5, maxval: 255, colours: [[255, 255, 255], [0, 0, 0], [200, 40, 40], [40, 80, 200]], picture: rows, givens: new Set() }, { name: title, isSaved: false }), name, THREE);
+        await isKept(page);
+    }
+    await trial.load();
+    await page.until(() => document.querySelectorAll('#library .kept').length === 2 && window.places.size, 5000 * SLACK);
+    await page.run(() => new Promise((go) => setTimeout(go, 600)));
+    assert.equal(await page.run(() => window.places.size), 1, 'one place');
+    await page.close();
 }

@@ -41,6 +41,35 @@ export async function mendingPoint(hands) {
     assert.equal((await trial.state()).open, 0, 'no guessing');
 }
 
+/** A grade is aimed for: what is proposed changes at most four cells or gives one, has the grade once it is taken, and goes by one undo. */
+export async function aimPoint(hands) {
+    const { page, trial } = hands;
+    await trial.example('flower');
+    assert.equal(await trial.judged(), 'unique');
+    const before = await trial.picture();
+    await moreOf(hands);
+    await hands.press('#verdict-do [data-action="aim"]');
+    for (const word of ['easy', 'hard']) {
+        if (word === 'hard') await hands.choose('#fix-goal', word);
+        assert.equal(await page.run(() => document.getElementById('fix-goal').value), word);
+        await page.until(() => /found\./.test(document.getElementById('fix-said').textContent), 30000 * SLACK);
+        const texts = await page.run(() => [...document.querySelectorAll('#fix-list button')].map((button) => button.ariaLabel));
+        assert.ok(texts.every((text) => text.endsWith(`; then the grade is “${word}”`) || text.startsWith('Give 1 cell, the fewest: ')), texts.join('\n'));
+        await hands.press('#fix-list button');
+        await page.until((rows) => bench.state.picture.join() !== rows, 5000 * SLACK, before.join());
+        assert.equal(await trial.judged(), 'unique');
+        assert.equal((await trial.state()).open, 0);
+        assert.ok(differing(before, await trial.picture()) <= 4);
+        await page.until((wanted) => document.getElementById('grade').textContent.startsWith(wanted), 20000 * SLACK, `${word} (`);
+        assert.equal(await trial.text('#fix-said'), `The grade is “${word}” already. Choose another one.`);
+        await hands.undo();
+        assert.deepEqual(await trial.picture(), before, 'one undo takes it back');
+        assert.ok(await page.run(() => document.querySelectorAll('#fix-list button').length > 0), 'the list is there again');
+    }
+    await hands.press('#fix-close');
+    assert.equal(await page.run(() => document.getElementById('fix').hidden), true);
+}
+
 /** The solving path by its buttons, slider and keys; hints that tell more each time. */
 export async function walkingPoint(hands) {
     const { page, trial } = hands;
@@ -93,6 +122,7 @@ export async function repairsOfSeveralCells({ trial, page }) {
     await listed(page);
     const sizes = await page.run(() => [...document.querySelectorAll('#fix-list button')].map((button) => button.ariaLabel));
     assert.match(sizes[0], /2 cells/);
+    assert.ok(await page.run(() => document.querySelectorAll('#fix-list section:first-child button').length) >= 2, 'several repairs of both places');
     assert.match(await trial.text('#fix-said'), /No smaller one exists/);
     assert.match(sizes.at(-1), /Give \d+ cells?, the fewest/, 'given cells stand beside');
     assert.equal(await page.run(() => document.querySelector('#fix-list canvas').width >= 80), true, 'large enough to be seen');
@@ -107,6 +137,15 @@ export async function repairsOfSeveralCells({ trial, page }) {
     assert.deepEqual(await trial.picture(), before);
 }
 
+/** Where two colours have one name, a proposal has their letters, too. */
+export async function sameNamesToldApart({ trial, page }) {
+    await trial.open(ppmOf(PAIR, { '.': '255 255 255', a: '250 250 250' }), 'whites');
+    assert.equal(await trial.judged(), 'ambiguous');
+    await trial.action('fix');
+    await listed(page);
+    assert.match(await page.run(() => document.querySelector('#fix-list button').ariaLabel), /^1 cell: row [12], column [12]: the background to “white” \(a\)/);
+}
+
 export async function repairsHeedLocks({ trial, page }) {
     await trial.open(ppmOf(PAIR), 'pair');
     assert.equal(await trial.judged(), 'ambiguous');
@@ -118,6 +157,27 @@ export async function repairsHeedLocks({ trial, page }) {
     assert.equal(await trial.judged(), 'unique');
     const after = await trial.picture();
     assert.deepEqual([after[0], after[1]], ['a.....', 'aa....'], 'locked cells stay: of the two cells that would do, the other one is painted');
+}
+
+// Of the cells of this picture only row 3, column 2 may change, and black there leaves one solution and 13 cells to guess. Found by trying
+// pictures in turn.
+const GUESSED = ['a.a...', 'a.a.aa', 'a....a', 'a..aa.', '.aa..a'];
+
+/** Where no few cells leave nothing to guess, repairs that leave one solution are listed instead, and that is said. */
+export async function oneSolutionInstead({ trial, page }) {
+    await trial.open(ppmOf(GUESSED), 'guessed');
+    assert.equal(await trial.judged(), 'ambiguous');
+    await page.run(() => bench.become((doc) => ({ ...doc, locks: new Set([...Array(30).keys()].filter((at) => at !== 13)) })).then(() => true));
+    await trial.judged();
+    await trial.action('fix');
+    assert.equal(await page.run(() => document.getElementById('fix-goal').value), 'lines');
+    await listed(page);
+    await page.until(() => document.getElementById('fix-said').textContent === 'No few cells were found after which nothing needs guessing. These leave one solution.', 20000 * SLACK);
+    assert.match(await page.run(() => document.querySelector('#fix-list button').ariaLabel), /^1 cell: row 3, column 2: white to black; then 13 cells to guess$/);
+    await page.click('#fix-list button');
+    assert.equal(await trial.judged(), 'unique');
+    assert.equal((await trial.state()).open, 13);
+    await trial.check('one solution');
 }
 
 export async function gradeBeside({ trial, page }) {

@@ -7,11 +7,12 @@ import { clean, downloaded, examples, fresh, hard, isKept, isOpen } from './page
 import { Hands } from './page_inputs.mjs';
 import { choosingPoint, palettesPoint, slidingPoint, visionPoint } from './page_coming.mjs';
 import { frenchPoint, germanPoint, mirroredPoint } from './page_languages.mjs';
-import { firstPoint, mendingPoint, walkingPoint } from './page_mending.mjs';
+import { aimPoint, firstPoint, mendingPoint, walkingPoint } from './page_mending.mjs';
 import { printPoint } from './page_out.mjs';
 import { alikePoint, comingPoint, contactsPoint, pickingPoint, spritesPoint, tablePoint } from './page_pictures.mjs';
 import { outlinePoint, pensPoint, tracingPoint, wandPoint } from './page_pens.mjs';
 import { stillPoint } from './page_lasting.mjs';
+import { smallPoint } from './page_marks.mjs';
 import { limitsPoint, placesPoint } from './page_repairs.mjs';
 import { linkPoint, offlinePoint, playerPoint, severalPoint } from './page_sharing.mjs';
 import { SIZES, SLACK, noise, ppmOf } from './page_trial.mjs';
@@ -211,6 +212,7 @@ async function meaning(hands) {
     assert.equal((await trial.state()).givens.length, 0, 'one undo takes it back');
     await trial.open(ppmOf(['aa.', '.bb', 'a.a']), 'small');
     await trial.judged();
+    await moreOf(hands); // the proposals had closed it
     await hands.press('#verdict-do [data-action="play"]');
     await page.until(() => document.querySelector('#play-room')?.open, 3000 * SLACK);
     await hands.mark('b', [[2, 2], [2, 3]]);
@@ -250,8 +252,8 @@ async function wayOut(hands, { own }) {
 const POINTS = {
     'a way in': wayIn, 'a picture into a puzzle': intoPuzzle, 'palette while choosing': choosingPoint, 'verdict while sliding': slidingPoint, 'palette files': palettesPoint,
     'colours told apart': alikePoint, 'a colour of the image': pickingPoint, 'contact sheet': contactsPoint, 'what comes in': comingPoint, sprites: spritesPoint, 'table of files': tablePoint,
-    'never lost': neverLost, 'a still canvas': stillPoint, 'searches that stop': stoppable, drawing, 'symmetric pens': pensPoint, 'wand and recolour': wandPoint, 'outline, shadow, nudging': outlinePoint,
-    'tracing an image': tracingPoint, 'large pictures': large, meaning, 'colour-blind check': visionPoint, 'the first example': firstPoint, mending: mendingPoint, 'place by place': placesPoint, 'what a repair may change': limitsPoint,
+    'small things': smallPoint, 'never lost': neverLost, 'a still canvas': stillPoint, 'searches that stop': stoppable, drawing, 'symmetric pens': pensPoint, 'wand and recolour': wandPoint, 'outline, shadow, nudging': outlinePoint,
+    'tracing an image': tracingPoint, 'large pictures': large, meaning, 'colour-blind check': visionPoint, 'the first example': firstPoint, mending: mendingPoint, 'a grade aimed for': aimPoint, 'place by place': placesPoint, 'what a repair may change': limitsPoint,
     'the solving path': walkingPoint, 'out of the page': wayOut, 'print for books': printPoint, links: linkPoint, 'the player': playerPoint, 'several files': severalPoint,
     offline: offlinePoint, German: germanPoint, French: frenchPoint, 'right to left': mirroredPoint,
 };

@@ -58,7 +58,7 @@ export class Trial {
 
     async load() {
         await this.page.goto(this.url);
-        await this.page.until(() => document.querySelector('#new-go') !== null, 10000 * SLACK);
+        await this.page.until(() => 'listed' in (document.getElementById('start')?.dataset ?? {}), 10000 * SLACK);
     }
 
     /** Opens a P3 text as a file that is handed to the page. */

@@ -1,0 +1,76 @@
+// How often a grade beside that of a picture is reached by at most four repainted cells or one given, and after which time.
+// Times are of the processor, all threads of node together, so that other work beside it does not count.
+// Usage: node measure/aim.mjs NONOBENCH.WASM FOLDER [--most N] [--seconds S]
+// FOLDER has P3 pictures, as measure/icons.py makes them; the first N (200) count that line logic solves. Each proposal is painted into
+// a picture of its own and judged and graded anew. The status is 1 where less than half reach a grade beside theirs, or one is wrong.
+import { readFileSync, readdirSync } from 'node:fs';
+import { join } from 'node:path';
+import { parseArgs } from 'node:util';
+import { load } from '../web/nonobench.mjs';
+import { LINE_WORDS, gradeOf } from '../page/grade/grade.js';
+import { cellsOf } from '../page/grade/puzzle.js';
+import { Board } from '../page/repair/board.js';
+import { aim } from '../page/repair/repair.js';
+
+const { positionals: [wasm, folder], values } = parseArgs({ allowPositionals: true, options: { most: { type: 'string', default: '200' }, seconds: { type: 'string', default: '4' } } });
+const engine = await load(readFileSync(wasm));
+
+// Milliseconds of the processor so far.
+function now() {
+    const { user, system } = process.cpuUsage();
+    return (user + system) / 1000;
+}
+
+// What a session says of a picture: its colours and rows of letters, and its grade where line logic solves it, else null.
+function reportOf(bench) {
+    const lines = bench.say('allow 20000\nreport\n').split('\n').slice(1);
+    const rows = Number(lines[0].split(' ')[1]);
+    const at = lines.indexOf('picture');
+    const [picture, map] = ['picture', 'map'].map((word) => lines.slice(lines.indexOf(word) + 1, lines.indexOf(word) + 1 + rows));
+    const verdict = lines.find((line) => line.startsWith('verdict ')).split(' ')[1];
+    const givens = lines.filter((line) => /^given \d/.test(line)).map((line) => line.split(' ').slice(1).map(Number)).map(([row, column]) => (row - 1) * picture[0].length + column - 1);
+    const colours = lines.slice(2, at).filter((line) => /^[.a-o] /.test(line)).map((line) => line.slice(2));
+    return { picture, colours, word: verdict === 'unique' && !map.join('').includes('?') ? gradeOf({ picture, givens, verdict, map }).word : null };
+}
+
+// The word of a proposal, in a session of its own.
+function wordAnew({ picture, colours }, { cells = [], given = [] }) {
+    const numbers = cellsOf(picture);
+    const columns = picture[0].length;
+    for (const { index, colour } of cells) numbers[index] = colour;
+    const bench = engine.open(`P3\n${columns} ${picture.length}\n255\n${[...numbers].map((colour) => colours[colour]).join('\n')}\n`, { background: colours[0].replaceAll(' ', ',') });
+    for (const index of given) bench.say(`pin ${Math.floor(index / columns) + 1} ${(index % columns) + 1}\n`);
+    const { word } = reportOf(bench);
+    bench.close();
+    return word;
+}
+
+const rows = [];
+let [pictures, wrong] = [0, 0];
+for (const name of readdirSync(folder).filter((one) => one.endsWith('.ppm')).sort()) {
+    if (pictures === Number(values.most)) break;
+    const bench = engine.open(readFileSync(join(folder, name)));
+    const report = reportOf(bench);
+    if (report.word) {
+        pictures++;
+        const board = new Board({ rows: report.picture.length, columns: report.picture[0].length, cells: cellsOf(report.picture) });
+        const own = LINE_WORDS.indexOf(report.word);
+        for (const word of [LINE_WORDS[own - 1], LINE_WORDS[own + 1]].filter(Boolean)) {
+            const [from, found] = [now(), []];
+            await aim({ board, word, seconds: Number(values.seconds), now, say: (lines) => bench.say(`${lines.join('\n')}\n`) }, { found: (one) => found.push({ ...one, ms: now() - from }) });
+            wrong += found.filter((one) => wordAnew(report, one) !== word || (one.cells ?? one.given).length > 4).length;
+            rows.push({ name, way: `${report.word} to ${word}`, first: found[0]?.ms, least: Math.min(...found.filter(({ cells }) => cells).map(({ cells }) => cells.length)), given: found.some(({ given }) => given) });
+        }
+    }
+    bench.close();
+}
+const median = (list) => [...list].sort((one, other) => one - other)[Math.floor(list.length / 2)]?.toFixed(0) ?? '';
+console.log('| from to | pictures | reached | 1 cell | 2 | 3 | 4 | 1 given | first ms, median | largest |\n|---|---|---|---|---|---|---|---|---|---|');
+for (const way of [...new Set(rows.map((row) => row.way))].sort()) {
+    const some = rows.filter((row) => row.way === way);
+    const first = some.map((row) => row.first).filter((one) => one !== undefined);
+    console.log(`| ${[way, some.length, first.length, ...[1, 2, 3, 4].map((size) => some.filter((row) => row.least === size).length), some.filter((row) => row.given).length, median(first), Math.max(0, ...first).toFixed(0)].join(' | ')} |`);
+}
+const reached = new Set(rows.filter((row) => row.first !== undefined).map((row) => row.name)).size;
+console.log(`\n${reached} of ${pictures} pictures reach a grade beside theirs; ${wrong} proposals are wrong`);
+process.exitCode = wrong > 0 || reached * 2 < pictures ? 1 : 0;

@@ -1,0 +1,50 @@
+// What a repair may change: by the rule for neighbours, with a symmetry, and without what is locked.
+
+import { $, choiceOf, make } from '../base/elements.js';
+import { bench } from '../engine/bench.js';
+import { boardFields } from '../repair/board.js';
+import { phrase } from '../texts/phrase.js';
+import { selection } from './select.js';
+
+const MIRRORS = [['', phrase('view.comes')], ['x', phrase('view.leftRightSame')], ['y', phrase('view.topBottomSame')]];
+
+const limits = { rule: true, mirror: '' };
+
+/** The board of a state that repairs are looked for on. */
+export const boardOf = (state) => boardFields(state, { rule: limits.rule, mirror: limits.mirror || null });
+
+/** What is chosen of it in the panel; `says` tells the user what is missing. */
+export function limitChoices(says) {
+  const rule = make('input', { type: 'checkbox', id: 'fix-rule', checked: limits.rule, onchange: (event) => { limits.rule = event.target.checked; } });
+  const mirror = choiceOf({ id: 'fix-mirror', onchange: (event) => { limits.mirror = event.target.value; } }, MIRRORS, limits.mirror);
+  const button = (id, name, run) => make('button', { type: 'button', id, onclick: run }, name);
+  return [
+    make('p', {}, make('label', {}, rule, phrase('view.onlyNeighboursColourNo'))),
+    make('p', {}, make('label', {}, phrase('view.symmetry'), mirror)),
+    make('div', { class: 'group' }, button('fix-lock', phrase('view.lockAllButSelection'), () => lockOutside(says)), button('fix-unlock', phrase('view.unlockAll'), unlock)),
+    make('p', { id: 'fix-locks', class: 'faint' }),
+  ];
+}
+
+function lockOutside(says) {
+  const { box } = selection;
+  if (!box) return says(phrase('view.selectPartMayChange'));
+  return bench.become((doc) => {
+    const locks = new Set();
+    for (let place = 0; place < doc.rows * doc.columns; place++) {
+      const [row, col] = [Math.floor(place / doc.columns), place % doc.columns];
+      if (row < box.top || row > box.bottom || col < box.left || col > box.right) locks.add(place);
+    }
+    return { ...doc, locks };
+  });
+}
+
+const unlock = () => bench.become((doc) => ({ ...doc, locks: new Set(), inks: doc.inks.map(({ locked: _, ...ink }) => ink) }));
+
+/** Tells how much is locked. */
+export function showLocks() {
+  const { state } = bench;
+  if (!state || !$('fix-locks')) return;
+  const colours = state.inks.filter((ink) => ink.locked).length;
+  $('fix-locks').textContent = phrase('view.lockedCellsColoursCells', { cells: state.locks.size, colours });
+}
