@@ -73,6 +73,7 @@ fn push_flaws(text: &mut String, found: &Assessment) -> Result<()> {
         Spare::Nothing => {}
         Spare::Given(cell) => push_cell(text, "flaw given", cell)?,
         Spare::Unknown(cell) => push_cell(text, "unknown given", cell)?,
+        Spare::Unnamed(cell) => push_cell(text, "flaw spare", cell)?,
     }
     for pair in &found.alike {
         push_pair(text, *pair)?;
