@@ -98,7 +98,7 @@ fn described(
     graded: Graded,
     spare: Spare,
 ) -> Assessment
-    requires looked { IsLooked document.now looked }
+    requires { IsLooked document.now looked }
     ensures described { IsDescribed document.now is_named result }
     ensures verdict { result.verdict ≡ verdict }
     ensures figures { result.figures ≡ looked.figures }

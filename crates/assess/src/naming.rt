@@ -28,9 +28,11 @@ pub(crate) fn find_unnamed(document: &Document, named: &[CellNumber]) -> Spare
 fn is_named(named: &[CellNumber], row: u8, col: u8) -> bool
     ensures { IsTrue result ↔ IsNamed named.now row col }
 {
-    let cell = CellNumber {
-        row: u16::from(row) + 1,
-        col: u16::from(col) + 1,
-    };
-    named.contains(&cell)
+    let (row, col) = (u16::from(row) + 1, u16::from(col) + 1);
+    for cell in named {
+        if cell.row == row && cell.col == col {
+            return true;
+        }
+    }
+    false
 }

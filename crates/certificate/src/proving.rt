@@ -4,20 +4,21 @@ ghost use Rattle.std.specs.Prelude.{◌≡◌, ◌≤◌, length, IfOk, IfSome};
 ghost use Rattle.picture.specs.CellSet.{HasCell};
 ghost use Rattle.picture.specs.Document.{AreInside};
 ghost use Rattle.picture.specs.Rows.{width_of};
+ghost use Rattle.line_facts.specs.FactSets.{SameShape};
 ghost use Rattle.clues.specs.ClueBook.{clues_of};
 ghost use Rattle.clues.specs.Solution.{IsOther};
+ghost use Rattle.cert_check.specs.Walk.{CanCheck};
 ghost use Rattle.lemma_proof.specs.Making.{Makes};
 ghost use Rattle.second_search.specs.Parts.{IsScene};
 
 use crate::branches::told_lines;
 use crate::root::root_facts;
-use crate::small::small_tree;
-use cert_text::{Cert, Form, runs_of, write_cert};
+use cert_text::{Cert, CertLine, Form, runs_of, write_cert};
 use clues::ClueBook;
 use lemma_proof::{Made, check_made, given_cells, make_proof};
 use line_facts::LineEngine;
 use picture::{CellSet, Picture};
-use second_search::{BOUNDS, Scene, find_near_other};
+use second_search::{BOUNDS, Decided, Ladder, Lines, Scene, find_near_other, take_turn};
 use std::alloc::{AllocError, Global};
 
 // Another picture that differs only in one window. There may be others where the answer is None.
@@ -48,6 +49,29 @@ fn near_other<E: LineEngine>(
     find_near_other(alloc, engine, &scene, BOUNDS.window_splits)
 }
 
+// The lines of a tree that evaluates few lines, if one is found. The search is guided by the known picture.
+fn small_tree<E: LineEngine>(
+    alloc: Global,
+    engine: &mut E,
+    scene: &Scene,
+) -> Result<Option<Vec<CertLine>>, AllocError>
+    requires can { CanCheck scene.now.picture.now scene.now.clues.now (E.longest engine.old) }
+    requires same_shape { SameShape scene.now.picture.now scene.now.facts.now }
+    ensures calls { E.calls engine.old ≤ E.calls engine.new }
+    ensures same_longest { E.longest engine.new ≡ E.longest engine.old }
+{
+    let ladder = Ladder {
+        first_bound: BOUNDS.first_bound,
+        judging: 0,
+        holds: true,
+        keeps: true,
+    };
+    match take_turn(alloc, engine, scene, ladder, ladder.first_bound, &mut 0)? {
+        Some(Decided::Tree(Lines::Kept(lines))) => Ok(Some(lines)),
+        _ => Ok(None),
+    }
+}
+
 // A proof with the lines of a small tree, if one is found whose splits are between two colours each.
 fn tree_proof<E: LineEngine>(
     alloc: Global,
@@ -72,7 +96,7 @@ fn tree_proof<E: LineEngine>(
         facts: &facts,
         picture,
     };
-    let Some(tree) = small_tree(alloc, engine, &scene, BOUNDS.first_bound)? else {
+    let Some(tree) = small_tree(alloc, engine, &scene)? else {
         return Ok(Made::Undecided);
     };
     let Some(lines) = told_lines(alloc, &clues, &tree)? else {

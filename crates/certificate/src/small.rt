@@ -21,7 +21,7 @@ use std::alloc::{AllocError, Global};
 #[tactic(auto, using(crate::proofs::MakeLemmas::writing_trees))]
 // The lines of a tree that proves the picture of a scene from its facts, if one of two comes within a bound of evaluations: cells
 // are chosen by looking ahead, or as the first open one. The search is guided by the known picture.
-pub(crate) fn small_tree<E: LineEngine>(
+pub(crate) fn bounded_tree<E: LineEngine>(
     alloc: Global,
     engine: &mut E,
     scene: &Scene,
@@ -76,7 +76,7 @@ pub fn make_small_cert<E: LineEngine>(
         facts: &facts,
         picture,
     };
-    let Some(lines) = small_tree(alloc, engine, &scene, bound)? else {
+    let Some(lines) = bounded_tree(alloc, engine, &scene, bound)? else {
         return Ok(None);
     };
     Ok(Some(of_tree(alloc, cells, lines)))

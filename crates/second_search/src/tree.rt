@@ -1,9 +1,9 @@
 //! The search that writes a tree, whose lines may be kept or dropped. Each line is valid where it is written; the choice of cells
 //! to split is free.
 
-ghost use Rattle.std.specs.Prelude.{◌≡◌, ◌<◌, ◌≤◌, None, IfOk, IfSome, IsFalse, IsNone, IsTrue};
+ghost use Rattle.std.specs.Prelude.{◌≡◌, ◌≤◌, None, IfOk, IfSome, IsFalse, IsNone, IsTrue};
 ghost use Rattle.fixpoint.specs.ClosedFacts.{AreClosable};
-ghost use Rattle.second_search.specs.Evaluations.{AreFewUntil};
+ghost use Rattle.second_search.specs.Evaluations.{AreFewUntil, last_call};
 ghost use Rattle.second_search.specs.Trees.{Advances, AreNone, Decides, Turns};
 
 use crate::ladder::Decided;
@@ -81,7 +81,7 @@ fn no_lines(alloc: Global, keeps: bool) -> Lines
 // Whether the engine was called so often that the tree is broken off.
 fn is_over(way: Way, calls: u64) -> bool
     ensures endless { IsTrue result → way.until ≡ None → ⊥ }
-    ensures before { IsFalse result → IfSome way.until (λ until. calls < until) }
+    ensures before { IsFalse result → calls ≤ last_call way.until }
 {
     match way.until {
         Some(until) => calls >= until,

@@ -5,7 +5,7 @@ ghost use Rattle.picture.specs.Rows.{HasLine, line_of, lines_along, width_of};
 ghost use Rattle.clues.specs.ClueBook.{clue_at};
 ghost use Rattle.line_facts.specs.Fits.{CanFit};
 ghost use Rattle.fixpoint.specs.ClosedFacts.{AreClosable, EachFits};
-ghost use Rattle.second_search.specs.Evaluations.{AreFewUntil};
+ghost use Rattle.second_search.specs.Evaluations.{AreFewUntil, last_call};
 ghost use Rattle.second_search.specs.Trees.{Continues, EachFitsAlong, IsComparedTo, IsDeadLine, IsOtherIn};
 
 use crate::looking::{first_unsettled, shown_picture};
@@ -40,7 +40,7 @@ pub(crate) struct Way {
 impl Way {
     // At how many of the engine's calls the tree is broken off; never, if it is not.
     pub(crate) fn calls(self) -> u64
-        ensures { IfSome self.until (λ until. result ≡ until) }
+        ensures { result ≡ last_call self.until }
     {
         self.until.unwrap_or(u64::MAX)
     }
