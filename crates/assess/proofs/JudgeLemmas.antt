@@ -18,7 +18,7 @@ use Rattle.second_search.specs.declared.keeper.Judged.{Judged}
 use Rattle.second_search.specs.declared.keeper.Judged.TheVariants as judged
 use Rattle.second_search.specs.declared.keeper.KeptPart.{KeptPart}
 use Rattle.second_search.specs.Answer.{IsAnswer}
-use Rattle.second_search.specs.Evaluations.{AreFew, most_to_close, most_to_search}
+use Rattle.second_search.specs.Evaluations.{AreFew, most_in_tree, most_to_close, most_to_search}
 use Rattle.second_search.specs.JudgedParts.{AnswersAs, Done, Judges, Starts, parts_of}
 use Rattle.second_search.specs.Parts.{AreParts, IsBefore, IsScene, board}
 use Rattle.second_search.specs.Verdict.{Verdict as Judgement}
@@ -27,7 +27,8 @@ use Rattle.second_search.proofs.DrawLemmas.{few_alike}
 use Rattle.second_search.proofs.PartLemmas.{open_in_picture}
 use Rattle.second_search.proofs.PickLemmas.{same_list}
 use Rattle.assess.specs.declared.assessment.Verdict.{Verdict}
-use Rattle.assess.specs.Calls.{AreFewBy, AreFewInAll, AreFewInParts, AreFewJudged, most_in_parts, most_to_grade, most_to_judge}
+use Rattle.assess.specs.declared.grading.TheConstants.{GRADE_EVALUATIONS, GRADE_LINES}
+use Rattle.assess.specs.Calls.{AreFewBy, AreFewInAll, AreFewInParts, AreFewJudged, most_in_parts, most_in_trees, most_to_grade, most_to_judge}
 use Rattle.assess.specs.Judging.{AreJudged, IsVerdict, verdict_of}
 use Rattle.assess.specs.Settling.{HasFigures, IsMap}
 
@@ -135,6 +136,20 @@ verdict_told {X = X} picture givens allowance map kept last clues result answer 
     subst (IsVerdict picture givens allowance) (sym same)
     (verdict_as picture givens allowance map kept last k.1.1.searched k.1.1.splits is_map starts answer k.0 k.1.0 judges true_answer)
 
+-- ---- a grade
+
+pub in_trees : (picture : Rows) (before after : ℕ) → after ≤ before + 2 * most_in_tree picture GRADE_EVALUATIONS → after ≤ before + most_in_trees picture
+unfolding most_in_trees
+in_trees picture before after l = l
+
+pub trees_only : (picture : Rows) (before after : ℕ) → after ≤ before + most_in_trees picture → after ≤ before + most_to_grade picture
+unfolding most_to_grade
+trees_only picture before after l = omega arith
+
+pub trees_and_lines : (picture : Rows) (lines before made after : ℕ) → made ≤ before + most_in_trees picture → after ≤ made + lines → lines ≤ GRADE_LINES → after ≤ before + most_to_grade picture
+unfolding most_to_grade
+trees_and_lines picture lines before made after m a l = omega arith
+
 -- ---- an assessment
 
 pub no_verdicts : (picture : Rows) (allowance : Option ℕ) (verdicts calls : ℕ) → AreFewJudged picture allowance verdicts calls calls
@@ -161,9 +176,14 @@ pub few_in_all : (picture : Rows) (givens : List ℕ) (allowance : Option ℕ) (
 few_in_all picture givens None figures before looked judged graded after f l one g more = (f.looks, (inr (f.map, f.are_looks), tt))
 few_in_all picture givens (Some splits) figures before looked judged graded after f l one g more =
     let n : figures.evaluations ≡ length f.looks = ap (λ (x : Figures). x.evaluations) f.figures_are in
-    let all : (1 + cell_count givens) * most_to_judge picture splits ≡ most_to_judge picture splits + cell_count givens * most_to_judge picture splits = omega arith in
-    (f.looks, (inr (f.map, f.are_looks), (let m : after ≤ before + (length f.looks + most_to_grade picture) + (1 + cell_count givens) * most_to_judge picture splits =
-        omega (arith, parts_few picture splits) in m)))
+    let all : (1 + cell_count givens) * most_to_judge picture splits ≡ most_to_judge picture splits + cell_count givens * most_to_judge picture splits = omega arith in (
+      f.looks,
+      (
+        inr (f.map, f.are_looks),
+        (let m : after ≤ before + (length f.looks + most_to_grade picture) + (1 + cell_count givens) * most_to_judge picture splits =
+            omega (arith, parts_few picture splits) in m),
+      ),
+    )
 
 pub none_by : (picture : Rows) (givens : List ℕ) (cert : Certificate) (before after : ℕ) → after ≤ before + length cert.lines → AreFewBy picture givens cert before after
 none_by picture givens cert before after l = ([], (inl refl, (let m : after ≤ before + (0 + 2 * length cert.lines) = omega arith in m)))

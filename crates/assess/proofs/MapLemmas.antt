@@ -1,8 +1,8 @@
 -- The map of a puzzle: there is a base, and a search for another picture may start from the map.
 use Rattle.std.proofs.Common.{◌≡◌, ℕ, ◌^◌, ◌+◌, ◌<◌, ◌≤◌, List, [], Result, Ok, Err, length, replicate, get_or, refl, sym, ap, subst, ◌∙◌, arith, inl, inr, bit_and}
 use Rattle.std.specs.Prelude.{IsBitSet, slice_index}
-use Rattle.std.proofs.lemmas.Bool.{cases_eq}
-use Rattle.std.proofs.lemmas.List.{get_or-replicate}
+use Rattle.std.proofs.lemmas.Bool.{cases_eq, cases_lt}
+use Rattle.std.proofs.lemmas.List.{get_or-replicate, get_or_past}
 use Rattle.picture.specs.declared.line_id.Axis.TheVariants.{Across, Down}
 use Rattle.picture.specs.declared.picture.TheConstants.{MAX_SIDE}
 use Rattle.picture.specs.CellSet.{HasCell}
@@ -132,6 +132,12 @@ pub map_settled : (clues : Clues) (picture : Rows) (givens : List ℕ) (base : M
     → IsLeast clues base map → IsMap picture givens map
 map_settled clues picture givens base map e b l = (base, (b, subst (λ (c : Clues). IsLeast c base map) e l))
 
+cell_inside : (picture : Rows) (row col : ℕ) → IsPicture picture → col < length (row_at picture row) → (row < length picture) × (col < width_of picture)
+cell_inside picture row col is l = elim (cases_lt row (length picture)) [
+  | inl h ↦ (h, (let r = is.rectangular row h in let w : col < width_of picture = omega arith in w))
+  | inr past ↦ (let none = ap length (get_or_past picture row [] past) in absurd (omega arith))
+]
+
 -- the picture fills the facts of its givens, so that no line is dead
 pub none_dead : (clues : Clues) (picture : Rows) (givens : List ℕ) (base : Masks) → IsPicture picture → clues ≡ clues_of picture → IsBase givens picture base → HasDeadLine clues base → ⊥
 none_dead clues picture givens base is e b dead =
@@ -139,7 +145,7 @@ none_dead clues picture givens base is e b dead =
   where
     leaves : LeavesPicture picture base
     leaves row col l =
-        let inside = cell_inside picture is row col l in
+        let inside = cell_inside picture row col is l in
         (b.left row col (cell_at picture row col) inside.0 inside.1).1 ((let c = is.colours row col in let m : cell_at picture row col < 16 = omega arith in m), (λ _. refl))
 
 pub settling_few : (clues : Clues) (picture : Rows) (base : Masks) (result : Result Masks CloseFault) (old new : Meter) (before after : ℕ) → IsFacts base → SameShape picture base

@@ -46,7 +46,7 @@ pub record IsAssessmentBy (document : Document) (is_named : Bool) (cert : Certif
   pub unique : IsPublishedUnique document.picture document.givens
   pub verdict : found.verdict ≡ Unique
   pub grade : HasGradeBy document.picture cert found.figures found.grade
-  pub cert : found.cert ≡ None
+  pub none_made : found.cert ≡ None
   pub spare : IsUnnamed document.givens cert.givens found.spare
 
 -- memory ran out, or the checker refuses the certificate with this error

@@ -79,14 +79,7 @@ pub fn assess_by<E: LineEngine>(
         cert: None,
     };
     let spare = find_unnamed(document, cert.givens());
-    Ok(described(
-        document,
-        is_named,
-        looked,
-        Verdict::Unique,
-        graded,
-        spare,
-    ))
+    Ok(described(document, is_named, looked, Verdict::Unique, graded, spare))
 }
 
 // The assessment with what was found of a document.

@@ -37,7 +37,6 @@ pub(crate) fn grade_if<E: LineEngine>(
     requires { MAX_SIDE ≤ E.longest engine.old }
     ensures graded { IfOk result (λ graded. IsGradedIf document.now.picture document.now.givens
         figures verdict.now graded.cert graded.grade) }
-    ensures calls { E.calls engine.old ≤ E.calls engine.new }
     ensures few { E.calls engine.new ≤ E.calls engine.old + most_to_grade document.now.picture }
     ensures same_longest { E.longest engine.new ≡ E.longest engine.old }
 {
@@ -70,7 +69,6 @@ fn grade<E: LineEngine>(
     requires { MAX_SIDE ≤ E.longest engine.old }
     ensures graded { IfOk result (λ graded. IsGraded document.now.picture document.now.givens
         figures graded.cert graded.grade) }
-    ensures calls { E.calls engine.old ≤ E.calls engine.new }
     ensures few { E.calls engine.new ≤ E.calls engine.old + most_to_grade document.now.picture }
     ensures same_longest { E.longest engine.new ≡ E.longest engine.old }
 {
@@ -100,7 +98,6 @@ fn short_cert<E: LineEngine>(
     requires { MAX_SIDE ≤ E.longest engine.old }
     ensures makes { IfOk result (λ found. IfSome found
         (IsShortCert document.now.picture document.now.givens)) }
-    ensures calls { E.calls engine.old ≤ E.calls engine.new }
     ensures few { E.calls engine.new ≤ E.calls engine.old + most_in_trees document.now.picture }
     ensures same_longest { E.longest engine.new ≡ E.longest engine.old }
 {

@@ -1,4 +1,3 @@
-use Rattle.std.proofs.Common.{arith}
 use Rattle.assess.proofs.MapLemmas.{closable_by, has_figures, map_of}
 use Rattle.assess.proofs.looking.look.Goals as goal
 

@@ -1,5 +1,5 @@
 use Rattle.std.proofs.Common.{arith}
-use Rattle.assess.proofs.OrderLemmas.{all_named, named_on, none_before, row_ended}
+use Rattle.assess.proofs.OrderLemmas.{all_named, none_before, row_ended}
 use Rattle.assess.proofs.naming.find_unnamed.Goals as goal
 
 pub loop-row-init : goal.loop-row-init
