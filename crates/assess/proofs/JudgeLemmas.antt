@@ -167,7 +167,9 @@ parts_few picture splits = omega arith
 -- nothing was looked at yet
 pub none_yet : (picture : Rows) (givens : List ℕ) (allowance : Option ℕ) (before after : ℕ) → after ≡ before → AreFewInAll picture givens allowance before after
 none_yet picture givens None before after e = ([], (inl refl, tt))
-none_yet picture givens (Some splits) before after e = ([], (inl refl, (let l : after ≤ before + (0 + most_to_grade picture) + (1 + cell_count givens) * most_to_judge picture splits = omega arith in l)))
+none_yet picture givens (Some splits) before after e =
+    let l : after ≤ before + (0 + most_to_grade picture) + (1 + cell_count givens) * most_to_judge picture splits = omega arith in
+    ([], (inl refl, l))
 
 -- the looks, a verdict, a grade, and a verdict without each given
 pub few_in_all : (picture : Rows) (givens : List ℕ) (allowance : Option ℕ) (figures : Figures) (before looked judged graded after : ℕ) → HasFigures picture givens figures

@@ -1,15 +1,19 @@
 -- How often the engine is called at most while trees are written within a bound.
 use Rattle.std.proofs.Common.{◌≡◌, ℕ, ◌+◌, ◌*◌, ◌<◌, ◌≤◌, Option, Some, length, max, ap, arith}
 use Rattle.std.proofs.Math.Nat.{mul-le-mul_right}
-use Rattle.picture.specs.Rows.{width_of}
-use Rattle.line_facts.specs.FactSets.{SameShape}
+use Rattle.picture.specs.Rows.{width_of, Rows}
+use Rattle.clues.specs.ClueBook.{Clues}
 use Rattle.line_facts.specs.Masks.{Masks}
+use Rattle.second_search.specs.declared.tree.Growing.{Growing}
+use Rattle.second_search.specs.declared.tree_lines.Lines.{Lines}
 use Rattle.second_search.specs.Evaluations.{AreFewUntil, last_call, most_in_tree}
+use Rattle.second_search.proofs.TreeLemmas.{Said, shape_said}
 
--- a turn on facts of the same shape, after calls that do not exceed the number
-pub few_on : (until : Option ℕ) (first facts : Masks) (before between after : ℕ) → SameShape first facts → between ≤ max before (last_call until) → AreFewUntil until facts between after
-    → AreFewUntil until first before after
-few_on until first facts before between after s l few =
+-- a turn on a branch, after calls that do not exceed the number
+pub few_said : (clues : Clues) (known : Rows) (facts : Masks) (start : Lines) (g : Growing) (until : Option ℕ) (before between after : ℕ) → Said clues known facts start g
+    → between ≤ max before (last_call until) → AreFewUntil until g.trail.at_hand between after → AreFewUntil until facts before after
+few_said clues known facts start g until before between after said l few =
+    let s = shape_said clues known facts start g said in
     let rows = s.rows in
     let columns = s.each 0 in
     omega arith

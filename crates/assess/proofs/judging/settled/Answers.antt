@@ -17,4 +17,5 @@ returns-in-Ok-clause-few g c =
 pub unreachable-requires : goal.unreachable-requires
 unreachable-requires g c =
     let d = c.args.document.now in
-    none_dead c.args.book.now d.picture d.givens c.in_ok-base.base c.height.ensures.picture c.requires.book c.in_ok-base.ensures (rw (c.in-Err-Dead.is, c.in-Err-Dead.field-0-is) at c.settle_afresh.ensures.settles)
+    let dead = rw (c.in-Err-Dead.is, c.in-Err-Dead.field-0-is) at c.settle_afresh.ensures.settles in
+    none_dead c.args.book.now d.picture d.givens c.in_ok-base.base c.height.ensures.picture c.requires.book c.in_ok-base.ensures dead
