@@ -21,7 +21,6 @@ MOST = 7
 GROWING = 'add|non_text_of|push|set|start|write_cert|write_ppm'
 # A file of crates/*/src, a line of it, and why that line makes the error although no pattern of it names one.
 OTHERS = [
-    ('assess/src/judging.rt', 'Err(CloseFault::Dead) => Err(AllocError),', 'the picture has its clues and givens, so no line is dead: not proved yet'),
     ('command_line/src/words.rt', 'return Err(ProgramFault::Memory);', 'the error of the parser says that memory ran out'),
     ('live_audit/src/bench.rt', 'return Err(AllocError);', 'the only error of `audit_anew` is that memory ran out'),
     ('live_audit/src/bench.rt', 'return Err(EditFault::Memory);', 'the only error of `audit_again` is that memory ran out'),

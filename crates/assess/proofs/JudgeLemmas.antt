@@ -6,18 +6,19 @@ use Rattle.std.proofs.lemmas.Nat.{mul-add-lt}
 use Rattle.std.proofs.Math.Nat.{mul-le-mul_right, mul_comm}
 use Rattle.picture.specs.CellSet.{HasCell, cell_count}
 use Rattle.picture.specs.Rows.{width_of, Rows}
+use Rattle.cert_text.specs.Cert.{Certificate}
 use Rattle.clues.specs.ClueBook.{Clues, clues_of}
 use Rattle.clues.specs.Solution.{IsOnlySolution, IsOther}
 use Rattle.line_facts.specs.Counts.{counted}
 use Rattle.line_facts.specs.declared.meter.Meter.{Meter}
 use Rattle.line_facts.specs.FactSets.{SameShape}
 use Rattle.line_facts.specs.Masks.{Masks}
-use Rattle.grade.specs.Looks.{Look}
+use Rattle.grade.specs.declared.figures.Figures.{Figures}
 use Rattle.second_search.specs.declared.keeper.Judged.{Judged}
 use Rattle.second_search.specs.declared.keeper.Judged.TheVariants as judged
 use Rattle.second_search.specs.declared.keeper.KeptPart.{KeptPart}
 use Rattle.second_search.specs.Answer.{IsAnswer}
-use Rattle.second_search.specs.Evaluations.{AreFew, most_to_close, most_to_search}
+use Rattle.second_search.specs.Evaluations.{AreFew, most_in_tree, most_to_close, most_to_search}
 use Rattle.second_search.specs.JudgedParts.{AnswersAs, Done, Judges, Starts, parts_of}
 use Rattle.second_search.specs.Parts.{AreParts, IsBefore, IsScene, board}
 use Rattle.second_search.specs.Verdict.{Verdict as Judgement}
@@ -26,9 +27,10 @@ use Rattle.second_search.proofs.DrawLemmas.{few_alike}
 use Rattle.second_search.proofs.PartLemmas.{open_in_picture}
 use Rattle.second_search.proofs.PickLemmas.{same_list}
 use Rattle.assess.specs.declared.assessment.Verdict.{Verdict}
-use Rattle.assess.specs.Calls.{AreFewInAll, AreFewInParts, AreFewJudged, most_in_parts, most_to_judge}
+use Rattle.assess.specs.declared.grading.TheConstants.{GRADE_EVALUATIONS, GRADE_LINES}
+use Rattle.assess.specs.Calls.{AreFewBy, AreFewInAll, AreFewInParts, AreFewJudged, most_in_parts, most_in_trees, most_to_grade, most_to_judge}
 use Rattle.assess.specs.Judging.{AreJudged, IsVerdict, verdict_of}
-use Rattle.assess.specs.Settling.{AreLooks, IsMap}
+use Rattle.assess.specs.Settling.{HasFigures, IsMap}
 
 -- ---- how many parts there are
 
@@ -134,6 +136,20 @@ verdict_told {X = X} picture givens allowance map kept last clues result answer 
     subst (IsVerdict picture givens allowance) (sym same)
     (verdict_as picture givens allowance map kept last k.1.1.searched k.1.1.splits is_map starts answer k.0 k.1.0 judges true_answer)
 
+-- ---- a grade
+
+pub in_trees : (picture : Rows) (before after : ℕ) → after ≤ before + 2 * most_in_tree picture GRADE_EVALUATIONS → after ≤ before + most_in_trees picture
+unfolding most_in_trees
+in_trees picture before after l = l
+
+pub trees_only : (picture : Rows) (before after : ℕ) → after ≤ before + most_in_trees picture → after ≤ before + most_to_grade picture
+unfolding most_to_grade
+trees_only picture before after l = omega arith
+
+pub trees_and_lines : (picture : Rows) (lines before made after : ℕ) → made ≤ before + most_in_trees picture → after ≤ made + lines → lines ≤ GRADE_LINES → after ≤ before + most_to_grade picture
+unfolding most_to_grade
+trees_and_lines picture lines before made after m a l = omega arith
+
 -- ---- an assessment
 
 pub no_verdicts : (picture : Rows) (allowance : Option ℕ) (verdicts calls : ℕ) → AreFewJudged picture allowance verdicts calls calls
@@ -148,27 +164,35 @@ parts_few : (picture : Rows) (splits : ℕ) → most_in_parts picture splits ≤
 unfolding most_to_judge
 parts_few picture splits = omega arith
 
-more_judged : (picture : Rows) (allowance : Option ℕ) (verdicts before between after : ℕ) → AreFewInParts picture allowance before between
-    → AreFewJudged picture allowance verdicts between after → AreFewJudged picture allowance (1 + verdicts) before after
-more_judged picture None verdicts before between after one more = tt
-more_judged picture (Some splits) verdicts before between after one more =
-    let all : (1 + verdicts) * most_to_judge picture splits ≡ most_to_judge picture splits + verdicts * most_to_judge picture splits = omega arith in
-    omega (arith, parts_few picture splits)
+-- nothing was looked at yet
+pub none_yet : (picture : Rows) (givens : List ℕ) (allowance : Option ℕ) (before after : ℕ) → after ≡ before → AreFewInAll picture givens allowance before after
+none_yet picture givens None before after e = ([], (inl refl, tt))
+none_yet picture givens (Some splits) before after e =
+    let l : after ≤ before + (0 + most_to_grade picture) + (1 + cell_count givens) * most_to_judge picture splits = omega arith in
+    ([], (inl refl, l))
 
-pub none_yet : (picture : Rows) (givens : List ℕ) (allowance : Option ℕ) (calls : ℕ) → AreFewInAll picture givens allowance calls calls
-none_yet picture givens allowance calls =
-    let none = no_verdicts picture allowance (1 + cell_count givens) calls in
-    let e : calls ≡ calls + 0 = omega arith in
-    ([], (inl refl, subst (λ (n : ℕ). AreFewJudged picture allowance (1 + cell_count givens) n calls) e none))
-
-from_later : (picture : Rows) (allowance : Option ℕ) (verdicts before between after : ℕ) → before ≤ between → AreFewJudged picture allowance verdicts before after
-    → AreFewJudged picture allowance verdicts between after
-from_later picture None verdicts before between after l few = tt
-from_later picture (Some splits) verdicts before between after l few = omega arith
-
-pub few_in_all : (picture : Rows) (givens : List ℕ) (allowance : Option ℕ) (looks : List Look) (end : Masks) (n before looked between after : ℕ) → AreLooks picture givens looks end
-    → n ≡ length looks → looked ≡ counted before n → AreFewInParts picture allowance looked between → AreFewJudged picture allowance (cell_count givens) between after
+-- the looks, a verdict, a grade, and a verdict without each given
+pub few_in_all : (picture : Rows) (givens : List ℕ) (allowance : Option ℕ) (figures : Figures) (before looked judged graded after : ℕ) → HasFigures picture givens figures
+    → looked ≤ before + figures.evaluations → AreFewInParts picture allowance looked judged → graded ≤ judged + most_to_grade picture → AreFewJudged picture allowance (cell_count givens) graded after
     → AreFewInAll picture givens allowance before after
-few_in_all picture givens allowance looks end n before looked between after are e called one more =
-    let all = more_judged picture allowance (cell_count givens) looked between after one more in
-    (looks, (inr (end, are), from_later picture allowance (1 + cell_count givens) looked (before + length looks) after (let l : looked ≤ before + length looks = omega arith in l) all))
+few_in_all picture givens None figures before looked judged graded after f l one g more = (f.looks, (inr (f.map, f.are_looks), tt))
+few_in_all picture givens (Some splits) figures before looked judged graded after f l one g more =
+    let n : figures.evaluations ≡ length f.looks = ap (λ (x : Figures). x.evaluations) f.figures_are in
+    let all : (1 + cell_count givens) * most_to_judge picture splits ≡ most_to_judge picture splits + cell_count givens * most_to_judge picture splits = omega arith in (
+      f.looks,
+      (
+        inr (f.map, f.are_looks),
+        (let m : after ≤ before + (length f.looks + most_to_grade picture) + (1 + cell_count givens) * most_to_judge picture splits =
+            omega (arith, parts_few picture splits) in m),
+      ),
+    )
+
+pub none_by : (picture : Rows) (givens : List ℕ) (cert : Certificate) (before after : ℕ) → after ≤ before + length cert.lines → AreFewBy picture givens cert before after
+none_by picture givens cert before after l = ([], (inl refl, (let m : after ≤ before + (0 + 2 * length cert.lines) = omega arith in m)))
+
+-- the check, the looks, and the grade
+pub few_by : (picture : Rows) (givens : List ℕ) (cert : Certificate) (figures : Figures) (before checked looked after : ℕ) → HasFigures picture givens figures
+    → checked ≤ before + length cert.lines → looked ≤ checked + figures.evaluations → after ≤ looked + length cert.lines → AreFewBy picture givens cert before after
+few_by picture givens cert figures before checked looked after f a b c =
+    let n : figures.evaluations ≡ length f.looks = ap (λ (x : Figures). x.evaluations) f.figures_are in
+    (f.looks, (inr (f.map, f.are_looks), (let m : after ≤ before + (length f.looks + 2 * length cert.lines) = omega arith in m)))

@@ -1,3 +1,4 @@
 pub mod JudgeLemmas
 pub mod MapLemmas
+pub mod OrderLemmas
 pub mod SpareLemmas

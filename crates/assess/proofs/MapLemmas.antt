@@ -1,8 +1,8 @@
 -- The map of a puzzle: there is a base, and a search for another picture may start from the map.
 use Rattle.std.proofs.Common.{◌≡◌, ℕ, ◌^◌, ◌+◌, ◌<◌, ◌≤◌, List, [], Result, Ok, Err, length, replicate, get_or, refl, sym, ap, subst, ◌∙◌, arith, inl, inr, bit_and}
 use Rattle.std.specs.Prelude.{IsBitSet, slice_index}
-use Rattle.std.proofs.lemmas.Bool.{cases_eq}
-use Rattle.std.proofs.lemmas.List.{get_or-replicate}
+use Rattle.std.proofs.lemmas.Bool.{cases_eq, cases_lt}
+use Rattle.std.proofs.lemmas.List.{get_or-replicate, get_or_past}
 use Rattle.picture.specs.declared.line_id.Axis.TheVariants.{Across, Down}
 use Rattle.picture.specs.declared.picture.TheConstants.{MAX_SIDE}
 use Rattle.picture.specs.CellSet.{HasCell}
@@ -16,8 +16,8 @@ use Rattle.line_facts.specs.Masks.{Masks}
 use Rattle.line_facts.proofs.GridLaws.{all_left, full_shape, shape_sym, shape_trans}
 use Rattle.fixpoint.specs.declared.fault.CloseFault.{CloseFault}
 use Rattle.fixpoint.specs.declared.fault.CloseFault.TheVariants as fault
-use Rattle.fixpoint.specs.ClosedFacts.{AreClosable}
-use Rattle.fixpoint.specs.Fillings.{Fills, only}
+use Rattle.fixpoint.specs.ClosedFacts.{AreClosable, HasDeadLine}
+use Rattle.fixpoint.specs.Fillings.{Fills, LeavesPicture, only}
 use Rattle.fixpoint.specs.LeastFacts.{SettlingWorks}
 use Rattle.grade.specs.declared.figures.Figures.{Figures}
 use Rattle.grade.specs.Figures.{figures_of}
@@ -30,7 +30,7 @@ use Rattle.second_search.specs.Evaluations.{most_to_close}
 use Rattle.second_search.specs.Parts.{IsScene, picked}
 use Rattle.second_search.proofs.DrawLemmas.{closing_few, same_most}
 use Rattle.second_search.proofs.FindLemmas.{can_close}
-use Rattle.second_search.proofs.KnownLaws.{clues_are_of_lines, only_is_closed, sound_facts}
+use Rattle.second_search.proofs.KnownLaws.{closing_keeps_fillings, clues_are_of_lines, only_is_closed, sound_facts}
 use Rattle.second_search.proofs.PickLemmas.{IsRectangle, off_part, on_part, rect_like, shape_of_picked}
 use Rattle.assess.specs.Settling.{HasFigures, IsMap}
 
@@ -131,6 +131,22 @@ closable clues picture base longest is e long s =
 pub map_settled : (clues : Clues) (picture : Rows) (givens : List ℕ) (base : Masks) (map : Masks) → clues ≡ clues_of picture → IsBase givens picture base
     → IsLeast clues base map → IsMap picture givens map
 map_settled clues picture givens base map e b l = (base, (b, subst (λ (c : Clues). IsLeast c base map) e l))
+
+cell_inside : (picture : Rows) (row col : ℕ) → IsPicture picture → col < length (row_at picture row) → (row < length picture) × (col < width_of picture)
+cell_inside picture row col is l = elim (cases_lt row (length picture)) [
+  | inl h ↦ (h, (let r = is.rectangular row h in let w : col < width_of picture = omega arith in w))
+  | inr past ↦ (let none = ap length (get_or_past picture row [] past) in absurd (omega arith))
+]
+
+-- the picture fills the facts of its givens, so that no line is dead
+pub none_dead : (clues : Clues) (picture : Rows) (givens : List ℕ) (base : Masks) → IsPicture picture → clues ≡ clues_of picture → IsBase givens picture base → HasDeadLine clues base → ⊥
+none_dead clues picture givens base is e b dead =
+    closing_keeps_fillings.none_where_dead clues base picture dead (record { is_picture = is; same_shape = b.same_shape; has_clues = sym e; leaves = leaves })
+  where
+    leaves : LeavesPicture picture base
+    leaves row col l =
+        let inside = cell_inside picture row col is l in
+        (b.left row col (cell_at picture row col) inside.0 inside.1).1 ((let c = is.colours row col in let m : cell_at picture row col < 16 = omega arith in m), (λ _. refl))
 
 pub settling_few : (clues : Clues) (picture : Rows) (base : Masks) (result : Result Masks CloseFault) (old new : Meter) (before after : ℕ) → IsFacts base → SameShape picture base
     → SettlingWorks clues base result old new before after → after ≤ before + most_to_close picture

@@ -1,17 +1,18 @@
 -- Going through the givens in order: what is known of those that were left out.
-use Rattle.std.proofs.Common.{◌≡◌, ◌⊎◌, ℕ, ◌+◌, ◌*◌, ◌<◌, ◌≤◌, Bool, true, false, List, Option, None, Some, Result, Ok, Err, IfOk, length, refl, sym, ap, subst, ◌∙◌, arith, inl, inr}
-use Rattle.std.proofs.lemmas.Bool.{cases_eq, false≢true}
+use Rattle.std.proofs.Common.{◌≡◌, ℕ, ◌+◌, ◌*◌, ◌<◌, ◌≤◌, Bool, true, false, List, Option, None, Some, Result, Ok, Err, IfOk, length, refl, sym, ap, subst, ◌∙◌, arith, inl, inr}
+use Rattle.std.proofs.lemmas.Bool.{false≢true}
 use Rattle.picture.specs.CellSet.{HasCell, TakesOutCell, cell_count}
 use Rattle.picture.specs.Document.{AreInside}
 use Rattle.picture.specs.Rows.{width_of, Rows}
 use Rattle.trail.specs.declared.cell.Cell.{Cell}
 use Rattle.assess.specs.declared.assessment.Spare.{Spare}
-use Rattle.assess.specs.declared.assessment.Spare.TheVariants.{Nothing, Given, Unknown}
+use Rattle.assess.specs.declared.assessment.Spare.TheVariants.{Nothing, Given, Unknown, Unnamed}
 use Rattle.assess.specs.declared.assessment.Verdict.{Verdict}
 use Rattle.assess.specs.declared.assessment.Verdict.TheVariants.{Unique, Ambiguous, Undecided}
 use Rattle.assess.specs.Assessed.{IsSpareIf}
 use Rattle.assess.specs.Calls.{AreFewJudged, most_to_judge}
 use Rattle.assess.specs.Judging.{IsVerdict}
+use Rattle.assess.proofs.OrderLemmas.{before_next, none_before, row_ended}
 use Rattle.assess.specs.Spares.{ComesBefore, HasNone, HasNoneBefore, HasWithout, IsSpare, IsSpareBefore, IsWithout, is_given, is_undecided, is_unique, spare_after}
 
 -- ---- calls
@@ -67,16 +68,14 @@ module _ (picture : Rows) (givens : List ℕ) (allowance : Option ℕ) where
       → IsSpareBefore picture givens allowance row col spare → IsSpareBefore picture givens allowance r c spare
   moved Nothing row col r c more s = (more is_unique s.0, more is_undecided s.1)
   moved (Given cell) row col r c more s = s
+  moved (Unnamed cell) row col r c more s = s
   moved (Unknown cell) row col r c more s = (more is_unique s.0, s.1)
 
   none_unique : (spare : Spare) (row col : ℕ) → IsSpareBefore picture givens allowance row col spare → HasNoneBefore picture givens allowance is_unique row col
   none_unique Nothing row col s = s.0
   none_unique (Given cell) row col s = absurd s
+  none_unique (Unnamed cell) row col s = absurd s
   none_unique (Unknown cell) row col s = s.0
-
-  before_next : (r c row col : ℕ) → ComesBefore r c row (col + 1) → ComesBefore r c row col ⊎ ((r ≡ row) × (c ≡ col))
-  before_next r c row col (inl l) = inl (inl l)
-  before_next r c row col (inr (e, l)) = elim (cases_eq c col) [ inl same ↦ inr (e, same) | inr d ↦ inl (inr (e, (let m : c < col = omega arith in m))) ]
 
   -- one place further, where nothing or something is known of the cell
   further : (kind : Verdict → Bool) (row col : ℕ) → (HasCell givens row col → HasWithout picture givens allowance kind false row col) → HasNoneBefore picture givens allowance kind row col
@@ -117,10 +116,12 @@ module _ (picture : Rows) (givens : List ℕ) (allowance : Option ℕ) where
   known_then Nothing (Ambiguous other) row col g w is_false s =
       (further is_unique row col (λ _. (Ambiguous other, (w, refl))) s.0, further is_undecided row col (λ _. (Ambiguous other, (w, refl))) s.1)
   known_then (Given first) (Ambiguous other) row col g w is_false s = absurd s
+  known_then (Unnamed first) (Ambiguous other) row col g w is_false s = absurd s
   known_then (Unknown first) (Ambiguous other) row col g w is_false s = (further is_unique row col (λ _. (Ambiguous other, (w, refl))) s.0, s.1)
   known_then Nothing Undecided row col g w is_false s =
       (further is_unique row col (λ _. (Undecided, (w, refl))) s.0, record { given = g; here = (Undecided, (w, refl)); before = s.1 })
   known_then (Given first) Undecided row col g w is_false s = absurd s
+  known_then (Unnamed first) Undecided row col g w is_false s = absurd s
   known_then (Unknown first) Undecided row col g w is_false s = (further is_unique row col (λ _. (Undecided, (w, refl))) s.0, s.1)
 
   found_then : (spare : Spare) (verdict : Verdict) (row col : ℕ) → HasCell givens row col → IsWithout picture givens allowance row col verdict
@@ -129,9 +130,11 @@ module _ (picture : Rows) (givens : List ℕ) (allowance : Option ℕ) where
   found_then spare Unique row col g w is_true s = record { given = g; here = (Unique, (w, refl)); before = none_unique spare row col s }
   found_then Nothing (Ambiguous other) row col g w is_true s = absurd (false≢true is_true)
   found_then (Given first) (Ambiguous other) row col g w is_true s = absurd s
+  found_then (Unnamed first) (Ambiguous other) row col g w is_true s = absurd s
   found_then (Unknown first) (Ambiguous other) row col g w is_true s = absurd (false≢true is_true)
   found_then Nothing Undecided row col g w is_true s = absurd (false≢true is_true)
   found_then (Given first) Undecided row col g w is_true s = absurd s
+  found_then (Unnamed first) Undecided row col g w is_true s = absurd s
   found_then (Unknown first) Undecided row col g w is_true s = absurd (false≢true is_true)
 
   pub one_more : (waiting rest : List ℕ) (spare next : Spare) (verdict : Verdict) (row col before now later : ℕ)
@@ -150,10 +153,6 @@ module _ (picture : Rows) (givens : List ℕ) (allowance : Option ℕ) where
   given_found waiting spare next verdict row col before now t h w e is_true =
       subst (IsSpare picture givens allowance) (sym e) (found_then spare verdict row col (t.are row col h) w (sym (ap is_given e) ∙ is_true) t.so_far)
 
-  none_before : (r c : ℕ) → ComesBefore r c 0 0 → ⊥
-  none_before r c (inl l) = absurd (omega arith)
-  none_before r c (inr (e, l)) = absurd (omega arith)
-
   pub none_tried : (calls : ℕ) → Tried picture givens allowance givens Nothing 0 0 calls calls
   none_tried calls = record {
     so_far = ((λ r c b. absurd (none_before r c b)), (λ r c b. absurd (none_before r c b)));
@@ -168,23 +167,18 @@ module _ (picture : Rows) (givens : List ℕ) (allowance : Option ℕ) where
       none_left : (kind : Verdict → Bool) → HasNoneBefore picture givens allowance kind row 0 → HasNone picture givens allowance kind
       none_left kind none r c g = none r c (inl (let i = (inside r c g).0 in let m : r < row = omega arith in m)) g
   all_tried (Given cell) row inside l s = absurd s
+  all_tried (Unnamed cell) row inside l s = absurd s
   all_tried (Unknown cell) row inside l s = ((λ r c g. s.0 r c (inl (let i = (inside r c g).0 in let m : r < row = omega arith in m)) g), s.1)
 
   pub next_row : (waiting : List ℕ) (spare : Spare) (row col before now : ℕ) → AreInside givens picture → width_of picture ≤ col → Tried picture givens allowance waiting spare row col before now
       → Tried picture givens allowance waiting spare (row + 1) 0 before now
   next_row waiting spare row col before now inside w t = record {
-    so_far = moved spare row col (row + 1) 0 (λ kind none r c b g. none r c (row_ended r c b g) g) t.so_far;
+    so_far = moved spare row col (row + 1) 0 (λ kind none r c b g. none r c (row_ended picture givens row col r c inside w b g) g) t.so_far;
     waits = λ r c g b. t.waits r c g (λ e. b (up r c e));
     are = t.are;
     few = t.few;
   }
     where
-      row_ended : (r c : ℕ) → ComesBefore r c (row + 1) 0 → HasCell givens r c → ComesBefore r c row col
-      row_ended r c (inl l) g =
-          let i = (inside r c g).1 in
-          elim (cases_eq r row) [ inl e ↦ inr (e, (let m : c < col = omega arith in m)) | inr d ↦ inl (let m : r < row = omega arith in m) ]
-      row_ended r c (inr (e, l)) g = absurd (omega arith)
-
       up : (r c : ℕ) → ComesBefore r c row col → ComesBefore r c (row + 1) 0
       up r c (inl l) = inl (let m : r < row + 1 = omega arith in m)
       up r c (inr (e, l)) = inl (let m : r < row + 1 = omega arith in m)

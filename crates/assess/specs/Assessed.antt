@@ -12,6 +12,7 @@ use Rattle.assess.specs.declared.assessment.Spare.TheVariants.{Nothing}
 use Rattle.assess.specs.declared.assessment.Verdict.{Verdict}
 use Rattle.assess.specs.declared.assessment.Verdict.TheVariants.{Unique, Ambiguous, Undecided}
 use Rattle.assess.specs.Judging.{IsVerdict}
+use Rattle.assess.specs.Grades.{IsGradedIf}
 use Rattle.assess.specs.Settling.{HasFigures}
 use Rattle.assess.specs.Spares.{IsSpare, is_given, is_unique}
 
@@ -38,9 +39,8 @@ IsSpareIf picture givens allowance Unique spare = IsSpare picture givens allowan
 IsSpareIf picture givens allowance (Ambiguous other) spare = spare ≡ Nothing
 IsSpareIf picture givens allowance Undecided spare = spare ≡ Nothing
 
-pub record IsAssessment (document : Document) (is_named : Bool) (allowance : Option ℕ) (found : Assessment)
-    : Type 0 where
-  pub verdict : IsVerdict document.picture document.givens allowance found.verdict
+-- what is found of a document without a search
+pub record IsDescribed (document : Document) (is_named : Bool) (found : Assessment) : Type 0 where
   pub height : found.height ≡ length document.picture
   pub width : found.width ≡ width_of document.picture
   pub colours : found.colours ≡ colour_count document.picture
@@ -48,5 +48,12 @@ pub record IsAssessment (document : Document) (is_named : Bool) (allowance : Opt
   pub figures : HasFigures document.picture document.givens found.figures
   pub blank : found.is_blank ≡ not (is_painted document.picture)
   pub background : found.lacks_background ≡ (is_named && not (has_colour 0 document.picture))
-  pub spare : IsSpareIf document.picture document.givens allowance found.verdict found.spare
   pub alike : found.alike.items ≡ alike_pairs document.palette document.picture
+
+-- an assessment by a search under an allowance
+pub record IsAssessment (document : Document) (is_named : Bool) (allowance : Option ℕ) (found : Assessment)
+    : Type 0 where
+  pub described : IsDescribed document is_named found
+  pub verdict : IsVerdict document.picture document.givens allowance found.verdict
+  pub graded : IsGradedIf document.picture document.givens found.figures found.verdict found.cert found.grade
+  pub spare : IsSpareIf document.picture document.givens allowance found.verdict found.spare

@@ -4,7 +4,9 @@ use Rattle.line_facts.specs.Masks.{Masks}
 use Rattle.picture.specs.CellSet.{cell_count}
 use Rattle.picture.specs.Rows.{width_of, Rows}
 use Rattle.grade.specs.Looks.{Look}
-use Rattle.second_search.specs.Evaluations.{most_to_close, most_to_search}
+use Rattle.cert_text.specs.Cert.{Certificate}
+use Rattle.second_search.specs.Evaluations.{most_in_tree, most_to_close, most_to_search}
+use Rattle.assess.specs.declared.grading.TheConstants.{GRADE_EVALUATIONS, GRADE_LINES}
 use Rattle.assess.specs.Settling.{AreLooks}
 
 -- the search of the parts of a map, of which there are at most as many as cells
@@ -24,11 +26,23 @@ abbrev pub AreFewJudged : Rows → Option ℕ → ℕ → ℕ → ℕ → Type 0
 AreFewJudged picture None verdicts before after = Unit {0}
 AreFewJudged picture (Some splits) verdicts before after = after ≤ before + verdicts * most_to_judge picture splits
 
+-- two trees within the bound, and a look at each line of a certificate
+unfoldable pub most_in_trees : Rows → ℕ
+most_in_trees picture = 2 * most_in_tree picture GRADE_EVALUATIONS
+
+unfoldable pub most_to_grade : Rows → ℕ
+most_to_grade picture = most_in_trees picture + GRADE_LINES
+
 -- no look, or those of line logic on the puzzle
 abbrev pub AreLooksIfAny : Rows → List ℕ → List Look → Type 0
 AreLooksIfAny picture givens looks = (looks ≡ []) ⊎ ((end : Masks) × AreLooks picture givens looks end)
 
--- the looks of line logic, a verdict, and one without each given
+-- the looks of line logic, a verdict, a grade, and a verdict without each given
 abbrev pub AreFewInAll : Rows → List ℕ → Option ℕ → ℕ → ℕ → Type 0
 AreFewInAll picture givens allowance before after = (looks : List Look) × (AreLooksIfAny picture givens looks
-    × AreFewJudged picture allowance (1 + cell_count givens) (before + length looks) after)
+    × AreFewJudged picture allowance (1 + cell_count givens) (before + (length looks + most_to_grade picture)) after)
+
+-- by a certificate: each of its lines once for the check and once for the grade, and the looks of line logic
+abbrev pub AreFewBy : Rows → List ℕ → Certificate → ℕ → ℕ → Type 0
+AreFewBy picture givens cert before after = (looks : List Look) × (AreLooksIfAny picture givens looks
+    × (after ≤ before + (length looks + 2 * length cert.lines)))

@@ -4,7 +4,7 @@ use Rattle.picture.specs.CellSet.{HasCell, TakesOutCell}
 use Rattle.picture.specs.Rows.{Rows}
 use Rattle.trail.specs.declared.cell.Cell.{Cell}
 use Rattle.assess.specs.declared.assessment.Spare.{Spare}
-use Rattle.assess.specs.declared.assessment.Spare.TheVariants.{Nothing, Given, Unknown}
+use Rattle.assess.specs.declared.assessment.Spare.TheVariants.{Nothing, Given, Unknown, Unnamed}
 use Rattle.assess.specs.declared.assessment.Verdict.{Verdict}
 use Rattle.assess.specs.declared.assessment.Verdict.TheVariants.{Unique, Ambiguous, Undecided}
 use Rattle.assess.specs.Judging.{IsVerdict}
@@ -24,6 +24,7 @@ abbrev pub is_given : Spare → Bool
 is_given Nothing = false
 is_given (Given cell) = true
 is_given (Unknown cell) = false
+is_given (Unnamed cell) = true
 
 -- the verdict of the puzzle without a given
 pub record IsWithout (picture : Rows) (givens : List ℕ) (allowance : Option ℕ) (row col : ℕ) (verdict : Verdict)
@@ -64,6 +65,7 @@ abbrev pub IsSpare : Rows → List ℕ → Option ℕ → Spare → Type 0
 IsSpare picture givens allowance (Given cell) = IsFirst picture givens allowance is_unique cell.row cell.col
 IsSpare picture givens allowance (Unknown cell) =
     HasNone picture givens allowance is_unique × IsFirst picture givens allowance is_undecided cell.row cell.col
+IsSpare picture givens allowance (Unnamed cell) = ⊥
 IsSpare picture givens allowance Nothing =
     HasNone picture givens allowance is_unique × HasNone picture givens allowance is_undecided
 
@@ -71,6 +73,7 @@ IsSpare picture givens allowance Nothing =
 -- allowance leaves this open, or nothing
 abbrev pub IsSpareBefore : Rows → List ℕ → Option ℕ → ℕ → ℕ → Spare → Type 0
 IsSpareBefore picture givens allowance row col (Given cell) = ⊥
+IsSpareBefore picture givens allowance row col (Unnamed cell) = ⊥
 IsSpareBefore picture givens allowance row col (Unknown cell) = HasNoneBefore picture givens allowance is_unique row col
     × IsFirst picture givens allowance is_undecided cell.row cell.col
 IsSpareBefore picture givens allowance row col Nothing = HasNoneBefore picture givens allowance is_unique row col
@@ -81,6 +84,7 @@ abbrev pub or_unknown : Spare → Cell → Spare
 or_unknown Nothing cell = Unknown cell
 or_unknown (Given first) cell = Given first
 or_unknown (Unknown first) cell = Unknown first
+or_unknown (Unnamed first) cell = Unnamed first
 
 abbrev pub spare_after : Spare → Verdict → Cell → Spare
 spare_after spare Unique cell = Given cell

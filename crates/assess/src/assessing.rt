@@ -1,16 +1,21 @@
 //! A puzzle assessed.
 
-ghost use Rattle.std.specs.Prelude.{◌≡◌, ◌&&◌, ◌≤◌, IfOk, not};
+ghost use Rattle.std.specs.Prelude.{◌≡◌, ◌&&◌, ◌≤◌, IfOk, MatchResult, not};
 ghost use Rattle.flaws.specs.Cells.{has_colour};
-ghost use Rattle.assess.specs.Assessed.{IsAssessment, colour_count};
-ghost use Rattle.assess.specs.Calls.{AreFewInAll};
+ghost use Rattle.assess.specs.Assessed.{IsAssessment, IsDescribed, colour_count};
+ghost use Rattle.assess.specs.AssessedBy.{IsAssessmentBy, IsRefused};
+ghost use Rattle.assess.specs.Calls.{AreFewBy, AreFewInAll};
+ghost use Rattle.assess.specs.Looked.{IsLooked};
 
-use crate::assessment::Assessment;
+use crate::assessment::{Assessment, Spare, Verdict};
+use crate::grading::{Graded, grade_by, grade_if};
 use crate::judging::judge_map;
+use crate::looking::{Looked, look};
+use crate::naming::find_unnamed;
 use crate::spare::find_spare_if;
-use clues::ClueBook;
-use flaws::{alike_pairs, has_colour, is_painted};
-use grade::{grade_lines, start_facts};
+use cert_check::check_published;
+use cert_text::{Cert, CertFault};
+use flaws::{has_colour, is_painted};
 use line_facts::LineEngine;
 use picture::{Document, MAX_COLOURS, MAX_SIDE, Picture};
 use std::alloc::{AllocError, Global};
@@ -32,25 +37,83 @@ pub fn assess<E: LineEngine>(
     ensures same_longest { E.longest engine.new ≡ E.longest engine.old }
 {
     let _ = (engine.calls(), document.picture.height());
+    let looked = look(alloc, engine, document)?;
+    let verdict = judge_map(
+        alloc,
+        engine,
+        document,
+        &looked.book,
+        &looked.map,
+        allowance,
+    )?;
+    let graded = grade_if(alloc, engine, document, looked.figures, &verdict)?;
+    let spare = find_spare_if(alloc, engine, document, &looked.book, allowance, &verdict)?;
+    Ok(described(document, is_named, looked, verdict, graded, spare))
+}
+
+/// Assesses a document by a certificate that proves that it has one solution where its givens are published: nothing is searched.
+/// Where the checker refuses the certificate, its error is the answer. The grade is that of the certificate, and the first given,
+/// row by row, that it does not name is not needed. The engine must take lines of `MAX_SIDE` cells.
+pub fn assess_by<E: LineEngine>(
+    alloc: Global,
+    engine: &mut E,
+    document: &Document,
+    is_named: bool,
+    cert: &Cert,
+) -> Result<Assessment, CertFault>
+    requires { MAX_SIDE ≤ E.longest engine.old }
+    ensures assessment { MatchResult
+        result
+        (IsAssessmentBy document.now is_named cert.now)
+        (IsRefused document.now cert.now) }
+    ensures few { AreFewBy document.now.picture document.now.givens cert.now
+        (E.calls engine.old) (E.calls engine.new) }
+    ensures same_longest { E.longest engine.new ≡ E.longest engine.old }
+{
+    let _ = (engine.calls(), document.picture.height());
+    check_published(alloc, engine, &document.picture, cert, &document.givens)?;
+    let looked = look(alloc, engine, document)?;
+    let grade = grade_by(alloc, engine, document, looked.figures, cert)?;
+    let graded = Graded {
+        grade: Some(grade),
+        cert: None,
+    };
+    let spare = find_unnamed(document, cert.givens());
+    Ok(described(document, is_named, looked, Verdict::Unique, graded, spare))
+}
+
+// The assessment with what was found of a document.
+fn described(
+    document: &Document,
+    is_named: bool,
+    looked: Looked,
+    verdict: Verdict,
+    graded: Graded,
+    spare: Spare,
+) -> Assessment
+    requires { IsLooked document.now looked }
+    ensures described { IsDescribed document.now is_named result }
+    ensures verdict { result.verdict ≡ verdict }
+    ensures figures { result.figures ≡ looked.figures }
+    ensures grade { result.grade ≡ graded.grade }
+    ensures cert { result.cert ≡ graded.cert }
+    ensures spare { result.spare ≡ spare }
+{
     let picture = &document.picture;
-    let alike = alike_pairs(alloc, document)?;
-    let book = ClueBook::of(alloc, picture)?;
-    let mut map = start_facts(alloc, document, &book)?;
-    let figures = grade_lines(engine, &mut map, &book);
-    let verdict = judge_map(alloc, engine, document, &book, &map, allowance)?;
-    let spare = find_spare_if(alloc, engine, document, &book, allowance, &verdict)?;
-    Ok(Assessment {
+    Assessment {
         verdict,
         height: picture.height(),
         width: picture.width(),
         colours: count_colours(picture),
         givens: document.givens.len(),
-        figures,
+        figures: looked.figures,
+        grade: graded.grade,
+        cert: graded.cert,
         is_blank: !is_painted(picture),
         lacks_background: lacks_background(picture, is_named),
         spare,
-        alike,
-    })
+        alike: looked.alike,
+    }
 }
 
 // Whether a background was named, and no cell has it.

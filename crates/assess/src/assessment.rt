@@ -4,8 +4,9 @@ ghost use Rattle.std.specs.Prelude.{◌≡◌};
 ghost use Rattle.assess.specs.Assessed.{has_flaw, is_fit};
 ghost use Rattle.assess.specs.Spares.{is_given, is_unique};
 
+use cert_text::Cert;
 use flaws::Alike;
-use grade::Figures;
+use grade::{Figures, Grade};
 use picture::Picture;
 use trail::Cell;
 
@@ -27,13 +28,14 @@ impl Verdict {
 }
 
 /// Whether a given can be left out: the first, row by row, without which there is still one solution. If there is none such, the
-/// first for which the allowance leaves this open.
+/// first for which the allowance leaves this open. By a certificate: the first that it does not name.
 #[derive(Clone, Copy, Debug, PartialEq, Eq)]
 pub enum Spare {
     /// Each given is needed.
     Nothing,
     Given(Cell),
     Unknown(Cell),
+    Unnamed(Cell),
 }
 
 impl Spare {
@@ -41,11 +43,11 @@ impl Spare {
     pub fn is_given(self) -> bool
         ensures { result ≡ is_given self }
     {
-        matches!(self, Spare::Given(_))
+        matches!(self, Spare::Given(_) | Spare::Unnamed(_))
     }
 }
 
-/// What is found of a puzzle: its verdict, its size, colours and givens, the figures of line logic, and its flaws.
+/// What is found of a puzzle: its verdict, its size, colours and givens, the figures of line logic, its grade, and its flaws.
 #[derive(Drop)]
 pub struct Assessment {
     pub verdict: Verdict,
@@ -56,6 +58,10 @@ pub struct Assessment {
     pub givens: usize,
     /// The figures of line logic, with how many cells it leaves open.
     pub figures: Figures,
+    /// Of a unique puzzle. Where cells are open and no certificate came within the bounds, there is none.
+    pub grade: Option<Grade>,
+    /// The certificate that was made for the grade, from which its splits and their depth were taken.
+    pub cert: Option<Cert>,
     /// No cell has another colour than the background.
     pub is_blank: bool,
     /// A background was named, and no cell has it.

@@ -107,7 +107,7 @@ fn settled<E: LineEngine>(
     match settle_afresh(engine, &mut InOrder::make(), book, &mut meter, &base) {
         Ok(map) => Ok(map),
         // The picture has the clues and the givens, so that no line is dead.
-        Err(CloseFault::Dead) => Err(AllocError),
+        Err(CloseFault::Dead) => unreachable!(),
         Err(CloseFault::Memory) => Err(AllocError),
     }
 }

@@ -1,6 +1,6 @@
 //! What the lines of a tree do to the branches on a trail.
 
-ghost use Rattle.std.specs.Prelude.{◌≡◌, ◌++◌, length, IfOk, OnOk};
+ghost use Rattle.std.specs.Prelude.{◌≡◌, ◌+◌, ◌++◌, ◌≤◌, length, IfOk, OnOk};
 ghost use Rattle.line_facts.specs.FactSets.{SameShape};
 ghost use Rattle.cert_check.specs.Puzzle.{HasCellNumber, HasLineNumber, IsForced, line_id, split_at};
 ghost use Rattle.cert_check.specs.Walk.{CanCheck};
@@ -28,6 +28,7 @@ pub(crate) fn follow<E: LineEngine>(
     ensures same_shape { OnOk result (SameShape picture.now trail.new.at_hand) }
     ensures follows { IfOk result
         (λ begun. Follows picture.now trail.old line begun trail.new) }
+    ensures few { E.calls engine.new ≤ E.calls engine.old + 1 }
     ensures same_longest { E.longest engine.new ≡ E.longest engine.old }
 {
     match line {
@@ -57,6 +58,7 @@ fn force_line<E: LineEngine>(
     ensures forced { OnOk result (HasLineNumber picture.now at
         → IsForced picture.now trail.old.at_hand (line_id at) trail.new.at_hand) }
     ensures behind { OnOk result (trail.new.behind ≡ trail.old.behind) }
+    ensures few { E.calls engine.new ≤ E.calls engine.old + 1 }
     ensures same_longest { E.longest engine.new ≡ E.longest engine.old }
 {
     let _ = engine.calls();

@@ -1,6 +1,6 @@
 //! The figures of a certificate, by its form.
 
-ghost use Rattle.std.specs.Prelude.{◌≡◌, ◌≤◌, count_by, length, IfOk};
+ghost use Rattle.std.specs.Prelude.{◌≡◌, ◌+◌, ◌≤◌, count_by, length, IfOk};
 ghost use Rattle.picture.specs.Rows.{width_of};
 ghost use Rattle.cert_figures.specs.Guessing.{HasGuesses, is_guess};
 
@@ -14,7 +14,7 @@ use std::alloc::{AllocError, Global};
 
 /// The figures of a certificate that proves a picture. Those of a tree are its splits, and how many of them stand in each other;
 /// those of a certificate with lemmas are its parts and lemmas, and the most facts that wait. The depth of a tree that does not
-/// prove the picture may be any.
+/// prove the picture may be any. The engine is called at most once for each line.
 pub fn guesses_of<E: LineEngine>(
     alloc: Global,
     engine: &mut E,
@@ -24,6 +24,7 @@ pub fn guesses_of<E: LineEngine>(
     requires wide { width_of picture.now ≤ E.longest engine.old }
     requires tall { length picture.now ≤ E.longest engine.old }
     ensures guesses { IfOk result (HasGuesses picture.now cert.now cert.now.form) }
+    ensures few { E.calls engine.new ≤ E.calls engine.old + length cert.now.lines }
     ensures same_longest { E.longest engine.new ≡ E.longest engine.old }
 {
     let splits = count_guesses(cert.lines());

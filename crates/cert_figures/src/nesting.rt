@@ -1,6 +1,6 @@
 //! How many splits of a tree stand in each other.
 
-ghost use Rattle.std.specs.Prelude.{◌≡◌, ◌++◌, ◌≤◌, drop, get_or, length, replicate, reverse, IfOk, OnOk};
+ghost use Rattle.std.specs.Prelude.{◌≡◌, ◌+◌, ◌++◌, ◌≤◌, drop, get_or, length, replicate, reverse, IfOk, OnOk};
 ghost use Rattle.picture.specs.Rows.{width_of};
 ghost use Rattle.line_facts.specs.FactSets.{SameShape};
 ghost use Rattle.cert_check.specs.Tree.{Tree, Proves, written};
@@ -28,6 +28,7 @@ pub(crate) fn tree_depth<E: LineEngine>(
     requires tall { length picture.now ≤ E.longest engine.old }
     ensures depth { IfOk result (λ depth. (tree : Tree) → IsTreeOf picture.now cert.now tree
         → depth ≡ depth_of tree) }
+    ensures few { E.calls engine.new ≤ E.calls engine.old + length cert.now.lines }
     ensures same_longest { E.longest engine.new ≡ E.longest engine.old }
 {
     let clues = ClueBook::of(alloc, picture)?;
@@ -51,6 +52,7 @@ fn depth_from<E: LineEngine>(
     requires same_shape { SameShape picture.now facts }
     ensures depth { IfOk result (λ depth. (tree : Tree) → lines.now ≡ written tree
         → Proves picture.now facts tree → depth ≡ depth_of tree) }
+    ensures few { E.calls engine.new ≤ E.calls engine.old + length lines.now }
     ensures same_longest { E.longest engine.new ≡ E.longest engine.old }
 {
     let mut trail = Trail::start(alloc, facts);

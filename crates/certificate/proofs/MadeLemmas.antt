@@ -1,5 +1,5 @@
 -- What the maker answers: a certificate, or that there is another picture.
-use Rattle.std.proofs.Common.{◌≡◌, ℕ, true, List, [], ◌∷◌, Option, None, Some, is_some, length, refl, sym, ap, subst, ◌∙◌, arith}
+use Rattle.std.proofs.Common.{◌≡◌, ℕ, ◌+◌, ◌*◌, ◌≤◌, true, List, [], ◌∷◌, Option, None, Some, is_some, length, refl, sym, ap, subst, ◌∙◌, arith}
 use Rattle.picture.specs.CellSet.{HasCell}
 use Rattle.picture.specs.Document.{AreInside}
 use Rattle.picture.specs.Picture.{IsPicture}
@@ -13,6 +13,7 @@ use Rattle.line_facts.specs.FactSets.{Leaves, SameShape, nothing_excluded}
 use Rattle.line_facts.proofs.GridLaws.{full_shape, shape_sym, shape_trans}
 use Rattle.cert_text.specs.declared.cert_line.CellNumber.{CellNumber}
 use Rattle.cert_text.specs.declared.cert_line.CertLine.{CertLine}
+use Rattle.second_search.specs.Evaluations.{most_in_tree}
 use Rattle.second_search.specs.Laws.{SoundFacts}
 use Rattle.second_search.specs.Other.{AreSound}
 use Rattle.second_search.specs.Parts.{IsScene}
@@ -111,3 +112,11 @@ pub near_other : (picture : Rows) (givens : List ℕ) (clues : Clues) (near : Op
     → is_some near ≡ true → HasOther picture givens
 near_other picture givens clues None c h e = absurd (cc e)
 near_other picture givens clues (Some other) c h e = let Q : Clues → Type 0 = λ k. IsOther k (HasCell givens) picture other in (other, subst Q c h)
+
+-- facts of the picture's shape have as many lines
+pub few_alike : (picture facts : Masks) (bound before after : ℕ) → SameShape picture facts → after ≤ before + 2 * most_in_tree facts bound → after ≤ before + 2 * most_in_tree picture bound
+unfolding most_in_tree
+few_alike picture facts bound before after s few =
+    let rows = s.rows in
+    let columns = s.each 0 in
+    omega arith

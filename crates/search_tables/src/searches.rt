@@ -8,7 +8,7 @@
 
 ghost use Rattle.second_search.specs.Parts.{IsScene};
 
-use crate::assessing::assess_text;
+use crate::assessing::{assess_by_text, assess_text};
 use crate::bounded::{decide, push_cert};
 use crate::puzzles::{Puzzle, puzzle_in};
 use crate::search::{Said, Tally, judge, settled};
@@ -55,9 +55,10 @@ fn assess_words(alloc: Global, words: &[&str]) -> Result<String> {
     match words {
         [picture] => assess_text(alloc, picture, false, None),
         ["named", picture] => assess_text(alloc, picture, true, None),
+        ["by", other, picture] => assess_by_text(alloc, picture, other),
         [picture, most] => assess_text(alloc, picture, false, Some(splits_in(most)?)),
         ["named", picture, most] => assess_text(alloc, picture, true, Some(splits_in(most)?)),
-        _ => bail!("assess [named] PICTURE [ALLOWANCE]"),
+        _ => bail!("assess [named] PICTURE [ALLOWANCE], or assess by OTHER PICTURE"),
     }
 }
 

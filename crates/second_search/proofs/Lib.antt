@@ -22,3 +22,4 @@ pub mod CarryLemmas
 pub mod LeastLemmas
 pub mod CostLemmas
 pub mod KnownLaws
+pub mod UntilLemmas

@@ -1,5 +1,5 @@
 -- How many lines a judgement evaluates at most under an allowance.
-use Rattle.std.specs.Prelude.{◌≡◌, ℕ, ◌+◌, ◌*◌, ◌≤◌, Option, None, Some, [], ◌∷◌, length, refl}
+use Rattle.std.specs.Prelude.{◌≡◌, ℕ, ◌+◌, ◌-◌, ◌*◌, ◌^◌, ◌≤◌, Option, None, Some, [], ◌∷◌, length, max, refl}
 use Rattle.line_facts.specs.Masks.{Masks}
 use Rattle.picture.specs.Rows.{width_of}
 
@@ -16,6 +16,19 @@ most_to_search facts splits = (1 + 16 * splits) * most_to_close facts
 abbrev pub AreFew : Option ℕ → Masks → ℕ → ℕ → Type 0
 AreFew None facts parts evaluations = Unit {0}
 AreFew (Some splits) facts parts evaluations = evaluations ≤ parts * most_to_search facts splits
+
+-- at how many of the engine's calls a tree is broken off; where no number is set, at the largest
+abbrev pub last_call : Option ℕ → ℕ
+last_call None = 2 ^ 64 - 1
+last_call (Some until) = until
+
+-- Once the engine has counted so many calls, it is called at most once more for each line.
+abbrev pub AreFewUntil : Option ℕ → Masks → ℕ → ℕ → Type 0
+AreFewUntil until facts before after = after ≤ max before (last_call until) + (length facts + width_of facts)
+
+-- A tree within a bound of evaluations takes at most one more for each line.
+unfoldable pub most_in_tree : Masks → ℕ → ℕ
+most_in_tree facts bound = bound + (length facts + width_of facts)
 
 -- ---- worked by hand
 

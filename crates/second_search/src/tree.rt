@@ -1,8 +1,9 @@
 //! The search that writes a tree, whose lines may be kept or dropped. Each line is valid where it is written; the choice of cells
 //! to split is free.
 
-ghost use Rattle.std.specs.Prelude.{◌≡◌, ◌≤◌, None, IfOk, IfSome, IsNone, IsTrue};
+ghost use Rattle.std.specs.Prelude.{◌≡◌, ◌≤◌, None, IfOk, IfSome, IsFalse, IsNone, IsTrue};
 ghost use Rattle.fixpoint.specs.ClosedFacts.{AreClosable};
+ghost use Rattle.second_search.specs.Evaluations.{AreFewUntil, last_call};
 ghost use Rattle.second_search.specs.Trees.{Advances, AreNone, Decides, Turns};
 
 use crate::ladder::Decided;
@@ -39,6 +40,8 @@ pub(crate) fn write_tree<E: LineEngine>(
         (Decides scene.now.clues.now scene.now.picture.now scene.now.facts.now keeps)) }
     ensures broken_off { IfOk result (λ found. IsNone found → way.until ≡ None → ⊥) }
     ensures calls { E.calls engine.old ≤ E.calls engine.new }
+    ensures few { AreFewUntil way.until scene.now.facts.now (E.calls engine.old)
+        (E.calls engine.new) }
     ensures same_longest { E.longest engine.new ≡ E.longest engine.old }
 {
     let _ = engine.calls();
@@ -77,9 +80,13 @@ fn no_lines(alloc: Global, keeps: bool) -> Lines
 
 // Whether the engine was called so often that the tree is broken off.
 fn is_over(way: Way, calls: u64) -> bool
-    ensures { IsTrue result → way.until ≡ None → ⊥ }
+    ensures endless { IsTrue result → way.until ≡ None → ⊥ }
+    ensures before { IsFalse result → calls ≤ last_call way.until }
 {
-    way.until.is_some_and(|until| calls >= until)
+    match way.until {
+        Some(until) => calls >= until,
+        None => false,
+    }
 }
 
 impl Growing {
@@ -95,11 +102,20 @@ impl Growing {
         ensures turns { IfOk result
             (Turns scene.now.clues.now scene.now.picture.now self.old self.new) }
         ensures calls { E.calls engine.old ≤ E.calls engine.new }
+        ensures few { AreFewUntil way.until self.old.trail.at_hand (E.calls engine.old)
+            (E.calls engine.new) }
         ensures same_longest { E.longest engine.new ≡ E.longest engine.old }
     {
         let _ = engine.calls();
         let mut facts = self.trail.at_hand().copy()?;
-        let outcome = close_written(engine, scene.clues, &mut facts, &self.due, &mut self.lines)?;
+        let outcome = close_written(
+            engine,
+            scene.clues,
+            &mut facts,
+            &self.due,
+            &mut self.lines,
+            way.calls(),
+        )?;
         match outcome {
             Outcome::Dead => return Ok(None),
             Outcome::Narrowed => {}

@@ -1,7 +1,8 @@
 //! Closing a branch line by line, with the lines that force something written.
 
-ghost use Rattle.std.specs.Prelude.{◌≡◌, ◌≤◌, length, IfOk, IsTrue};
+ghost use Rattle.std.specs.Prelude.{◌≡◌, ◌≤◌, length, max, IfOk, IsTrue};
 ghost use Rattle.picture.specs.Rows.{line_of, HasLine};
+ghost use Rattle.line_facts.specs.Counts.{counted};
 ghost use Rattle.clues.specs.ClueBook.{HasClue};
 ghost use Rattle.line_facts.specs.FactSets.{IsFacts};
 ghost use Rattle.fixpoint.specs.ClosedFacts.{AreClosable};
@@ -19,23 +20,29 @@ use worklist::{Agenda, InOrder};
 const MOST_LINES: u32 = 100_000_000;
 
 #[tactic(auto, using(crate::proofs::KeepLemmas::sized_lines))]
-// Closes facts, starting with the dirty lines, and writes each line that forces something, and a dead line if there is one.
+// Closes facts, starting with the dirty lines, and writes each line that forces something, and a dead line if there is one. Once
+// the engine has counted `until` calls, it is not called again.
 pub(crate) fn close_written<E: LineEngine>(
     engine: &mut E,
     clues: &ClueBook,
     facts: &mut Facts,
     dirty: &LineSet,
     lines: &mut Lines,
+    until: u64,
 ) -> Result<Outcome, AllocError>
     requires { AreClosable clues.now (E.longest engine.old) facts.old }
     ensures settles { IfOk result (Settles clues.now facts.old facts.new lines.old lines.new) }
     ensures calls { E.calls engine.old ≤ E.calls engine.new }
+    ensures few { E.calls engine.new ≤ max (E.calls engine.old) until }
     ensures same_longest { E.longest engine.new ≡ E.longest engine.old }
 {
     let _ = engine.calls();
     let mut agenda = InOrder::make();
     agenda.put_all(dirty);
     for _ in 0..MOST_LINES {
+        if engine.calls() >= until {
+            return Ok(Outcome::Narrowed);
+        }
         let Some(line) = agenda.take() else {
             return Ok(Outcome::Narrowed);
         };
@@ -65,7 +72,7 @@ fn take_line<E: LineEngine>(
     requires line { HasLine facts.old line }
     ensures settles { IfOk result (λ forced.
         Settles clues.now facts.old facts.new lines.old lines.new forced.outcome) }
-    ensures calls { E.calls engine.old ≤ E.calls engine.new }
+    ensures called { E.calls engine.new ≡ counted (E.calls engine.old) 1 }
     ensures same_longest { E.longest engine.new ≡ E.longest engine.old }
 {
     let _ = (facts.height(), engine.calls());

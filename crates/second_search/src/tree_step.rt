@@ -1,10 +1,11 @@
 //! What comes next on a closed branch of a tree.
 
-ghost use Rattle.std.specs.Prelude.{◌≡◌, ◌≤◌, ◌↔◌, IfOk, IfSome, IsTrue, MatchOption};
-ghost use Rattle.picture.specs.Rows.{HasLine, line_of};
+ghost use Rattle.std.specs.Prelude.{◌≡◌, ◌+◌, ◌≤◌, ◌↔◌, length, max, IfOk, IfSome, IsTrue, MatchOption};
+ghost use Rattle.picture.specs.Rows.{HasLine, line_of, lines_along, width_of};
 ghost use Rattle.clues.specs.ClueBook.{clue_at};
 ghost use Rattle.line_facts.specs.Fits.{CanFit};
 ghost use Rattle.fixpoint.specs.ClosedFacts.{AreClosable, EachFits};
+ghost use Rattle.second_search.specs.Evaluations.{AreFewUntil, last_call};
 ghost use Rattle.second_search.specs.Trees.{Continues, EachFitsAlong, IsComparedTo, IsDeadLine, IsOtherIn};
 
 use crate::looking::{first_unsettled, shown_picture};
@@ -36,9 +37,18 @@ pub(crate) struct Way {
     pub holds: bool,
 }
 
+impl Way {
+    // At how many of the engine's calls the tree is broken off; never, if it is not.
+    pub(crate) fn calls(self) -> u64
+        ensures { result ≡ last_call self.until }
+    {
+        self.until.unwrap_or(u64::MAX)
+    }
+}
+
 // What comes next on a branch; the step is valid even where the branch is not closed. Where `choose` names no cell, the first one
 // in which not just one colour is left is split; where each has one, the picture that the branch shows is the known one or another,
-// or some line is dead.
+// or some line is dead. Once the engine has counted the way's calls, it is called for no more than each line.
 pub(crate) fn next_step<E: LineEngine>(
     alloc: Global,
     engine: &mut E,
@@ -50,6 +60,7 @@ pub(crate) fn next_step<E: LineEngine>(
     ensures continues { IfOk result
         (Continues scene.now.clues.now scene.now.picture.now facts.now) }
     ensures calls { E.calls engine.old ≤ E.calls engine.new }
+    ensures few { AreFewUntil way.until facts.now (E.calls engine.old) (E.calls engine.new) }
     ensures same_longest { E.longest engine.new ≡ E.longest engine.old }
 {
     let _ = (facts.height(), engine.calls());
@@ -57,13 +68,7 @@ pub(crate) fn next_step<E: LineEngine>(
     if let Some(picture) = other_here(alloc, scene, &node)? {
         return Ok(TreeStep::Other(picture));
     }
-    match choose(
-        alloc,
-        engine,
-        &node,
-        way.choice,
-        way.until.unwrap_or(u64::MAX),
-    )? {
+    match choose(alloc, engine, &node, way.choice, way.calls())? {
         Chosen::Splits(cell) => return Ok(TreeStep::Splits(cell)),
         Chosen::Nothing => {}
         Chosen::Fills(trial) => {
@@ -161,6 +166,8 @@ fn dead_line<E: LineEngine>(
     ensures dead { IfOk result (λ found.
         MatchOption found (EachFits clues.now facts.now) (IsDeadLine clues.now facts.now)) }
     ensures calls { E.calls engine.old ≤ E.calls engine.new }
+    ensures few { E.calls engine.new
+        ≤ E.calls engine.old + (length facts.now + width_of facts.now) }
     ensures same_longest { E.longest engine.new ≡ E.longest engine.old }
 {
     let _ = engine.calls();
@@ -182,6 +189,7 @@ fn dead_along<E: LineEngine>(
     ensures dead { IfOk result (λ found. MatchOption found (EachFitsAlong clues.now facts.now axis)
         (IsDeadLine clues.now facts.now)) }
     ensures calls { E.calls engine.old ≤ E.calls engine.new }
+    ensures few { E.calls engine.new ≤ E.calls engine.old + lines_along axis facts.now }
     ensures same_longest { E.longest engine.new ≡ E.longest engine.old }
 {
     let _ = engine.calls();
@@ -206,6 +214,7 @@ fn some_fits<E: LineEngine>(
     ensures fits { IfOk result (λ fits.
         IsTrue fits ↔ CanFit (clue_at clues.now line) (line_of facts.now line)) }
     ensures calls { E.calls engine.old ≤ E.calls engine.new }
+    ensures once { E.calls engine.new ≤ E.calls engine.old + 1 }
     ensures same_longest { E.longest engine.new ≡ E.longest engine.old }
 {
     let _ = (facts.height(), engine.calls());

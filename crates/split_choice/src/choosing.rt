@@ -1,6 +1,6 @@
 //! The cell that a search splits.
 
-ghost use Rattle.std.specs.Prelude.{◌≡◌, ◌≤◌, IfOk};
+ghost use Rattle.std.specs.Prelude.{◌≡◌, ◌≤◌, max, IfOk};
 ghost use Rattle.split_choice.specs.Choices.{CanSplit};
 
 use crate::looking::{Look, look_at};
@@ -20,8 +20,8 @@ pub enum Chosen {
     Nothing,
 }
 
-/// Chooses a cell that is not settled, that is, without exactly one colour left. Looking ahead ends once the engine has counted
-/// `until` calls. Nothing may be chosen even where there is such a cell, and nothing is promised of the facts in `Fills`. The
+/// Chooses a cell that is not settled, that is, without exactly one colour left. Once the engine has counted `until` calls, it is
+/// not called again. Nothing may be chosen even where there is such a cell, and nothing is promised of the facts in `Fills`. The
 /// engine's count of calls does not fall.
 pub fn choose<E: LineEngine>(
     alloc: Global,
@@ -32,6 +32,7 @@ pub fn choose<E: LineEngine>(
 ) -> Result<Chosen, AllocError>
     ensures can_split { IfOk result (CanSplit node.now.facts.now) }
     ensures calls { E.calls engine.old ≤ E.calls engine.new }
+    ensures few { E.calls engine.new ≤ max (E.calls engine.old) until }
     ensures same_longest { E.longest engine.new ≡ E.longest engine.old }
 {
     let _ = engine.calls();
@@ -79,6 +80,7 @@ fn look_ahead<E: LineEngine>(
 ) -> Result<Chosen, AllocError>
     ensures can_split { IfOk result (CanSplit node.now.facts.now) }
     ensures calls { E.calls engine.old ≤ E.calls engine.new }
+    ensures few { E.calls engine.new ≤ max (E.calls engine.old) until }
     ensures same_longest { E.longest engine.new ≡ E.longest engine.old }
 {
     let _ = engine.calls();
@@ -86,7 +88,7 @@ fn look_ahead<E: LineEngine>(
     let mut best = None;
     let mut most = 0;
     for place in places {
-        match look_at(engine, node, place.cell)? {
+        match look_at(engine, node, place.cell, until)? {
             Look::Fills(facts) => return Ok(Chosen::Fills(facts)),
             Look::Seen(tally) if tally.alive <= enough => {
                 return Ok(split_at(node.facts, place.cell));

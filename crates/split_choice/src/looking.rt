@@ -1,6 +1,6 @@
 //! Looking ahead: each colour of a cell is tried, that is, the cell is held to it and the facts are closed.
 
-ghost use Rattle.std.specs.Prelude.{◌≡◌, ◌<◌, ◌≤◌, length, IsTrue};
+ghost use Rattle.std.specs.Prelude.{◌≡◌, ◌<◌, ◌≤◌, length, max, IsTrue};
 ghost use Rattle.picture.specs.Rows.{width_of};
 
 use crate::filling::{fills_all, held_at, is_filled, is_there};
@@ -52,13 +52,16 @@ impl Tally {
     }
 }
 
-/// Tries each colour of a cell, but not that of the held picture where that picture still fills the facts.
+/// Tries each colour of a cell, but not that of the held picture where that picture still fills the facts. Once the engine has
+/// counted `until` calls, it is not called again.
 pub(crate) fn look_at<E: LineEngine>(
     engine: &mut E,
     node: &Node,
     cell: Cell,
+    until: u64,
 ) -> Result<Look, AllocError>
     ensures calls { E.calls engine.old ≤ E.calls engine.new }
+    ensures few { E.calls engine.new ≤ max (E.calls engine.old) until }
     ensures same_longest { E.longest engine.new ≡ E.longest engine.old }
 {
     let _ = engine.calls();
@@ -74,7 +77,7 @@ pub(crate) fn look_at<E: LineEngine>(
         }
         let mut trial = node.facts.copy()?;
         trial.set_left(cell.row, cell.col, 1 << colour);
-        match settle(engine, node.puzzle.clues, &mut trial, cell) {
+        match settle(engine, node.puzzle.clues, &mut trial, cell, until) {
             None => tally.dies = true,
             Some(settled) if is_all_filled(&node.puzzle, &trial, &settled.touched) => {
                 return Ok(Look::Fills(trial));
@@ -107,14 +110,17 @@ struct Settled {
     changes: usize,
 }
 
-// Closes facts in which a cell was held, beginning with its two lines. None where a line is dead.
+// Closes facts in which a cell was held, beginning with its two lines, or breaks this off once the engine has counted `until`
+// calls. None where a line is dead.
 fn settle<E: LineEngine>(
     engine: &mut E,
     clues: &ClueBook,
     facts: &mut Facts,
     cell: Cell,
+    until: u64,
 ) -> Option<Settled>
     ensures calls { E.calls engine.old ≤ E.calls engine.new }
+    ensures few { E.calls engine.new ≤ max (E.calls engine.old) until }
     ensures same_longest { E.longest engine.new ≡ E.longest engine.old }
 {
     let _ = engine.calls();
@@ -125,6 +131,9 @@ fn settle<E: LineEngine>(
     };
     agenda.put_all(&settled.touched);
     for _ in 0..MOST_LINES {
+        if engine.calls() >= until {
+            return Some(settled);
+        }
         let Some(line) = agenda.take() else {
             return Some(settled);
         };

@@ -1,4 +1,4 @@
-use Rattle.assess.proofs.MapLemmas.{closable, map_settled, settling_few}
+use Rattle.assess.proofs.MapLemmas.{closable, map_settled, none_dead, settling_few}
 use Rattle.assess.proofs.judging.settled.Goals as goal
 
 pub settle_afresh-requires : goal.settle_afresh-requires
@@ -14,6 +14,8 @@ pub returns-in-Ok-clause-few : goal.returns-in-Ok-clause-few
 returns-in-Ok-clause-few g c =
     settling_few c.args.book.now c.args.document.now.picture c.in_ok-base.base c.settle_afresh.result _ _ _ _ c.height-2.ensures.facts c.in_ok-base.ensures.same_shape c.settle_afresh.ensures.works
 
-pub returns-in-Err-Dead-clause-few : goal.returns-in-Err-Dead-clause-few
-returns-in-Err-Dead-clause-few g c =
-    settling_few c.args.book.now c.args.document.now.picture c.in_ok-base.base c.settle_afresh.result _ _ _ _ c.height-2.ensures.facts c.in_ok-base.ensures.same_shape c.settle_afresh.ensures.works
+pub unreachable-requires : goal.unreachable-requires
+unreachable-requires g c =
+    let d = c.args.document.now in
+    let dead = rw (c.in-Err-Dead.is, c.in-Err-Dead.field-0-is) at c.settle_afresh.ensures.settles in
+    none_dead c.args.book.now d.picture d.givens c.in_ok-base.base c.height.ensures.picture c.requires.book c.in_ok-base.ensures dead

@@ -1,6 +1,7 @@
 use Rattle.std.proofs.Common.{◌∙◌, refl, arith}
 use Rattle.second_search.proofs.KeepLemmas.{can_close_like}
 use Rattle.second_search.proofs.TreeLemmas.{ends_said, found_said, goes_said, said_lighter, shape_said, starts_said, tree_decides}
+use Rattle.second_search.proofs.UntilLemmas.{few_said}
 use Rattle.second_search.proofs.KnownLaws.{closing_keeps_fillings, only_is_closed}
 use Rattle.second_search.proofs.tree.write_tree.Goals as goal
 
@@ -38,6 +39,7 @@ loop-growing-preserved g c =
         ),
       );
       calls = omega arith;
+      few = omega arith;
       same_longest = c.turn.ensures.same_longest ∙ i.same_longest;
     }
 
@@ -59,5 +61,36 @@ loop-growing-init g c =
         ),
       );
       calls = omega arith;
+      few = omega arith;
       same_longest = refl;
     }
+
+pub returns-in_err-found-clause-few : goal.returns-in_err-found-clause-few
+returns-in_err-found-clause-few g c =
+    let s = c.args.scene.now in
+    let i = c.loop-growing.invariant in
+    few_said s.clues.now s.picture.now s.facts.now i.said.0 c.loop-growing.growing c.args.way.until _ _ _ i.said.1.1 i.few c.turn.ensures.few
+
+pub returns-in-Some-clause-few : goal.returns-in-Some-clause-few
+returns-in-Some-clause-few g c =
+    let s = c.args.scene.now in
+    let i = c.loop-growing.invariant in
+    few_said s.clues.now s.picture.now s.facts.now i.said.0 c.loop-growing.growing c.args.way.until _ _ _ i.said.1.1 i.few c.turn.ensures.few
+
+pub returns-in_err-goes-clause-few : goal.returns-in_err-goes-clause-few
+returns-in_err-goes-clause-few g c =
+    let s = c.args.scene.now in
+    let i = c.loop-growing.invariant in
+    few_said s.clues.now s.picture.now s.facts.now i.said.0 c.loop-growing.growing c.args.way.until _ _ _ i.said.1.1 i.few c.turn.ensures.few
+
+pub returns-then-not-goes-clause-few : goal.returns-then-not-goes-clause-few
+returns-then-not-goes-clause-few g c =
+    let s = c.args.scene.now in
+    let i = c.loop-growing.invariant in
+    few_said s.clues.now s.picture.now s.facts.now i.said.0 c.loop-growing.growing c.args.way.until _ _ _ i.said.1.1 i.few c.turn.ensures.few
+
+pub returns-then-is_over-clause-few : goal.returns-then-is_over-clause-few
+returns-then-is_over-clause-few g c =
+    let s = c.args.scene.now in
+    let i = c.loop-growing.invariant in
+    few_said s.clues.now s.picture.now s.facts.now i.said.0 c.loop-growing.growing c.args.way.until _ _ _ i.said.1.1 i.few c.turn.ensures.few

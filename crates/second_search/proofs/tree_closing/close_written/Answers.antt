@@ -9,6 +9,7 @@ loop-init g c = record {
   settles = settles_none c.args.clues.now c.args.facts.now c.args.lines.now;
   closable = c.requires;
   calls = omega arith;
+  few = omega arith;
   same_longest = refl;
 }
 
@@ -27,5 +28,6 @@ loop-preserved g c =
       closable = can_close_like clues (g.E.LineEngine.longest c.loop.engine)
           (g.E.LineEngine.longest c.take_line.new.engine) c.loop.facts c.take_line.new.facts here.0.same_shape c.take_line.ensures.same_longest c.loop.invariant.closable;
       calls = omega arith;
+      few = omega arith;
       same_longest = c.take_line.ensures.same_longest ∙ c.loop.invariant.same_longest;
     }
