@@ -22,27 +22,28 @@ use trail::Cell;
 // The most cells of a line.
 const MOST_CELLS: usize = MAX_SIDE as usize;
 
-// Finds which colours the cells of a line can have by its clue, in one call of the engine.
+// Finds which colours the cells of a line can have by its clue, in one call of the engine. Copies those that are left to `left`.
 fn narrow_line<E: LineEngine>(
     engine: &mut E,
     facts: &Facts,
     clue: &Clue,
     line: LineId,
+    left: &mut [u16],
     out: &mut [u16],
 ) -> Outcome
     requires line { HasLine facts.now line }
     requires short { length (line_of facts.now line) ≤ E.longest engine.old }
-    requires whole { length out.old ≡ length (line_of facts.now line) }
-    requires fits { length out.old ≤ MAX_SIDE }
+    requires whole { length left.old ≡ length (line_of facts.now line) }
+    requires same_length { length out.old ≡ length left.old }
+    requires fits { length left.old ≤ MAX_SIDE }
+    ensures left { left.new ≡ line_of facts.now line }
     ensures narrows { Narrows clue.now (line_of facts.now line) result out.new }
     ensures same_longest { E.longest engine.new ≡ E.longest engine.old }
     ensures called { E.calls engine.new ≡ counted (E.calls engine.old) 1 }
 {
-    let mut left = [0; MOST_CELLS];
     let mut count = 0;
-    let cells = out.len();
-    facts.copy_line(line, &mut left[..cells]);
-    engine.narrow(&mut count, clue, &left[..cells], out)
+    facts.copy_line(line, left);
+    engine.narrow(&mut count, clue, left, out)
 }
 
 // Whether no list of colours fits a line, in one call of the engine.
@@ -58,20 +59,23 @@ pub(crate) fn is_dead<E: LineEngine>(
     ensures same_longest { E.longest engine.new ≡ E.longest engine.old }
     ensures called { E.calls engine.new ≡ counted (E.calls engine.old) 1 }
 {
-    let mut out = [0; MOST_CELLS];
+    let (mut left, mut out) = ([0; MOST_CELLS], [0; MOST_CELLS]);
     let cells = usize::from(facts.line_len(line));
-    narrow_line(engine, facts, clue, line, &mut out[..cells]) == Outcome::Dead
+    let (left, out) = (&mut left[..cells], &mut out[..cells]);
+    narrow_line(engine, facts, clue, line, left, out) == Outcome::Dead
 }
 
 #[tactic(auto, using(line_facts::proofs::AlongLaws::places))]
-// Sets the candidates of a line's cells in the facts at hand.
+// Sets the candidates of a line's cells in the facts at hand, where they differ from those that are left.
 fn hold_line(
     board: &mut Board,
     picture: &Picture,
     line: LineId,
+    left: &[u16],
     masks: &[u16],
 ) -> Result<(), AllocError>
     requires line { HasLine board.old.at_hand line }
+    requires left { left.now ≡ line_of board.old.at_hand line }
     requires whole { length masks.now ≡ length (line_of board.old.at_hand line) }
     requires fits { length masks.now ≤ MAX_SIDE }
     requires tallied { IsTallied picture.now board.old }
@@ -82,8 +86,10 @@ fn hold_line(
 {
     let _ = board.at_hand().height();
     for i in 0..masks.len() {
-        let cell = Cell::on(line, i as u8);
-        board.hold(picture, cell, masks[i])?;
+        if masks[i] != left[i] {
+            let cell = Cell::on(line, i as u8);
+            board.hold(picture, cell, masks[i])?;
+        }
     }
     Ok(())
 }
@@ -113,12 +119,12 @@ pub(crate) fn force<E: LineEngine>(
     if board.is_settled(line) {
         return Ok(());
     }
-    let mut masks = [0; MOST_CELLS];
+    let (mut left, mut masks) = ([0; MOST_CELLS], [0; MOST_CELLS]);
     let facts = board.at_hand();
     let cells = usize::from(facts.line_len(line));
-    let out = &mut masks[..cells];
-    let _outcome = narrow_line(engine, facts, claim.clues.clue(line), line, out);
-    hold_line(board, claim.picture, line, out)?;
+    let (left, masks) = (&mut left[..cells], &mut masks[..cells]);
+    let _outcome = narrow_line(engine, facts, claim.clues.clue(line), line, left, masks);
+    hold_line(board, claim.picture, line, left, masks)?;
     board.settle(claim.picture, line);
     Ok(())
 }
