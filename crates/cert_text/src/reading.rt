@@ -77,18 +77,22 @@ fn givens_of(alloc: Global, form: Form, text: &[u8]) -> Result<(Vec<CellNumber>,
     }
 }
 
-// The shortest step of a text has two bytes.
-const SHORTEST: usize = 2;
+// The fewest bytes of a line that has one step, with its line feed, and of a step where a line may have several.
+const SHORTEST_LINE: usize = 5;
 
-// Room for the steps of a text: for one behind each line feed and, where a line may have several, behind each space.
+const SHORTEST_STEP: usize = 2;
+
+// Room for the steps of a text. Where a line may have several, each stands behind a line feed or a space.
 fn room_for(form: Form, text: &[u8]) -> usize
-    ensures { result ≤ length text.now / SHORTEST }
+    ensures { result ≤ length text.now / SHORTEST_STEP + 1 }
 {
-    let cuts = match form {
-        Form::LemmaRuns => text.iter().filter(|b| matches!(**b, b'\n' | b' ')).count(),
-        _ => text.iter().filter(|b| **b == b'\n').count(),
-    };
-    (cuts + 1).min(text.len() / SHORTEST)
+    match form {
+        Form::LemmaRuns => {
+            let cuts = text.iter().filter(|b| matches!(**b, b'\n' | b' '));
+            (cuts.count() + 1).min(text.len() / SHORTEST_STEP)
+        }
+        _ => text.len() / SHORTEST_LINE + 1,
+    }
 }
 
 // Notes how many steps a line has, where it may have several.
