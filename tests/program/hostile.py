@@ -1,12 +1,12 @@
 #!/usr/bin/env python3
 """Tries the longest texts that the program takes, of each hostile kind: comments, zeros, tokens and samples without end; .non texts
 of a million sections or numbers; certificates of nested splits, of idle splits and idle lines, of deep branches, of a million lemmas
-without literals, and of one long lemma; sessions without a line end.
+without literals, of one long lemma, and of its uses; sessions without a line end.
 
 For each it prints the instructions per byte (by callgrind, on texts of 64 to 256 KiB; none if valgrind is missing), the seconds,
 and the peak of memory beyond the text (a session keeps no text; if /usr/bin/time is missing, what is below some 15 MiB is that of
-this script). The status is 1 if a text gets a wrong answer, the cost of a byte grows with the text, or the memory reaches 64 MiB
-(256 MiB for certificates with lemmas).
+this script). The status is 1 if a text gets a wrong answer, the cost of a byte grows with the text or is above a bound, or the memory
+reaches 64 MiB (256 MiB for certificates with lemmas).
 
 Usage: tests/program/hostile.py [KIND ..]: parts of the names of kinds. PROGRAM names another program than the proved one.
 """
@@ -26,9 +26,11 @@ MOST_BYTES = 16 * MEBIBYTE  # the longest input that the program takes
 COUNTED = (1 << 16, 1 << 17, 1 << 18)  # sizes at which instructions are counted
 MOST_OVER = 64 * MEBIBYTE
 MOST_LEMMAS = 256 * MEBIBYTE  # what waits and the lemmas are kept besides the lines
+MOST_COUNTED = 18_000  # instructions for a byte; a third of it where a line has one step
 PIECE = 1 << 14
 TIME = '/usr/bin/time'
 SIDE = 20
+LARGE = 120
 
 
 def lines(*parts):
@@ -72,12 +74,24 @@ def noise(row, col):
     return row == 0 or (row * 7 + col * col * 3 + row * col) % 5 < 2
 
 
+def dense(row, col):
+    """A colour for each cell of a large picture, so that its lines have the most blocks."""
+    return 0 if col in (row, (row + 61) % LARGE) else 1 + (row + col) % 15
+
+
 NOISE = picture(noise)
 BLANK = picture(lambda row, col: False)
 PIXEL = lines('P3', '1 1', '255', '0 0 0')
 SMALL = lines('P3', '2 2', '255', '0 0 0', '255 255 255', '255 255 255', '0 0 255')
 # The small picture is shown, and then no list fits the root.
 DEAD_ROOT = lines('part 1 1 .bcdefghijklmno', 'line r 1', 'line c 1', 'line r 2', 'done', 'line r 1', 'line c 2')
+# A lemma of the most literals, all of them denied by its own first; then a branch in which none of them has a colour left.
+LONG_LEMMA = lines('lemma', *['deny 1 1 a'] * 1024, 'dead r 1', 'part 1 1 a')
+DENSE = lines('P3', f'{LARGE} {LARGE}', '255',
+              *(' '.join(str(255 - dense(row, col) * step % 256) for step in (16, 37, 77)) for row in range(LARGE) for col in range(LARGE)))
+# A lemma in which each line but the first row is evaluated anew.
+DENIED = 'deny 1 1 .abcdefghijklmno'
+PLACES = [f'{axis} {at}' for axis in 'rc' for at in range(2, LARGE + 1)]
 PUZZLE = lines('width 1', 'height 1', 'rows', '1', 'columns', '1')
 
 
@@ -173,6 +187,12 @@ KINDS = {
     'lemmas: without literals': lemmas(DEAD_ROOT, b'lemma\ndead r 1\n', ENDED),
     'lemmas: a long one': lemmas(b'lemma\n', b'deny 1 1 a\n', 'Full at line 1027'),
     'lemmas: lines that nothing follows from': lemmas(b'', b'line r 1\n', ENDED),
+    'lemmas: a long one, used': cert(b'use 1\n', ENDED, PIXEL, 'nonolemma 1', LONG_LEMMA),
+    'lemmas: a long one that ends branches': cert(b'part 1 1 a\ndead l 1\n', ENDED, PIXEL, 'nonolemma 1', LONG_LEMMA),
+    'lemmas: large lines': cert(lines('lemma', DENIED, *(f'line {place}' for place in PLACES), 'dead r 1'), ENDED, DENSE, 'nonolemma 1'),
+    'runs: a long lemma, used': cert(lines('use' + ' 1' * 1000), ENDED, PIXEL, 'nonolemma 2', LONG_LEMMA),
+    'runs: large lines': cert(lines('lemma', DENIED, 'line ' + ' '.join(place.replace(' ', '') for place in PLACES), 'dead r 1'), ENDED,
+                              DENSE, 'nonolemma 2'),
     '.non: a million keyword lines': non(PUZZLE, b'title\n'),
     '.non: a million sections': non(PUZZLE, b'rows\n', fault='Repeated'),
     '.non: a million lines of a section': non(PUZZLE, b'1\n', fault='BadCount'),
@@ -255,7 +275,7 @@ def row_of(machine, name, kind):
         one, two, four = (machine.instructions(kind, size) for size in COUNTED)
         first, second = (slope(one, two), slope(two, four))
         counted = f'{second:.1f}'
-        good = good and is_linear(first, second, 1, 1.1)
+        good = good and is_linear(first, second, 1, 1.1) and second < MOST_COUNTED / (1 if name.startswith('runs') else 3)
     answer = said or f'status {status}' if not signal else f'SIGNAL {signal}'
     line = f'{name:<42} {many:>9} {counted:>8} {seconds:>8.2f} {over / MEBIBYTE:>8.1f}  {answer}'
     mark = '' if good else '   OUT OF BOUNDS'

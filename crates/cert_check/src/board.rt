@@ -122,6 +122,7 @@ impl Board {
     }
 
     // Sets the mask of a cell of the facts at hand.
+    #[inline]
     pub(crate) fn hold(
         &mut self,
         picture: &Picture,
@@ -140,8 +141,9 @@ impl Board {
         ensures facts { IsFacts self.old.at_hand }
     {
         if self.trail.at_hand().left(cell.row, cell.col) != held {
-            self.strays = self.strays_with(picture, cell, held);
+            let strays = self.strays_with(picture, cell, held);
             self.trail.hold(cell.row, cell.col, held)?;
+            self.strays = strays;
             self.settled.take_out(LineId {
                 axis: Axis::Across,
                 at: cell.row,

@@ -1,12 +1,11 @@
 //! Line solving on the facts at hand of a board, which records each change.
 
-ghost use Rattle.std.specs.Prelude.{◌≡◌, ◌≤◌, ◌+◌, ◌↔◌, length, OnOk, IsTrue};
+ghost use Rattle.std.specs.Prelude.{◌≡◌, ◌≤◌, ◌+◌, ◌↔◌, length, take, OnOk, IsTrue};
 ghost use Rattle.picture.specs.LineSet.{HasName};
 ghost use Rattle.picture.specs.Rows.{HasLine, line_of};
 ghost use Rattle.line_facts.specs.Counts.{counted};
 ghost use Rattle.line_facts.specs.FactSets.{HoldsLine};
 ghost use Rattle.line_facts.specs.Fits.{CanFit};
-ghost use Rattle.line_facts.specs.NarrowedLine.{Narrows};
 ghost use Rattle.cert_check.specs.Boards.{IsTallied};
 ghost use Rattle.cert_check.specs.Puzzle.{IsForced};
 ghost use Rattle.cert_check.specs.Walk.{CanCheck};
@@ -22,27 +21,15 @@ use trail::Cell;
 // The most cells of a line.
 const MOST_CELLS: usize = MAX_SIDE as usize;
 
-// Finds which colours the cells of a line can have by its clue, in one call of the engine.
-fn narrow_line<E: LineEngine>(
-    engine: &mut E,
-    facts: &Facts,
-    clue: &Clue,
-    line: LineId,
-    out: &mut [u16],
-) -> Outcome
-    requires line { HasLine facts.now line }
-    requires short { length (line_of facts.now line) ≤ E.longest engine.old }
-    requires whole { length out.old ≡ length (line_of facts.now line) }
-    requires fits { length out.old ≤ MAX_SIDE }
-    ensures narrows { Narrows clue.now (line_of facts.now line) result out.new }
-    ensures same_longest { E.longest engine.new ≡ E.longest engine.old }
-    ensures called { E.calls engine.new ≡ counted (E.calls engine.old) 1 }
+// The colours left in each cell of a line, from the left or from the top. What follows them means nothing.
+fn cells_of(facts: &Facts, line: LineId) -> [u16; MOST_CELLS]
+    requires { HasLine facts.now line }
+    ensures { take (length (line_of facts.now line)) result ≡ line_of facts.now line }
 {
     let mut left = [0; MOST_CELLS];
-    let mut count = 0;
-    let cells = out.len();
+    let cells = usize::from(facts.line_len(line));
     facts.copy_line(line, &mut left[..cells]);
-    engine.narrow(&mut count, clue, &left[..cells], out)
+    left
 }
 
 // Whether no list of colours fits a line, in one call of the engine.
@@ -58,20 +45,24 @@ pub(crate) fn is_dead<E: LineEngine>(
     ensures same_longest { E.longest engine.new ≡ E.longest engine.old }
     ensures called { E.calls engine.new ≡ counted (E.calls engine.old) 1 }
 {
-    let mut out = [0; MOST_CELLS];
     let cells = usize::from(facts.line_len(line));
-    narrow_line(engine, facts, clue, line, &mut out[..cells]) == Outcome::Dead
+    let left = cells_of(facts, line);
+    let mut out = [0; MOST_CELLS];
+    let mut count = 0;
+    engine.narrow(&mut count, clue, &left[..cells], &mut out[..cells]) == Outcome::Dead
 }
 
 #[tactic(auto, using(line_facts::proofs::AlongLaws::places))]
-// Sets the candidates of a line's cells in the facts at hand.
+// Sets the candidates of a line's cells in the facts at hand, where they differ from those that are left.
 fn hold_line(
     board: &mut Board,
     picture: &Picture,
     line: LineId,
+    left: &[u16],
     masks: &[u16],
 ) -> Result<(), AllocError>
     requires line { HasLine board.old.at_hand line }
+    requires left { left.now ≡ line_of board.old.at_hand line }
     requires whole { length masks.now ≡ length (line_of board.old.at_hand line) }
     requires fits { length masks.now ≤ MAX_SIDE }
     requires tallied { IsTallied picture.now board.old }
@@ -82,8 +73,10 @@ fn hold_line(
 {
     let _ = board.at_hand().height();
     for i in 0..masks.len() {
-        let cell = Cell::on(line, i as u8);
-        board.hold(picture, cell, masks[i])?;
+        if masks[i] != left[i] {
+            let cell = Cell::on(line, i as u8);
+            board.hold(picture, cell, masks[i])?;
+        }
     }
     Ok(())
 }
@@ -113,12 +106,14 @@ pub(crate) fn force<E: LineEngine>(
     if board.is_settled(line) {
         return Ok(());
     }
-    let mut masks = [0; MOST_CELLS];
     let facts = board.at_hand();
     let cells = usize::from(facts.line_len(line));
-    let out = &mut masks[..cells];
-    let _outcome = narrow_line(engine, facts, claim.clues.clue(line), line, out);
-    hold_line(board, claim.picture, line, out)?;
+    let left = cells_of(facts, line);
+    let mut masks = [0; MOST_CELLS];
+    let (left, masks) = (&left[..cells], &mut masks[..cells]);
+    let mut count = 0;
+    let _outcome = engine.narrow(&mut count, claim.clues.clue(line), left, masks);
+    hold_line(board, claim.picture, line, left, masks)?;
     board.settle(claim.picture, line);
     Ok(())
 }

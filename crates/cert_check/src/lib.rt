@@ -22,4 +22,5 @@ pub use checking::{check_cert, check_counting};
 pub use givens::set_givens;
 pub use literal_engine::LiteralEngine;
 pub use look_counter::LookCounter;
+pub use opening::Open;
 pub use publishing::check_published;

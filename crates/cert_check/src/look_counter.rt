@@ -3,11 +3,11 @@
 ghost use Rattle.std.specs.Prelude.{◌≡◌};
 
 use crate::literal_engine::LiteralEngine;
-use crate::opening::left_of;
+use crate::opening::{Open, open_in};
 use cert_text::Literal;
 use line_facts::Facts;
 
-/// A literal engine that only counts how often it is called.
+/// A literal engine that only counts the literals.
 #[derive(Drop)]
 pub struct LookCounter {
     looks: u64,
@@ -29,8 +29,8 @@ impl LiteralEngine for LookCounter {
         self.looks
     }
 
-    fn left_of(&mut self, facts: &Facts, literal: Literal) -> u16 {
-        self.looks = self.looks.saturating_add(1);
-        left_of(facts, literal)
+    fn open_in(&mut self, facts: &Facts, literals: &[Literal]) -> Open {
+        self.looks = self.looks.saturating_add(literals.len() as u64);
+        open_in(facts, literals)
     }
 }

@@ -12,7 +12,7 @@ use crate::board::Board;
 use crate::claim::Claim;
 use crate::forcing::{force, is_dead};
 use crate::literal_engine::LiteralEngine;
-use crate::opening::{Open, cell_of, open_in};
+use crate::opening::{Open, cell_of};
 use crate::places::{cell_in, line_at};
 use crate::stage::Stage;
 use crate::store::Store;
@@ -170,7 +170,7 @@ impl Machine {
         let Some(literals) = self.store.kept(lemma) else {
             return Err(CertFault::NoLemma(number));
         };
-        let open = open_in(reader, self.board.at_hand(), literals);
+        let open = reader.open_in(self.board.at_hand(), literals);
         if let Open::One(literal) = open {
             self.hold_to(claim, literal)?;
         }
@@ -232,7 +232,7 @@ impl Machine {
         let Some(literals) = self.store.kept(lemma) else {
             return Err(CertFault::NoLemma(number));
         };
-        let open = open_in(reader, self.board.at_hand(), literals);
+        let open = reader.open_in(self.board.at_hand(), literals);
         match open {
             Open::Nothing => self.go_on(claim),
             Open::One(_) | Open::More => Err(CertFault::NotDead(number)),

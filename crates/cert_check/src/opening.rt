@@ -1,20 +1,22 @@
 //! Which colours of literals are left by facts.
 
-ghost use Rattle.std.specs.Prelude.{◌≡◌, ◌-◌, ◌<◌, ◌≤◌, ◌+◌, length, MatchOption};
+ghost use Rattle.std.specs.Prelude.{◌≡◌, ◌-◌, ◌<◌, length, MatchOption};
 ghost use Rattle.picture.specs.Rows.{width_of};
 ghost use Rattle.cert_check.specs.Lemmas.{cell_left, left_of, still_open};
 ghost use Rattle.cert_check.specs.Opening.{HasLeft, told_open};
 
-use crate::literal_engine::LiteralEngine;
 use cert_text::Literal;
 use line_facts::Facts;
 use trail::Cell;
 
-// How many of some literals have a colour left: none, one, or more.
+/// How many of some literals have a colour left in their cells.
 #[derive(Clone, Copy)]
-pub(crate) enum Open {
+pub enum Open {
+    /// None has.
     Nothing,
+    /// Only this one has.
     One(Literal),
+    /// Two have, or more.
     More,
 }
 
@@ -38,7 +40,7 @@ pub(crate) fn cell_of(facts: &Facts, literal: Literal) -> Option<Cell>
 }
 
 // The colours of a literal that are left in its cell.
-pub(crate) fn left_of(facts: &Facts, literal: Literal) -> u16
+fn left_of(facts: &Facts, literal: Literal) -> u16
     ensures { result ≡ left_of facts.now literal }
 {
     match cell_of(facts, literal) {
@@ -48,15 +50,14 @@ pub(crate) fn left_of(facts: &Facts, literal: Literal) -> u16
 }
 
 // Which literals have a colour left.
-pub(crate) fn open_in<L: LiteralEngine>(reader: &mut L, facts: &Facts, literals: &[Literal]) -> Open
+pub(crate) fn open_in(facts: &Facts, literals: &[Literal]) -> Open
     ensures told { result ≡ told_open (still_open facts.now literals.now) }
     ensures left { HasLeft facts.now result }
-    ensures looks { L.looks reader.new ≤ L.looks reader.old + length literals.now }
 {
     let mut found = Open::Nothing;
     for i in 0..literals.len() {
         let literal = literals[i];
-        if reader.left_of(facts, literal) != 0 {
+        if left_of(facts, literal) != 0 {
             match found {
                 Open::Nothing => found = Open::One(literal),
                 Open::One(_) | Open::More => return Open::More,

@@ -1,7 +1,7 @@
 -- Words that name steps, read one by one.
 use Rattle.std.proofs.Common.{◌≡◌, ℕ, ◌+◌, ◌<◌, ◌≤◌, eqb, Bool, true, false, cond, List, [], ◌∷◌, ◌++◌, Option, None, Some, length, append_assoc, length-append, nat_le, option_map, refl, sym, ap}
 use Rattle.std.proofs.Common.{subst, ◌∙◌, arith, inl, inr}
-use Rattle.std.specs.List.{AllByRecursion, count_by}
+use Rattle.std.specs.List.{AllByRecursion}
 use Rattle.std.specs.Option.{option_and_then}
 use Rattle.std.proofs.lemmas.Bool.{le-leb}
 use Rattle.std.proofs.lemmas.Bool.Decides.{leb_tells}
@@ -15,16 +15,10 @@ use Rattle.cert_text.specs.declared.form.Form.TheVariants.{LemmaRuns}
 use Rattle.cert_text.specs.declared.runs.RunWord.{RunWord}
 use Rattle.cert_text.specs.declared.runs.RunWord.TheVariants.{Lines, Uses, Forgets}
 use Rattle.cert_text.specs.Cert.{IsOfLemmas, IsRun, ShareWord}
-use Rattle.cert_text.specs.Steps.{IsPushed, by_words, each_named, lemma_line, one, room_by, room_of, run_by, run_line, run_named, run_or_step, run_word, step_named}
+use Rattle.cert_text.specs.Steps.{IsPushed, by_words, each_named, lemma_line, one, run_by, run_line, run_named, run_or_step, run_word, step_named}
 use Rattle.cert_text.specs.Text.{joined_named, lemma_named, words_of}
 
 -- ---- how a line begins
-
--- there is a word more than there are spaces
-pub words_counted : (line : List ℕ) (n : ℕ) → n ≡ count_by (λ b. eqb b 32) line → n + 1 ≡ length (words_of line)
-words_counted line n e = ap (λ (k : ℕ). k + 1) e ∙ sym (length-slice_split (λ b. eqb b 32) line)
-
-pub ruleset counting_words = (words_counted)
 
 some_word : (bytes : List ℕ) → 0 < length (words_of bytes)
 some_word bytes = omega (arith, length-slice_split (λ b. eqb b 32) bytes)
@@ -34,18 +28,11 @@ two_or_more : (first : List ℕ) (words : List (List ℕ)) → 0 < length words 
 two_or_more first [] some = absurd (omega (arith, some))
 two_or_more first (word ∷ words) some = refl
 
-room_two : (first : List ℕ) (words : List (List ℕ)) → 0 < length words → room_by (first ∷ words) ≡ (elim (run_word first) [ None ↦ 1 | Some kind ↦ length words ])
-room_two first [] some = absurd (omega (arith, some))
-room_two first (word ∷ words) some = refl
-
 module _ (line : List ℕ) where
   -- a single word
   pub run_single : words_of line ≡ line ∷ [] → run_line line ≡ option_map one (lemma_line line)
   unfolding run_line lemma_line
   run_single e = ap run_by e ∙ sym (ap (λ (ws : List (List ℕ)). option_map one (by_words ws)) e)
-
-  pub room_single : words_of line ≡ line ∷ [] → room_of LemmaRuns line ≡ 1
-  room_single e = ap room_by e
 
   module _ (first behind : List ℕ) (e : words_of line ≡ first ∷ words_of behind) where
     -- another word than those that several steps can follow
@@ -56,22 +43,12 @@ module _ (line : List ℕ) where
         ∙ (two_or_more first (words_of behind) (some_word behind)
         ∙ (ap (run_or_step first (words_of behind)) (sym n) ∙ sym (ap (λ (ws : List (List ℕ)). option_map one (by_words ws)) e)))
 
-    pub room_other : None ≡ run_word first → room_of LemmaRuns line ≡ 1
-    room_other n =
-        ap room_by e
-        ∙ (room_two first (words_of behind) (some_word behind) ∙ ap (λ (o : Option RunWord). elim o [ None ↦ 1 | Some kind ↦ length (words_of behind) ]) (sym n))
-
     module _ (kind : RunWord) (s : Some kind ≡ run_word first) where
       pub run_begins : run_line line ≡ run_named kind (words_of behind)
       unfolding run_line
       run_begins = ap run_by e ∙ (two_or_more first (words_of behind) (some_word behind) ∙ ap (run_or_step first (words_of behind)) (sym s))
 
-      pub room_begins : room_of LemmaRuns line ≡ length (words_of behind)
-      room_begins =
-          ap room_by e
-          ∙ (room_two first (words_of behind) (some_word behind) ∙ ap (λ (o : Option RunWord). elim o [ None ↦ 1 | Some kind ↦ length (words_of behind) ]) (sym s))
-
-pub ruleset beginnings = (run_single, room_single, run_other, room_other, run_begins, room_begins)
+pub ruleset beginnings = (run_single, run_other, run_begins)
 
 -- ---- the words one by one
 

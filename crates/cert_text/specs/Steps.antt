@@ -126,22 +126,12 @@ abbrev pub steps_of : Form → List ℕ → Option (List CertLine)
 steps_of LemmaRuns line = run_line line
 steps_of form line = option_map one (step_of form line)
 
--- how many steps a line has, if it is one of the form's
-abbrev pub room_by : List (List ℕ) → ℕ
-room_by (first ∷ word ∷ words) = elim (run_word first) [ None ↦ 1 | Some kind ↦ length (word ∷ words) ]
-room_by words = 1
-
-abbrev pub room_of : Form → List ℕ → ℕ
-room_of LemmaRuns line = room_by (words_of line)
-room_of form line = 1
-
 -- ---- what the reader's functions answer
 
 -- the word that several steps can follow, and these; or the line is not such
 abbrev pub IsRunBegun : List ℕ → Option (RunWord × Bor (List ℕ)) → Type 0
-IsRunBegun line None = (run_line line ≡ option_map one (lemma_line line)) × (room_of LemmaRuns line ≡ 1)
-IsRunBegun line (Some x) =
-    (run_line line ≡ run_named x.0 (words_of x.1.now)) × (room_of LemmaRuns line ≡ length (words_of x.1.now))
+IsRunBegun line None = run_line line ≡ option_map one (lemma_line line)
+IsRunBegun line (Some x) = run_line line ≡ run_named x.0 (words_of x.1.now)
 
 -- the steps of a line were appended, as many as is said; or there are none
 abbrev pub IsPushed : Form → Option (List CertLine) → List CertLine → List CertLine → Option ℕ → Type 0

@@ -1,11 +1,9 @@
 //! The reader of certificates.
 
-ghost use Rattle.std.specs.Prelude.{◌≡◌, ◌+◌, ◌-◌, ◌++◌, ◌^◌, ◌<◌, ◌≤◌, length, min, IfOk};
-ghost use Rattle.std.specs.List.{sum_by};
+ghost use Rattle.std.specs.Prelude.{◌≡◌, ◌+◌, ◌/◌, ◌++◌, ◌^◌, ◌<◌, ◌≤◌, length, IfOk};
 ghost use Rattle.picture.specs.Readers.{Gives};
 ghost use Rattle.cert_text.specs.Cert.{AreOfForm, AreOrdered, CanHaveGivens, HasRuns, IsCert, rank};
 ghost use Rattle.cert_text.specs.Reading.{cert_of, form_of, givens_of, length_of, lines_seen, steps_below};
-ghost use Rattle.cert_text.specs.Steps.{room_of};
 ghost use Rattle.cert_text.specs.Text.{given_lines, givens_seen, lines_of};
 
 use crate::cert::Cert;
@@ -13,7 +11,7 @@ use crate::cert_line::{CellNumber, CertLine};
 use crate::fault::CertFault;
 use crate::form::Form;
 use crate::named::given_in;
-use crate::runs::{push_steps, room_in};
+use crate::runs::push_steps;
 use crate::words::{first_line, is_word};
 use std::alloc::{AllocError, Global};
 
@@ -79,17 +77,22 @@ fn givens_of(alloc: Global, form: Form, text: &[u8]) -> Result<(Vec<CellNumber>,
     }
 }
 
-// How many steps lines have, if each is one of the form's.
-fn count_steps(form: Form, text: &[u8]) -> usize
-    ensures { result ≡ min (2 ^ 64 - 1) (sum_by (room_of form) (lines_of text.now)) }
+// The fewest bytes of a line that has one step, with its line feed, and of a step where a line may have several.
+const SHORTEST_LINE: usize = 5;
+
+const SHORTEST_STEP: usize = 2;
+
+// Room for the steps of a text. Where a line may have several, each stands behind a line feed or a space.
+fn room_for(form: Form, text: &[u8]) -> usize
+    ensures { result ≤ length text.now / SHORTEST_STEP + 1 }
 {
-    let mut count = 0;
-    let mut rest = text;
-    while let Some((line, behind)) = first_line(rest) {
-        count = room_in(form, line).saturating_add(count);
-        rest = behind;
+    match form {
+        Form::LemmaRuns => {
+            let cuts = text.iter().filter(|b| matches!(**b, b'\n' | b' '));
+            (cuts.count() + 1).min(text.len() / SHORTEST_STEP)
+        }
+        _ => text.len() / SHORTEST_LINE + 1,
     }
-    count
 }
 
 // Notes how many steps a line has, where it may have several.
@@ -101,9 +104,6 @@ fn push_length(form: Form, length: u16, runs: &mut Vec<u16>) -> Result<(), Alloc
     }
     Ok(())
 }
-
-// The shortest step of a text has two bytes.
-const SHORTEST: usize = 2;
 
 #[tactic(auto, using(crate::proofs::ReadLemmas::line_reading))]
 // The steps of lines that are numbered from `first`, and how many each line has, where it may have several.
@@ -119,8 +119,7 @@ fn read_lines(
     ensures of_form { IfOk result (λ read. AreOfForm form read.0.items) }
     ensures runs { IfOk result (λ read. HasRuns form read.1.items read.0.items) }
 {
-    let room = count_steps(form, text).min(text.len() / SHORTEST);
-    let mut steps = Vec::with_capacity(alloc, room)?;
+    let mut steps = Vec::with_capacity(alloc, room_for(form, text))?;
     let mut runs = Vec::new(alloc);
     let mut number = first;
     let mut rest = text;

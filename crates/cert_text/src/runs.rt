@@ -1,8 +1,8 @@
 //! The lines below the givens, with one step or several.
 
-ghost use Rattle.std.specs.Prelude.{◌≡◌, length, IfOk, IfSome, option_map};
+ghost use Rattle.std.specs.Prelude.{◌≡◌, IfOk, IfSome, option_map};
 ghost use Rattle.cert_text.specs.Cert.{IsOfLemmas};
-ghost use Rattle.cert_text.specs.Steps.{IsPushed, IsRunBegun, one, room_of, run_named, run_word, step_named, step_of, steps_of};
+ghost use Rattle.cert_text.specs.Steps.{IsPushed, IsRunBegun, one, run_named, run_word, step_named, step_of, steps_of};
 ghost use Rattle.cert_text.specs.Text.{words_of};
 ghost use Rattle.cert_text.specs.declared.form.Form.TheVariants.{LemmaRuns};
 
@@ -121,26 +121,5 @@ pub(crate) fn push_steps(
             None => push_step(form, line, steps),
         },
         _ => push_step(form, line, steps),
-    }
-}
-
-#[tactic(auto, using(crate::proofs::RunLemmas::counting_words))]
-// How many words there are between single spaces.
-fn count_words(line: &[u8]) -> usize
-    ensures { result ≡ length (words_of line.now) }
-{
-    line.iter().filter(|b| **b == b' ').count() + 1
-}
-
-// How many steps a line has, if it is one of the form's.
-pub(crate) fn room_in(form: Form, line: &[u8]) -> usize
-    ensures { result ≡ room_of form line.now }
-{
-    match form {
-        Form::LemmaRuns => match run_in(line) {
-            Some((_, words)) => count_words(words),
-            None => 1,
-        },
-        _ => 1,
     }
 }

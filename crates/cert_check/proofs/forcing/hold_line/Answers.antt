@@ -1,17 +1,59 @@
-use Rattle.std.proofs.Common.{arith, refl, ◌∙◌}
-use Rattle.line_facts.proofs.AlongLaws.{written_more, written_all}
+use Rattle.std.proofs.Common.{◌≡◌, ◌≢◌, ℕ, ◌+◌, List, ap, arith, get_or, inl, inr, refl, subst, sym, ◌∙◌}
+use Rattle.std.proofs.lemmas.Bool.{cases_eq}
+use Rattle.line_facts.proofs.AlongLaws.{Written, written_all, written_apart, written_more}
+use Rattle.line_facts.specs.Masks.{Masks}
+use Rattle.picture.specs.declared.line_id.LineId.{LineId}
+use Rattle.picture.specs.Rows.{Rows, line_of}
+use Rattle.cert_check.specs.Boards.{Boarded, IsTallied}
+use Rattle.cert_check.proofs.forcing.hold_line.Goals.{then-masks-i+in_ok-hold, else-masks-i}
 use Rattle.cert_check.proofs.forcing.hold_line.Goals as goal
+
+-- a place that has its mask already
+written_there : (line : LineId) (old : Masks) (rows : Rows) (masks : List ℕ) (i : ℕ) → Written line old rows masks i → get_or (line_of rows line) i 0 ≡ get_or masks i 0
+    → Written line old rows masks (i + 1)
+written_there line old rows masks i w e = record {
+  same_shape = w.same_shape;
+  so_far = λ j m. elim (cases_eq j i) [
+    | inl k ↦ (let P : ℕ → Type 0 = λ n. get_or (line_of rows line) n 0 ≡ get_or masks n 0 in subst P (sym k) e)
+    | inr n ↦ w.so_far j (omega arith)
+  ];
+  elsewhere = w.elsewhere;
+}
 
 pub loop-i-preserved : goal.loop-i-preserved
 loop-i-preserved c =
     let kept = c.loop-i.invariant in
-    let at = c.in_ok-hold.ensures.at_hand in
-    record {
-      written = written_more c.args.line c.args.board.now.at_hand c.loop-i.board.at_hand c.hold.new.self.at_hand c.args.masks.now c.loop-i.i _ c.hold.ensures.facts c.requires.line c.requires.whole
-          (omega arith) refl kept.written (rw (c.on-cell.ensures.row, c.on-cell.ensures.col) at at);
-      behind = c.in_ok-hold.ensures.behind ∙ kept.behind;
-      tallied = c.in_ok-hold.ensures.tallied;
-    }
+    let i = c.loop-i.i in
+    let line = c.args.line in
+    let old = c.args.board.now.at_hand in
+    let before = c.loop-i.board.at_hand in
+    let masks = c.args.masks.now in
+    let left = c.args.left.now in
+    elim c.if-masks-i.branch [
+      | then-masks-i+in_ok-hold w ↦
+          let at = w.in_ok-hold.ensures.at_hand in
+          let new = w.hold.new.self.at_hand in
+          let is = rw (w.on-cell.ensures.row, w.on-cell.ensures.col) at at in
+          let facts : c.if-masks-i.board.at_hand ≡ new = ap {B = Masks} (λ (b : Boarded). b.at_hand) w.board-is in
+          record {
+            written = subst (λ (f : Masks). Written line old f masks (i + 1)) (sym facts)
+                (written_more line old before new masks i _ w.hold.ensures.facts c.requires.line c.requires.whole (omega arith) refl kept.written is);
+            rest = λ j m.
+                let apart : j ≢ i = omega arith in
+                ap (λ (f : Masks). get_or (line_of f line) j 0) (facts ∙ is) ∙ (written_apart before line i j _ apart ∙ kept.rest j (omega arith));
+            behind = ap {B = List Masks} (λ (b : Boarded). b.behind) w.board-is ∙ (w.in_ok-hold.ensures.behind ∙ kept.behind);
+            tallied = subst (IsTallied c.args.picture.now) (sym w.board-is) w.in_ok-hold.ensures.tallied;
+          }
+      | else-masks-i w ↦
+          let facts : c.if-masks-i.board.at_hand ≡ before = ap {B = Masks} (λ (b : Boarded). b.at_hand) w.board-is in
+          let same : get_or left i 0 ≡ get_or masks i 0 = sym w.if-masks-i.false in
+          record {
+            written = subst (λ (f : Masks). Written line old f masks (i + 1)) (sym facts) (written_there line old before masks i kept.written (kept.rest i (omega arith) ∙ same));
+            rest = λ j m. ap (λ (f : Masks). get_or (line_of f line) j 0) facts ∙ kept.rest j (omega arith);
+            behind = ap {B = List Masks} (λ (b : Boarded). b.behind) w.board-is ∙ kept.behind;
+            tallied = subst (IsTallied c.args.picture.now) (sym w.board-is) kept.tallied;
+          }
+    ]
 
 pub returns-clause-holds : goal.returns-clause-holds
 returns-clause-holds c = written_all c.args.line c.args.board.now.at_hand c.loop-i.board.at_hand c.args.masks.now c.loop-i.i c.requires.whole (omega arith) c.loop-i.invariant.written

@@ -3,11 +3,10 @@ use Rattle.cert_check.proofs.OpenLemmas.{more_told, not_first}
 use Rattle.cert_check.proofs.opening.open_in.Goals as goal
 
 pub returns-in-One : goal.returns-in-One
-returns-in-One g c =
+returns-in-One c =
     let some : 0 < c.left_of.result = omega arith in
     record {
       told = more_told c.args.facts.now c.args.literals.now c.loop-i.i _ c.loop-i-test.true c.loop-i.found c.loop-i.invariant.told (not_first c.loop-i.found c.in-One.is)
-          (subst (λ (n : ℕ). 0 < n) c.left_of.ensures.left some);
+          (subst (λ (n : ℕ). 0 < n) c.left_of.ensures some);
       left = tt;
-      looks = (let once = c.left_of.ensures.looked in let so_far = c.loop-i.invariant.looks in let inside = c.loop-i-test.true in omega arith);
     }

@@ -20,6 +20,6 @@ returns-in_ok-hold-clause-tallied c =
     (ap {B = List (List ℕ)} (λ (t : Trailed). t.at_hand) held ∙ ap {B = List (List ℕ)} (λ (f : Masks). with_cell f row col c.args.held) facts)
     (ap {B = List (List (List ℕ))} (λ (t : Trailed). t.behind) held ∙ ap {B = List (List (List ℕ))} (λ (b : Boarded). b.behind) view)
     (ap {B = List ℕ} (λ (b : Boarded). b.waits) view)
-    c.strays_with-self-inside.ensures.value
+    c.strays_with-strays.ensures.value
     (subst (λ (l : Lines). TakesOutName l c.take_out.new.self (across row)) (ap {B = Lines} (λ (b : Boarded). b.settled) view) c.take_out.ensures.members)
     c.take_out-then-left-held.ensures.members
