@@ -48,7 +48,7 @@ MOST = {
     "A session's answers are right": (850, 944),
     'Published pairs are accepted': (1788, 1788),
     'What prove prints is accepted': (700, 700),
-    'The program does what its arguments ask for': (2722, 2722),
+    'The program does what its arguments ask for': (2723, 2723),
 }
 # The claims in whose base a name may mean two things: they span formats, each with words and lines of its own.
 SHARED = {

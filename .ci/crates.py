@@ -23,7 +23,7 @@ ROOMS = {
                'split_choice lemma_search lemma_proof second_search certificate assess'),
     'Bench': ('a picture kept up to date while it is edited', 'edits kept_audit live_audit'),
     'Outside': ('texts, sessions, the program and its hosts',
-                'ppm_text non_text command_text report_text grade_text session program_options command_line answers published program '
+                'ppm_text non_text command_text report_text grade_text assess_text session program_options command_line answers published program '
                 'claims web nonobench'),
     'Tests': ('programs that only tests run', 'table_words tables search_tables lemma_tables cert_tables refused'),
 }

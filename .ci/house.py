@@ -243,16 +243,18 @@ COUNTS = (
     ('lines of proofs above 200 columns', lambda: wide_lines('proofs', 200), 0),
     ('lists of lists of numbers in specs without a sort', lambda: unsorted_grids('specs'), 125),
     ('lists of lists of numbers in proofs without a sort', lambda: unsorted_grids('proofs'), 441),
-    ('functions above 6 parameters', long_heads, 1),
+    # the second is `nonobench_assess`, for hosts in C: two of its texts may be left out
+    ('functions above 6 parameters', long_heads, 2),
     ('functions that carry a counter by &mut', carried_counters, 18),
     ('pairs of source files that share six lines of one shape', lambda: shared_places(sources('src', '.rt'), shape), 120),
     ('pairs of specs or proofs that share six lines', lambda: shared_places(proof_sources(), str), 24),
     ('source files without a first line', headless_files, 0),
     ('definitions and lemmas that nothing names', unnamed_definitions, 12),
     ('rows worked out beside a definition', worked_rows, 45),
-    ('code lines', code_lines, 17000),
-    # `assess`, which has 1,060, `cert_figures` and `grade_text` stand beside what they are to replace in scripts
-    ('lines of specs, lemmas and answers', proof_lines, 51200),
+    # `assess`, `assess_text` and the command `assess` have 780: they replace what hosts compute in scripts
+    ('code lines', code_lines, 17800),
+    # `assess`, `cert_figures`, `grade_text` and `assess_text` stand beside what they are to replace in scripts; the command `assess` has 600
+    ('lines of specs, lemmas and answers', proof_lines, 52500),
     # French has 880 lines of texts; the page reads SVG, BMP, AVIF and sheets of sprites, and cuts pictures into places; the example
     # site bounds connections, and headers are read in bounded memory. Modules are made those of other systems, too. The page aims for
     # a grade, and a script measures how often that is reached.

@@ -89,6 +89,14 @@ uint32_t nonobench_check_published(nonobench_desk **desk, const uint8_t *picture
                                    size_t certificate_size, const uint8_t *givens, size_t givens_size,
                                    const uint8_t *background, size_t background_size);
 
+/* Assesses a puzzle, a P3 text or (`non`) a .non text with a goal: whether it is fit to be published. The text is what `nonobench
+ * assess` prints for it, and ends with `fit` or `unfit`; or why it is refused. A background counts as named where it is passed. The
+ * texts of a file of givens and of a certificate count where `has_givens` and `has_certificate` say that they are passed, and an
+ * allowance where it is at most 99,999. */
+uint32_t nonobench_assess(nonobench_desk **desk, const uint8_t *puzzle, size_t puzzle_size, bool non, const uint8_t *background,
+                          size_t background_size, bool has_givens, const uint8_t *givens, size_t givens_size,
+                          bool has_certificate, const uint8_t *certificate, size_t certificate_size, uint32_t allowance);
+
 /* Makes a certificate with lemmas of a P3 picture, without givens: the text. If another picture with the clues was found, the text is
  * `ambiguous` with a line feed; if neither was found within the bounds of the search, `undecided`. It may take minutes. */
 uint32_t nonobench_prove(nonobench_desk **desk, const uint8_t *picture, size_t picture_size, const uint8_t *background,

@@ -13,6 +13,7 @@ unsigned nonobench_close(void *, unsigned);
 unsigned nonobench_check(void *, const byte *, u64, const byte *, u64, const byte *, u64);
 unsigned nonobench_check_published(void *, const byte *, u64, const byte *, u64, const byte *, u64, const byte *, u64);
 unsigned nonobench_prove(void *, const byte *, u64, const byte *, u64);
+unsigned nonobench_assess(void *, const byte *, u64, _Bool, const byte *, u64, _Bool, const byte *, u64, _Bool, const byte *, u64, unsigned);
 u64 nonobench_version(byte *, u64);
 
 // What a refused call answers (crates/web/src/status.rt).
@@ -79,6 +80,14 @@ CALL(prove)
 unsigned prove_within(u64 desk, u64 file, u64 size, u64 word, u64 word_size) {
     if (!is_within(file, size) || !is_within(word, word_size)) return refuse(desk);
     return nonobench_prove(here(desk), here(file), size, here(word), word_size);
+}
+
+CALL(assess)
+unsigned assess_within(u64 desk, u64 file, u64 size, unsigned non, u64 word, u64 word_size, unsigned has_givens, u64 givens,
+                       u64 givens_size, unsigned has_cert, u64 cert, u64 cert_size, unsigned allowance) {
+    if (!is_within(file, size) || !is_within(word, word_size) || !is_within(givens, givens_size) || !is_within(cert, cert_size)) return refuse(desk);
+    return nonobench_assess(here(desk), here(file), size, non != 0, here(word), word_size, has_givens != 0, here(givens), givens_size,
+                            has_cert != 0, here(cert), cert_size, allowance);
 }
 
 CALL(version)

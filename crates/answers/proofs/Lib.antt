@@ -1,3 +1,4 @@
+pub mod AssessLemmas
 pub mod CheckLemmas
 pub mod OpenLemmas
 pub mod ProveLemmas

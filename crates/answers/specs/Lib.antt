@@ -1,3 +1,4 @@
+pub mod Assess
 pub mod Check
 pub mod Open
 pub mod Prove

@@ -78,7 +78,7 @@ fn first_picture(alloc: Global, clues: &ClueBook) -> Result<Picture, ProgramFaul
 }
 
 // A picture in two colours, in black on white, as a document without givens.
-fn in_black(alloc: Global, picture: Picture) -> Result<Document, ProgramFault>
+pub(crate) fn in_black(alloc: Global, picture: Picture) -> Result<Document, ProgramFault>
     requires { (row col : ℕ) → cell_at picture row col ≤ 1 }
     ensures value { IfOk result (λ document. design_of document ≡ black_on_white picture) }
     ensures memory { IfErr result (λ e. e ≡ Memory) }

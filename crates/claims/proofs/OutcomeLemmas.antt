@@ -34,6 +34,7 @@ fails (fault.Ppm f) e = absurd cc
 fails (fault.Non f) e = absurd cc
 fails (fault.Edit f) e = absurd cc
 fails fault.NoPicture e = absurd cc
+fails fault.NoGoal e = absurd cc
 fails (fault.Cert f) e = absurd cc
 fails (fault.Givens f) e = absurd cc
 fails fault.Memory e = absurd cc

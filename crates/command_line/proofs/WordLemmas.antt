@@ -187,6 +187,7 @@ memory_or k (Err (fault.Ppm x)) u = inl (memory_is (fault.Ppm x) u)
 memory_or k (Err (fault.Non x)) u = inl (memory_is (fault.Non x) u)
 memory_or k (Err (fault.Edit x)) u = inl (memory_is (fault.Edit x) u)
 memory_or k (Err fault.NoPicture) u = inl (memory_is fault.NoPicture u)
+memory_or k (Err fault.NoGoal) u = inl (memory_is fault.NoGoal u)
 memory_or k (Err (fault.Cert x)) u = inl (memory_is (fault.Cert x) u)
 memory_or k (Err (fault.Givens x)) u = inl (memory_is (fault.Givens x) u)
 memory_or k (Err fault.Memory) u = inl refl

@@ -7,4 +7,4 @@ mod pathing;
 
 pub use grading::{push_grade, push_unknown};
 pub use numbers::push_numbers;
-pub use pathing::push_path;
+pub use pathing::{colour_letter, push_path};

@@ -69,8 +69,8 @@ fn axis_letter(axis: Axis) -> u8
     }
 }
 
-// The letter of a colour, which is one of sixteen.
-fn colour_letter(colour: u8) -> u8
+/// The letter of a colour, which is one of sixteen.
+pub fn colour_letter(colour: u8) -> u8
     ensures { result ≡ letter (colour % 16) }
 {
     let colour = colour % MAX_COLOURS;

@@ -16,7 +16,7 @@ use Rattle.command_text.specs.declared.session_fault.SessionFault.TheVariants as
 use Rattle.program_options.specs.declared.fault.ProgramFault.{ProgramFault}
 use Rattle.program_options.specs.declared.fault.ProgramFault.TheVariants.{Ppm, Non, Edit, NoPicture, Cert, Givens}
 use Rattle.program_options.specs.declared.fault.ProgramFault.TheVariants.{Memory, TooLong, Words, NotText, Background}
-use Rattle.program_options.specs.declared.fault.ProgramFault.TheVariants.{BackgroundOfNon, Read, Write}
+use Rattle.program_options.specs.declared.fault.ProgramFault.TheVariants.{BackgroundOfNon, NoGoal, Read, Write}
 
 -- an error of the P3 text; out of memory is one error wherever it comes from
 abbrev pub fault_of : PpmFault → ProgramFault
@@ -44,6 +44,7 @@ fault_text (Ppm fault) = codes "ppm " ++ name_of fault ++ codes " at byte " ++ d
 fault_text (Non fault) = codes "non " ++ nons.name_of fault
 fault_text (Edit fault) = codes "edit " ++ fault_name fault
 fault_text NoPicture = codes "no picture has these clues"
+fault_text NoGoal = codes "non NoGoal"
 fault_text (Cert fault) =
     codes "certificate " ++ certs.name_of fault ++ codes " at line " ++ decimal (unwrap_or (certs.place_of fault) 0)
 fault_text (Givens fault) =

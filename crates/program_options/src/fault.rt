@@ -25,6 +25,8 @@ pub enum ProgramFault {
     Edit(EditFault),
     /// The .non text has no goal, and no picture has its clues.
     NoPicture,
+    /// The .non text has no goal, so that there is no picture to assess.
+    NoGoal,
     /// The certificate was refused.
     Cert(CertFault),
     /// The file of givens was refused.
@@ -81,6 +83,7 @@ impl fmt::Display for ProgramFault {
             ProgramFault::Non(fault) => write!(f, "non {}", fault.name()),
             ProgramFault::Edit(fault) => write!(f, "edit {}", fault.name()),
             ProgramFault::NoPicture => f.write_str("no picture has these clues"),
+            ProgramFault::NoGoal => f.write_str("non NoGoal"),
             ProgramFault::Cert(fault) => {
                 let line = fault.place().unwrap_or(0);
                 write!(f, "certificate {} at line {line}", fault.name())

@@ -1,11 +1,13 @@
-//! The options of a session, and the errors with which the program ends.
+//! The options of sessions and assessments, and the errors with which the program ends.
 #![tactic(auto)]
 
+mod assessing;
 mod background;
 mod fault;
 mod options;
 mod version;
 
+pub use assessing::AssessOptions;
 pub use background::background_in;
 pub use fault::ProgramFault;
 pub use options::Options;

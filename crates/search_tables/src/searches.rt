@@ -8,7 +8,7 @@
 
 ghost use Rattle.second_search.specs.Parts.{IsScene};
 
-use crate::assessing::{assess_by_text, assess_text};
+use crate::assessing::{assessed, assessed_by};
 use crate::bounded::{decide, push_cert};
 use crate::puzzles::{Puzzle, puzzle_in};
 use crate::search::{Said, Tally, judge, settled};
@@ -53,11 +53,11 @@ fn told_of(alloc: Global, words: &[&str]) -> Result<String> {
 // The answer to a call of `assess`.
 fn assess_words(alloc: Global, words: &[&str]) -> Result<String> {
     match words {
-        [picture] => assess_text(alloc, picture, false, None),
-        ["named", picture] => assess_text(alloc, picture, true, None),
-        ["by", other, picture] => assess_by_text(alloc, picture, other),
-        [picture, most] => assess_text(alloc, picture, false, Some(splits_in(most)?)),
-        ["named", picture, most] => assess_text(alloc, picture, true, Some(splits_in(most)?)),
+        [picture] => assessed(alloc, picture, false, None),
+        ["by", other, picture] => assessed_by(alloc, picture, other),
+        ["named", picture] => assessed(alloc, picture, true, None),
+        [picture, most] => assessed(alloc, picture, false, Some(splits_in(most)?)),
+        ["named", picture, most] => assessed(alloc, picture, true, Some(splits_in(most)?)),
         _ => bail!("assess [named] PICTURE [ALLOWANCE], or assess by OTHER PICTURE"),
     }
 }

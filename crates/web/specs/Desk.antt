@@ -6,7 +6,10 @@ use Rattle.live_audit.specs.Bench.{Seen}
 use Rattle.command_text.specs.declared.session_fault.SessionFault.{SessionFault}
 use Rattle.session.specs.Session.{Runs}
 use Rattle.program_options.specs.declared.fault.ProgramFault.{ProgramFault}
+use Rattle.program_options.specs.declared.assessing.AssessOptions.{AssessOptions}
 use Rattle.program_options.specs.declared.options.Options.{Options}
+use Rattle.answers.specs.declared.assessing.Block.{Block}
+use Rattle.answers.specs.Assess.{Assesses}
 use Rattle.answers.specs.Check.{IsCheckOf, IsOnlyPicture}
 use Rattle.program_options.specs.Faults.{fault_text, status_of}
 use Rattle.answers.specs.Open.{OpensFile}
@@ -119,3 +122,18 @@ abbrev pub Proves : List ℕ → Option Rgb → List ℕ → ℕ → Type 0
 Proves file background text status =
     ((status ≡ 0) × IsProveOf file background false (Ok text))
     ⊎ IsRefused (λ fault. IsProveOf file background false (Err fault)) text status
+
+-- ---- assessments
+
+-- the block of a puzzle, fit or unfit
+pub record IsTold (file : List ℕ) (givens cert : Option (List ℕ)) (options : AssessOptions) (text : List ℕ)
+    : Type 0 where
+  pub block : Block
+  pub assesses : Assesses file givens cert options (Ok block)
+  pub is : text ≡ block.text.items
+
+-- the assessment of a puzzle, by the texts of its file, of its givens and of its certificate
+abbrev pub AssessesBy : List ℕ → Option (List ℕ) → Option (List ℕ) → AssessOptions → List ℕ → ℕ → Type 0
+AssessesBy file givens cert options text status =
+    ((status ≡ 0) × IsTold file givens cert options text)
+    ⊎ IsRefused (λ fault. Assesses file givens cert options (Err fault)) text status

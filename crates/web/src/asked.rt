@@ -1,12 +1,15 @@
 //! The arguments of the calls, as values.
 
-ghost use Rattle.std.specs.Prelude.{◌≡◌, IfSome};
+ghost use Rattle.std.specs.Prelude.{◌≡◌, IfSome, None, Some, if◌then◌else◌, option_map};
 ghost use Rattle.program_options.specs.Options.{IsLawful};
-ghost use Rattle.web.specs.Asked.{background_asked, options_asked};
+ghost use Rattle.web.specs.Asked.{allowance_asked, assess_options_asked, background_asked, options_asked, text_if};
 
-use answers::{Options, background_in};
+use answers::{AssessOptions, Options, background_in};
 use edits::MAX_DEPTH;
 use picture::Rgb;
+
+// The largest allowance.
+const MOST_SPLITS: u32 = 99_999;
 
 /// The background of a word: `Some(None)` if it is empty, None if it is no colour.
 pub fn background_of(word: &[u8]) -> Option<Option<Rgb>>
@@ -32,4 +35,37 @@ pub fn options_of(non: bool, word: &[u8], history: u32) -> Option<Options>
         background,
         history: history as u16,
     })
+}
+
+/// The options of an assessment. None where `word` is no colour, or names one for a .non text.
+pub fn assess_options_of(non: bool, word: &[u8], allowance: u32) -> Option<AssessOptions>
+    ensures { result ≡ assess_options_asked non word.now allowance }
+{
+    let background = background_of(word)?;
+    if non && background.is_some() {
+        return None;
+    }
+    Some(AssessOptions {
+        non,
+        background,
+        allowance: allowance_of(allowance),
+    })
+}
+
+// An allowance of at most 99,999 splits. Any other number stands for none.
+fn allowance_of(allowance: u32) -> Option<u32>
+    ensures { result ≡ allowance_asked allowance }
+{
+    if allowance > MOST_SPLITS {
+        None
+    } else {
+        Some(allowance)
+    }
+}
+
+/// A text, if it is passed.
+pub fn text_if(is_passed: bool, text: &[u8]) -> Option<&[u8]>
+    ensures { option_map (λ bytes. bytes.now) result ≡ text_if is_passed text.now }
+{
+    if is_passed { Some(text) } else { None }
 }

@@ -3,17 +3,17 @@
 ghost use Rattle.std.specs.Prelude.{◌≡◌, ◌⊎◌, ◌++◌, None, [], drop, length, take, IfSome, IsSome};
 ghost use denote.RawPtr.{null_ptr};
 ghost use Rattle.program_options.specs.declared.version.TheConstants.{VERSION};
-ghost use Rattle.web.specs.Asked.{background_asked, options_asked};
-ghost use Rattle.web.specs.Desk.{Checks, ChecksPublished, Closes, IsKept, IsUnasked, Opens, Proves, Says};
+ghost use Rattle.web.specs.Asked.{assess_options_asked, background_asked, options_asked, text_if};
+ghost use Rattle.web.specs.Desk.{AssessesBy, Checks, ChecksPublished, Closes, IsKept, IsUnasked, Opens, Proves, Says};
 ghost use Rattle.web.specs.Held.{IsEmpty};
 
-use crate::asked::{background_of, options_of};
+use crate::asked::{assess_options_of, background_of, options_of, text_if};
 use crate::cell::DeskCell;
 use crate::desk::Desk;
 use crate::held::Held;
 use crate::inside::{
-    check_in, check_published_in, close_in, copy_front, forget_in, keep_text, lend_text, open_in,
-    prove_in, say_in,
+    Puzzle, assess_in, check_in, check_published_in, close_in, copy_front, forget_in, keep_text,
+    lend_text, open_in, prove_in, say_in,
 };
 use crate::status::{DONE, MEMORY, OPTIONS};
 use answers::VERSION;
@@ -173,4 +173,37 @@ pub extern "C" fn nonobench_prove(held: &mut Held, file: &[u8], background: &[u8
         return OPTIONS;
     };
     replace_with(held, (file, background), prove_in)
+}
+
+/// Assesses a puzzle: a P3 text, or a .non text with a goal. The texts of its givens and of its certificate count where they are
+/// passed, an allowance where it is at most 99,999. The block, which ends with `fit` or `unfit`, or an error, is the text.
+#[unsafe(no_mangle)]
+pub extern "C" fn nonobench_assess(
+    held: &mut Held,
+    file: &[u8],
+    non: bool,
+    background: &[u8],
+    has_givens: bool,
+    givens: &[u8],
+    has_cert: bool,
+    cert: &[u8],
+    allowance: u32,
+) -> u32
+    ensures assesses { IfSome (assess_options_asked non background.now allowance) (λ options.
+        AssessesBy file.now (text_if has_givens givens.now) (text_if has_cert cert.now) options
+        held.new.desk.text.items result) }
+    ensures refused { assess_options_asked non background.now allowance ≡ None
+        → IsUnasked held.old.desk held.new.desk result }
+    ensures kept { IsKept held.old.desk held.new.desk }
+{
+    let Some(options) = assess_options_of(non, background, allowance) else {
+        replace_with(held, (), forget_in);
+        return OPTIONS;
+    };
+    let puzzle = Puzzle {
+        file,
+        givens: text_if(has_givens, givens),
+        cert: text_if(has_cert, cert),
+    };
+    replace_with(held, (puzzle, options), assess_in)
 }

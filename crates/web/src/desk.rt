@@ -1,13 +1,16 @@
 //! The benches that a host has opened, and the text of its last call.
 
-ghost use Rattle.std.specs.Prelude.{◌≡◌, ◌⊎◌, ◌<◌, true, [], Err, length, IfErr, IfOk, IfSome, OnErr};
+ghost use Rattle.std.specs.Prelude.{◌≡◌, ◌⊎◌, ◌<◌, true, [], Err, length, IfErr, IfOk, IfSome, OnErr, option_map};
 ghost use Rattle.program_options.specs.declared.fault.ProgramFault.TheVariants.{Memory, Write as Unwritten};
 ghost use Rattle.answers.specs.Open.{OpensFile};
 ghost use Rattle.program_options.specs.Options.{IsLawful};
-ghost use Rattle.web.specs.Desk.{Checks, ChecksPublished, Closes, IsKept, IsOpened, IsShort, Opens, Proves, RunsOver, Says, Tells, place_of};
+ghost use Rattle.web.specs.Desk.{AssessesBy, Checks, ChecksPublished, Closes, IsKept, IsOpened, IsShort, Opens, Proves, RunsOver, Says, Tells, place_of};
 
 use crate::status::{CLOSED, DONE, MEMORY};
-use answers::{Options, ProgramFault, run_check, run_check_published, run_prove, start_bench};
+use answers::{
+    AssessOptions, Options, ProgramFault, run_assess, run_check, run_check_published, run_prove,
+    start_bench,
+};
 use line_settle::MaskEngine;
 use live_audit::Bench;
 use picture::Rgb;
@@ -126,6 +129,28 @@ impl Desk {
         self.text.clear();
         match run_prove(self.alloc, file, background, false, &mut self.text) {
             Ok(()) => DONE,
+            Err(fault) => self.refuse(&fault),
+        }
+    }
+
+    /// Assesses a puzzle by the text of its file, and by those of the givens and the certificate that are passed. The block, or why
+    /// it is refused, is the text.
+    pub fn assess(
+        &mut self,
+        file: &[u8],
+        givens: Option<&[u8]>,
+        cert: Option<&[u8]>,
+        options: &AssessOptions,
+    ) -> u32
+        ensures assesses { AssessesBy file.now (option_map (λ text. text.now) givens.entry)
+            (option_map (λ text. text.now) cert.entry) options.now self.new.text.items result }
+        ensures kept { IsKept self.old self.new }
+    {
+        match run_assess(self.alloc, file, givens, cert, options) {
+            Ok(block) => {
+                self.text = block.text;
+                DONE
+            }
             Err(fault) => self.refuse(&fault),
         }
     }

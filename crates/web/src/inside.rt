@@ -1,11 +1,11 @@
 //! The calls, on the desk that the host's pointer leads to.
 
-ghost use Rattle.std.specs.Prelude.{◌≡◌, [], ◌++◌, drop, length, take};
+ghost use Rattle.std.specs.Prelude.{◌≡◌, [], ◌++◌, drop, length, option_map, take};
 ghost use Rattle.program_options.specs.Options.{IsLawful};
-ghost use Rattle.web.specs.Desk.{Checks, ChecksPublished, Closes, IsKept, Opens, Proves, Says};
+ghost use Rattle.web.specs.Desk.{AssessesBy, Checks, ChecksPublished, Closes, IsKept, Opens, Proves, Says};
 
 use crate::held::Held;
-use answers::Options;
+use answers::{AssessOptions, Options};
 use picture::Rgb;
 use std::mem::replace;
 
@@ -67,6 +67,28 @@ pub fn prove_in(held: Held, asked: (&[u8], Option<Rgb>)) -> (Held, u32)
 {
     let mut desk = held.into_box();
     let status = desk.prove(asked.0, asked.1);
+    (Held::new(desk), status)
+}
+
+/// The texts of a puzzle's file, and of its givens and its certificate if they are passed.
+#[derive(Clone, Copy)]
+pub struct Puzzle<'a> {
+    pub file: &'a [u8],
+    pub givens: Option<&'a [u8]>,
+    pub cert: Option<&'a [u8]>,
+}
+
+/// Assesses a puzzle with options.
+pub fn assess_in(held: Held, asked: (Puzzle<'_>, AssessOptions)) -> (Held, u32)
+    ensures assesses { AssessesBy asked.entry.0.file.now
+        (option_map (λ text. text.now) asked.entry.0.givens)
+        (option_map (λ text. text.now) asked.entry.0.cert) asked.entry.1
+        result.0.desk.text.items result.1 }
+    ensures kept { IsKept held.desk result.0.desk }
+{
+    let mut desk = held.into_box();
+    let puzzle = asked.0;
+    let status = desk.assess(puzzle.file, puzzle.givens, puzzle.cert, &asked.1);
     (Held::new(desk), status)
 }
 

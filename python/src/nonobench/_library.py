@@ -61,6 +61,7 @@ def _kinds() -> dict[str, tuple[Any, list[Any]]]:
         "check": (number, [cell, *bytes_of, *bytes_of, *bytes_of]),
         "check_published": (number, [cell, *bytes_of, *bytes_of, *bytes_of, *bytes_of]),
         "prove": (number, [cell, *bytes_of, *bytes_of]),
+        "assess": (number, [cell, *bytes_of, ctypes.c_bool, *bytes_of, ctypes.c_bool, *bytes_of, ctypes.c_bool, *bytes_of, number]),
     }
 
 
