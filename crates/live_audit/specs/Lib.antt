@@ -1,3 +1,4 @@
+pub mod Assessing
 pub mod Bench
 pub mod Calls
 pub mod Laws

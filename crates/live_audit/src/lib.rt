@@ -1,6 +1,7 @@
 //! A bench: one picture with its history, its clues, its book and its verdicts, up to date after every stroke.
 #![tactic(auto)]
 
+mod assessing;
 mod bench;
 mod certifying;
 mod judging;
