@@ -6,7 +6,7 @@ ghost use Rattle.clues.specs.Change.{IsChangeOf};
 ghost use Rattle.edits.specs.declared.fault.EditFault.TheVariants.{Memory};
 ghost use Rattle.edits.specs.Design.{design_of};
 ghost use Rattle.edits.specs.History.{IsPlanFor, advanced};
-ghost use Rattle.live_audit.specs.Assessing.{IsPathOf};
+ghost use Rattle.live_audit.specs.Pathing.{IsPathOf};
 ghost use Rattle.live_audit.specs.Bench.{Begins, FitsDepth, IsAudited};
 ghost use Rattle.live_audit.specs.Calls.{Accepts, CarriesOn, IsAsBefore, IsAtOnce, IsFoundOn, Learns, Refuses};
 ghost use Rattle.live_audit.specs.Certify.{Certifies};
@@ -15,7 +15,7 @@ ghost use Rattle.live_audit.specs.Stroke.{Edits, Redoes, Undoes};
 ghost use Rattle.live_audit.specs.Verdict.{Tells, Decides, IsToldBy, IsVerdictOn, AnswersAs};
 ghost use Rattle.second_search.specs.JudgedParts.{HasNoFilling};
 
-use crate::assessing::path_of;
+use crate::pathing::path_of;
 use crate::certifying::{Finding, certify_ordered};
 use crate::judging::{answers_next, other_kept, rule, rule_beside};
 use crate::verdict::Verdict;

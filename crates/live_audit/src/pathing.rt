@@ -1,9 +1,9 @@
-//! What is worked out of a document, with nothing kept.
+//! The path of line logic on a document.
 
 ghost use Rattle.std.specs.Prelude.{◌≡◌, ◌≤◌, IfOk};
 ghost use Rattle.kept_audit.specs.Audit.{IsAuditOf};
 ghost use Rattle.edits.specs.Design.{design_of};
-ghost use Rattle.live_audit.specs.Assessing.{IsPathOf};
+ghost use Rattle.live_audit.specs.Pathing.{IsPathOf};
 
 use crate::judging::scene_of;
 use grade::{Path, make_path, start_facts};

@@ -1,5 +1,4 @@
--- What is worked out of a document as it is, with nothing kept: the path of line logic, and whether it is fit to be
--- published.
+-- The path of line logic on a document: its looks that excluded something.
 use Rattle.std.specs.Prelude.{◌≡◌, ℕ, Bool, List, Option}
 use Rattle.line_facts.specs.Masks.{Masks}
 use Rattle.picture.specs.declared.document.Document.{Document}
