@@ -132,6 +132,7 @@ IsBounded command.Certify = Unit {0}
 IsBounded command.WritePpm = Unit {0}
 IsBounded command.WriteNon = Unit {0}
 IsBounded command.Report = Unit {0}
+IsBounded command.Path = Unit {0}
 IsBounded (command.Allow allowance) = IfSome allowance (λ splits. splits < 100000)
 
 -- the commands by their first words
@@ -155,6 +156,7 @@ commands =
     ∷ (codes "certify", bare_at command.Certify)
     ∷ (codes "write", read_by ((codes "ppm", bare_at command.WritePpm) ∷ (codes "non", bare_at command.WriteNon) ∷ []))
     ∷ (codes "report", bare_at command.Report)
+    ∷ (codes "path", bare_at command.Path)
     ∷ (codes "allow", made command.Allow (exactly 1 (field_at allowance_of BadNumber))) ∷ []
 
 -- ---- the answers of functions that read words

@@ -27,6 +27,8 @@ pub enum Command {
     WriteNon,
     /// Shows a report: the document, its clues, its map, the verdict and the history's lengths.
     Report,
+    /// Shows the path of line logic.
+    Path,
     /// Sets how many splits the search of each part may make. None removes that bound.
     Allow(Option<u32>),
 }

@@ -146,6 +146,7 @@ pub(crate) fn read_command(word: &[u8], rest: &[u8]) -> Result<Command, CommandF
         b"certify" => bare(Command::Certify, rest),
         b"write" => read_write(rest),
         b"report" => bare(Command::Report, rest),
+        b"path" => bare(Command::Path, rest),
         b"allow" => read_allow(rest),
         _ => Err(CommandFault::UnknownWord),
     }

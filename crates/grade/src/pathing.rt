@@ -1,6 +1,6 @@
 //! The path of line logic on a puzzle: its looks that excluded something.
 
-ghost use Rattle.std.specs.Prelude.{◌≡◌, ◌-◌, List, length, count_ones, IfOk};
+ghost use Rattle.std.specs.Prelude.{◌≡◌, ◌≤◌, ◌-◌, List, length, count_ones, IfOk};
 ghost use Rattle.std.specs.List.{sum_by};
 ghost use Rattle.fixpoint.specs.ClosedFacts.{AreClosable};
 ghost use Rattle.grade.specs.Figures.{open_cells};
@@ -35,8 +35,10 @@ pub fn make_path<E: LineEngine>(
     ensures path { IfOk result (λ path. (looks : List Look) × IsRun book.now facts looks path.facts
         × (path.looks.items ≡ path_of looks)) }
     ensures open_cells { IfOk result (λ path. path.«open» ≡ open_cells path.facts) }
+    ensures calls { E.calls engine.old ≤ E.calls engine.new }
     ensures same_longest { E.longest engine.new ≡ E.longest engine.old }
 {
+    let _ = engine.calls();
     let mut facts = facts;
     let mut walk = Walk::start(&facts);
     let mut looks = Vec::new(alloc);

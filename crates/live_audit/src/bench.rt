@@ -6,6 +6,7 @@ ghost use Rattle.clues.specs.Change.{IsChangeOf};
 ghost use Rattle.edits.specs.declared.fault.EditFault.TheVariants.{Memory};
 ghost use Rattle.edits.specs.Design.{design_of};
 ghost use Rattle.edits.specs.History.{IsPlanFor, advanced};
+ghost use Rattle.live_audit.specs.Pathing.{IsPathOf};
 ghost use Rattle.live_audit.specs.Bench.{Begins, FitsDepth, IsAudited};
 ghost use Rattle.live_audit.specs.Calls.{Accepts, CarriesOn, IsAsBefore, IsAtOnce, IsFoundOn, Learns, Refuses};
 ghost use Rattle.live_audit.specs.Certify.{Certifies};
@@ -14,6 +15,7 @@ ghost use Rattle.live_audit.specs.Stroke.{Edits, Redoes, Undoes};
 ghost use Rattle.live_audit.specs.Verdict.{Tells, Decides, IsToldBy, IsVerdictOn, AnswersAs};
 ghost use Rattle.second_search.specs.JudgedParts.{HasNoFilling};
 
+use crate::pathing::path_of;
 use crate::certifying::{Finding, certify_ordered};
 use crate::judging::{answers_next, other_kept, rule, rule_beside};
 use crate::verdict::Verdict;
@@ -22,6 +24,7 @@ use crate::work::{NO_WORK, Work};
 use certificate::Cert;
 use clues::ClueBook;
 use edits::{Edit, EditFault, MAX_DEPTH, Prepared, Studio};
+use grade::Path;
 use justify::Book;
 use kept_audit::{Audit, Revision, audit_again, audit_anew};
 use line_facts::{Facts, LineEngine};
@@ -402,5 +405,16 @@ impl<E: LineEngine + Drop, A: Agenda + Drop> Bench<E, A> {
             Some(reason) => Ok(Why::By(reason)),
             None => Ok(Why::Possible),
         }
+    }
+
+    /// The path of line logic on the present puzzle: its looks that excluded something. Nothing is kept, and nothing changes but
+    /// `calls`.
+    pub fn path(&mut self) -> Result<Path, AllocError>
+        ensures path { IfOk result (IsPathOf self.old.history.document) }
+        ensures as_before { IsAsBefore self.old self.new }
+        ensures calls { self.old.calls ≤ self.new.calls }
+        ensures audited { IsAudited self.new }
+    {
+        path_of(self.alloc, &mut self.engine, self.studio.document(), &self.audit)
     }
 }

@@ -5,6 +5,7 @@ mod bench;
 mod certifying;
 mod judging;
 pub mod laws;
+mod pathing;
 mod verdict;
 mod why;
 mod work;

@@ -20,6 +20,8 @@ use Rattle.cert_text.specs.Cert.{Certificate}
 use Rattle.live_audit.specs.declared.verdict.Verdict.{Verdict}
 use Rattle.live_audit.specs.declared.why.Why.{Why}
 use Rattle.live_audit.specs.Bench.{IsAudited, Seen}
+use Rattle.grade.specs.declared.pathing.Path.{Path}
+use Rattle.live_audit.specs.Pathing.{IsPathOf}
 use Rattle.live_audit.specs.Calls.{Accepts, IsAsBefore, Learns, Refuses}
 use Rattle.live_audit.specs.Certify.{Certifies}
 use Rattle.live_audit.specs.Reason.{Explains}
@@ -32,7 +34,7 @@ use Rattle.session.specs.Answer.{GivesNon, IsAsked, answer_text, stroke_said, te
 use Rattle.report_text.specs.ClueText.{clues_text}
 use Rattle.session.specs.Refusal.{edit_line, memory_line, refusal_line}
 use Rattle.session.specs.Session.{JudgesAs, Replies, SaysStroke, report_on}
-use Rattle.session.specs.Texts.{certified_text, content, done_text, verdict_text, verdict_word, why_text}
+use Rattle.session.specs.Texts.{certified_text, content, done_text, path_shown, verdict_text, verdict_word, why_text}
 use Rattle.report_text.specs.Report.{ending_text}
 use Rattle.report_text.specs.Shown.{map_text}
 use Rattle.report_text.proofs.ReportLemmas.{front_text}
@@ -114,6 +116,14 @@ pub replies_certify : {E : Type 0} (old new : Seen) (outcome : Result (Vec ℕ G
 unfolding Replies
 replies_certify old new (Ok text) learns before audited calls found = (inl (found.0, (found.1.0, (found.1.1, (learns, audited)))), calls)
 replies_certify old new (Err e) learns before audited calls found = (inr (refl, before), calls)
+
+-- the path
+pub replies_path : {E : Type 0} (old new : Seen) (outcome : Result (Vec ℕ Global) E) → IsAsBefore old new → old.calls ≤ new.calls
+    → IfOk outcome (λ text. (path : Path) × (IsPathOf old.history.document path × (text.items ≡ path_shown path)))
+    → Replies command.Path old (answer_text (text_said outcome)) new
+unfolding Replies
+replies_path old new (Ok text) before calls found = (inl (found.0, (found.1.0, (found.1.1, before))), calls)
+replies_path old new (Err e) before calls found = (inr (refl, before), calls)
 
 -- an allowance
 pub replies_allow : (old new : Seen) (allowance : Option ℕ) → new ≡ record old { allowance = allowance } → Replies (command.Allow allowance) old done_text new

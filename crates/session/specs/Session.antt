@@ -12,6 +12,7 @@ use Rattle.edits.specs.declared.fault.EditFault.TheVariants.{Place}
 use Rattle.edits.specs.Fault.{has_cell}
 use Rattle.live_audit.specs.declared.verdict.Verdict.{Verdict}
 use Rattle.live_audit.specs.declared.why.Why.{Why}
+use Rattle.live_audit.specs.Pathing.{IsPathOf}
 use Rattle.live_audit.specs.Bench.{IsAudited, Seen}
 use Rattle.live_audit.specs.Calls.{Accepts, IsAsBefore, Learns, Refuses}
 use Rattle.live_audit.specs.Reason.{Explains}
@@ -30,7 +31,8 @@ use Rattle.command_text.specs.Faults.{name_of}
 use Rattle.command_text.specs.Lines.{ended_lines_of, lines_of, request_of}
 use Rattle.command_text.specs.Words.{Texts}
 use Rattle.session.specs.Refusal.{edit_line, memory_line, refused}
-use Rattle.session.specs.Texts.{certified_text, content, done_text, verdict_text, verdict_word, why_text}
+use Rattle.session.specs.Texts.{certified_text, content, done_text, path_shown, verdict_text, verdict_word, why_text}
+use Rattle.grade.specs.declared.pathing.Path.{Path}
 use Rattle.report_text.specs.Report.{report_text}
 use Rattle.report_text.specs.Shown.{map_text}
 
@@ -84,6 +86,7 @@ IsShort (command.Why row col colour) old text new =
 IsShort command.WritePpm old text new = LacksMemory old text new
 IsShort command.WriteNon old text new = (is_two_colour old.history.document.rows ≡ true) × LacksMemory old text new
 IsShort command.Report old text new = LacksMemory old text new
+IsShort command.Path old text new = LacksMemory old text new
 IsShort command.Certify old text new = LacksMemory old text new
 IsShort (command.Allow allowance) old text new = ⊥
 
@@ -107,6 +110,8 @@ SaysTo old command.Report text new = (verdict : Verdict) × (JudgesAs old new ve
 SaysTo old command.Certify text new =
     (found : Option Certificate)
     × (Certifies old.history.document found × ((text ≡ certified_text found) × (Learns old new × IsAudited new)))
+SaysTo old command.Path text new =
+    (path : Path) × (IsPathOf old.history.document path × ((text ≡ path_shown path) × IsAsBefore old new))
 SaysTo old (command.Allow allowance) text new = (text ≡ done_text) × (new ≡ record old { allowance = allowance })
 
 -- The command is answered, or memory ran out; and the engine's calls do not fall.

@@ -9,6 +9,8 @@ use Rattle.live_audit.specs.declared.verdict.Verdict.{Verdict}
 use Rattle.live_audit.specs.declared.verdict.Verdict.TheVariants.{Unique, Ambiguous, Undecided}
 use Rattle.live_audit.specs.declared.why.Why.{Why}
 use Rattle.live_audit.specs.declared.why.Why.TheVariants.{Possible, Given, By}
+use Rattle.grade.specs.declared.pathing.Path.{Path}
+use Rattle.grade_text.specs.PathText.{path_text}
 use Rattle.report_text.specs.ReasonText.{reason_text}
 use Rattle.report_text.specs.Shown.{picture_text}
 
@@ -39,3 +41,7 @@ certified_text (Some cert) = cert_text cert
 -- the P3 text shows no givens
 abbrev pub content : Design → Content
 content d = record { colours = d.colours; rows = d.rows; givens = [] }
+
+-- a path's text
+abbrev pub path_shown : Path → List ℕ
+path_shown path = path_text path.looks.items path.«open»

@@ -29,6 +29,8 @@ use Rattle.cert_text.specs.WrittenCert.{cert_text}
 use Rattle.cert_check.specs.Tree.{IsProof}
 use Rattle.live_audit.specs.declared.verdict.Verdict.{Verdict}
 use Rattle.live_audit.specs.declared.verdict.Verdict.TheVariants.{Undecided}
+use Rattle.grade.specs.declared.pathing.Path.{Path}
+use Rattle.live_audit.specs.Pathing.{IsPathOf}
 use Rattle.live_audit.specs.Calls.{Machine, machine}
 use Rattle.live_audit.specs.Certify.{NamesMarks, ordered}
 use Rattle.live_audit.specs.Verdict.{IsOtherFor, IsVerdictOn}
@@ -46,7 +48,7 @@ use Rattle.report_text.specs.Shown.{map_text}
 use Rattle.command_text.specs.Faults.{name_of}
 use Rattle.command_text.specs.Words.{Texts}
 use Rattle.session.specs.Refusal.{edit_line, memory_line, refused}
-use Rattle.session.specs.Texts.{content, done_text, verdict_text, verdict_word}
+use Rattle.session.specs.Texts.{content, done_text, path_shown, verdict_text, verdict_word}
 
 -- ---- what is true of a document
 
@@ -144,6 +146,8 @@ IsShown h allowance m command.Report text = OrMemory text ((verdict : Verdict)
     × (IsTrueVerdict h.document m.map allowance verdict × (text ≡ report_text h.document
     (clues_of h.document.rows) m.map (verdict_word verdict) (length h.past) (length h.future))))
 IsShown h allowance m command.Certify text = OrMemory text (TellsProof h.document text)
+IsShown h allowance m command.Path text =
+    OrMemory text ((path : Path) × (IsPathOf h.document path × (text ≡ path_shown path)))
 IsShown h allowance m c text = ⊥
 
 -- A command's answer, with the history and the allowance after it. A command that only shows or asks changes neither.

@@ -11,18 +11,21 @@ ghost use Rattle.command_text.specs.declared.command.Command.TheVariants as comm
 ghost use Rattle.command_text.specs.Lines.{AsksBounded};
 ghost use Rattle.report_text.specs.Room.{TakesRoom, picture_room};
 ghost use Rattle.report_text.specs.Shown.{map_text, picture_text};
+ghost use Rattle.grade.specs.declared.pathing.Path.{Path};
+ghost use Rattle.live_audit.specs.Pathing.{IsPathOf};
 ghost use Rattle.live_audit.specs.Certify.{Certifies};
 ghost use Rattle.live_audit.specs.Calls.{IsAsBefore, Learns};
 ghost use Rattle.live_audit.specs.Bench.{IsAudited};
 ghost use Rattle.session.specs.Answer.{GivesNon, IsAsked, answer_text, stroke_said, text_said};
 ghost use Rattle.session.specs.Room.{verdict_room};
 ghost use Rattle.session.specs.Session.{Replies, Says, report_on};
-ghost use Rattle.session.specs.Texts.{certified_text, verdict_text, verdict_word, why_text};
+ghost use Rattle.session.specs.Texts.{certified_text, path_shown, verdict_text, verdict_word, why_text};
 
 use crate::refusal::Refusal;
 use certificate::{Cert, write_cert};
 use command_text::{Command, Request};
 use edits::{Edit, EditFault};
+use grade_text::push_path;
 use line_facts::{Facts, LineEngine};
 use live_audit::{Bench, Verdict, Why};
 use non_text::{NonWriteFault, write_non};
@@ -268,6 +271,22 @@ fn push_found(text: &mut Vec<u8>, found: &Option<Cert>) -> Result<(), AllocError
     }
 }
 
+// The path of line logic.
+fn path_text<E: LineEngine + Drop, A: Agenda + Drop>(
+    alloc: Global,
+    bench: &mut Bench<E, A>,
+) -> Result<Vec<u8>, AllocError>
+    ensures text { IfOk result (λ text. (path : Path)
+        × (IsPathOf bench.old.history.document path × (text.items ≡ path_shown path))) }
+    ensures as_before { IsAsBefore bench.old bench.new }
+    ensures calls { bench.old.calls ≤ bench.new.calls }
+{
+    let path = bench.path()?;
+    let mut text = Vec::new(alloc);
+    push_path(&mut text, &path)?;
+    Ok(text)
+}
+
 // The answer to a command, which also takes effect on the bench.
 fn answer_command<E: LineEngine + Drop, A: Agenda + Drop>(
     alloc: Global,
@@ -293,6 +312,7 @@ fn answer_command<E: LineEngine + Drop, A: Agenda + Drop>(
             Answer::Done
         }
         Command::Certify => text_answer(certificate_text(alloc, bench)),
+        Command::Path => text_answer(path_text(alloc, bench)),
     }
 }
 

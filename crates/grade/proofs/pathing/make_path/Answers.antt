@@ -11,6 +11,7 @@ loop-seen-init g c = record {
   seen = [];
   walks = c.start-walk.ensures.walks c.args.book.now;
   path = c.new-looks.ensures.items;
+  called = (let some = c.calls.ensures in omega (arith, some));
   same_longest = refl;
 }
 
@@ -26,6 +27,7 @@ loop-seen-preserved-in_ok-push g c =
       path = c.in_ok-push.ensures.items
           ∙ (ap (λ (looks : List Made). looks ++ c.in_ok-advance.field-0 ∷ []) i.path
           ∙ goes_on c.in-Some.seen c.loop-seen.facts c.look.new.facts i.seen c.excluded.result seen.0 c.excluded.ensures c.if-excluded-ne0.true c.in_ok-advance.field-0 c.in_ok-advance.ensures);
+      called = (let once = c.in-Some.ensures.called in let before = i.called in omega (arith, once, before));
       same_longest = c.look.ensures.same_longest ∙ i.same_longest;
     }
 
@@ -39,5 +41,6 @@ loop-seen-preserved g c =
       seen = look_in c.in-Some.seen.turn c.loop-seen.facts c.look.new.facts ∷ i.seen;
       walks = seen.1;
       path = i.path ∙ stays c.in-Some.seen c.loop-seen.facts c.look.new.facts i.seen c.excluded.result seen.0 c.excluded.ensures (omega (arith, c.if-excluded-ne0.false));
+      called = (let once = c.in-Some.ensures.called in let before = i.called in omega (arith, once, before));
       same_longest = c.look.ensures.same_longest ∙ i.same_longest;
     }

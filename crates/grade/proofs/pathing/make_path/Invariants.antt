@@ -1,4 +1,5 @@
-use Rattle.std.proofs.Common.{◌≡◌, List}
+use Rattle.std.proofs.Common.{◌≡◌, List, length}
+use Rattle.line_facts.specs.Counts.{counted}
 use Rattle.fixpoint.specs.ClosedFacts.{AreClosable}
 use Rattle.grade.specs.Looks.{Look}
 use Rattle.grade.specs.Paths.{path_of}
@@ -12,6 +13,7 @@ invariant-loop-seen g l = record {
   seen : List Look;
   walks : Walks l.book l.fn.facts seen l.facts l.walk;
   path : l.looks.items ≡ path_of seen;
+  called : g.E.LineEngine.calls l.engine ≡ counted (g.E.LineEngine.calls l.fn.engine) (length seen);
   same_longest : g.E.LineEngine.longest l.engine ≡ g.E.LineEngine.longest l.fn.engine;
 }
 

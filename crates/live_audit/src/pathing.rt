@@ -1,0 +1,33 @@
+//! The path of line logic on a document.
+
+ghost use Rattle.std.specs.Prelude.{◌≡◌, ◌≤◌, IfOk};
+ghost use Rattle.kept_audit.specs.Audit.{IsAuditOf};
+ghost use Rattle.edits.specs.Design.{design_of};
+ghost use Rattle.live_audit.specs.Pathing.{IsPathOf};
+
+use crate::judging::scene_of;
+use grade::{Path, make_path, start_facts};
+use kept_audit::Audit;
+use line_facts::LineEngine;
+use picture::{Document, MAX_SIDE};
+use std::alloc::{AllocError, Global};
+
+/// The path of line logic on a document, by its clues.
+pub(crate) fn path_of<E: LineEngine>(
+    alloc: Global,
+    engine: &mut E,
+    document: &Document,
+    audit: &Audit,
+) -> Result<Path, AllocError>
+    requires audited { IsAuditOf (design_of document.now) audit.now.clues audit.now.book }
+    requires long { MAX_SIDE ≤ E.longest engine.old }
+    ensures path { IfOk result (IsPathOf (design_of document.now)) }
+    ensures calls { E.calls engine.old ≤ E.calls engine.new }
+    ensures same_longest { E.longest engine.new ≡ E.longest engine.old }
+{
+    let _ = engine.calls();
+    let scene = scene_of(document, audit);
+    let start = start_facts(alloc, document, scene.clues)?;
+    let path = make_path(alloc, engine, start, scene.clues)?;
+    Ok(path)
+}
