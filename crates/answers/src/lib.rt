@@ -1,4 +1,4 @@
-//! What the program answers about a file: its clues, a certificate with lemmas, the check of a certificate, an assessment, and a bench
+//! What the program answers about a file: its clues, a certificate, the check of a certificate, an assessment, and a bench
 //! that opens it.
 #![tactic(auto)]
 
@@ -11,6 +11,8 @@ mod run;
 pub use assessing::{Block, run_assess};
 pub use check::{run_check, run_check_published};
 pub use open::start_bench;
-pub use program_options::{AssessOptions, Options, ProgramFault, VERSION, background_in};
+pub use program_options::{
+    AssessOptions, Options, ProgramFault, ProveOptions, VERSION, background_in,
+};
 pub use prove::run_prove;
 pub use run::run_clues;

@@ -1,4 +1,4 @@
-//! The options of sessions and assessments, and the errors with which the program ends.
+//! The options of the program's commands, and the errors with which the program ends.
 #![tactic(auto)]
 
 mod assessing;
@@ -10,5 +10,5 @@ mod version;
 pub use assessing::AssessOptions;
 pub use background::background_in;
 pub use fault::ProgramFault;
-pub use options::Options;
+pub use options::{Options, ProveOptions};
 pub use version::VERSION;
