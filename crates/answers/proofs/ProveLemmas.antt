@@ -1,5 +1,5 @@
 -- What is shown for what was made with these givens: the text of a certificate is read as the same certificate.
-use Rattle.std.proofs.Common.{◌≡◌, ℕ, ◌+◌, ◌-◌, ◌<◌, Bool, true, false, List, [], ◌∷◌, Option, Result, Ok, Err, IfOk, OnOk, Vec, Global, refl, ap, subst, sym, ◌∙◌, arith, inl, inr}
+use Rattle.std.proofs.Common.{◌≡◌, ℕ, ◌+◌, ◌-◌, ◌<◌, Bool, true, false, List, [], ◌∷◌, Result, Ok, Err, IfOk, OnOk, Vec, Global, refl, ap, subst, sym, ◌∙◌, arith, inl, inr}
 use Rattle.std.specs.List.{AllByRecursion, Contains}
 use Rattle.picture.specs.CellSet.{HasCell}
 use Rattle.picture.specs.Rows.{Rows}
@@ -24,15 +24,7 @@ use Rattle.lemma_proof.specs.declared.making.Made.TheVariants.{Proof, Other, Und
 use Rattle.lemma_proof.specs.Making.{IsAsGood, IsMadeProof}
 use Rattle.lemma_proof.specs.Naming.{NamesGivens}
 use Rattle.program_options.specs.declared.options.ProveOptions.{ProveOptions}
-use Rattle.program_options.specs.declared.fault.ProgramFault.{ProgramFault}
-use Rattle.program_options.specs.declared.fault.ProgramFault.TheVariants.{Givens, NoCertificate}
-use Rattle.program_options.specs.Faults.{fault_of}
-use Rattle.picture.specs.Document.{Content}
-use Rattle.ppm_text.specs.declared.fault.PpmFault.{PpmFault}
-use Rattle.ppm_text.specs.declared.fault.PpmFault.TheVariants as ppm
-use Rattle.ppm_text.specs.Ppm.{ppm_of}
-use Rattle.givens_text.specs.declared.fault.GivensFault.{GivensFault}
-use Rattle.answers.specs.Prove.{HasAnother, IsAskedForm, IsCertShown, IsProve, IsProveIn, IsProveOf, IsShownFor, Proves, given_cells, shown_form}
+use Rattle.answers.specs.Prove.{HasAnother, IsAskedForm, IsCertShown, IsShownFor, Proves, shown_form}
 
 -- ---- the text of a certificate in its forms
 
@@ -132,25 +124,3 @@ pub made_shown_in : {E : Type 0} (picture : Rows) (set : List ℕ) (options : Pr
     → IfOk r (λ shown. (cells : List CellNumber) → IsSetOf set cells → Proves picture cells options shown.0.items shown.1)
 made_shown_in picture set options reach made (Err e) bounded finds shows = tt
 made_shown_in picture set options reach made (Ok shown) bounded finds shows = λ cells are. made_shown picture set cells are options reach made shown.0.items shown.1 bounded finds shows
-
--- ---- the errors of the readers
-
-not_none : (fault : PpmFault) → fault_of fault ≡ NoCertificate → ⊥
-not_none ppm.Memory e = absurd cc
-not_none fault e = absurd cc
-
-abbrev refusal : Result (List ℕ × Bool) ProgramFault → ProgramFault → ProgramFault
-refusal (Ok shown) other = other
-refusal (Err e) other = e
-
-not_in : (picture : Rows) (cells : Result (List CellNumber) GivensFault) (options : ProveOptions) (e : ProgramFault) → IsProveIn picture cells options (Err e) → e ≡ NoCertificate → ⊥
-not_in picture (Err fault) options e shown is = absurd (let f : Givens fault ≡ NoCertificate = sym (ap (λ (r : Result (List ℕ × Bool) ProgramFault). refusal r e) shown) ∙ is in cc)
-not_in picture (Ok cells) options e shown is = shown
-
-not_by : (read : Result Content PpmFault) (givens : Option (List ℕ)) (options : ProveOptions) (e : ProgramFault) → IsProve read givens options (Err e) → e ≡ NoCertificate → ⊥
-not_by (Err fault) givens options e shown is = not_none fault (sym (ap (λ (r : Result (List ℕ × Bool) ProgramFault). refusal r e) shown) ∙ is)
-not_by (Ok document) givens options e shown is = not_in document.rows (given_cells document.rows givens) options e shown is
-
--- a reader's error is not that there is no certificate
-pub never_none : (file : List ℕ) (givens : Option (List ℕ)) (options : ProveOptions) (e : ProgramFault) → IsProveOf file givens options (Err e) → e ≡ NoCertificate → ⊥
-never_none file givens options e shown is = not_by (ppm_of file options.background) givens options e shown is

@@ -35,7 +35,7 @@ module _ (held later : List ℕ → Held) (opened between after : Texts) (faults
       → ProvesFile held path.now found options (world opened faults input output) (world after last input output) r
   without fault r unread cause failed =
       let P : Option (Bor (List ℕ)) → Type 0 = λ g. ProvesFile held path.now g options (world opened faults input output) (world after last input output) r in
-      subst P (sym some) (inr (inl (half held later opened between after faults mid last input output path givens.now file fault r both unread cause failed)))
+      subst P (sym some) (inr (inl (half held later opened between after faults mid last input output path givens file fault r both unread cause failed)))
 
   pub proved_with : (written : Option (List ℕ)) (given_bytes seen given_seen : List ℕ) (r : Result (Unit {0}) ProgramFault) → IsContent (later givens.now) given_bytes → last ≡ mid → seen ≡ file
       → given_seen ≡ given_bytes → WritesProof output written r (IsProveOf seen (Some given_seen) options)

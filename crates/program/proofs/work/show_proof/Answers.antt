@@ -7,8 +7,8 @@ use Rattle.program.proofs.work.show_proof.Goals as goal
 pub returns-in_default : goal.returns-in_default
 returns-in_default g c = λ input.
     let file = c.in_ok-file in
-    proved _ _ _ _ _ input _ _ c.args.file c.args.givens c.args.options file.file.items c.deref-in_default.result.now c.run_prove.result
-    (without_some c.args.givens c.in_default.not-Some) file.ensures.reads.0 file.ensures.opens file.ensures.cause c.deref-in_default.ensures.value c.run_prove.ensures
+    proved (g.F.Files.held c.args.files.now) _ _ _ _ input _ _ c.args.file c.args.givens c.args.options file.file.items c.deref.result.now c.run_prove.result
+    (without_some c.args.givens c.in_default.not-Some) file.ensures.reads.0 file.ensures.opens file.ensures.cause c.deref.ensures.value c.run_prove.ensures
 
 pub returns-in_err-givens : goal.returns-in_err-givens
 returns-in_err-givens g c = λ input.
