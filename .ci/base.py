@@ -35,6 +35,7 @@ CLAIMS = {
         *(('published/src/laws.rt', law, '') for law in ('unique_pictures_are_published', 'plain_lines_are_one_solution')),
     ],
     'What prove prints is accepted': [('published/src/laws.rt', 'proofs_are_verified', '')],
+    'A complete search decides': [('published/src/laws.rt', 'complete_searches_decide', '')],
     'The program does what its arguments ask for': [('program/src/running.rt', 'run', '')],
 }
 # The most lines that a claim may need, by its clauses and with the views: a larger number needs its reason in docs/DECISIONS.md.
@@ -47,8 +48,9 @@ MOST = {
     'It stays true': (1203, 1203),
     "A session's answers are right": (850, 944),
     'Published pairs are accepted': (1788, 1788),
-    'What prove prints is accepted': (700, 700),
-    'The program does what its arguments ask for': (2722, 2722),
+    'What prove prints is accepted': (735, 735),
+    'A complete search decides': (735, 735),
+    'The program does what its arguments ask for': (2773, 2773),
 }
 # The claims in whose base a name may mean two things: they span formats, each with words and lines of its own.
 SHARED = {
@@ -58,6 +60,7 @@ SHARED = {
     "A session's answers are right",
     'Published pairs are accepted',
     'What prove prints is accepted',
+    'A complete search decides',
     'The program does what its arguments ask for',
 }
 # From this many words on, a comment's first sentence is shortened in docs/BASE.md.

@@ -30,7 +30,7 @@ _nonobench() {
         '') offered='work check prove verify help --help --version' ;;
         work) offered='--format --background --history --help' files=1 ;;
         check | verify) offered='--givens --background --help' files=1 ;;
-        prove) offered='--background --format --help' files=1 ;;
+        prove) offered='--background --givens --complete --format --help' files=1 ;;
         help) offered='work check prove verify help' ;;
         *) return ;;
     esac

@@ -160,7 +160,7 @@ class Engine {
     const status = this.#lend([this.#input(picture), this.#background(options)], ([file, word]) =>
       this.#calls.nonobench_prove(this.#cell, file.at, file.size, word.at, word.size));
     if (status !== DONE) this.#refuse(status);
-    const text = this.#text(), certificate = text.startsWith('nonolemma ') ? text : null;
+    const text = this.#text(), certificate = text.startsWith('nono') ? text : null;
     return { ruling: certificate ? 'unique' : text.trimEnd(), certificate, proof: certificate }; // `proof` is its old name
   }
 

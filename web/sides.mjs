@@ -59,7 +59,7 @@ function answerOf(engine, { call, file, lines, certificate, givens = 'any', opti
     }
     if (call === 'prove') {
       const { ruling, certificate: made } = engine.prove(file, options);
-      return answered(made ?? `${ruling}\n`);
+      return made === null ? { ...answered(`${ruling}\n`), status: 1 } : answered(made);
     }
     const bench = engine.open(file, options);
     try {

@@ -40,9 +40,11 @@ const TASKS = {
 
   verify: check, // its old name
 
-  async prove({ files, options: { background, format } }) {
+  async prove({ files, givens, complete, options: { background, format } }) {
+    if (givens !== undefined || complete) throw ended(2, 'prove takes --givens and --complete in the native program alone');
     const { ruling, certificate } = (await load()).prove(readFile(files[0]), { background });
     write(certificate === null ? `${ruling}\n` : format === '1' ? singleSteps(certificate) : certificate);
+    if (certificate === null) throw new Ending(1, ''); // the word says why
   },
 
   async work({ files, options }) {

@@ -46,7 +46,7 @@ function asked(args) {
 
 const PIECES = ['work', 'check', 'verify', 'prove', 'help', '--help', '-h', '--version', '-V', '--', '-', '', 'one', 'two', '-x', '-1', '--other', '--help=1', '-hV', '-Vh', '-xh',
   '--history', '--history=5', '--history=', '5', '+5', '007', '0', '1000', '1001', '5x', '--format', '--format=non', '--format=gif', 'non', 'ppm',
-  '--format=1', '--format=2', '--givens', '--givens=', '--givens=three', '--background', '--background=1,2,3', '--background=', '1,2,3', '1,2', '0,0,65536', '00001,2,3', '--no-help', '---', '--=x', '-=', '-h=1', '--histor'];
+  '--format=1', '--format=2', '--givens', '--givens=', '--givens=three', '--complete', '--complete=1', '--background', '--background=1,2,3', '--background=', '1,2,3', '1,2', '0,0,65536', '00001,2,3', '--no-help', '---', '--=x', '-=', '-h=1', '--histor'];
 
 test('arguments are taken and refused as by the native program', () => {
   const chance = new Chance(20);

@@ -11,7 +11,7 @@ const COMMANDS = {
   work: { files: 1, options: { ...HELP, ...BACKGROUND, format: { type: 'string' }, history: { type: 'string' } } },
   check: CHECK,
   verify: CHECK, // its old name
-  prove: { files: 1, options: { ...HELP, ...BACKGROUND, format: { type: 'string' } } },
+  prove: { files: 1, options: { ...HELP, ...BACKGROUND, format: { type: 'string' }, givens: { type: 'string' }, complete: { type: 'boolean' } } },
 };
 const FORMATS = { work: ['ppm', 'non'], prove: ['1', '2'] };
 const MOST_SAMPLE = 65535;
@@ -34,12 +34,14 @@ function wrongValue(command, name, value) {
 // Takes the value of an option.
 function takeOption(found, { name, rawName, value, inlineValue }, command) {
   const { options } = COMMANDS[command];
-  if (!Object.hasOwn(options, name) || options[name].type === 'boolean') refuse(`unexpected argument '${rawName}' found`);
-  if (value === undefined || (!inlineValue && /^-./.test(value))) refuse(`a value is required for '${rawName}'`);
+  if (!Object.hasOwn(options, name) || name === 'help') refuse(`unexpected argument '${rawName}' found`);
+  const isFlag = options[name].type === 'boolean';
+  if (isFlag && value !== undefined) refuse(`unexpected value '${value}' for '${rawName}' found`);
+  if (!isFlag && (value === undefined || (!inlineValue && /^-./.test(value)))) refuse(`a value is required for '${rawName}'`);
   const wrong = wrongValue(command, name, value);
   if (wrong) refuse(`invalid value '${value}' for '${rawName}': ${wrong}`);
   if (Object.hasOwn(found, name)) refuse(`the argument '${rawName}' cannot be used multiple times`);
-  found[name] = value;
+  found[name] = isFlag || value;
 }
 
 // The background that is asked for, where one is: three samples with commas between them.
@@ -63,8 +65,8 @@ function commandOf(command, args) {
     if (token.kind === 'positional' && files.push(token.value) > wanted) refuse(`unexpected argument '${token.value}' found`);
   }
   if (files.length < wanted) refuse(`${command} needs ${wanted === 1 ? 'a file' : 'a picture and a certificate'}`);
-  const { format = command === 'prove' ? '2' : 'ppm', history = '100', givens } = found;
-  return { task: command, files, givens, options: { format, history: Number(history), background: backgroundOf(found) } };
+  const { format = command === 'prove' ? '2' : 'ppm', history = '100', givens, complete } = found;
+  return { task: command, files, givens, complete, options: { format, history: Number(history), background: backgroundOf(found) } };
 }
 
 // What `help` and the command behind it ask for.
@@ -86,7 +88,7 @@ function topOf(args) {
 
 /**
  * What the arguments ask for: {task}, which is 'clues', 'work', 'check', 'verify', 'prove', 'help' or 'version', with
- * {files, givens, options} or {page}.
+ * {files, givens, complete, options} or {page}.
  * Throws an Ending where they are refused. Node puts U+FFFD for bytes that are not UTF-8, so an argument with it is refused too.
  */
 export function readWords(args) {

@@ -302,7 +302,7 @@ def lemmas(program, folder):
         words = [str(path), *background_of(path)]
         yield f'prove {path.stem}', ['prove', *words]
         (_, cert, _), _ = program.run(0, ['prove', *words])
-        if cert.startswith(b'nonolemma'):
+        if cert.startswith(b'nono'):
             kept = folder / f'{path.stem}.cert'
             kept.write_bytes(cert)
             yield f'check {path.stem} by lemmas', ['check', str(path), str(kept), *background_of(path)]

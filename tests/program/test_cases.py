@@ -87,11 +87,17 @@ def test_certificate_with_lemmas(program, text, answer, tmp_path):
 
 @pytest.mark.parametrize(('text', 'answer'), rows('proved'))
 def test_proved(program, text, answer, tmp_path):
-    """What is proved of a picture; where it is a certificate, that is checked."""
-    (tmp_path / 'picture').write_text(picture_of(text))
-    run = ended([program.path, 'prove', tmp_path / 'picture'])
-    if answer == 'certificate':
-        assert run.status == 0
-        (tmp_path / 'cert').write_bytes(run.wrote)
-        run, answer = ended([program.path, 'check', tmp_path / 'picture', tmp_path / 'cert']), 'certificate accepted'
-    answered(run, answer)
+    """What is proved of a picture, with bounds and without; where it is a certificate, that is checked with the same givens."""
+    cells, _, named = text.partition(' ')
+    (tmp_path / 'picture').write_text(picture_of(cells))
+    (tmp_path / 'givens').write_text(''.join(f'given {cell.replace(",", " ")}\n' for cell in named.split()))
+    givens = ['--givens', tmp_path / 'givens'] if named else []
+    for words in ([], ['--complete']):
+        run = ended([program.path, 'prove', *words, *givens, tmp_path / 'picture'])
+        if answer == 'certificate':
+            assert (run.status, run.said) == (0, b'')
+            (tmp_path / 'cert').write_bytes(run.wrote)
+            count = f', givens {len(named.split())}' if named else ''
+            answered(ended([program.path, 'check', *givens, tmp_path / 'picture', tmp_path / 'cert']), f'certificate accepted{count}')
+        else:
+            assert run == Ended(1, f'{answer}\n'.encode(), b'')

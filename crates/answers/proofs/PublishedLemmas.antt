@@ -40,7 +40,7 @@ same_cell cell r c =
     λ i. record { row = row i; col = col i }
 
 -- givens that are among the cells are published
-all_published : (picture : Rows) (set : List ℕ) (cells givens : List CellNumber) → IsSetOf set cells → AllByRecursion (HasCellNumber picture) givens → AllByRecursion (Contains cells) givens
+pub all_published : (picture : Rows) (set : List ℕ) (cells givens : List CellNumber) → IsSetOf set cells → AllByRecursion (HasCellNumber picture) givens → AllByRecursion (Contains cells) givens
     → AllByRecursion (IsPublished picture set) givens
 all_published picture set cells [] is inside among = tt
 all_published picture set cells (cell ∷ more) is inside among =

@@ -1,4 +1,4 @@
-//! What the program answers about a file: its clues, a certificate with lemmas, the check of a certificate, and a bench
+//! What the program answers about a file: its clues, a certificate, the check of a certificate, and a bench
 //! that opens it.
 #![tactic(auto)]
 
@@ -9,6 +9,6 @@ mod run;
 
 pub use check::{run_check, run_check_published};
 pub use open::start_bench;
-pub use program_options::{Options, ProgramFault, VERSION, background_in};
+pub use program_options::{Options, ProgramFault, ProveOptions, VERSION, background_in};
 pub use prove::run_prove;
 pub use run::run_clues;

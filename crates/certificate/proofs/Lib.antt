@@ -1,4 +1,5 @@
 pub mod AcceptedLemmas
 pub mod BaseLemmas
+pub mod FindLemmas
 pub mod MadeLemmas
 pub mod MakeLemmas

@@ -9,6 +9,7 @@ use Rattle.std.specs.List.{AllByRecursion}
 use Rattle.line_facts.specs.Masks.{Masks}
 use Rattle.clues.specs.ClueBook.{Clues, clues_of}
 use Rattle.clues.specs.Solution.{IsOther}
+use Rattle.fixpoint.specs.Fillings.{Fills}
 use Rattle.line_facts.specs.FactSets.{Leaves, SameShape, nothing_excluded}
 use Rattle.line_facts.proofs.GridLaws.{full_shape, shape_sym, shape_trans}
 use Rattle.cert_text.specs.declared.cert_line.CellNumber.{CellNumber}
@@ -30,29 +31,31 @@ use Rattle.cert_check.proofs.BaseLemmas.{given_left}
 use Rattle.cert_check.proofs.TreeExactness.{none_is_tree}
 use Rattle.cert_check.proofs.Soundness.{proof_is_unique}
 
+pub other_made : (picture : Rows) (start : Masks) (givens : List ℕ) (cells : List CellNumber) (other : Rows) → IsPicture picture → AreInside givens picture → NamesGivens picture givens cells
+    → SameShape picture start → start ≡ with_givens picture cells (nothing_excluded (length picture) (width_of picture))
+    → Fills (clues_of picture) start other × (other ≡ picture → ⊥) → IsOther (clues_of picture) (HasCell givens) picture other
+other_made picture start givens cells other is inside names shape e w =
+    let fills = w.0 in
+    let same : SameShape picture other = shape_trans shape (shape_sym fills.same_shape) in
+    record {
+      solves = record {
+        is_picture = fills.is_picture;
+        rows = sym same.rows;
+        columns = λ row. sym (same.each row);
+        has_clues = fills.has_clues;
+        keeps_givens = λ row col has.
+            let i = inside row col has in
+            let c = same.each row in
+            let q = is.rectangular row i.0 in
+            let l : Leaves start row col (cell_at other row col) = fills.leaves row col (let h = i.1 in omega arith) in
+            given_left picture (nothing_excluded (length picture) (width_of picture)) cells row col (cell_at other row col) ((names.named row col).0 has) (rw e at l);
+      };
+      differs = w.1;
+    }
+
 pub none_made : (picture : Rows) (start : Masks) (givens : List ℕ) (cells : List CellNumber) → IsPicture picture → AreInside givens picture → NamesGivens picture givens cells → SameShape picture start
     → start ≡ with_givens picture cells (nothing_excluded (length picture) (width_of picture)) → WritesTree picture start None → Makes picture givens None
-none_made picture start givens cells is inside names shape e w =
-    let other = w.0 in
-    let fills = w.1.0 in
-    let same : SameShape picture other = shape_trans shape (shape_sym fills.same_shape) in (
-      other,
-      record {
-        solves = record {
-          is_picture = fills.is_picture;
-          rows = sym same.rows;
-          columns = λ row. sym (same.each row);
-          has_clues = fills.has_clues;
-          keeps_givens = λ row col has.
-              let i = inside row col has in
-              let c = same.each row in
-              let q = is.rectangular row i.0 in
-              let l : Leaves start row col (cell_at other row col) = fills.leaves row col (let h = i.1 in omega arith) in
-              given_left picture (nothing_excluded (length picture) (width_of picture)) cells row col (cell_at other row col) ((names.named row col).0 has) (rw e at l);
-        };
-        differs = w.1.1;
-      },
-    )
+none_made picture start givens cells is inside names shape e w = (w.0, other_made picture start givens cells w.0 is inside names shape e w.1)
 
 -- ---- no other picture
 

@@ -14,6 +14,7 @@ use Rattle.clues.specs.Laws.{CluesAreOfLines}
 use Rattle.line_facts.specs.FactSets.{IsWithin, SameShape}
 use Rattle.line_facts.proofs.GridLaws.{shape_refl, shape_trans}
 use Rattle.fixpoint.specs.ClosedFacts.{AreClosable}
+use Rattle.fixpoint.specs.Fillings.{Fills}
 use Rattle.fixpoint.proofs.ClosingLaws.{within_trans}
 use Rattle.cert_text.specs.declared.cert_line.CellNumber.{CellNumber}
 use Rattle.cert_text.specs.declared.cert_line.LineNumber.{LineNumber}
@@ -168,9 +169,12 @@ whole_tree picture start clues longest lines can s h =
     let w = whole picture start can.is_picture s lines (start ∷ []) (record { same_shape = shape_refl start; leaves = λ row col k l. l }, tt) (rw can.clues_are at h) in
     (w.writes, w.goes, w.each)
 
+pub other_fills : (picture : Rows) (start : Masks) (other : Rows) (clues : Clues) (longest : ℕ) → CanCheck picture clues longest → IsOtherIn clues picture start other
+    → Fills (clues_of picture) start other × (other ≡ picture → ⊥)
+other_fills picture start other clues longest can h = (rw can.clues_are at h.0, h.1)
+
 pub other_tree : (picture : Rows) (start : Masks) (other : Rows) (clues : Clues) (longest : ℕ) → CanCheck picture clues longest → IsOtherIn clues picture start other → WritesTree picture start None
-other_tree picture start other clues longest can h =
-    (other, (rw can.clues_are at h.0, h.1))
+other_tree picture start other clues longest can h = (other, other_fills picture start other clues longest can h)
 
 pub can_close : CluesAreOfLines → (picture : Rows) (start : Masks) (clues : Clues) (longest : ℕ) → CanCheck picture clues longest → SameShape picture start → AreClosable clues longest start
 can_close law picture start clues longest can s =

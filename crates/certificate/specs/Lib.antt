@@ -1,3 +1,4 @@
+pub mod Finding
 pub mod MadeCert
 pub use Rattle.cert_check.specs.FirstFault
 pub use Rattle.cert_check.specs.Puzzle

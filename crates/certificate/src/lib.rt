@@ -6,9 +6,10 @@ pub mod laws;
 mod making;
 mod proving;
 mod root;
+mod trees;
 
 pub use cert_check::check_cert;
 pub use cert_text::{CellNumber, Cert, CertFault, CertLine, LineNumber, read_cert, write_cert};
-pub use lemma_proof::with_single_steps;
+pub use lemma_proof::{Made, with_single_steps};
 pub use making::{make_cert, make_cert_within};
-pub use proving::find_proof;
+pub use proving::{Reach, find_proof};

@@ -60,7 +60,7 @@ fn tree_form(givens: &[CellNumber]) -> Form
 }
 
 // The certificate with these givens and the lines of a tree.
-fn of_tree(alloc: Global, givens: Vec<CellNumber>, lines: Vec<CertLine>) -> Cert
+pub(crate) fn of_tree(alloc: Global, givens: Vec<CellNumber>, lines: Vec<CertLine>) -> Cert
     requires givens { AreOrdered 0 givens.items }
     requires lines { AreOfForm Form.Tree lines.items }
     ensures cert { IsCert result }

@@ -1,26 +1,33 @@
 -- Which files a run opens, and what its status says.
-use Rattle.std.proofs.Common.{◌≡◌, ◌∙◌, ℕ, List, [], ◌++◌, Option, None, Some, Result, Ok, Err, inl, inr, sym, subst, ap, take, append-nil, arith}
-use Rattle.std.specs.Io.KnownBytes.{Keeps}
+use Rattle.std.proofs.Common.{◌≡◌, ◌⊎◌, ◌∙◌, ℕ, false, List, [], ◌++◌, Option, None, Some, Result, Ok, Err, inl, inr, sym, subst, ap, take, append-nil, arith}
+use Rattle.std.specs.Io.KnownBytes.{Appends, Keeps}
+use Rattle.picture.specs.Document.{Content}
+use Rattle.picture.specs.Rows.{Rows}
+use Rattle.ppm_text.specs.declared.fault.PpmFault.{PpmFault}
+use Rattle.ppm_text.specs.Ppm.{ppm_of}
+use Rattle.cert_text.specs.declared.cert_line.CellNumber.{CellNumber}
+use Rattle.givens_text.specs.declared.fault.GivensFault.{GivensFault}
 use Rattle.program_options.specs.declared.fault.ProgramFault.{ProgramFault}
 use Rattle.program_options.specs.declared.fault.ProgramFault.TheVariants as fault
 use Rattle.command_line.specs.declared.words.Task.{Task}
 use Rattle.command_line.specs.declared.words.Task.TheVariants.{Check, Clues, Help, Prove, Work}
 use Rattle.program_options.specs.declared.options.Options.{Options}
+use Rattle.program_options.specs.declared.options.ProveOptions.{ProveOptions}
 use Rattle.program_options.specs.Faults.{session_fault_of, status_of}
 use Rattle.command_text.specs.declared.session_fault.SessionFault.{SessionFault}
 use Rattle.command_text.specs.declared.session_fault.SessionFault.TheVariants as session
 use Rattle.answers.specs.Check.{IsCheckOf, WritesBy}
-use Rattle.answers.specs.Prove.{IsProveOf}
+use Rattle.answers.specs.Prove.{IsProve, IsProveIn, IsProveOf, Proves, WritesProof, ambiguous_text, given_cells, undecided_text}
 use Rattle.answers.specs.Published.{IsPublishedCheckOf}
 use Rattle.answers.specs.Run.{Writes}
 use Rattle.program.specs.Endings.{status_after}
 use Rattle.program.specs.Files.{Held}
-use Rattle.program.specs.Run.{AnswersAll, IsRefused}
+use Rattle.program.specs.Run.{AnswersAll, IsRefused, IsTask}
 use Rattle.program.specs.Work.{CarriesOut, Works}
 use Rattle.program.specs.World.{World}
 use Rattle.live_audit.specs.Calls.{machine}
 use Rattle.session.specs.Laws.{SessionsAreTrue}
-use Rattle.claims.specs.Outcome.{Comes, IsDone, Opens, files_of}
+use Rattle.claims.specs.Outcome.{Comes, IsDone, IsSilent, Opens, TellsNone, files_of}
 use Rattle.command_text.specs.Words.{Texts}
 
 pub fails : (f : ProgramFault) → status_of f ≡ 0 → ⊥
@@ -35,6 +42,7 @@ fails (fault.Non f) e = absurd cc
 fails (fault.Edit f) e = absurd cc
 fails fault.NoPicture e = absurd cc
 fails (fault.Cert f) e = absurd cc
+fails fault.NoCertificate e = absurd cc
 fails (fault.Givens f) e = absurd cc
 fails fault.Memory e = absurd cc
 fails fault.TooLong e = absurd cc
@@ -78,10 +86,20 @@ done_by held before after (Check path cert (Some givens) background) law (inr (i
   shows = checked.writes.1.0;
   went_out = checked.writes.1.1;
 }
-done_by held before after (Prove path background single) law (inl stopped) = absurd (let is = stopped.is in cc)
-done_by held before after (Prove path background single) law (inr proving) = record {
+done_by held before after (Prove path givens options) law (inl stopped) = absurd (let is = stopped.is in cc)
+done_by held before after (Prove path None options) law (inr proving) = record {
   file = proving.file;
   content = proving.content;
+  text = proving.writes.0;
+  shows = proving.writes.1.0;
+  went_out = proving.writes.1.1;
+}
+done_by held before after (Prove path (Some givens) options) law (inr (inl half)) = absurd (let is = half.stopped.is in cc)
+done_by held before after (Prove path (Some givens) options) law (inr (inr proving)) = record {
+  file = proving.file;
+  content = proving.content;
+  givens = proving.givens;
+  givens_content = proving.givens_content;
   text = proving.writes.0;
   shows = proving.writes.1.0;
   went_out = proving.writes.1.1;
@@ -105,8 +123,11 @@ opened held before after (Check path cert (Some givens) background) r (inr (inl 
 opened held before after (Check path cert None background) r (inr (inr checked)) = (2, checked.names)
 opened held before after (Check path cert (Some givens) background) r (inr (inr (inl without))) = (3, without.stopped.only.names)
 opened held before after (Check path cert (Some givens) background) r (inr (inr (inr checked))) = (3, checked.names)
-opened held before after (Prove path background single) r (inl stopped) = (1, stopped.only.names)
-opened held before after (Prove path background single) r (inr proving) = (1, proving.names)
+opened held before after (Prove path None options) r (inl stopped) = (1, stopped.only.names)
+opened held before after (Prove path (Some givens) options) r (inl stopped) = (1, stopped.only.names)
+opened held before after (Prove path None options) r (inr proving) = (1, proving.names)
+opened held before after (Prove path (Some givens) options) r (inr (inl half)) = (2, half.stopped.only.names)
+opened held before after (Prove path (Some givens) options) r (inr (inr proving)) = (2, proving.names)
 opened held before after (Help text) r c = (0, c.names ∙ sym (append-nil before.opened))
 
 refused : (f : ProgramFault) (before after : World) (r : Result (Unit {0}) ProgramFault) → IsRefused f before after r → status_after r ≡ 0 → ⊥
@@ -142,27 +163,61 @@ worked : (had have held holds : Option (List ℕ)) (file : List ℕ) (options : 
 worked had have held holds file options f one (inl (ended, (is, ran))) = absurd (by_session ended (ap status_of (sym is) ∙ one))
 worked had have held holds file options f one (inr (why, kept)) = kept.1
 
-kept : (held : List ℕ → Held) (before after : World) (task : Task) (f : ProgramFault) → status_of f ≡ 1 → CarriesOut held before after task (Err f) → Keeps before.output after.output
-kept held before after Clues f one (inl listed) = kept_of _ _ f _ one listed.writes
-kept held before after Clues f one (inr left) = left.output
-kept held before after (Work path options) f one (inl stopped) = stopped.only.output
-kept held before after (Work path options) f one (inr on) = worked _ _ _ _ on.file options f one on.works
-kept held before after (Check path cert givens background) f one (inl stopped) = stopped.only.output
-kept held before after (Check path cert givens background) f one (inr (inl half)) = half.stopped.only.output
-kept held before after (Check path cert None background) f one (inr (inr checked)) = kept_by _ _ f (IsCheckOf checked.file background checked.cert) one checked.writes
-kept held before after (Check path cert (Some givens) background) f one (inr (inr (inl without))) = without.stopped.only.output
+-- nothing was written, or the word that stands in a certificate's place
+abbrev AtMostWord : Task → World → World → Type 0
+AtMostWord task before after = Keeps before.output after.output ⊎ TellsNone task before after
+
+-- the words that are shown where there is no certificate
+is_word : (picture : Rows) (cells : List CellNumber) (options : ProveOptions) (text : List ℕ) → Proves picture cells options text false → (text ≡ ambiguous_text) ⊎ (text ≡ undecided_text)
+is_word picture cells options text (inl other) = inl other.0
+is_word picture cells options text (inr neither) = inr neither.0
+
+word_in : (picture : Rows) (cells : Result (List CellNumber) GivensFault) (options : ProveOptions) (text : List ℕ) → IsProveIn picture cells options (Ok (text, false))
+    → (text ≡ ambiguous_text) ⊎ (text ≡ undecided_text)
+word_in picture (Err f) options text p = absurd (let e = p in cc)
+word_in picture (Ok cells) options text p = is_word picture cells options text p
+
+word_of : (read : Result Content PpmFault) (givens : Option (List ℕ)) (options : ProveOptions) (text : List ℕ) → IsProve read givens options (Ok (text, false))
+    → (text ≡ ambiguous_text) ⊎ (text ≡ undecided_text)
+word_of (Err f) givens options text p = absurd (let e = p in cc)
+word_of (Ok document) givens options text p = word_in document.rows (given_cells document.rows givens) options text p
+
+word_kept : (old new : Option (List ℕ)) (f : ProgramFault) (file : List ℕ) (givens : Option (List ℕ)) (options : ProveOptions) → status_of f ≡ 1
+    → WritesProof old new (Err f) (IsProveOf file givens options) → Keeps old new ⊎ (Appends old new ambiguous_text ⊎ Appends old new undecided_text)
+word_kept old new f file givens options one (inl (text, (is, (shown, out)))) = elim (word_of (ppm_of file options.background) givens options text shown) [
+  | inl e ↦ inr (inl (subst (Appends old new) e out))
+  | inr e ↦ inr (inr (subst (Appends old new) e out))
+]
+word_kept old new f file givens options one (inr (inl (text, (is, out)))) = absurd (not_write f one is)
+word_kept old new f file givens options one (inr (inr (why, kept))) = inl kept
+
+kept : (held : List ℕ → Held) (before after : World) (task : Task) (f : ProgramFault) → status_of f ≡ 1 → CarriesOut held before after task (Err f) → AtMostWord task before after
+kept held before after Clues f one (inl listed) = inl (kept_of _ _ f _ one listed.writes)
+kept held before after Clues f one (inr left) = inl left.output
+kept held before after (Work path options) f one (inl stopped) = inl stopped.only.output
+kept held before after (Work path options) f one (inr on) = inl (worked _ _ _ _ on.file options f one on.works)
+kept held before after (Check path cert givens background) f one (inl stopped) = inl stopped.only.output
+kept held before after (Check path cert givens background) f one (inr (inl half)) = inl half.stopped.only.output
+kept held before after (Check path cert None background) f one (inr (inr checked)) = inl (kept_by _ _ f (IsCheckOf checked.file background checked.cert) one checked.writes)
+kept held before after (Check path cert (Some givens) background) f one (inr (inr (inl without))) = inl without.stopped.only.output
 kept held before after (Check path cert (Some givens) background) f one (inr (inr (inr checked))) =
-    kept_by _ _ f (IsPublishedCheckOf checked.file background checked.givens checked.cert) one checked.writes
-kept held before after (Prove path background single) f one (inl stopped) = stopped.only.output
-kept held before after (Prove path background single) f one (inr proving) = kept_by _ _ f (IsProveOf proving.file background single) one proving.writes
+    inl (kept_by _ _ f (IsPublishedCheckOf checked.file background checked.givens checked.cert) one checked.writes)
+kept held before after (Prove path givens options) f one (inl stopped) = inl stopped.only.output
+kept held before after (Prove path None options) f one (inr proving) = word_kept _ _ f proving.file None options one proving.writes
+kept held before after (Prove path (Some givens) options) f one (inr (inl half)) = inl half.stopped.only.output
+kept held before after (Prove path (Some givens) options) f one (inr (inr proving)) = word_kept _ _ f proving.file (Some proving.givens) options one proving.writes
 kept held before after (Help text) f one shown = absurd (not_write f one shown.sends.0)
 
+at_most : (arguments : Texts) (before after : World) (task : Task) → IsTask arguments (Ok task) → AtMostWord task before after → IsSilent arguments before after
+at_most arguments before after task asks (inl kept) = inl kept
+at_most arguments before after task asks (inr word) = inr (task, (asks, word))
+
 silent_after : (arguments : Texts) (held : List ℕ → Held) (before after : World) (r : Result (Unit {0}) ProgramFault) → AnswersAll arguments held before after r → status_after r ≡ 1
-    → Keeps before.output after.output
-silent_after arguments held before after r (inl short) one = short.only.output
-silent_after arguments held before after r (inr (inl (f, (asks, c)))) one = c.only.output
+    → IsSilent arguments before after
+silent_after arguments held before after r (inl short) one = inl short.only.output
+silent_after arguments held before after r (inr (inl (f, (asks, c)))) one = inl c.only.output
 silent_after arguments held before after (Ok done) (inr (inr (task, (asks, c)))) one = absurd (omega (arith, one))
-silent_after arguments held before after (Err f) (inr (inr (task, (asks, c)))) one = kept held before after task f one c
+silent_after arguments held before after (Err f) (inr (inr (task, (asks, c)))) one = at_most arguments before after task asks (kept held before after task f one c)
 
 pub comes_to : (arguments : Texts) (held : List ℕ → Held) (before after : World) (r : Result (Unit {0}) ProgramFault) (status : ℕ) → status ≡ status_after r
     → SessionsAreTrue → AnswersAll arguments held before after r → Comes arguments held before after status

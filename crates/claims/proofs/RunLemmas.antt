@@ -12,6 +12,8 @@ use Rattle.cert_text.specs.declared.fault.CertFault.{CertFault}
 use Rattle.cert_text.specs.Cert.{Certificate}
 use Rattle.cert_text.specs.Reading.{cert_of}
 use Rattle.picture.specs.Document.{Content}
+use Rattle.picture.specs.Rows.{Rows}
+use Rattle.givens_text.specs.declared.fault.GivensFault.{GivensFault}
 use Rattle.ppm_text.specs.declared.fault.PpmFault.{PpmFault}
 use Rattle.ppm_text.specs.Ppm.{ppm_of}
 use Rattle.live_audit.specs.Certify.{NamesMarks}
@@ -20,10 +22,11 @@ use Rattle.session.specs.Session.{Runs}
 use Rattle.program_options.specs.declared.fault.ProgramFault.{ProgramFault}
 use Rattle.program_options.specs.declared.fault.ProgramFault.TheVariants.{Memory, Read, TooLong, Write}
 use Rattle.program_options.specs.declared.options.Options.{Options}
+use Rattle.program_options.specs.declared.options.ProveOptions.{ProveOptions}
 use Rattle.answers.specs.Check.{IsCheck, IsCheckOf, IsLemmaProofOf, IsProofOf, WritesBy, accepted_text}
-use Rattle.answers.specs.Prove.{IsProveOf, ambiguous_text, undecided_text}
+use Rattle.answers.specs.Prove.{IsProveOf}
 use Rattle.answers.specs.Start.{IsStarted}
-use Rattle.answers.specs.Published.{IsOnlyPublished}
+use Rattle.answers.specs.Published.{IsOnlyPublished, IsPublishedCheck, IsPublishedCheckOf, IsShownWith, cells_in}
 use Rattle.command_line.specs.declared.words.Task.{Task}
 use Rattle.command_line.specs.declared.words.Task.TheVariants.{Check, Clues, Help, Prove, Work}
 use Rattle.command_text.specs.Words.{Texts}
@@ -216,7 +219,7 @@ checked : (held : List ℕ → Held) (before after : World) (task : Task) (r : R
     → AreAccepted d picture cert → IsCheckOn path cert_path background task → CarriesOut held before after task r → Ends picture cert before after (HasLine d (Some []) (Some text)) r
 checked held before after Clues r path cert_path background picture cert text d first second same none wrote accepted is c = absurd is
 checked held before after (Work file options) r path cert_path background picture cert text d first second same none wrote accepted is c = absurd is
-checked held before after (Prove file chosen single) r path cert_path background picture cert text d first second same none wrote accepted is c = absurd is
+checked held before after (Prove file chosen options) r path cert_path background picture cert text d first second same none wrote accepted is c = absurd is
 checked held before after (Check file certificate (Some givens) chosen) r path cert_path background picture cert text d first second same none wrote accepted is c = absurd is
 checked held before after (Help shown) r path cert_path background picture cert text d first second same none wrote accepted is c = absurd is
 checked held before after (Check file certificate None chosen) r path cert_path background picture cert text d first second same none wrote accepted is (inl stopped) =
@@ -257,9 +260,9 @@ pairs writing certifying checking picture cert text written certified status sta
 
 -- ---- a certificate that is made
 
--- what was written for a file, in one of the two forms
+-- a certificate that was written for a file, in one of the forms
 abbrev IsMade : List ℕ → Option Rgb → List ℕ → Type 0
-IsMade file background text = (single : Bool) × IsProveOf file background single (Ok text)
+IsMade file background text = (options : ProveOptions) × ((options.background ≡ background) × IsProveOf file None options (Ok (text, true)))
 
 made_by_run : (held : List ℕ → Held) (before after : World) (task : Task) (path : List ℕ) (background : Option Rgb) (file text : List ℕ) → held path ≡ Holds file
     → before.output ≡ Some [] → after.output ≡ Some text → IsProveOn path background task → CarriesOut held before after task (Ok tt) → IsMade file background text
@@ -267,15 +270,15 @@ made_by_run held before after Clues path background file text holds none wrote i
 made_by_run held before after (Work file' options) path background file text holds none wrote is c = absurd is
 made_by_run held before after (Check file' cert givens chosen) path background file text holds none wrote is c = absurd is
 made_by_run held before after (Help shown) path background file text holds none wrote is c = absurd is
-made_by_run held before after (Prove file' chosen single) path background file text holds none wrote is (inl stopped) = absurd (let e = stopped.is in cc)
-made_by_run held before after (Prove file' chosen single) path background file text holds none wrote is (inr c) =
+made_by_run held before after (Prove file' (Some givens) options) path background file text holds none wrote is c = absurd is
+made_by_run held before after (Prove file' None options) path background file text holds none wrote is (inl stopped) = absurd (let e = stopped.is in cc)
+made_by_run held before after (Prove file' None options) path background file text holds none wrote is (inr c) =
     let read : c.file ≡ file = content_is (held file'.now) file c.file (ap held is.0 ∙ holds) c.content in
     let bytes = c.writes.0 in
-    let shown : IsProveOf file chosen single (Ok bytes) = subst (λ (f : List ℕ). IsProveOf f chosen single (Ok bytes)) read c.writes.1.0 in
-    let there : IsProveOf file background single (Ok bytes) = subst (λ (k : Option Rgb). IsProveOf file k single (Ok bytes)) is.1 shown in
+    let shown : IsProveOf file None options (Ok (bytes, true)) = subst (λ (f : List ℕ). IsProveOf f None options (Ok (bytes, true))) read c.writes.1.0 in
     let A : Option (List ℕ) → Option (List ℕ) → Type 0 = λ x y. Appends x y bytes in
     let out : text ≡ [] ++ bytes = subst (λ (y : Option (List ℕ)). A (Some []) y) wrote (subst (λ (x : Option (List ℕ)). A x after.output) none c.writes.1.1) in
-    (single, subst (λ (t : List ℕ). IsProveOf file background single (Ok t)) (sym out) there)
+    (options, (is.1, subst (λ (t : List ℕ). IsProveOf file None options (Ok (t, true))) (sym out) shown))
 
 plain_ends : (before after : World) (r : Result (Unit {0}) ProgramFault) (file cert text : List ℕ) (background chosen : Option Rgb) (seen cert_seen : List ℕ) → seen ≡ file → cert_seen ≡ cert
     → chosen ≡ background → before.output ≡ Some [] → after.output ≡ Some text → AreVerified file background cert
@@ -299,7 +302,7 @@ plain : (held : List ℕ → Held) (before after : World) (task : Task) (r : Res
     → AreVerified file background cert → IsCheckOn path cert_path background task → CarriesOut held before after task r → Ends file cert before after (text ≡ codes "certificate accepted\n") r
 plain held before after Clues r path cert_path background file cert text first second none wrote accepted is c = absurd is
 plain held before after (Work file' options) r path cert_path background file cert text first second none wrote accepted is c = absurd is
-plain held before after (Prove file' chosen single) r path cert_path background file cert text first second none wrote accepted is c = absurd is
+plain held before after (Prove file' chosen options) r path cert_path background file cert text first second none wrote accepted is c = absurd is
 plain held before after (Check file' cert' (Some givens) chosen) r path cert_path background file cert text first second none wrote accepted is c = absurd is
 plain held before after (Help shown) r path cert_path background file cert text first second none wrote accepted is c = absurd is
 plain held before after (Check file' cert' None chosen) r path cert_path background file cert text first second none wrote accepted is (inl stopped) =
@@ -317,7 +320,7 @@ proofs proving checking cert text proved status law prove check p =
     let ok = is_done prove.outcome (sym prove.right_status ∙ p.proved_well) in
     let t = done_task proving.arguments proving.held (before_run proving []) prove.after prove.outcome (IsProveOn p.path p.background) p.proves prove.answers ok in
     let made : IsMade p.file p.background cert = made_by_run proving.held (before_run proving []) prove.after t.0 p.path p.background p.file cert p.to_prove refl prove.output t.1.0 t.1.1 in
-    let accepted : AreVerified p.file p.background cert = law p.file p.background made.0 cert made.1 p.unambiguous p.decided in
+    let accepted : AreVerified p.file p.background cert = subst (λ (k : Option Rgb). AreVerified p.file k cert) made.1.0 (law p.file made.0 cert made.1.1) in
     let Is : Task → Type 0 = IsCheckOn p.picture_path p.cert_path p.background in
     let before = before_run checking [] in
     let ends : Ends p.file cert before check.after (text ≡ codes "certificate accepted\n") check.outcome =
@@ -327,11 +330,23 @@ proofs proving checking cert text proved status law prove check p =
     check.answers in
     accepts checking p.file cert text status (text ≡ codes "certificate accepted\n") check.after check.outcome check.right_status ends
 
--- what `prove` shows in one of the two forms is accepted
-pub accepted_plain : (file : List ℕ) (background : Option Rgb) (cert : List ℕ) → ProofsAreVerified → IsProveOf file background true (Ok cert) ⊎ IsProveOf file background false (Ok cert)
-    → (cert ≡ ambiguous_text → ⊥) → (cert ≡ undecided_text → ⊥) → AreVerified file background cert
-accepted_plain file background cert law (inl made) decided found = law file background true cert made decided found
-accepted_plain file background cert law (inr made) decided found = law file background false cert made decided found
+-- the line of a check with published givens
+one_published : (a : Result Content PpmFault) (givens : List ℕ) (b : Result Certificate CertFault) (x y : List ℕ) → IsPublishedCheck a givens b (Ok x) → IsPublishedCheck a givens b (Ok y) → x ≡ y
+one_published (Err f) givens b x y p q = absurd (let e = p in cc)
+one_published (Ok d) givens b x y p q = in_cells d.rows (cells_in d givens) b x y p q
+  where
+    in_cells : (picture : Rows) (cells : Result (List CellNumber) GivensFault) (c : Result Certificate CertFault) (v w : List ℕ) → IsShownWith picture cells c (Ok v)
+        → IsShownWith picture cells c (Ok w) → v ≡ w
+    in_cells picture (Err f) c v w p q = absurd (let e = p in cc)
+    in_cells picture (Ok cells) (Err f) v w p q = absurd (let e = p in cc)
+    in_cells picture (Ok cells) (Ok c) v w p q = p.1 ∙ sym q.1
+
+pub has_published : (file givens cert : List ℕ) (background : Option Rgb) (named : List CellNumber) (had has : Option (List ℕ)) (r : Result (Unit {0}) ProgramFault)
+    → IsPublishedCheckOf file background givens cert (Ok (accepted_text named)) → WritesBy had has r (IsPublishedCheckOf file background givens cert)
+    → OnOk r ((cells : List CellNumber) × Appends had has (accepted_text cells))
+has_published file givens cert background named had has (Err f) check writes = tt
+has_published file givens cert background named had has (Ok done) check (bytes, (is, out)) =
+    (named, subst (Appends had has) (one_published (ppm_of file background) givens (cert_of cert) bytes (accepted_text named) is check) out)
 
 -- ---- a check with the givens that are published
 
@@ -339,7 +354,7 @@ only_task : (held : List ℕ → Held) (before after : World) (task : Task) (pat
     → IsCheckWith path cert_path givens_path background task → held path ≡ Holds file → held givens_path ≡ Holds givens → IsDone held before after task → IsOnlyPublished file background givens
 only_task held before after Clues path cert_path givens_path background file givens is first last done = absurd is
 only_task held before after (Work file' options) path cert_path givens_path background file givens is first last done = absurd is
-only_task held before after (Prove file' chosen single) path cert_path givens_path background file givens is first last done = absurd is
+only_task held before after (Prove file' chosen options) path cert_path givens_path background file givens is first last done = absurd is
 only_task held before after (Check file' cert' None chosen) path cert_path givens_path background file givens is first last done = absurd is
 only_task held before after (Help shown) path cert_path givens_path background file givens is first last done = absurd is
 only_task held before after (Check file' cert' (Some givens') chosen) path cert_path givens_path background file givens is first last done =

@@ -1,5 +1,5 @@
 -- What comes of a run of the program, for arguments that ask for a task or for none.
-use Rattle.std.specs.Prelude.{◌≡◌, ◌⊎◌, ℕ, List, [], ◌∷◌, ◌++◌, Bool, Option, None, Some, Result, Ok, IfSome}
+use Rattle.std.specs.Prelude.{◌≡◌, ◌⊎◌, ℕ, List, [], ◌∷◌, ◌++◌, true, Option, None, Some, Result, Ok, IfSome}
 use Rattle.std.specs.Prelude.{string_bytes, take}
 use Rattle.std.specs.Io.KnownBytes.{Appends, Keeps}
 use Rattle.picture.specs.declared.rgb.Rgb.{Rgb}
@@ -8,8 +8,9 @@ use Rattle.live_audit.specs.Calls.{Machine, machine}
 use Rattle.session.specs.Truth.{TellsTruth}
 use Rattle.program_options.specs.declared.fault.ProgramFault.{ProgramFault}
 use Rattle.program_options.specs.declared.options.Options.{Options}
+use Rattle.program_options.specs.declared.options.ProveOptions.{ProveOptions}
 use Rattle.answers.specs.Check.{IsCheckOf, IsOnlyPicture}
-use Rattle.answers.specs.Prove.{IsProveOf}
+use Rattle.answers.specs.Prove.{IsProveOf, ambiguous_text, undecided_text}
 use Rattle.answers.specs.Published.{IsOnlyPublished, IsPublishedCheckOf}
 use Rattle.answers.specs.Run.{shown}
 use Rattle.answers.specs.Start.{IsStarted}
@@ -27,7 +28,8 @@ files_of Clues = []
 files_of (Work file options) = file.now ∷ []
 files_of (Check file cert None background) = file.now ∷ cert.now ∷ []
 files_of (Check file cert (Some givens) background) = file.now ∷ cert.now ∷ givens.now ∷ []
-files_of (Prove file background single) = file.now ∷ []
+files_of (Prove file None options) = file.now ∷ []
+files_of (Prove file (Some givens) options) = file.now ∷ givens.now ∷ []
 files_of (Help text) = []
 
 -- ---- a task that is done
@@ -77,12 +79,22 @@ pub record HasCheckedWith (picture certificate published : Held) (background : O
   pub shows : IsPublishedCheckOf file background givens cert (Ok line)
   pub went_out : Appends before.output after.output line
 
--- a certificate for the picture in the file was written, or `ambiguous`, or `undecided`
-pub record HasMade (picture : Held) (background : Option Rgb) (single : Bool) (before after : World) : Type 0 where
+-- a certificate for the picture in the file was written
+pub record HasMade (picture : Held) (options : ProveOptions) (before after : World) : Type 0 where
   pub file : List ℕ
   pub content : IsContent picture file
   pub text : List ℕ
-  pub shows : IsProveOf file background single (Ok text)
+  pub shows : IsProveOf file None options (Ok (text, true))
+  pub went_out : Appends before.output after.output text
+
+-- a certificate for the picture in the first file was written, with the givens that the second one publishes
+pub record HasMadeWith (picture published : Held) (options : ProveOptions) (before after : World) : Type 0 where
+  pub file : List ℕ
+  pub content : IsContent picture file
+  pub givens : List ℕ
+  pub givens_content : IsContent published givens
+  pub text : List ℕ
+  pub shows : IsProveOf file (Some givens) options (Ok (text, true))
   pub went_out : Appends before.output after.output text
 
 abbrev pub IsDone : (List ℕ → Held) → World → World → Task → Type 0
@@ -92,8 +104,22 @@ IsDone held before after (Check file cert None background) =
     HasChecked (held file.now) (held cert.now) background before after
 IsDone held before after (Check file cert (Some givens) background) =
     HasCheckedWith (held file.now) (held cert.now) (held givens.now) background before after
-IsDone held before after (Prove file background single) = HasMade (held file.now) background single before after
+IsDone held before after (Prove file None options) = HasMade (held file.now) options before after
+IsDone held before after (Prove file (Some givens) options) =
+    HasMadeWith (held file.now) (held givens.now) options before after
 IsDone held before after (Help text) = Appends before.output after.output (string_bytes text)
+
+-- the word that stands in a certificate's place was written, where one was asked for
+abbrev pub TellsNone : Task → World → World → Type 0
+TellsNone (Prove file givens options) before after =
+    Appends before.output after.output ambiguous_text ⊎ Appends before.output after.output undecided_text
+TellsNone _ before after = ⊥
+
+-- nothing was written; or such a word, for arguments that ask for a certificate
+abbrev pub IsSilent : Texts → World → World → Type 0
+IsSilent arguments before after =
+    Keeps before.output after.output
+    ⊎ ((task : Task) × (IsTask arguments (Ok task) × TellsNone task before after))
 
 -- ---- a run
 
@@ -106,10 +132,11 @@ Opens arguments held before after status =
     × ((after.opened ≡ before.opened ++ take count (files_of task)) × (status ≡ 0 → IsDone held before after task)))))
 
 -- A run that opens files in this way. Its outcome is what is exactly to come of the arguments and the files, and the
--- status is that of the outcome: 0 without an error, else the error's. With status 1 nothing was written.
+-- status is that of the outcome: 0 without an error, else the error's. With status 1 nothing was written, or the word
+-- that stands in a certificate's place.
 pub record Comes (arguments : Texts) (held : List ℕ → Held) (before after : World) (status : ℕ) : Type 0 where
   pub outcome : Result (Unit {0}) ProgramFault
   pub right_status : status ≡ status_after outcome
   pub answers : AnswersAll arguments held before after outcome
-  pub silent : status ≡ 1 → Keeps before.output after.output
+  pub silent : status ≡ 1 → IsSilent arguments before after
   pub opens : Opens arguments held before after status

@@ -9,7 +9,6 @@ use Rattle.program_options.specs.declared.fault.ProgramFault.{ProgramFault}
 use Rattle.program_options.specs.declared.fault.ProgramFault.TheVariants.{Memory, Read, TooLong, Write}
 use Rattle.program_options.specs.declared.options.Options.{Options}
 use Rattle.answers.specs.Open.{OpensFile}
-use Rattle.answers.specs.Prove.{ambiguous_text, undecided_text}
 use Rattle.answers.specs.Published.{IsOnlyPublished}
 use Rattle.command_line.specs.declared.words.Task.{Task}
 use Rattle.command_line.specs.declared.words.Task.TheVariants.{Check, Prove, Work}
@@ -67,7 +66,7 @@ IsCheckWith path cert_path givens_path background (Check file cert (Some givens)
 IsCheckWith path cert_path givens_path background _ = ⊥
 
 abbrev pub IsProveOn : List ℕ → Option Rgb → Task → Type 0
-IsProveOn path background (Prove file chosen single) = (file.now ≡ path) × (chosen ≡ background)
+IsProveOn path background (Prove file None options) = (file.now ≡ path) × (options.background ≡ background)
 IsProveOn path background _ = ⊥
 
 -- ---- a pair that is published
@@ -136,8 +135,6 @@ pub record IsProvedByRun (proving checking : Asked) (cert : List ℕ) (proved : 
   pub file_is_held : checking.held picture_path ≡ Holds file
   pub cert_is_held : checking.held cert_path ≡ Holds cert
   pub proved_well : proved ≡ 0
-  pub unambiguous : cert ≢ ambiguous_text
-  pub decided : cert ≢ undecided_text
 
 -- the second run accepts the certificate, with the line for one without givens
 abbrev pub ProofsAreAccepted : Asked → Asked → List ℕ → List ℕ → ℕ → ℕ → Type 0

@@ -1,19 +1,22 @@
-//! What is printed passes a check: the pair of `write ppm` and `certify`, and a certificate of `prove`.
+//! What is printed passes a check: the pair of `write ppm` and `certify`, and a certificate of `prove`, without and with givens.
 
-ghost use Rattle.std.specs.Prelude.{◌≡◌, ◌≢◌, ◌⊎◌, false, true, Some, Ok, IfErr, OnOk, codes};
+ghost use Rattle.std.specs.Prelude.{◌≡◌, ◌⊎◌, true, IfErr, OnOk, codes};
 ghost use Rattle.std.specs.Io.KnownBytes.{Appends};
-ghost use Rattle.answers.specs.Check.{IsCheckOf, WritesBy};
-ghost use Rattle.answers.specs.Prove.{IsProveOf, ambiguous_text, undecided_text};
+ghost use Rattle.answers.specs.Check.{IsCheckOf, WritesBy, accepted_text};
+ghost use Rattle.answers.specs.Prove.{IsProveOf};
+ghost use Rattle.answers.specs.Published.{IsPublishedCheckOf};
 ghost use Rattle.claims.specs.Line.{HasLine};
 ghost use Rattle.program_options.specs.declared.fault.ProgramFault.TheVariants.{Memory, Write as Unwritten};
 ghost use Rattle.published.specs.Laws.{ArePublished, background_in};
 
-use answers::{ProgramFault, run_check};
+use answers::{ProgramFault, ProveOptions, run_check, run_check_published};
 use line_facts::LineEngine;
 use live_audit::Bench;
 use picture::Rgb;
 use propagate::Agenda;
-use published::laws::{proofs_are_verified, published_pairs_are_accepted};
+use published::laws::{
+    proofs_are_verified, published_pairs_are_accepted, published_proofs_are_verified,
+};
 use std::alloc::Global;
 use std::io::Write;
 
@@ -38,25 +41,43 @@ pub fn check_printed<E: LineEngine + Drop, A: Agenda + Drop, W: Write>(
     run_check(alloc, printed.0, printed.1, Some(background), writer)
 }
 
-/// Checks what `prove` printed for a file, in either form, with the same background: a certificate is accepted, with the line
+/// Checks a certificate that `prove` printed for a file, in any form, with the same background: it is accepted, with the line
 /// for one without givens, unless memory runs out or the line cannot be written.
 pub fn verify_printed<W: Write>(
     alloc: Global,
     file: &[u8],
     cert: &[u8],
-    background: Option<Rgb>,
+    options: ProveOptions,
     writer: &mut W,
 ) -> Result<(), ProgramFault>
-    requires printed { IsProveOf file.now background true (Ok cert.now)
-        ⊎ IsProveOf file.now background false (Ok cert.now) }
-    requires unambiguous { cert.now ≢ ambiguous_text }
-    requires decided { cert.now ≢ undecided_text }
+    requires { IsProveOf file.now None options (Ok (cert.now, true)) }
     ensures fails { IfErr result (λ e. (e ≡ Memory) ⊎ (e ≡ Unwritten)) }
     ensures writes { WritesBy (W.contents writer.old) (W.contents writer.new) result
-        (IsCheckOf file.now background cert.now) }
+        (IsCheckOf file.now options.background cert.now) }
     ensures line { OnOk result (Appends (W.contents writer.old) (W.contents writer.new)
         (codes "certificate accepted\n")) }
 {
     proofs_are_verified();
-    run_check(alloc, file, cert, background, writer)
+    run_check(alloc, file, cert, options.background, writer)
+}
+
+/// Checks a certificate that `prove` printed for a file and a file of published givens, with these and the same background: it
+/// is accepted, unless memory runs out or the line cannot be written.
+pub fn verify_published<W: Write>(
+    alloc: Global,
+    file: &[u8],
+    cert: &[u8],
+    givens: &[u8],
+    options: ProveOptions,
+    writer: &mut W,
+) -> Result<(), ProgramFault>
+    requires { IsProveOf file.now (Some givens.now) options (Ok (cert.now, true)) }
+    ensures fails { IfErr result (λ e. (e ≡ Memory) ⊎ (e ≡ Unwritten)) }
+    ensures writes { WritesBy (W.contents writer.old) (W.contents writer.new) result
+        (IsPublishedCheckOf file.now options.background givens.now cert.now) }
+    ensures line { OnOk result ((cells : _)
+        × Appends (W.contents writer.old) (W.contents writer.new) (accepted_text cells)) }
+{
+    published_proofs_are_verified();
+    run_check_published(alloc, file, cert, givens, options.background, writer)
 }

@@ -7,8 +7,8 @@ use Rattle.clap.specs.declared.builder.value_parser.ValueParser.{ValueParser}
 use Rattle.clap.specs.declared.error.Error.{Error}
 use Rattle.clap.specs.declared.error.kind.ErrorKind.TheVariants.{OutOfMemory}
 use Rattle.clap.specs.declared.parser.matches.ArgMatches.{ArgMatches}
-use Rattle.command_line.specs.Program.{AreFormats, AreOfCerts, AreOfFiles, Formats, IsLocal, ParsesAs, background_rule, check_shape, file_rule, file_shape}
-use Rattle.command_line.specs.Program.{format_rule, opening_shape, program_app, prove_shape, proving_shape, top_shape, work_shape}
+use Rattle.command_line.specs.Program.{AreFormats, AreOfCerts, AreOfFiles, Formats, IsLocal, ParsesAs, background_rule, check_shape, complete_rule, file_rule, file_shape, givens_rule}
+use Rattle.command_line.specs.Program.{format_rule, opening_shape, program_app, prove_shape, searching_shape, top_shape, work_shape}
 
 -- the file's command with the format
 pub opening_made : {E : Type 0} (base : Command) (a : Arg) (r : Result Command E) → IfOk r (AddsArg base a) → a.global ≡ false → shape_of base ≡ file_shape
@@ -26,7 +26,7 @@ opening_made base a (Ok c) h g s f = (
 )
 
 -- the picture's command with the format of its certificate
-pub prove_made : {E : Type 0} (base : Command) (a : Arg) (r : Result Command E) → IfOk r (AddsArg base a) → a.global ≡ false → shape_of base ≡ proving_shape
+pub prove_made : {E : Type 0} (base : Command) (a : Arg) (r : Result Command E) → IfOk r (AddsArg base a) → a.global ≡ false → shape_of base ≡ searching_shape
     → (forms : ValueParser) × (AreOfCerts forms × (rule_of a ≡ format_rule (codes "2") forms)) → IfOk r (λ c. (forms : ValueParser) × (AreOfCerts forms × (shape_of c ≡ prove_shape forms)))
 prove_made base a (Err e) h g s f = h
 prove_made base a (Ok c) h g s f = (
@@ -35,7 +35,7 @@ prove_made base a (Ok c) h g s f = (
     f.1.0,
     ap (λ (x : App). x.top) (h.shape g)
         ∙ ap (λ (x : Shape). let y : Shape = record x { rules = x.rules ++ rule_of a ∷ [] } in y) s
-        ∙ ap (λ (x : Rule). let y : Shape = record proving_shape { rules = file_rule ∷ background_rule ∷ x ∷ [] } in y) f.1.1,
+        ∙ ap (λ (x : Rule). let y : Shape = record searching_shape { rules = file_rule ∷ background_rule ∷ givens_rule ∷ complete_rule ∷ x ∷ [] } in y) f.1.1,
   ),
 )
 

@@ -5,8 +5,8 @@ use Rattle.std.specs.Str.Parse.{ParsesUnsigned}
 use Rattle.clap.specs.declared.error.Error.{Error}
 use Rattle.clap.specs.declared.error.kind.ErrorKind.{ErrorKind}
 use Rattle.clap.specs.declared.error.kind.ErrorKind.TheVariants as kind
-use Rattle.clap.specs.Words.{App, HasKind, IsAmong, Kinds, ReadsOne, Row, Text, fault_of, first_of, first_value, kind_of, one_text, rows_of, subcommand_name_of, subcommand_of, subcommand_rows_of}
-use Rattle.clap.specs.Words.{takes}
+use Rattle.clap.specs.Words.{App, HasKind, IsAmong, Kinds, ReadsOne, Row, Text, fault_of, first_of, first_value, kind_of, one_of, one_text, rows_of, subcommand_name_of}
+use Rattle.clap.specs.Words.{subcommand_of, subcommand_rows_of, takes}
 use Rattle.clap.specs.declared.parser.matches.ArgMatches.{ArgMatches}
 use Rattle.clap.specs.declared.parser.matches.Found.{Found}
 use Rattle.clap.proofs.WalkLemmas.{first_value-rows, one_text-rows}
@@ -20,9 +20,9 @@ use Rattle.command_line.proofs.EnterLemmas.{names_one, some_kind}
 
 -- ---- values
 
-abbrev made : Option Text → Option Text → Option Text → Option Text → Option Text → Option Text → Given
-made file cert givens format background history =
-    record { file = file; cert = cert; givens = givens; format = format; background = background; history = history }
+abbrev made : Option Text → Option Text → Option Text → Option Text → Option Text → Option Text → Option Text → Given
+made file cert givens format background history complete =
+    record { file = file; cert = cert; givens = givens; format = format; background = background; history = history; complete = complete }
 
 -- the values of a parse's entries are those of its rows
 pub given_same : (f : Found) → given_of f ≡ given_in (rows_of f)
@@ -35,12 +35,14 @@ given_same f =
     let format = codes "format" in
     let background = codes "background" in
     let old = one_text f (codes "history") in
-    ap (λ (x : Option Text). made x (v cert) (v givens) (v format) (v background) old) (first_value-rows f file)
-    ∙ ap (λ (x : Option Text). made (r file) x (v givens) (v format) (v background) old) (first_value-rows f cert)
-    ∙ ap (λ (x : Option Text). made (r file) (r cert) x (v format) (v background) old) (first_value-rows f givens)
-    ∙ ap (λ (x : Option Text). made (r file) (r cert) (r givens) x (v background) old) (first_value-rows f format)
-    ∙ ap (λ (x : Option Text). made (r file) (r cert) (r givens) (r format) x old) (first_value-rows f background)
-    ∙ ap (λ (x : Option Text). made (r file) (r cert) (r givens) (r format) (r background) x) (one_text-rows f (codes "history"))
+    let off = one_text f (codes "complete") in
+    ap (λ (x : Option Text). made x (v cert) (v givens) (v format) (v background) old off) (first_value-rows f file)
+    ∙ ap (λ (x : Option Text). made (r file) x (v givens) (v format) (v background) old off) (first_value-rows f cert)
+    ∙ ap (λ (x : Option Text). made (r file) (r cert) x (v format) (v background) old off) (first_value-rows f givens)
+    ∙ ap (λ (x : Option Text). made (r file) (r cert) (r givens) x (v background) old off) (first_value-rows f format)
+    ∙ ap (λ (x : Option Text). made (r file) (r cert) (r givens) (r format) x old off) (first_value-rows f background)
+    ∙ ap (λ (x : Option Text). made (r file) (r cert) (r givens) (r format) (r background) x off) (one_text-rows f (codes "history"))
+    ∙ ap (λ (x : Option Text). made (r file) (r cert) (r givens) (r format) (r background) (one_of (codes "history") (rows_of f)) x) (one_text-rows f (codes "complete"))
 
 -- ---- the subcommand
 
@@ -180,7 +182,7 @@ memory_or : (k : ErrorKind) (r : Result Task ProgramFault) → IsUntaken k r →
 memory_or k (Ok Clues) u = absurd u
 memory_or k (Ok (Work file options)) u = absurd u
 memory_or k (Ok (Check file cert givens background)) u = absurd u
-memory_or k (Ok (Prove file background single)) u = absurd u
+memory_or k (Ok (Prove file givens options)) u = absurd u
 memory_or k (Ok (Help text)) u = inr (shown_not_memory k u)
 memory_or k (Err (fault.Words text)) u = inr u.1
 memory_or k (Err (fault.Ppm x)) u = inl (memory_is (fault.Ppm x) u)
@@ -188,6 +190,7 @@ memory_or k (Err (fault.Non x)) u = inl (memory_is (fault.Non x) u)
 memory_or k (Err (fault.Edit x)) u = inl (memory_is (fault.Edit x) u)
 memory_or k (Err fault.NoPicture) u = inl (memory_is fault.NoPicture u)
 memory_or k (Err (fault.Cert x)) u = inl (memory_is (fault.Cert x) u)
+memory_or k (Err fault.NoCertificate) u = inl (memory_is fault.NoCertificate u)
 memory_or k (Err (fault.Givens x)) u = inl (memory_is (fault.Givens x) u)
 memory_or k (Err fault.Memory) u = inl refl
 memory_or k (Err fault.TooLong) u = inl (memory_is fault.TooLong u)

@@ -5,6 +5,7 @@ use Rattle.clap.specs.Words.{subcommand_rows_of, takes}
 use Rattle.clap.specs.Simple.{new_shape}
 use Rattle.clap.specs.declared.builder.command.Command.{Command}
 use Rattle.clap.specs.declared.builder.command.Command.TheViews.{out-Command}
+use Rattle.clap.specs.declared.builder.action.ArgAction.TheVariants.{SetTrue}
 use Rattle.clap.specs.declared.builder.value_parser.ValueParser.{ValueParser}
 use Rattle.clap.specs.declared.error.Error.{Error}
 use Rattle.clap.specs.declared.error.kind.ErrorKind.TheVariants.{OutOfMemory}
@@ -38,6 +39,9 @@ background_rule = record (new_rule (codes "background")) { long = Some (codes "b
 abbrev pub givens_rule : Rule
 givens_rule = record (new_rule (codes "givens")) { long = Some (codes "givens"); value_names = 1 }
 
+abbrev pub complete_rule : Rule
+complete_rule = record (new_rule (codes "complete")) { long = Some (codes "complete"); action = Some SetTrue }
+
 abbrev pub history_rule : Rule
 history_rule = record (new_rule (codes "history")) {
   long = Some (codes "history");
@@ -69,9 +73,15 @@ check_shape name = record (new_shape name) { rules = file_rule ∷ cert_rule ∷
 abbrev pub proving_shape : Shape
 proving_shape = record (new_shape (codes "prove")) { rules = file_rule ∷ background_rule ∷ [] }
 
+abbrev pub searching_shape : Shape
+searching_shape = record (new_shape (codes "prove")) {
+  rules = file_rule ∷ background_rule ∷ givens_rule ∷ complete_rule ∷ [];
+}
+
 abbrev pub prove_shape : ValueParser → Shape
-prove_shape forms =
-    record (new_shape (codes "prove")) { rules = file_rule ∷ background_rule ∷ format_rule (codes "2") forms ∷ [] }
+prove_shape forms = record (new_shape (codes "prove")) {
+  rules = file_rule ∷ background_rule ∷ givens_rule ∷ complete_rule ∷ format_rule (codes "2") forms ∷ [];
+}
 
 -- ---- the program
 

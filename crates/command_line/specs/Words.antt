@@ -12,6 +12,7 @@ use Rattle.picture.specs.declared.rgb.Rgb.{Rgb}
 use Rattle.program_options.specs.declared.fault.ProgramFault.{ProgramFault}
 use Rattle.program_options.specs.declared.fault.ProgramFault.TheVariants as fault
 use Rattle.program_options.specs.declared.options.Options.{Options}
+use Rattle.program_options.specs.declared.options.ProveOptions.{ProveOptions}
 use Rattle.program_options.specs.Background.{background_of}
 use Rattle.program_options.specs.Options.{IsLawful}
 use Rattle.command_line.specs.Program.{AreFormats, Formats, program_app}
@@ -33,6 +34,7 @@ pub record Given : Type 0 where
   pub format : Option Text
   pub background : Option Text
   pub history : Option Text
+  pub complete : Option Text
 
 -- these texts in the rows of a parse
 abbrev pub given_in : List Row → Given
@@ -43,6 +45,7 @@ given_in rows = record {
   format = first_of (codes "format") rows;
   background = first_of (codes "background") rows;
   history = one_of (codes "history") rows;
+  complete = one_of (codes "complete") rows;
 }
 
 -- these texts in the entries of a subcommand
@@ -54,6 +57,7 @@ given_of f = record {
   format = first_value f (codes "format");
   background = first_value f (codes "background");
   history = one_text f (codes "history");
+  complete = one_text f (codes "complete");
 }
 
 -- ---- the task
@@ -105,11 +109,19 @@ IsCheck g (Ok (Check file cert givens background)) =
 IsCheck g (Ok _) = ⊥
 IsCheck g (Err e) = background_asked g.background ≡ Err e
 
--- the making of a certificate in this format for this file with this background
+-- The format and the background are those of the words, and so is the flag for a complete search, which the parser
+-- reads as `true` or `false`.
+pub record AreProveOptions (g : Given) (options : ProveOptions) : Type 0 where
+  pub background : background_asked g.background ≡ Ok options.background
+  pub single : (options.single ≡ true) ↔ (g.format ≡ Some (codes "1"))
+  pub complete : g.complete ≡ Some (codes "true") → options.complete ≡ true
+  pub bounded : g.complete ≡ Some (codes "false") → options.complete ≡ false
+
+-- the making of a certificate for this file with this file of givens or none, and these options
 abbrev pub IsProve : Given → Result Task ProgramFault → Type 0
-IsProve g (Ok (Prove file background single)) =
+IsProve g (Ok (Prove file givens options)) =
     (file.now ≡ path_of g.file)
-    × ((background_asked g.background ≡ Ok background) × ((single ≡ true) ↔ (g.format ≡ Some (codes "1"))))
+    × ((option_map (λ path. path.now) givens ≡ g.givens) × AreProveOptions g options)
 IsProve g (Ok _) = ⊥
 IsProve g (Err e) = background_asked g.background ≡ Err e
 

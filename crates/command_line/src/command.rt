@@ -3,9 +3,9 @@
 ghost use Rattle.std.specs.Prelude.{◌≡◌, [], codes, false, IfOk};
 ghost use Rattle.clap.specs.Walk.{texts};
 ghost use Rattle.clap.specs.Words.{app_of, rule_of, shape_of};
-ghost use Rattle.command_line.specs.Program.{AreFormats, AreOfCerts, AreOfFiles, IsLocal, ParsesAs, background_rule, check_shape, file_shape, format_rule, givens_rule, history_rule, opening_shape, pair_shape, program_app, prove_shape, proving_shape, top_shape, word_rule, work_shape};
+ghost use Rattle.command_line.specs.Program.{AreFormats, AreOfCerts, AreOfFiles, IsLocal, ParsesAs, background_rule, check_shape, file_shape, format_rule, givens_rule, history_rule, opening_shape, pair_shape, program_app, prove_shape, proving_shape, top_shape, word_rule, work_shape, complete_rule, searching_shape};
 
-use clap::{Arg, ArgMatches, Command, Error, value_parser};
+use clap::{Arg, ArgAction, ArgMatches, Command, Error, value_parser};
 use program_options::VERSION;
 use std::alloc::{AllocError, Global};
 
@@ -105,7 +105,7 @@ fn check_command<'a>(
     ensures local { IfOk result IsLocal }
 {
     pair_command(alloc, name, about)?
-        .arg(givens(alloc))?
+        .arg(givens(alloc, CHECK_GIVENS))?
         .arg(background(alloc))
 }
 
@@ -121,13 +121,23 @@ fn pair_command<'a>(alloc: Global, name: &'a str, about: &'a str) -> Result<Comm
         .arg(word(alloc, "cert", "CERT", "Its certificate"))
 }
 
-// The command `prove`, which makes a certificate with lemmas.
+// The command `prove`, which makes a certificate.
 fn prove_command<'a>(alloc: Global) -> Result<Command<'a>, AllocError>
     ensures shape { IfOk result (λ c. (forms : _)
         × (AreOfCerts forms × (shape_of c ≡ prove_shape forms))) }
     ensures local { IfOk result IsLocal }
 {
-    proving(alloc)?.arg(form(alloc))
+    searching(alloc)?.arg(form(alloc))
+}
+
+// The command `prove` without the certificate's format.
+fn searching<'a>(alloc: Global) -> Result<Command<'a>, AllocError>
+    ensures shape { IfOk result (λ c. shape_of c ≡ searching_shape) }
+    ensures local { IfOk result IsLocal }
+{
+    proving(alloc)?
+        .arg(givens(alloc, PROVE_GIVENS))?
+        .arg(complete(alloc))
 }
 
 // The command `prove` with the picture's file and its background.
@@ -136,7 +146,7 @@ fn proving<'a>(alloc: Global) -> Result<Command<'a>, AllocError>
     ensures local { IfOk result IsLocal }
 {
     Command::new(alloc, "prove")
-        .about("Prints a certificate with lemmas that the picture is the only one with its clues")
+        .about("Prints a certificate that the picture is the only one with its clues")
         .after_help("Example: nonobench prove heart.ppm > heart.cert")
         .arg(word(alloc, "file", "FILE", "The picture, as a P3 text"))?
         .arg(background(alloc))
@@ -176,7 +186,7 @@ fn form<'a>(alloc: Global) -> Arg<'a>
         .value_name("FORMAT")
         .value_parser(FORMS.as_slice())
         .default_value("2")
-        .help("The format of the certificate: nonolemma 1 or nonolemma 2")
+        .help("The format of a certificate with lemmas: nonolemma 1 or nonolemma 2")
 }
 
 fn history<'a>(alloc: Global) -> Arg<'a>
@@ -191,14 +201,31 @@ fn history<'a>(alloc: Global) -> Arg<'a>
         .help("How many edits can be undone, 1 to 1000")
 }
 
-fn givens<'a>(alloc: Global) -> Arg<'a>
+// What help says of the file of givens, of a check and of a certificate that is made.
+const CHECK_GIVENS: &str =
+    "The givens that are published, as lines 'given R C': CERT may name no others";
+
+const PROVE_GIVENS: &str =
+    "The givens that are published, as lines 'given R C': the certificate names all of them";
+
+fn givens<'a>(alloc: Global, help: &'a str) -> Arg<'a>
     ensures rule { rule_of result ≡ givens_rule }
     ensures local { result.global ≡ false }
 {
     Arg::new(alloc, "givens")
         .long("givens")
         .value_name("FILE")
-        .help("The givens that are published, as lines 'given R C': CERT may name no others")
+        .help(help)
+}
+
+fn complete<'a>(alloc: Global) -> Arg<'a>
+    ensures rule { rule_of result ≡ complete_rule }
+    ensures local { result.global ≡ false }
+{
+    Arg::new(alloc, "complete")
+        .long("complete")
+        .action(ArgAction::SetTrue)
+        .help("Search without bounds, until it is decided")
 }
 
 fn background<'a>(alloc: Global) -> Arg<'a>

@@ -11,7 +11,7 @@ use clap::error::ErrorKind;
 use clap::{ArgMatches, Error};
 use edits::MAX_DEPTH;
 use picture::Rgb;
-use program_options::{Options, ProgramFault, background_in};
+use program_options::{Options, ProgramFault, ProveOptions, background_in};
 use std::alloc::Global;
 
 /// What the words ask the program for. Paths are as they were given.
@@ -32,12 +32,12 @@ pub enum Task<'a> {
         givens: Option<&'a str>,
         background: Option<Rgb>,
     },
-    /// A certificate with lemmas that a picture is the only one with its clues, where one is found.
+    /// A certificate that a picture is the only one with its clues, where one is found: where a file of givens is named, with
+    /// exactly those.
     Prove {
         file: &'a str,
-        background: Option<Rgb>,
-        /// Whether it is written with a single step on each line, as `nonolemma 1`; else as `nonolemma 2`.
-        single: bool,
+        givens: Option<&'a str>,
+        options: ProveOptions,
     },
     /// The parser's text for help or the version, which is to be shown.
     Help(String),
@@ -98,15 +98,19 @@ fn check_of<'a>(matches: &ArgMatches<'a>) -> Result<Task<'a>, ProgramFault>
     })
 }
 
-// The certificate with lemmas that words ask for.
+// The certificate that words ask for.
 fn prove_of<'a>(matches: &ArgMatches<'a>) -> Result<Task<'a>, ProgramFault>
     ensures prove { IsProve (given_of (found_of matches.now)) result }
     ensures lawful { IfOk result IsLawfulTask }
 {
     Ok(Task::Prove {
         file: matches.get_str("file").unwrap_or(""),
-        background: background_of(matches)?,
-        single: has_format(matches, "1"),
+        givens: matches.get_str("givens"),
+        options: ProveOptions {
+            background: background_of(matches)?,
+            single: has_format(matches, "1"),
+            complete: matches.get_flag("complete"),
+        },
     })
 }
 

@@ -24,7 +24,7 @@ pub record AreBoth (held later : List ℕ → Held) (opened between after : Text
   pub next : after ≡ between ++ cert ∷ []
 
 -- the second file was not read
-half : (held later : List ℕ → Held) (opened between after : Texts) (faults mid last : ℕ) (input output : Option (List ℕ)) (path cert : Bor (List ℕ)) (file : List ℕ) (fault : ProgramFault)
+pub half : (held later : List ℕ → Held) (opened between after : Texts) (faults mid last : ℕ) (input output : Option (List ℕ)) (path cert : Bor (List ℕ)) (file : List ℕ) (fault : ProgramFault)
     (r : Result (Unit {0}) ProgramFault)
     → AreBoth held later opened between after faults mid path.now cert.now file → IsUnreadFile (later cert.now) fault → HasFailed mid last fault → r ≡ Err fault
     → IsHalfRead (held path.now) (held cert.now) path.now cert.now (world opened faults input output) (world after last input output) r
@@ -51,7 +51,7 @@ half_read held later opened between after faults mid last input output task path
     inr (inl (half held later opened between after faults mid last input output path cert file fault r both unread cause failed)) in
     subst (λ (t : Task). CarriesOut held (world opened faults input output) (world after last input output) t r) (sym is) here
 
-without_some : {X : Type 0} (found : Option X) → ((x : X) → found ≡ Some x → ⊥) → found ≡ None
+pub without_some : {X : Type 0} (found : Option X) → ((x : X) → found ≡ Some x → ⊥) → found ≡ None
 without_some None not = refl
 without_some (Some x) not = absurd (not x refl)
 

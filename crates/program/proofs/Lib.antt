@@ -1,5 +1,6 @@
 pub mod CheckLemmas
 pub mod EndLemmas
 pub mod FileLemmas
+pub mod ProveLemmas
 pub mod RunLemmas
 pub mod WorkLemmas

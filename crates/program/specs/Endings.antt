@@ -1,7 +1,7 @@
 -- The exit status of the program, and the message of an error.
 use Rattle.std.specs.Prelude.{ℕ, List, [], ◌∷◌, ◌++◌, codes, string_bytes, Result, Ok, Err}
 use Rattle.program_options.specs.declared.fault.ProgramFault.{ProgramFault}
-use Rattle.program_options.specs.declared.fault.ProgramFault.TheVariants.{Words}
+use Rattle.program_options.specs.declared.fault.ProgramFault.TheVariants.{NoCertificate, Words}
 use Rattle.program_options.specs.Faults.{fault_text, status_of}
 
 -- 0, or that of the error: 1 for what the program was given, 2 for its words, 3 for reading and writing
@@ -9,9 +9,11 @@ abbrev pub status_after : Result (Unit {0}) ProgramFault → ℕ
 status_after (Ok done) = 0
 status_after (Err fault) = status_of fault
 
--- a text of the parser as it is, every other error as a line
+-- A text of the parser as it is, every other error as a line. Where there is no certificate, the word that says why was
+-- written to standard output, and nothing is said here.
 abbrev pub fault_line : ProgramFault → List ℕ
 fault_line (Words text) = string_bytes text
+fault_line NoCertificate = []
 fault_line fault = codes "nonobench: " ++ (fault_text fault ++ 10 ∷ [])
 
 -- what goes to standard error: nothing, or the message of the error

@@ -1,6 +1,6 @@
 -- What comes of a task, by what the files that it names hold.
 use Rattle.std.specs.Prelude.{◌≡◌, ◌⊎◌, ℕ, List, [], ◌∷◌, ◌++◌, Option, None, Some, Result, Ok, Err, IfErr, IfSome}
-use Rattle.std.specs.Prelude.{Bool, OnOk, string_bytes}
+use Rattle.std.specs.Prelude.{OnOk, string_bytes}
 use Rattle.std.specs.Borrow.{Bor}
 use Rattle.std.specs.Io.KnownBytes.{Appends, Keeps}
 use Rattle.picture.specs.declared.rgb.Rgb.{Rgb}
@@ -11,8 +11,9 @@ use Rattle.session.specs.Session.{Runs}
 use Rattle.program_options.specs.declared.fault.ProgramFault.{ProgramFault}
 use Rattle.program_options.specs.declared.fault.ProgramFault.TheVariants.{Memory, Write}
 use Rattle.program_options.specs.declared.options.Options.{Options}
+use Rattle.program_options.specs.declared.options.ProveOptions.{ProveOptions}
 use Rattle.answers.specs.Check.{IsCheckOf, IsLemmaProofOf, IsOnlyPicture, IsProofOf, WritesBy}
-use Rattle.answers.specs.Prove.{IsProveOf}
+use Rattle.answers.specs.Prove.{IsProveOf, WritesProof}
 use Rattle.answers.specs.Published.{IsOnlyPublished, IsPublishedCheckOf, IsPublishedProofOf}
 use Rattle.program_options.specs.Faults.{session_fault_of}
 use Rattle.answers.specs.Open.{OpensFile}
@@ -80,12 +81,12 @@ pub record IsWorked (held : Held) (path : List ℕ) (options : Options) (before 
   pub faultless : after.faults ≡ before.faults
   pub works : Works before.input after.input before.output after.output file options r
 
--- the picture's file was read, but that of the certificate could not be
-pub record IsHalfRead (picture certificate : Held) (path cert_path : List ℕ) (before after : World)
+-- the picture's file was read, but the second one, that of the certificate or of the givens, could not be
+pub record IsHalfRead (picture second : Held) (path second_path : List ℕ) (before after : World)
     (r : Result (Unit {0}) ProgramFault) : Type 0 where
   pub file : List ℕ
   pub content : IsContent picture file
-  pub stopped : IsStopped certificate (path ∷ cert_path ∷ []) before after r
+  pub stopped : IsStopped second (path ∷ second_path ∷ []) before after r
 
 -- the files of the picture and the certificate were read, but that of the givens could not be
 pub record IsWithoutGivens (picture certificate published : Held) (path cert_path givens_path : List ℕ)
@@ -128,16 +129,27 @@ pub record IsCheckedWith (picture certificate published : Held) (path cert_path 
   pub only : IsPublishedProofOf file background givens cert → IfErr r (λ e. (e ≡ Memory) ⊎ (e ≡ Write))
   pub unique : OnOk r (IsOnlyPublished file background givens)
 
--- What is made of the picture in a file by its bytes: a certificate, or `ambiguous` or `undecided`. The input is left
--- alone.
-pub record IsProving (held : Held) (path : List ℕ) (background : Option Rgb) (single : Bool) (before after : World)
+-- What is shown for the picture in a file by its bytes: a certificate, or a word in its place. The input is left alone.
+pub record IsProving (held : Held) (path : List ℕ) (options : ProveOptions) (before after : World)
     (r : Result (Unit {0}) ProgramFault) : Type 0 where
   pub file : List ℕ
   pub content : IsContent held file
   pub names : after.opened ≡ before.opened ++ path ∷ []
   pub faultless : after.faults ≡ before.faults
   pub input : Keeps before.input after.input
-  pub writes : WritesBy before.output after.output r (IsProveOf file background single)
+  pub writes : WritesProof before.output after.output r (IsProveOf file None options)
+
+-- The same for two files, of which the second names the givens that are published.
+pub record IsProvingWith (picture published : Held) (path givens_path : List ℕ) (options : ProveOptions)
+    (before after : World) (r : Result (Unit {0}) ProgramFault) : Type 0 where
+  pub file : List ℕ
+  pub givens : List ℕ
+  pub content : IsContent picture file
+  pub givens_content : IsContent published givens
+  pub names : after.opened ≡ before.opened ++ path ∷ givens_path ∷ []
+  pub faultless : after.faults ≡ before.faults
+  pub input : Keeps before.input after.input
+  pub writes : WritesProof before.output after.output r (IsProveOf file (Some givens) options)
 
 -- a text is written, no file is opened, and the input is left alone
 pub record IsShown (text : List ℕ) (before after : World) (r : Result (Unit {0}) ProgramFault) : Type 0 where
@@ -156,6 +168,21 @@ ChecksBy held path cert_path (Some givens) background before after r =
     IsWithoutGivens (held path) (held cert_path) (held givens.now) path cert_path givens.now before after r
     ⊎ IsCheckedWith (held path) (held cert_path) (held givens.now) path cert_path givens.now background before after r
 
+-- What comes of making a certificate for a picture whose file was read: it is made; or the file of the givens could not
+-- be read, or it is made with these.
+abbrev pub ProvesBy : (List ℕ → Held) → List ℕ → Option (Bor (List ℕ)) → ProveOptions → World → World
+    → Result (Unit {0}) ProgramFault → Type 0
+ProvesBy held path None options before after r = IsProving (held path) path options before after r
+ProvesBy held path (Some givens) options before after r =
+    IsHalfRead (held path) (held givens.now) path givens.now before after r
+    ⊎ IsProvingWith (held path) (held givens.now) path givens.now options before after r
+
+-- what comes of making a certificate for the picture in the file of a name
+abbrev pub ProvesFile : (List ℕ → Held) → List ℕ → Option (Bor (List ℕ)) → ProveOptions → World → World
+    → Result (Unit {0}) ProgramFault → Type 0
+ProvesFile held path givens options before after r =
+    IsStopped (held path) (path ∷ []) before after r ⊎ ProvesBy held path givens options before after r
+
 -- What comes of each task, by what its files hold, with its options or its background. Where a file could not be read,
 -- that is the error, the input was left alone and nothing was written. In all other cases no opening and no read of a
 -- file failed.
@@ -167,7 +194,5 @@ CarriesOut held before after (Check path certificate givens background) r =
     IsStopped (held path.now) (path.now ∷ []) before after r
     ⊎ (IsHalfRead (held path.now) (held certificate.now) path.now certificate.now before after r
     ⊎ ChecksBy held path.now certificate.now givens background before after r)
-CarriesOut held before after (Prove path background single) r =
-    IsStopped (held path.now) (path.now ∷ []) before after r
-    ⊎ IsProving (held path.now) path.now background single before after r
+CarriesOut held before after (Prove path givens options) r = ProvesFile held path.now givens options before after r
 CarriesOut held before after (Help text) r = IsShown (string_bytes text) before after r

@@ -36,13 +36,14 @@ pub fn end_with<W: Write>(outcome: Result<(), ProgramFault>, errors: &mut W) -> 
     }
 }
 
-// A text of the parser is written as it is, every other error as a line.
+// A text of the parser is written as it is, every other error as a line; nothing where a word stands in a certificate's place.
 fn tell<W: Write>(fault: &ProgramFault, errors: &mut W) -> io::Result<()>
     ensures { OnOk result
         (Appends (W.contents errors.old) (W.contents errors.new) (fault_line fault.now)) }
 {
     match fault {
         ProgramFault::Words(text) => write!(errors, "{text}"),
+        ProgramFault::NoCertificate => Ok(()),
         _ => writeln!(errors, "nonobench: {fault}"),
     }
 }

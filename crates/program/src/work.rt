@@ -2,13 +2,14 @@
 
 ghost use Rattle.program_options.specs.Options.{IsLawful};
 ghost use Rattle.command_line.specs.Words.{IsLawfulTask};
-ghost use Rattle.program.specs.Work.{CarriesOut, ShowsClues, Works};
+ghost use Rattle.program.specs.Work.{CarriesOut, ProvesFile, ShowsClues, Works};
 ghost use Rattle.program.specs.World.{world};
 
 use crate::files::{Files, read_file};
 use crate::input::read_input;
 use answers::{
-    Options, ProgramFault, run_check, run_check_published, run_clues, run_prove, start_bench,
+    Options, ProgramFault, ProveOptions, run_check, run_check_published, run_clues, run_prove,
+    start_bench,
 };
 use command_line::Task;
 use picture::send;
@@ -16,7 +17,7 @@ use session::run_session;
 use std::alloc::Global;
 use std::io::{Read, Write};
 
-/// Carries out a task on the files that it names; a check reads the picture's file first, and that of the givens last. The error is that of the
+/// Carries out a task on the files that it names; a check reads the picture's file first, and that of the givens last, and so does the making of a certificate. The error is that of the
 /// file, the certificate or the input, of reading or writing, or `Memory`. Where a file could not be read, the input
 /// was left alone and nothing was written.
 pub fn carry_out<F: Files, R: Read, W: Write>(
@@ -56,14 +57,32 @@ pub fn carry_out<F: Files, R: Read, W: Write>(
         }
         Task::Prove {
             file,
-            background,
-            single,
-        } => {
-            let file = read_file(alloc, files, file)?;
-            run_prove(alloc, &file, *background, *single, writer)
-        }
+            givens,
+            options,
+        } => show_proof(alloc, file, *givens, *options, files, writer),
         Task::Help(text) => Ok(send(text.as_bytes(), writer)?),
     }
+}
+
+// Writes a certificate of the picture of a file: where a file of givens is named, with these.
+fn show_proof<F: Files, W: Write>(
+    alloc: Global,
+    file: &str,
+    givens: Option<&str>,
+    options: ProveOptions,
+    files: &mut F,
+    writer: &mut W,
+) -> Result<(), ProgramFault>
+    ensures { (input : _) → ProvesFile (F.held files.old) file.now givens.entry options
+        (world (F.opened files.old) (F.faults files.old) input (W.contents writer.old))
+        (world (F.opened files.new) (F.faults files.new) input (W.contents writer.new)) result }
+{
+    let file = read_file(alloc, files, file)?;
+    let Some(givens) = givens else {
+        return run_prove(alloc, &file, None, options, writer);
+    };
+    let givens = read_file(alloc, files, givens)?;
+    run_prove(alloc, &file, Some(givens.as_slice()), options, writer)
 }
 
 // Writes the clues of the picture that is the whole input.

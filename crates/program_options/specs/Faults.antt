@@ -14,7 +14,8 @@ use Rattle.givens_text.specs.Faults as givens
 use Rattle.command_text.specs.declared.session_fault.SessionFault.{SessionFault}
 use Rattle.command_text.specs.declared.session_fault.SessionFault.TheVariants as session
 use Rattle.program_options.specs.declared.fault.ProgramFault.{ProgramFault}
-use Rattle.program_options.specs.declared.fault.ProgramFault.TheVariants.{Ppm, Non, Edit, NoPicture, Cert, Givens}
+use Rattle.program_options.specs.declared.fault.ProgramFault.TheVariants.{Ppm, Non, Edit, NoPicture, Cert}
+use Rattle.program_options.specs.declared.fault.ProgramFault.TheVariants.{NoCertificate, Givens}
 use Rattle.program_options.specs.declared.fault.ProgramFault.TheVariants.{Memory, TooLong, Words, NotText, Background}
 use Rattle.program_options.specs.declared.fault.ProgramFault.TheVariants.{BackgroundOfNon, Read, Write}
 
@@ -46,6 +47,7 @@ fault_text (Edit fault) = codes "edit " ++ fault_name fault
 fault_text NoPicture = codes "no picture has these clues"
 fault_text (Cert fault) =
     codes "certificate " ++ certs.name_of fault ++ codes " at line " ++ decimal (unwrap_or (certs.place_of fault) 0)
+fault_text NoCertificate = codes "no certificate"
 fault_text (Givens fault) =
     codes "givens " ++ givens.name_of fault ++ codes " at line " ++ decimal (givens.line_of fault)
 fault_text Memory = codes "memory"

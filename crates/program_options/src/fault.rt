@@ -1,4 +1,4 @@
-//! Why the program ends without its answer.
+//! Why the program ends with a status other than 0.
 
 ghost use Rattle.std.specs.Prelude.{◌≡◌, Some};
 ghost use Rattle.program_options.specs.declared.fault.ProgramFault.TheVariants.{Givens as Refused, Memory, Write as Unwritten};
@@ -14,7 +14,7 @@ use ppm_text::PpmFault;
 use std::alloc::AllocError;
 use std::fmt;
 
-/// Why the program ends without its answer. `Display` gives its message, and `status` the exit status.
+/// Why the program ends with a status other than 0. `Display` gives its message, and `status` the exit status.
 #[derive(Debug, PartialEq, Eq, Drop)]
 pub enum ProgramFault {
     /// The P3 text was refused.
@@ -27,6 +27,8 @@ pub enum ProgramFault {
     NoPicture,
     /// The certificate was refused.
     Cert(CertFault),
+    /// There is no certificate to show: `ambiguous` or `undecided` was written in its place.
+    NoCertificate,
     /// The file of givens was refused.
     Givens(GivensFault),
     /// Memory ran out.
@@ -85,6 +87,7 @@ impl fmt::Display for ProgramFault {
                 let line = fault.place().unwrap_or(0);
                 write!(f, "certificate {} at line {line}", fault.name())
             }
+            ProgramFault::NoCertificate => f.write_str("no certificate"),
             ProgramFault::Givens(fault) => {
                 let line = fault.place();
                 write!(f, "givens {} at line {line}", fault.name())

@@ -1,4 +1,4 @@
-//! The options of a session, and the errors with which the program ends.
+//! The options of the program's commands, and the errors with which the program ends.
 #![tactic(auto)]
 
 mod background;
@@ -8,5 +8,5 @@ mod version;
 
 pub use background::background_in;
 pub use fault::ProgramFault;
-pub use options::Options;
+pub use options::{Options, ProveOptions};
 pub use version::VERSION;

@@ -1,4 +1,4 @@
-//! The options of a session on a file.
+//! The options of a session on a file, and those of a certificate that is made.
 
 use picture::Rgb;
 
@@ -11,4 +11,15 @@ pub struct Options {
     pub background: Option<Rgb>,
     /// How many edits can be undone, 1 to 1,000.
     pub history: u16,
+}
+
+/// How a certificate is made of a picture.
+#[derive(Clone, Copy, Debug, PartialEq, Eq)]
+pub struct ProveOptions {
+    /// The colour of the background in the P3 text, white where it is not given.
+    pub background: Option<Rgb>,
+    /// Whether a certificate with lemmas has a single step on each line, as `nonolemma 1`; else it is `nonolemma 2`.
+    pub single: bool,
+    /// Whether the search goes on until it has decided; else it has bounds.
+    pub complete: bool,
 }

@@ -2,7 +2,7 @@
 
 ghost use Rattle.published.specs.Laws.{PairsAreAccepted};
 ghost use Rattle.published.specs.Printed.{OneFileIsOneDocument, PrintedAreAccepted, StartedAreAccepted, UniqueArePublished};
-ghost use Rattle.published.specs.Proofs.{ProofsAreVerified};
+ghost use Rattle.published.specs.Proofs.{CompleteSearchesDecide, ProofsAreVerified, PublishedProofsAreVerified};
 ghost use Rattle.published.specs.Solution.{PlainLinesAreOneSolution, PublishedAreSolved};
 
 use certificate::laws::round_trip as certificates_are_read;
@@ -68,9 +68,19 @@ pub fn plain_lines_are_one_solution()
     ensures { PlainLinesAreOneSolution }
 {}
 
-/// What `prove` shows for a file is what `check` accepts, in either form: where it is neither `ambiguous` nor `undecided`, it is
-/// read as a certificate, `run_check` accepts it for the file with the line `certificate accepted`, and the picture's clues have
-/// one solution.
+/// A certificate that `prove` shows for a file is what `check` accepts, in any form: it is read as a certificate, `run_check`
+/// accepts it for the file with the line `certificate accepted`, and the picture's clues have one solution.
 pub fn proofs_are_verified()
     ensures { ProofsAreVerified }
+{}
+
+/// The same where givens are published: `run_check_published` accepts it with the same file of givens.
+pub fn published_proofs_are_verified()
+    ensures { PublishedProofsAreVerified }
+{}
+
+/// A complete search always decides: it shows a certificate exactly if the picture is the only one with its clues and its colours
+/// in the givens, and else `ambiguous`.
+pub fn complete_searches_decide()
+    ensures { CompleteSearchesDecide }
 {}

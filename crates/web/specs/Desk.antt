@@ -1,12 +1,13 @@
 -- The benches that are open, and what each call does to them.
-use Rattle.std.specs.Prelude.{◌≡◌, ◌⊎◌, ℕ, ◌+◌, ◌==◌, false, List, [], ◌∷◌, ◌++◌, Option, None, Some, Result, Ok, Err}
-use Rattle.std.specs.Prelude.{position, remove, slice_index_or, slice_set}
+use Rattle.std.specs.Prelude.{◌≡◌, ◌⊎◌, ℕ, ◌+◌, ◌==◌, Bool, false, List, [], ◌∷◌, ◌++◌, Option, None, Some}
+use Rattle.std.specs.Prelude.{Result, Ok, Err, position, remove, slice_index_or, slice_set}
 use Rattle.picture.specs.declared.rgb.Rgb.{Rgb}
 use Rattle.live_audit.specs.Bench.{Seen}
 use Rattle.command_text.specs.declared.session_fault.SessionFault.{SessionFault}
 use Rattle.session.specs.Session.{Runs}
 use Rattle.program_options.specs.declared.fault.ProgramFault.{ProgramFault}
 use Rattle.program_options.specs.declared.options.Options.{Options}
+use Rattle.program_options.specs.declared.options.ProveOptions.{ProveOptions}
 use Rattle.answers.specs.Check.{IsCheckOf, IsOnlyPicture}
 use Rattle.program_options.specs.Faults.{fault_text, status_of}
 use Rattle.answers.specs.Open.{OpensFile}
@@ -114,8 +115,12 @@ ChecksPublished file background givens cert text status =
     ((status ≡ 0) × (IsPublishedCheckOf file background givens cert (Ok text) × IsOnlyPublished file background givens))
     ⊎ IsRefused (λ fault. IsPublishedCheckOf file background givens cert (Err fault)) text status
 
--- What is made of a picture: a certificate, or the line that there is another picture, or that neither was found.
+-- how a host has a certificate made: in the newest form, within bounds
+abbrev pub bounded_options : Option Rgb → ProveOptions
+bounded_options background = record { background = background; single = false; complete = false }
+
+-- What is made of a picture: a certificate, or the word that there is another picture, or that neither was found.
 abbrev pub Proves : List ℕ → Option Rgb → List ℕ → ℕ → Type 0
 Proves file background text status =
-    ((status ≡ 0) × IsProveOf file background false (Ok text))
-    ⊎ IsRefused (λ fault. IsProveOf file background false (Err fault)) text status
+    ((status ≡ 0) × ((proves : Bool) × IsProveOf file None (bounded_options background) (Ok (text, proves))))
+    ⊎ IsRefused (λ fault. IsProveOf file None (bounded_options background) (Err fault)) text status

@@ -7,7 +7,9 @@ ghost use Rattle.program_options.specs.Options.{IsLawful};
 ghost use Rattle.web.specs.Desk.{Checks, ChecksPublished, Closes, IsKept, IsOpened, IsShort, Opens, Proves, RunsOver, Says, Tells, place_of};
 
 use crate::status::{CLOSED, DONE, MEMORY};
-use answers::{Options, ProgramFault, run_check, run_check_published, run_prove, start_bench};
+use answers::{
+    Options, ProgramFault, ProveOptions, run_check, run_check_published, run_prove, start_bench,
+};
 use line_settle::MaskEngine;
 use live_audit::Bench;
 use picture::Rgb;
@@ -118,14 +120,21 @@ impl Desk {
         }
     }
 
-    /// Makes a certificate with lemmas of a picture. What the program writes for it, or why it refuses it, is the text.
+    /// Makes a certificate of a picture within the program's bounds. What the program writes for it, or why it refuses it, is the
+    /// text.
     pub fn prove(&mut self, file: &[u8], background: Option<Rgb>) -> u32
         ensures proves { Proves file.now background self.new.text.items result }
         ensures kept { IsKept self.old self.new }
     {
         self.text.clear();
-        match run_prove(self.alloc, file, background, false, &mut self.text) {
+        let options = ProveOptions {
+            background,
+            single: false,
+            complete: false,
+        };
+        match run_prove(self.alloc, file, None, options, &mut self.text) {
             Ok(()) => DONE,
+            Err(ProgramFault::NoCertificate) => DONE,
             Err(fault) => self.refuse(&fault),
         }
     }

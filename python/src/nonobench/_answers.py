@@ -184,7 +184,7 @@ class Proved:
 
 def proved_of(text: bytes) -> Proved:
     """What a text tells: a certificate, or why there is none."""
-    if text.startswith(b"nonolemma "):
+    if text.startswith(b"nono"):
         return Proved(Ruling.UNIQUE, text)
     return Proved(Ruling(text.decode("ascii").rstrip("\n")))
 

@@ -60,7 +60,7 @@ class Desk:
         text, word = self.picture(puzzle), puzzle.word()
         self._look(_calls.nonobench_prove(self._at, text, len(text), word, len(word)))
         found = self._text()
-        return found if found.startswith("nonolemma ") else ""
+        return found if found.startswith("nono") else ""
 
     def picture(self, puzzle: Puzzle) -> bytes:
         """The P3 text of the puzzle that was opened."""
