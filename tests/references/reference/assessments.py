@@ -188,7 +188,10 @@ class Assessment:
         lines = ['flaw blank'] if self.seen == {0} else []
         if self.named and 0 not in self.seen:
             lines.append('flaw background')
-        lines += self.given() if self.certificate is None else self.spare()
+        if self.certificate is not None:
+            lines += self.spare()
+        elif self.word == 'unique':
+            lines += self.given()
         return lines + [f'flaw alike {letter(one)} {letter(other)}' for one, other in alike(self.document)]
 
     def given(self):

@@ -117,6 +117,7 @@ SESSIONS = (
      '|refused: WordCount|refused: UnknownWord|refused: WordCount|ok|ok|ok|ok|ok|open 4|ok|undecided|size 2 2|colours 2|givens 0|open 4'
      '|unfit|ok|r 1 1 1 2=.|c 1 1 1 2=.|c 2 1 1 2=a|open 0|unique|size 2 2|colours 2|givens 1|open 0|grade easy 1 4 2 0 0'
      '|unknown given 1 1|fit|ok|unique|size 2 2|colours 2|givens 1|open 0|grade easy 1 4 2 0 0|fit'),
+    ('a../..a', 'pin 2 2|allow 0|assess', 'ok|ok|undecided|size 2 3|colours 2|givens 1|open 4|unfit'),
     ('a./.a', 'allow 0|verdict|certify|verdict', 'ok|undecided 0|ambiguous|ambiguous|.a|a.'),
     ('a.../.a../..b./...b', 'allow 1|verdict|allow 0|paint 4 3 b|map|verdict',
      'ok|ambiguous|.a..|a...|..b.|...b|ok|ok|??..|??..|..b.|..bb|ambiguous|.a..|a...|..b.|..bb'),
