@@ -1,7 +1,7 @@
 #!/usr/bin/env python3
-"""Asks a built library for assessments and paths, and compares each line: tests/references/assessments.py LIBRARY [PART ..]
+"""Asks a built library for assessments and paths, and compares each line: tests/references/assessments.py LIBRARY [assess] [path] [PART ..]
 
-The parts, all of which are tried if none is named:
+If neither `assess` nor `path` is named, both are asked for. The parts, all of which are tried if none is named:
 
 - givens: all pictures of some sizes with all sets of givens. A listing of all pictures says which of them have one solution.
 - lot: pictures with givens by lot, of a size that has too many; by the same kind of listing.
@@ -74,8 +74,8 @@ class Library:
 class Way:
     """Goes in one session from a document of a size to another, and asks for assessment and path of each."""
 
-    def __init__(self, library, height, width, colours):
-        self.library = library
+    def __init__(self, library, asks, height, width, colours):
+        self.library, self.asks = library, asks
         self.listing = Listing(height, width, colours)
         self.cells = list(itertools.product(range(height), range(width)))
         self.rows, self.givens = [[0] * width for _ in range(height)], frozenset()
@@ -110,10 +110,11 @@ class Way:
             agree(tuple(said) in others and givens.isdisjoint(others[tuple(said)]), f'not another picture: {said}')
 
         def judge(output):
-            assessment = Assessment(document, named, verdict)
-            agree(not must_assess(output, assessment, must_be_other), 'no certificate is found')
-            output.must_lines(*assessment.solving.path_lines())
-        self.lines += ['assess named' if named else 'assess', 'path']
+            if 'assess' in self.asks:
+                agree(not must_assess(output, Assessment(document, named, verdict), must_be_other), 'no certificate is found')
+            if 'path' in self.asks:
+                output.must_lines(*Solving(document.rows, givens).path_lines())
+        self.lines += [f'{word} named' if word == 'assess' and named else word for word in self.asks]
         self.asked.append(judge)
 
     def others(self, rows):
@@ -135,9 +136,9 @@ class Way:
         self.lines, self.asked = [], []
 
 
-def all_givens(library, height, width, colours):
+def all_givens(library, asks, height, width, colours):
     """All pictures of a size with all sets of givens; how many."""
-    way = Way(library, height, width, colours)
+    way = Way(library, asks, height, width, colours)
     sets = [frozenset(itertools.compress(way.cells, chosen)) for chosen in itertools.product((0, 1), repeat=len(way.cells))]
     for number, rows in enumerate(way.listing.pictures):
         others = way.others(rows)
@@ -148,10 +149,10 @@ def all_givens(library, height, width, colours):
     return len(way.listing.pictures) * len(sets)
 
 
-def some_givens(library, count):
+def some_givens(library, asks, count):
     """Pictures with sets of givens by lot, of one size; how many."""
     chance = random.Random(1)
-    way = Way(library, *LOT)
+    way = Way(library, asks, *LOT)
     for number in range(count):
         rows = chance.choice(way.listing.pictures)
         share = chance.choice((0, 0.1, 0.3, 0.6, 1))
@@ -216,8 +217,8 @@ def some_needed(chance, rows):
     return givens
 
 
-def some_commands(chance, document):
-    """Edits by lot of a picture, by which its cells become givens; then assessment and path."""
+def some_commands(chance, document, asks):
+    """Edits by lot of a picture, by which its cells become givens; then what is asked for."""
     lines = [f'pin {row + 1} {col + 1}' for row, col in sorted(document.givens)]
     if chance.random() < 0.2:
         lines.append('colour add %d %d %d' % some_samples(chance, document.maxval, document.colours[-1]))
@@ -225,16 +226,17 @@ def some_commands(chance, document):
         lines += ['paint 1 1 a', 'delete row 1', 'insert column 1']
     if chance.random() < 0.3:
         lines.append(f'allow {chance.choice((0, 0, 0, 1, 1, 2, 3))}')
-    lines += ['path', chance.choice(('assess', 'assess named'))]
+    named = chance.choice(('', ' named'))
+    lines += [word + named if word == 'assess' else word for word in asks]
     return ''.join(line + '\n' for line in lines).encode()
 
 
-def documents(library, count):
+def documents(library, asks, count):
     """Documents by lot; how many."""
     for number in range(count):
         chance = random.Random(f'1 {number}')
         document = some_document(chance)
-        text, commands = write_ppm(document), some_commands(chance, document)
+        text, commands = write_ppm(document), some_commands(chance, document, asks)
         library.open(text, b'%d,%d,%d' % document.colours[0])
         said = library.say(commands)
         try:
@@ -246,20 +248,22 @@ def documents(library, count):
     return count
 
 
+ASKS = ('assess', 'path')
 PARTS = {
-    'givens': lambda library: sum(all_givens(library, *size) for size in GIVENS),
-    'lot': lambda library: some_givens(library, LOTS),
-    'documents': lambda library: documents(library, DOCUMENTS),
+    'givens': lambda library, asks: sum(all_givens(library, asks, *size) for size in GIVENS),
+    'lot': lambda library, asks: some_givens(library, asks, LOTS),
+    'documents': lambda library, asks: documents(library, asks, DOCUMENTS),
 }
 
 
-def main(path, *parts):
+def main(path, *words):
     """The parts, and how many documents each has."""
     selftest.test()
     library = Library(path)
-    for part in parts or PARTS:
+    asks = [word for word in ASKS if word in words] or ASKS
+    for part in [part for part in PARTS if part in words] or PARTS:
         try:
-            print(f'{part}: {PARTS[part](library)} documents are assessed as the reference says')
+            print(f'{part}: {PARTS[part](library, asks)} documents are answered as the reference says ({" and ".join(asks)})')
         except (Disagreement, TooMuch) as wrong:
             print(f'{part}: {wrong}', file=sys.stderr)
             return 1
@@ -267,6 +271,6 @@ def main(path, *parts):
 
 
 if __name__ == '__main__':
-    if len(sys.argv) < 2 or not set(sys.argv[2:]) <= PARTS.keys():
-        sys.exit('usage: tests/references/assessments.py LIBRARY [givens|lot|documents ..]')
+    if len(sys.argv) < 2 or not set(sys.argv[2:]) <= {*ASKS, *PARTS}:
+        sys.exit('usage: tests/references/assessments.py LIBRARY [assess] [path] [givens|lot|documents ..]')
     sys.exit(main(*sys.argv[1:]))
