@@ -1,10 +1,10 @@
 #!/usr/bin/env python3
 """Fuzzes the program with P3 texts, certificates, and, if it has sessions, with commands and .non texts, made and changed at random
-from a seed, and compares each run with the plain reference, by meaning: clues, map, verdict, first error and its place, each reason
-and each certificate. A case in which they disagree is kept as files in a folder, and the status is then 1.
+from a seed, and compares each run with the plain reference, by meaning: clues, map, verdict, assessment, first error and its place,
+each reason and each certificate. A case in which they disagree is kept as files in a folder, and the status is then 1.
 
 Usage: tests/references/fuzz.py SECONDSs|CASES SEED [KIND ..] [NUMBER] (fuzz.py 60s 1; fuzz.py 100000 1), where KIND is clues,
-check, work or non (all that the program takes), and NUMBER is the case to begin with: a case is a function of the seed and its
+check, work, non or assess (all that the program takes), and NUMBER is the case to begin with: a case is a function of the seed and its
 number. PROGRAM names another program than the proved one, FUZZ_FOLDER the folder for disagreements. """
 import os
 import random
@@ -16,6 +16,7 @@ import time
 from collections import Counter
 from pathlib import Path
 
+import plain_forms
 from reference import chance as made
 from reference import runs, selftest
 from reference.search import TooMuch
@@ -87,7 +88,25 @@ def non_case(chance):
                 lambda run: runs.work_run(run, text, commands, is_non=True))
 
 
-KINDS = {'clues': clues_case, 'check': check_case, 'work': work_case, 'non': non_case}
+def assess_case(chance):
+    """A picture to be assessed, with published givens, a certificate, or an allowance."""
+    (text, cert, published), background = chance.choice(plain_forms.seeded(chance, 8)), (0, 0, 0)
+    if chance.random() < 0.5:
+        rows, (background, *_), text = made.some_ppm(chance, *sizes(chance))
+        text = made.mutated(chance, text, made.faults_wanted(chance))
+        places = [(row + 1, col + 1) for row in range(len(rows)) for col in range(len(rows[0]))]
+        cert, published = None, plain_forms.published_text(chance, places[:40], []) if chance.random() < 0.5 else None
+    files = {name: file for name, file in (('picture', text), ('givens', published), ('cert', cert)) if file is not None}
+    background, allowance = chance.choice((None, background)), chance.choice((None, None, None, 0, 1, 5))
+    options = {'--background': background and '%d,%d,%d' % background, '--allow': None if allowance is None else str(allowance),
+               '--givens': 'givens' if 'givens' in files else None, '--certificate': 'cert' if 'cert' in files else None}
+    words = [word for name, value in options.items() if value is not None for word in (name, value)]
+    return Case(['assess', 'picture', *words], files,
+                lambda run: runs.assess_run(run, text, background, allowance, published, cert))
+
+
+KINDS = {'clues': clues_case, 'check': check_case, 'work': work_case, 'non': non_case, 'assess': assess_case}
+NEEDS = {'work': 'work', 'non': 'work', 'assess': 'assess'}  # the command that the program must have
 
 
 class Fuzzer:
@@ -145,10 +164,10 @@ class Fuzzer:
               f'{self.kept}' + (f', kept in {self.folder}' if self.kept else ''))
 
 
-def takes_work(program):
-    """Whether the program has sessions."""
+def taken(program):
+    """The first words of the lines of the program's help, among them its commands."""
     shown = subprocess.run([program, '--help'], capture_output=True, check=False).stdout
-    return any(line.split()[:1] == [b'work'] for line in shown.splitlines())
+    return {line.split()[0].decode() for line in shown.splitlines() if line.split()}
 
 
 def main(amount, seed, *words):
@@ -157,7 +176,7 @@ def main(amount, seed, *words):
     selftest.test()
     kinds = [word for word in words if word in KINDS]
     first = int(next((word for word in words if word.isdigit()), 0))
-    kinds = kinds or [kind for kind in KINDS if kind in ('clues', 'check') or takes_work(program)]
+    kinds = kinds or [kind for kind in KINDS if kind not in NEEDS or NEEDS[kind] in taken(program)]
     seconds = float(amount[:-1]) if amount.endswith('s') else None
     fuzzer = Fuzzer(os.path.abspath(program), folder, seed)
     began = time.monotonic()

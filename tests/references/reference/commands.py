@@ -18,6 +18,7 @@ TABLE = {
     ('undo',): (), ('redo',): (), ('clues',): (), ('map',): (), ('verdict',): (), ('report',): (),
     ('why',): (PLACE, PLACE, COLOUR),
     ('certify',): (),
+    ('assess',): (), ('assess', 'named'): (), ('path',): (),
     ('write', 'ppm'): (), ('write', 'non'): (),
     ('allow',): (SPLITS,),
 }
@@ -55,7 +56,7 @@ def command_of(line):
     if name not in FIRST_WORDS:
         raise Fault('UnknownWord')
     key = (name,)
-    if name in TWO_WORDS:
+    if name in TWO_WORDS and (len(words) > 1 or key not in TABLE):
         if len(words) < 2:
             raise Fault('WordCount')
         key = (name, words[1].decode('latin-1'))

@@ -1,4 +1,7 @@
 """What a run of the program must write, say and answer."""
+import plain_forms
+
+from .assessments import Assessment
 from .certificates import read_cert
 from .checks import answer
 from .faults import Fault
@@ -6,7 +9,7 @@ from .lines import clues_of
 from .non import read_non
 from .pictures import Document, read_ppm
 from .search import pictures_with
-from .sessions import Disagreement, Output, Session, agree, clue_lines, picture_rows
+from .sessions import Disagreement, Output, Session, agree, clue_lines, must_assess, picture_rows
 
 
 class Run:
@@ -95,13 +98,41 @@ def found_picture(run, height, width, clues):
     return goal
 
 
+def assess_run(run, text, background, allowance, published, cert):
+    """The assessment of a picture, with the texts of its published givens and of its certificate, if there are any."""
+    kind, unit = 'ppm', 'byte'
+    try:
+        document = read_ppm(text, background)
+        kind, unit = 'givens', 'line'
+        if published is not None:
+            places = plain_forms.read_published(plain_forms.Puzzle(document.rows), published)
+            document.givens = {(row - 1, col - 1) for row, col in places}
+        session = Session(document, 1, most_splits(document))
+        session.allowance = allowance
+        kind = 'certificate'
+        assessment = Assessment(document, background is not None, session.verdict_on, cert)
+    except (Fault, plain_forms.Fault) as fault:
+        run.must(1, f'refused {kind} {fault.name} at {unit} {fault.place}\n'.encode(), b'')
+        return f'{kind} {fault.name}'
+    output = Output(run.wrote)
+    must_assess(output, assessment, session.must_be_other)
+    output.end()
+    word = run.wrote.split()[-1].decode()
+    run.must(0 if word == 'fit' else 1, run.wrote, b'')
+    return f'{word}, with a certificate' if cert is not None else word
+
+
+def most_splits(document):
+    """How many splits the reference makes in a part before it gives up."""
+    return 2000 if len(document.rows) * len(document.rows[0]) <= 40 else 40
+
+
 def work_run(run, text, commands, is_non=False, background=None, depth=100):
     """A session on a picture or a puzzle."""
     document = opened(run, text, is_non, background)
     if document is None:
         return 'refused'
-    small = len(document.rows) * len(document.rows[0]) <= 40
-    session = Session(document, depth, 2000 if small else 40)
+    session = Session(document, depth, most_splits(document))
     session.run(commands, Output(run.wrote))
     run.must(0, run.wrote, b'')
     return 'replayed'

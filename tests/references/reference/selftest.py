@@ -1,15 +1,22 @@
 """The reference on rows worked by hand, and its two readings of a line against each other. Run before a fuzzing."""
 import random
+import re
+from pathlib import Path
 
+import plain_forms
+
+from .assessments import Assessment, Solving, are_too_similar, by_listing, guesses_of, word_of
 from .certificates import check_cert, read_cert
 from .checks import answer
 from .faults import Fault
 from .lines import clue_of, fillings, map_rows, narrow_by_listing, narrow_by_places, settled
 from .non import read_non, write_non
-from .pictures import read_ppm
+from .pictures import Document, read_ppm
 from .runs import Run, work_run
 from .search import Keeper, Scene, pictures_with
 from .sessions import agree
+
+GRADES = Path(__file__).resolve().parents[2] / 'cases/grade.case'
 
 
 def rows_of(text):
@@ -104,6 +111,13 @@ SESSIONS = (
               '|allow 1|verdict|allow 0|verdict|certify|allow 00007|allow x',
      'ok|a.|.a|unique|given|possible|by r 1 given 1=a|refused: NoChange|refused: Place|refused: NoChange|ok|ok'
      '|undecided 0|ok|ambiguous|.a|a.|ok|ambiguous|.a|a.|ambiguous|ok|refused: BadNumber'),
+    ('.a./aa./...', 'path|assess  name|assess named now|assess name now|path now|paint 2 1 .|paint 1 1 a|delete row 3|delete column 3'
+                    '|paint 1 2 .|path|allow 0|assess|pin 1 1|path|assess|allow off|assess named',
+     'r 2 1 1 2=a|r 3 1 3 1=. 2=. 3=.|c 2 1 1 1=a|c 3 1 2 1=. 2=.|r 1 2 1 1=.|r 2 2 1 1=a|open 0|refused: UnknownWord'
+     '|refused: WordCount|refused: UnknownWord|refused: WordCount|ok|ok|ok|ok|ok|open 4|ok|undecided|size 2 2|colours 2|givens 0|open 4'
+     '|unfit|ok|r 1 1 1 2=.|c 1 1 1 2=.|c 2 1 1 2=a|open 0|unique|size 2 2|colours 2|givens 1|open 0|grade easy 1 4 2 0 0'
+     '|unknown given 1 1|fit|ok|unique|size 2 2|colours 2|givens 1|open 0|grade easy 1 4 2 0 0|fit'),
+    ('a../..a', 'pin 2 2|allow 0|assess', 'ok|ok|undecided|size 2 3|colours 2|givens 1|open 4|unfit'),
     ('a./.a', 'allow 0|verdict|certify|verdict', 'ok|undecided 0|ambiguous|ambiguous|.a|a.'),
     ('a.../.a../..b./...b', 'allow 1|verdict|allow 0|paint 4 3 b|map|verdict',
      'ok|ambiguous|.a..|a...|..b.|...b|ok|ok|??..|??..|..b.|..bb|ambiguous|.a..|a...|..b.|..bb'),
@@ -137,8 +151,93 @@ def test_answers():
     agree(answer(ppm_of('a'), b'nonolemma 3\n', None) == ('certificate NotCert at line 1', 1), 'no certificate')
 
 
+# Pictures, capitals and commas for givens, and what their assessment says, the background named in some.
+ASSESSED = (
+    ('aaa/a.a/aaa', False, 'unique|size 3 3|colours 2|givens 0|open 0|grade easy 1 3 1 0 0|fit'),
+    ('a./.a', False, 'ambiguous|.a|a.|size 2 2|colours 2|givens 0|open 4|unfit'),
+    ('A./.a', True, 'unique|size 2 2|colours 2|givens 1|open 0|grade easy 1 4 2 0 0|fit'),
+    ('A./.A', False, 'unique|size 2 2|colours 2|givens 2|open 0|grade easy 1 2 1 0 0|flaw given 1 1|unfit'),
+    ('A,/,A', False, 'unique|size 2 2|colours 2|givens 4|open 0|grade easy 0 0 0 0 0|flaw given 1 1|unfit'),
+    ('../..', True, 'unique|size 2 2|colours 1|givens 0|open 0|grade easy 0 0 0 0 0|flaw blank|unfit'),
+    ('aa', False, 'unique|size 1 2|colours 1|givens 0|open 0|grade easy 1 1 1 0 0|fit'),
+    ('aa', True, 'unique|size 1 2|colours 1|givens 0|open 0|grade easy 1 1 1 0 0|flaw background|unfit'),
+    # Without either given, two of the three can change places.
+    ('A../.a./..A', False, 'unique|size 3 3|colours 2|givens 2|open 0|grade easy 1 6 2 0 0|fit'),
+)
+# The same with certificates, `|` for line feeds.
+CERTIFIED = (
+    ('A./.A', 'nonocert 2|given 1 1|line r 1|line c 1|line r 2|done|',
+     'unique|size 2 2|colours 2|givens 2|open 0|grade easy 1 2 1 0 0|flaw spare 2 2|unfit'),
+    ('A./.A', 'nonocert 2|given 1 1|given 2 2|line r 1|line r 2|done|',
+     'unique|size 2 2|colours 2|givens 2|open 0|grade easy 1 2 1 0 0|fit'),
+    ('A./.A', 'nonolemma 2|given 2 2|line r2 c2 r1|done|',
+     'unique|size 2 2|colours 2|givens 2|open 0|grade easy 1 2 1 0 0|flaw spare 1 1|unfit'),
+    ('.aa./a..a/a..a', 'nonocert 1|line r 1|line r 2|line r 3|line c 1|line c 4|line r 2|split 1 1|line r 1|line c 1|line c 3'
+     '|line r 3|line c 2|line c 4|done|line r 1|line c 1|line c 2|line c 3|line c 4|dead r 3|',
+     'unique|size 3 4|colours 2|givens 0|open 8|grade very-hard 2 10 4 1 1|fit'),
+)
+# Two colours and their maxval, and whether they are too similar.
+SIMILAR = (((0, 0, 0), (0, 0, 36), 255, True), ((0, 0, 37), (0, 0, 0), 255, False), ((0, 31, 0), (0, 0, 0), 255, True),
+           ((0, 32, 0), (0, 0, 0), 255, False), ((44, 0, 0), (0, 0, 0), 255, True), ((45, 0, 0), (0, 0, 0), 255, False),
+           ((0, 0, 9380), (0, 0, 0), 65535, True), ((0, 0, 9381), (0, 0, 0), 65535, False),
+           ((0, 0, 72), (0, 0, 0), 510, True), ((0, 0, 73), (0, 0, 0), 510, False))
+CASE = re.compile(r'(\S+)(?: given ([\d, ]+?))?(?: map \S+)?(?: cert (.*))? => ([a-z -]+): '
+                  r'rounds (\d+), evaluations (\d+), longest wait (\d+)(?:, open (\d+), splits (\d+), depth (\d+))?')
+
+
+def document_of(text):
+    """A document in white, black and red, with capitals and commas for givens."""
+    rows = rows_of(text.replace(',', '.').lower())
+    givens = {(r, c) for r, row in enumerate(text.split('/')) for c, cell in enumerate(row) if cell == ',' or cell.isupper()}
+    return Document(255, [(255, 255, 255), (0, 0, 0), (255, 0, 0)], rows, givens)
+
+
+def test_assessments():
+    """Assessments with and without certificates, similar colours, and a certificate that names a cell which is not given."""
+    for text, named, wanted in ASSESSED:
+        document = document_of(text)
+        got = Assessment(document, named, by_listing(document.rows)).lines(('.a', 'a.'))
+        must(got, wanted.split('|'), f'the assessment of {text}')
+    for text, cert, wanted in CERTIFIED:
+        got = Assessment(document_of(text), False, None, cert.replace('|', '\n').encode()).lines()
+        must(got, wanted.split('|'), f'the assessment of {text} with a certificate')
+    for one, other, maxval, wanted in SIMILAR:
+        must(are_too_similar(one, other, maxval), wanted, f'whether {one} and {other} are too similar')
+    try:
+        Assessment(document_of('A./.a'), False, None, b'nonocert 2\ngiven 2 2\nline r 2\nline c 2\nline r 1\ndone\n')
+        must(None, 'UnpublishedGiven', 'a given that is not published')
+    except plain_forms.Fault as fault:
+        must((fault.name, fault.place), ('UnpublishedGiven', 2), 'a given that is not published')
+
+
+def test_grades(chance):
+    """The grades of tests/cases/grade.case, and the last facts of random pictures, which are their map."""
+    count = 0
+    for line in GRADES.read_text(encoding='utf-8').splitlines():
+        case = CASE.fullmatch(line)
+        if case:
+            picture, given, cert, word, rounds, looks, wait, *more = case.groups(default='0')
+            document = document_of(picture)
+            document.colours = [(number, 0, 0) for number in range(16)]
+            document.givens = {tuple(int(number) - 1 for number in cell.split(',')) for cell in given.split()} if given != '0' else set()
+            guesses = guesses_of(document, cert.replace('\\n', '\n').encode()) if more[0] != '0' else (0, 0)
+            solving = Solving(document.rows, document.givens)
+            got = solving.rounds, solving.looks, solving.wait, solving.open(), *guesses
+            must(got, (int(rounds), int(looks), int(wait), *map(int, more)), f'the figures of {picture}')
+            must(word_of(solving.rounds, solving.wait, solving.open(), *guesses), word.replace(' ', '-'), f'the grade of {picture}')
+            count += 1
+    must(count > 20, True, 'grades that are read')
+    for _ in range(200):
+        height, width = chance.randint(1, 5), chance.randint(1, 5)
+        rows = [[chance.choice((0, 0, 1, 1, 2)) for _ in range(width)] for _ in range(height)]
+        givens = [(r, c) for r in range(height) for c in range(width) if chance.random() < 0.1]
+        must(Solving(rows, givens).left, [mask for row in settled(rows, givens) for mask in row], f'the last facts of {rows}, {givens}')
+
+
 def test():
     """All of it."""
+    test_assessments()
+    test_grades(random.Random(2))
     test_answers()
     test_lines(random.Random(1))
     test_pictures()

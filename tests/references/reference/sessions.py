@@ -2,6 +2,7 @@
 import re
 
 from . import certificates
+from .assessments import Assessment, Solving, read_assessment
 from .commands import asks, command_of
 from .designs import EDITS, History
 from .faults import Fault
@@ -63,6 +64,21 @@ def clue_lines(clues):
     return [f'{axis} {at + 1}: {clue_text(clue)}' for (axis, at), clue in clues.items()]
 
 
+def must_assess(output, assessment, must_be_other):
+    """The next lines must be an assessment. Which other picture it shows is free, and which certificate its grade is taken from: so
+    splits and depth may be any that one can have, and none need be found. Answers whether none was."""
+    found = read_assessment(output.text, output.at)
+    agree(found, f'no assessment: {output.text[output.at:output.at + 300]!r}')
+    other = found['other'].decode().splitlines()
+    if assessment.word == 'ambiguous':
+        must_be_other(other)
+    guesses = found['splits'] and (int(found['splits']), int(found['depth']))
+    output.must_lines(*assessment.lines(other, guesses))
+    is_guessed = assessment.word == 'unique' and assessment.open > 0
+    agree(not is_guessed or not guesses or 1 <= guesses[1] <= guesses[0], f'splits and depth of no certificate: {guesses}')
+    return is_guessed and not guesses
+
+
 class Session:
     """A bench as the definitions have it."""
 
@@ -71,6 +87,7 @@ class Session:
         self.allowance = None
         self.most = most
         self.keeper = None
+        self.ungraded = 0  # assessments whose grade is unknown
 
     @property
     def document(self):
@@ -152,8 +169,11 @@ class Session:
 
     def other_picture(self, output):
         """The rows of another picture, whichever it is."""
+        self.must_be_other([output.line().decode('latin-1') for _ in self.document.rows])
+
+    def must_be_other(self, said):
+        """These rows must be another picture."""
         rows = self.document.rows
-        said = [output.line().decode('latin-1') for _ in rows]
         agree(all(re.fullmatch('[.a-o]+', row) for row in said), f'no picture: {said}')
         other = [['.abcdefghijklmno'.index(byte) for byte in row] for row in said]
         agree(is_other(rows, self.document.givens, other), f'not another picture: {said}')
@@ -227,6 +247,22 @@ class Session:
             agree(line is not None, f'no line of a certificate: {said[:300]!r}')
             fault = walk.take(line)
             agree(fault is None, f'{said!r} is {fault}')
+
+    def say_path(self, output):
+        """The path of line logic."""
+        output.must_lines(*Solving(self.document.rows, self.document.givens).path_lines())
+
+    def say_assess_named(self, output):
+        """The assessment of a document whose background counts as named."""
+        self.say_assess(output, True)
+
+    def say_assess(self, output, named=False):
+        """The assessment. What was found before does not count."""
+        self.ungraded += must_assess(output, Assessment(self.document, named, self.verdict_on), self.must_be_other)
+
+    def verdict_on(self, givens):
+        """The verdict on the picture with other givens."""
+        return Keeper(Scene(self.document.rows, givens)).judge(self.allowance, self.most)
 
     def say_write_ppm(self, output):
         """The picture as a P3 text."""
