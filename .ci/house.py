@@ -246,7 +246,7 @@ COUNTS = (
     # the second is `nonobench_assess`, for hosts in C: two of its texts may be left out
     ('functions above 6 parameters', long_heads, 2),
     ('functions that carry a counter by &mut', carried_counters, 18),
-    ('pairs of source files that share six lines of one shape', lambda: shared_places(sources('src', '.rt'), shape), 120),
+    ('pairs of source files that share six lines of one shape', lambda: shared_places(sources('src', '.rt'), shape), 121),
     ('pairs of specs or proofs that share six lines', lambda: shared_places(proof_sources(), str), 24),
     ('source files without a first line', headless_files, 0),
     ('definitions and lemmas that nothing names', unnamed_definitions, 12),
