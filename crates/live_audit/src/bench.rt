@@ -15,9 +15,9 @@ ghost use Rattle.live_audit.specs.Stroke.{Edits, Redoes, Undoes};
 ghost use Rattle.live_audit.specs.Verdict.{Tells, Decides, IsToldBy, IsVerdictOn, AnswersAs};
 ghost use Rattle.second_search.specs.JudgedParts.{HasNoFilling};
 
-use crate::pathing::path_of;
 use crate::certifying::{Finding, certify_ordered};
 use crate::judging::{answers_next, other_kept, rule, rule_beside};
+use crate::pathing::path_of;
 use crate::verdict::Verdict;
 use crate::why::Why;
 use crate::work::{NO_WORK, Work};
@@ -415,6 +415,11 @@ impl<E: LineEngine + Drop, A: Agenda + Drop> Bench<E, A> {
         ensures calls { self.old.calls ≤ self.new.calls }
         ensures audited { IsAudited self.new }
     {
-        path_of(self.alloc, &mut self.engine, self.studio.document(), &self.audit)
+        path_of(
+            self.alloc,
+            &mut self.engine,
+            self.studio.document(),
+            &self.audit,
+        )
     }
 }
