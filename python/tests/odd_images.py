@@ -263,7 +263,7 @@ def png_broken():
         ("cut", good[:-30]), ("no-end", good[:-12]), ("sign", good[:8]), ("head", good[:33]), ("depth", png(rows, 8, RGB, size=(5, 4))),
         ("depth-3", png(rows, 8, INDEXED, more).replace(b"\x08\x03", b"\x03\x03", 1)), ("critical", png(rgb, 8, RGB, [chunk(b"CgBI", bytes(4))])),
         ("few-rows", png(rgb, 8, RGB, size=(5, 6))), ("few-rows-laced", png(rgb, 8, RGB, is_laced=True, size=(5, 6))), ("filter", png(rgb, 8, RGB, filters=(0, 5))), ("empty", png(rgb, 8, RGB, size=(0, 4))),
-        ("head-twice", png(rgb, 8, RGB, [good[8:33]])), ("digit", png(rgb, 8, RGB, [chunk(b"a1cd")])), ("no-letter", png(rgb, 8, RGB, [chunk(b"ab\xffd")])),
+        ("head-twice", png(rgb, 8, RGB, [good[8:33]])), ("digit", png(rgb, 8, RGB, [chunk(b"a1Cd")])), ("reserved", png(rgb, 8, RGB, [chunk(b"abcd")])), ("no-letter", png(rgb, 8, RGB, [chunk(b"abC\xff")])),
         # Data that goes wrong behind the last row: Chromium shows nothing of the row.
         ("behind", b"".join((good[:8], chunk(b"IHDR", struct.pack(">IIBBBBB", 1, 1, 8, RGB, 0, 0, 0)), chunk(b"IDAT", BEHIND), chunk(b"IEND")))),
         ("gap", good[: at - 4] + chunk(b"IDAT", zlib.compress(bytes(9))[:4]) + chunk(b"tEXt", b"a\0b") + good[at - 4 :]),

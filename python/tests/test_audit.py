@@ -197,7 +197,8 @@ class Reading(unittest.TestCase):
                 if odd.pixels is not None:
                     triples = [pixel[:3] if pixel[3] else ground for row in odd.pixels for pixel in row]
                     text = nonobench.picture_of(len(odd.pixels[0]), len(odd.pixels), triples)
-                    self.assertEqual(one(odd.data, ground=readers.Ground(ground)).text, text)
+                    # PPM, PGM and PBM have nothing transparent, and some of them no sample as large as the background.
+                    self.assertEqual(one(odd.data, ground=NONE if odd.name.startswith("pnm") else readers.Ground(ground)).text, text)
                 elif odd.reason == BROKEN:
                     with self.assertRaises((Unreadable, nonobench.PictureFault)):
                         nonobench.clues(one(odd.data).text)
@@ -232,6 +233,18 @@ class Reading(unittest.TestCase):
                 self.assertEqual(beside_words(text) if kind == "givens" else ground_words(text), wanted)
             count += 1
         self.assertGreater(count, 40)
+
+    def test_a_background_in_the_scale_of_the_picture(self):
+        """Raw or plain, a picture has its background from 0 to its maxval."""
+        cells = [(0, 0, 5), (15, 15, 0), (15, 15, 0), (0, 0, 5)]
+        raw = b"P6\n2 2\n15\n" + bytes(sample for cell in cells for sample in cell)
+        puzzle = one(raw, ground=readers.ground_of("0,0,5"))
+        self.assertEqual((puzzle.text, puzzle.background), (b"P3\n2 2\n255\n0 0 85\n255 255 0\n255 255 0\n0 0 85\n", (0, 0, 85)))
+        self.assertEqual(one(b"P2 1 1 100 50", ground=readers.ground_of("50,50,50")).background, (128, 128, 128))
+        self.assertEqual(one(b"P1 1 1 1", ground=readers.ground_of("0,0,0")).background, BLACK)
+        self.assertEqual(one(raw, ground=readers.ground_of("corner")).background, (0, 0, 85))
+        with self.assertRaisesRegex(Unreadable, "the background is larger than the picture's samples"):
+            one(raw, ground=readers.ground_of("16,0,0"))
 
     @pytest.mark.since("0.7.0")
     def test_a_background_beside_a_puzzle_with_its_own(self):
@@ -636,6 +649,38 @@ class Running(Case):
         self.assertEqual(((out / "one.ppm").read_bytes(), (out / "set.ppm").stat().st_mtime_ns), (p3(UNIQUE), before))
         self.assertFalse((out / "in" / "dark.background").exists())
         self.assertEqual(check_site.main([str(out), "--quiet"]), 0)
+
+    @pytest.mark.since("0.7.0")
+    def test_kept_rows_are_of_the_pictures_that_lie_there(self):
+        self.put("one.ppm", p3(UNIQUE))
+        self.put("two.ppm", p3(UNIQUE))
+        self.put("given.ppm", p3(AMBIGUOUS))
+        self.put("given.givens", "given 2 2\n")
+        self.put("dark.xml", webpbn(UNIQUE).replace("<puzzle ", '<puzzle backgroundcolor="red" '))
+        out = self.folder / "out"
+        for more in (["--certify", "out"], []):
+            self.rows("site", "--ppm", "out", *more, status=0)
+            made = {place.name: place.read_bytes() for place in out.iterdir()}
+            # As where runs between did not write pictures.
+            (out / "one.ppm").write_bytes(p3(UNIQUE[::-1]))
+            (out / "two.givens").write_text("given 1 1\n")
+            (out / "given.givens").unlink()
+            (out / "dark.background").write_text("0,0,0\n")
+            self.rows("site", "--ppm", "out", *more, "--resume", status=0)
+            with self.subTest(more):
+                self.assertEqual({place.name: place.read_bytes() for place in out.iterdir()}, made)
+
+    @pytest.mark.since("0.7.0")
+    def test_a_picture_without_its_background_is_not_written(self):
+        """Read by a white background it would be another puzzle, of which its certificate may be right."""
+        name = "n" * 246  # too long for its background
+        self.put(f"{name}.xml", webpbn(UNIQUE).replace("<puzzle ", '<puzzle backgroundcolor="red" '))
+        out = self.folder / "out"
+        out.mkdir()
+        (out / f"{name}.ppm").write_bytes(p3(UNIQUE))
+        (row,) = self.rows("site", "--ppm", "out", "--certify", "out", status=3).values()
+        self.assertEqual(row["note"], "its picture was not written: File name too long")
+        self.assertEqual([place.suffix for place in out.iterdir()], [".cert"])
 
     @pytest.mark.since("0.7.0")
     def test_pictures_of_names_that_end_as_pictures_do(self):

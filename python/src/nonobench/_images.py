@@ -69,6 +69,12 @@ def pixels_of(data: bytes) -> Pixels:
     return Pixels(pixels.columns, [pixel if pixel[3] else CLEAR for pixel in pixels.cells])
 
 
+def most_of(data: bytes) -> int:
+    """The largest sample that an image may have, in whose scale its background is named."""
+    head = header_of(data, 3) if re.match(rb"P[2356]", data) else None
+    return 255 if head is None else int(head[0][2][:9])
+
+
 def _reader_of(data: bytes) -> Optional[Callable[[bytes], Pixels]]:
     return next((read for sign, read in _READERS if re.match(sign, data, re.DOTALL)), None)
 
@@ -133,12 +139,12 @@ _PASSES = ((0, 0, 8, 8), (4, 0, 8, 8), (0, 4, 4, 8), (2, 0, 4, 4), (0, 2, 2, 4),
 
 
 def _chunks(data: bytes) -> Iterator[tuple[bytes, bytes]]:
-    """The chunks of a PNG up to its end. A wrong sum is damage, wherever it is, and so is a name that has other signs than letters."""
+    """The chunks of a PNG up to its end. A wrong sum is damage, wherever it is, and so is a name that no chunk has."""
     at, name = 8, b""
     while name != b"IEND":
         size, name = struct.unpack_from(">I4s", data, at)
         body = data[at + 8 : at + 8 + size]
-        _need(name.isalpha() and struct.unpack_from(">I", data, at + 8 + size)[0] == zlib.crc32(name + body))
+        _need(name.isalpha() and not name[2] & 0x20 and struct.unpack_from(">I", data, at + 8 + size)[0] == zlib.crc32(name + body))
         yield name, body
         at += 12 + size
 

@@ -9,7 +9,7 @@ from dataclasses import dataclass
 from typing import Optional
 
 from .._library import version
-from .finding import ENDINGS, SUFFIXES, unreached
+from .finding import ENDINGS, SUFFIXES, find, front_of, unreached
 from .readers import ground_of
 
 _ENDINGS = frozenset((*SUFFIXES, ".givens", ".background", *(f".{ending}" for ending in ENDINGS)))
@@ -170,14 +170,21 @@ def _are_same(one: str, other: str) -> bool:
 
 
 def _refuse_twins(parser: argparse.ArgumentParser, paths: list[str]) -> None:
-    """Two paths must not give one certificate its name."""
+    """Two paths must not give one certificate its name, as `SET.3` of the third puzzle in SET.xml."""
     seen: dict[str, str] = {}
     for path in paths:
-        name = os.path.splitext(os.path.basename(os.path.normpath(path)))[0]
-        if os.path.isdir(path):
-            name = os.path.basename(os.path.realpath(path)) + "/"
+        name = front_of(path) if os.path.isdir(path) else next(find([path])).stem
         if os.path.normpath(seen.setdefault(name, path)) != os.path.normpath(path):
-            parser.error(f"--certify or --ppm would give {seen[name]!r} and {path!r} the same names")
+            _refuse_twin(parser, seen[name], path)
+    for name, path in seen.items():
+        numbered = re.fullmatch(r"(.+)\.[1-9][0-9]*", name, re.DOTALL)
+        of = seen.get(numbered[1]) if numbered else None
+        if of is not None and of.lower().endswith(".xml"):
+            _refuse_twin(parser, of, path)
+
+
+def _refuse_twin(parser: argparse.ArgumentParser, one: str, other: str) -> None:
+    parser.error(f"--certify or --ppm would give {one!r} and {other!r} the same names")
 
 
 def _refuse_publishing(parser: argparse.ArgumentParser, told: argparse.Namespace) -> None:

@@ -39,9 +39,16 @@ def _told(desk: Desk, puzzle: Puzzle, held: bytes) -> Row:
     return {"accepted": True, "givens": givens} if givens else {"accepted": True}
 
 
-def holds(desk: Desk, puzzle: Puzzle, row: Row, held: bytes, beside: list[bytes]) -> bool:
-    """Whether all that a row says of a puzzle with one solution is true, but for its grade, by its certificate."""
+def holds(desk: Desk, puzzle: Puzzle, row: Row, held: Optional[bytes], beside: list[bytes], published: Optional[str]) -> bool:
+    """Whether all that a row says of a puzzle with one solution is true, but for its grade, by its certificate where there is one.
+
+    Its picture is written again where another one lies there.
+    """
     _, report = said_of(desk, puzzle, 0)
+    if published is not None and publish(desk, puzzle, report, published):
+        return False
+    if held is None:
+        return True
     if desk.check(puzzle, held):
         return False
     wanted = {**judged_row(puzzle, Judged("unique", report, "", "")), "lines": held.count(b"\n"), **told(desk, puzzle, beside)}
@@ -63,17 +70,22 @@ def write(name: str, text: str) -> str:
 
 
 def publish(desk: Desk, puzzle: Puzzle, report: str, name: str) -> str:
-    """Writes the picture that was judged, and its givens and its background where it has them. Answers a note as `write` does."""
+    """Writes the picture that was judged, and its givens and its background where it has them. Answers a note as `write` does.
+
+    Without these it would be another puzzle. So it comes last, and an old one does not stay without them.
+    """
     maxval = int(report.split("\n", 2)[1].split(" ")[3])
     is_white = puzzle.background in (None, (maxval,) * 3)
     parts = {
-        "ppm": desk.picture(puzzle),
         "givens": puzzle.published,
         "background": b"" if is_white else puzzle.word() + b"\n",
+        "ppm": desk.picture(puzzle),
     }
     for ending, data in parts.items():
         note = _keep(f"{name}.{ending}", data)
         if note:
+            with contextlib.suppress(OSError):
+                os.unlink(f"{name}.ppm")
             return note
     return ""
 
