@@ -66,12 +66,8 @@ function ask(workerData) {
 // What the thread answers: the package's, or that of the checkout's module, whose bytes are then passed; or why that cannot be loaded.
 async function answer({ module, picture, certificate, background, givens }) {
   const { hintOf, load } = module ? await import('../web/nonobench.mjs') : installed;
-  let engine;
-  try {
-    engine = await load(module ?? undefined);
-  } catch (error) {
-    return { broken: error.message };
-  }
+  const engine = await load(module ?? undefined).catch((error) => ({ broken: error.message }));
+  if (engine.broken) return engine;
   try {
     const { accepted, text } = engine.check(picture, certificate, { background, givens });
     const hint = hintOf(text, certificate);

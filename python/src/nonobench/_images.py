@@ -167,8 +167,7 @@ def _png(data: bytes) -> Pixels:
         if wide > 0
     )
     packed = b"".join(body for name, body in chunks if name == b"IDAT")
-    # Where data goes wrong behind the last row, one browser leaves out rows before it, and another one shows no image.
-    stream = zlib.decompressobj()
+    stream = zlib.decompressobj()  # where it goes wrong behind the last row, browsers leave out rows before it, or all
     _need(len(stream.decompress(packed, size + MOST_BEHIND)) >= size and stream.eof)
     # Its data as one chunk: Pillow takes long for many.
     parts = {**held, b"IDAT": packed}
@@ -277,8 +276,7 @@ def _bmp(data: bytes) -> Pixels:
     _need(head <= 64 or data[70:74] in (b"BGRs", b" niW"), PROFILE)
     _need(method == 0 and (bits in (1, 4, 8, 24) or (bits, head) == (32, 40)), UNKNOWN)
     wide = (columns * bits + 31) // 32 * 4
-    # Where pixels begin within the headers, one browser takes these for pixels, and another one those behind them.
-    _need(14 + head <= start and len(data) >= start + rows * wide)
+    _need(14 + head <= start and len(data) >= start + rows * wide)  # not all browsers take headers for pixels
     lines = [data[start + at * wide : start + (at + 1) * wide] for at in range(rows)]
     if not is_down:
         lines.reverse()
@@ -316,9 +314,7 @@ def _webp(data: bytes) -> Pixels:
 
 
 def _webp_stream(stream: bytes, canvas: bytes, is_opaque: bool) -> Pixels:
-    """The pixels of a lossless stream. Browsers show its opacity even where it says that it has none; and some, but not all of them,
-    where the file says so.
-    """
+    """The pixels of a lossless stream. Browsers show opacity where it says that it has none; some also where the file says so."""
     sizes = int.from_bytes(stream[1:5], "little")
     columns, rows = (sizes & 0x3FFF) + 1, (sizes >> 14 & 0x3FFF) + 1
     _bounded(columns, rows)

@@ -171,20 +171,14 @@ def _are_same(one: str, other: str) -> bool:
 
 def _refuse_twins(parser: argparse.ArgumentParser, paths: list[str]) -> None:
     """Two paths must not give one certificate its name, as `SET.3` of the third puzzle in SET.xml."""
-    seen: dict[str, str] = {}
-    for path in paths:
-        name = front_of(path) if os.path.isdir(path) else next(find([path])).stem
-        if os.path.normpath(seen.setdefault(name, path)) != os.path.normpath(path):
-            _refuse_twin(parser, seen[name], path)
-    for name, path in seen.items():
+    named = [(front_of(path) if os.path.isdir(path) else next(find([path])).stem, os.path.normpath(path)) for path in paths]
+    seen = dict(named)
+    for name, path in named:
         numbered = re.fullmatch(r"(.+)\.[1-9][0-9]*", name, re.DOTALL)
-        of = seen.get(numbered[1]) if numbered else None
-        if of is not None and of.lower().endswith(".xml"):
-            _refuse_twin(parser, of, path)
-
-
-def _refuse_twin(parser: argparse.ArgumentParser, one: str, other: str) -> None:
-    parser.error(f"--certify or --ppm would give {one!r} and {other!r} the same names")
+        of = seen.get(numbered[1], path) if numbered else path
+        other = of if of.lower().endswith(".xml") and of != path else seen[name]
+        if other != path:
+            parser.error(f"--certify or --ppm would give {other!r} and {path!r} the same names")
 
 
 def _refuse_publishing(parser: argparse.ArgumentParser, told: argparse.Namespace) -> None:

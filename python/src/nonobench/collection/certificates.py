@@ -40,10 +40,7 @@ def _told(desk: Desk, puzzle: Puzzle, held: bytes) -> Row:
 
 
 def holds(desk: Desk, puzzle: Puzzle, row: Row, held: Optional[bytes], beside: list[bytes], published: Optional[str]) -> bool:
-    """Whether all that a row says of a puzzle with one solution is true, but for its grade, by its certificate where there is one.
-
-    Its picture is written again where another one lies there.
-    """
+    """Whether all that a row says of a puzzle with one solution is true, but for its grade. Its picture is written again if it differs."""
     _, report = said_of(desk, puzzle, 0)
     if published is not None and publish(desk, puzzle, report, published):
         return False
@@ -70,10 +67,7 @@ def write(name: str, text: str) -> str:
 
 
 def publish(desk: Desk, puzzle: Puzzle, report: str, name: str) -> str:
-    """Writes the picture that was judged, and its givens and its background where it has them. Answers a note as `write` does.
-
-    Without these it would be another puzzle. So it comes last, and an old one does not stay without them.
-    """
+    """Writes givens and background, and then the picture, which without them would be another puzzle. Answers a note as `write` does."""
     maxval = int(report.split("\n", 2)[1].split(" ")[3])
     is_white = puzzle.background in (None, (maxval,) * 3)
     parts = {

@@ -72,11 +72,7 @@ def hold_streams() -> None:
 
 def _opened(name: str) -> BinaryIO:
     """A file to write to. Nothing waits for somebody to read a pipe: that there is nobody is told, now or later."""
-    try:
-        is_pipe = stat.S_ISFIFO(os.stat(name).st_mode)
-    except FileNotFoundError:
-        is_pipe = False
-    if not is_pipe:
+    if not os.path.exists(name) or not stat.S_ISFIFO(os.stat(name).st_mode):
         return os.fdopen(os.open(name, os.O_RDWR | os.O_CREAT | os.O_APPEND | os.O_CLOEXEC, 0o666), "r+b", buffering=0)
     handle = os.open(name, os.O_WRONLY | os.O_NONBLOCK | os.O_CLOEXEC)
     os.set_blocking(handle, True)
@@ -151,9 +147,9 @@ class Lines:
         self._end = 0
         self._order = array("Q")
         self.has_places = name != "-" and is_regular(self._output.file)  # where rows can be put in order in the end
-        if is_resumed and not self.has_places:
-            raise Failure(f"{name}: its rows cannot be read again")
         if is_resumed:
+            if not self.has_places:
+                raise Failure(f"{name}: its rows cannot be read again")
             self._end = _cut_torn_line(self._output.file, name)
 
     def put(self, text: str, row: Row) -> None:

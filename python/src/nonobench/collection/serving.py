@@ -220,9 +220,7 @@ class Judging:
             self._answers.put(task.number, "none", "")
 
     def _holds(self, task: Task, files: Files) -> bool:
-        """Whether there is a kept row for each puzzle, and those of puzzles with one solution are true by their certificates. Their
-        pictures lie there then.
-        """
+        """Whether there is a kept row for each puzzle, and those of puzzles with one solution are true, and their pictures there."""
         kept = {number: (row_of(text), held) for number, text, held in files.kept}
         if not kept:
             return True
@@ -232,7 +230,7 @@ class Judging:
                 row, held = kept.pop(number, (None, b""))
                 if row is None or (row and (isinstance(puzzle, Unreadable) or row.get("sha256") != sha256)):
                     return False
-                published = None if task.published is None else certificates.numbered_name(task.published, number)
+                published = task.published and certificates.numbered_name(task.published, number)
                 proof = None if task.to is None else held
                 if row and isinstance(puzzle, Puzzle) and not certificates.holds(self._desk, puzzle, row, proof, files.of(number), published):
                     return False
