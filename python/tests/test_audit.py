@@ -27,7 +27,7 @@ import pytest  # noqa: E402
 import nonobench  # noqa: E402
 from nonobench import check_site  # noqa: E402
 from nonobench.collection import arguments, certificates, judging, readers, running, serving, tally, workers  # noqa: E402
-from nonobench.collection.puzzles import Unreadable  # noqa: E402
+from nonobench.collection.puzzles import Puzzle, Unreadable  # noqa: E402
 from odd_images import BROKEN, odd_images  # noqa: E402
 
 # One solution, whose certificate says much twice: it is three times as long as one with lemmas.
@@ -681,6 +681,17 @@ class Running(Case):
         (row,) = self.rows("site", "--ppm", "out", "--certify", "out", status=3).values()
         self.assertEqual(row["note"], "its picture was not written: File name too long")
         self.assertEqual([place.suffix for place in out.iterdir()], [".cert"])
+
+    def test_no_old_picture_stays_beside_a_new_background(self):
+        """A run that is killed in between leaves no pair that is accepted as another puzzle."""
+        name, report = str(self.folder / "one"), "size 2 2\ncolours 3 maxval 255\n"
+        desk = types.SimpleNamespace(picture=lambda puzzle: puzzle.text)
+        Path(f"{name}.ppm").write_bytes(p3(UNIQUE))
+        with unittest.mock.patch.object(certificates, "_put", side_effect=KeyboardInterrupt), self.assertRaises(KeyboardInterrupt):
+            certificates.publish(desk, Puzzle(p3(UNIQUE), background=RED), report, name)
+        self.assertFalse(Path(f"{name}.ppm").exists())
+        self.assertEqual(certificates.publish(desk, Puzzle(p3(UNIQUE), background=RED), report, name), "")
+        self.assertEqual((Path(f"{name}.ppm").read_bytes(), Path(f"{name}.background").read_text()), (p3(UNIQUE), "255,0,0\n"))
 
     @pytest.mark.since("0.7.0")
     def test_pictures_of_names_that_end_as_pictures_do(self):

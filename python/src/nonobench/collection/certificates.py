@@ -75,23 +75,19 @@ def publish(desk: Desk, puzzle: Puzzle, report: str, name: str) -> str:
         "background": b"" if is_white else puzzle.word() + b"\n",
         "ppm": desk.picture(puzzle),
     }
-    for ending, data in parts.items():
-        note = _keep(f"{name}.{ending}", data)
-        if note:
-            with contextlib.suppress(OSError):
-                os.unlink(f"{name}.ppm")
-            return note
-    return ""
+    if all(_lies(f"{name}.{ending}", data) for ending, data in parts.items()):
+        return ""
+    for ending in reversed(parts):
+        with contextlib.suppress(OSError):
+            os.unlink(f"{name}.{ending}")
+    return next(filter(None, (_put("picture", f"{name}.{ending}", data) for ending, data in parts.items() if data)), "")
 
 
-def _keep(path: str, data: bytes) -> str:
-    """Writes a part of what is published where it is not there yet, or takes away what there is where it is empty."""
-    with contextlib.suppress(OSError, Unreadable):
-        if not data:
-            os.unlink(path)
-        elif bytes_of(path, follows=False) == data:
-            return ""
-    return _put("picture", path, data) if data else ""
+def _lies(path: str, data: bytes) -> bool:
+    """Whether a part of what is published lies there, or nothing where there is none."""
+    with contextlib.suppress(Unreadable):
+        return bytes_of(path, follows=False) == data != b""
+    return data == b"" and not os.path.lexists(path)
 
 
 def _put(word: str, path: str, data: bytes) -> str:
