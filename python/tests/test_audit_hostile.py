@@ -153,6 +153,20 @@ class Files(Case):
         self.assertIsNone(errors["broken.xml#1"])
         self.assertIsNone(errors["typed.xml"])
 
+    def test_letters_that_are_read_in_two_ways(self):
+        """The page takes each file for UTF-8: by the coding that this one declares, it has three columns instead of two."""
+        colours = "".join(f'<color name="{sign}" char="{sign}">{hue}</color>' for sign, hue in (("\xc3", "000"), ("\xa9", "f00"), ("\xc3\xa9", "00f")))
+        puzzle = f'<puzzle>{colours}<solution><image>|\xc3\xa9.||.\xc3\xa9|</image></solution></puzzle>'
+        for coding in ("iso-8859-1", "windows-1252"):
+            front = f'<?xml version="1.0" encoding="{coding}"?>'
+            self.put(f"{coding}.xml", (front + puzzle).encode("latin-1"))
+            self.put(f"{coding}-plain.xml", front + webpbn(UNIQUE))
+        for coding, bytes_in in (("UTF-8", "utf-8"), ("utf-8", "utf-8-sig"), ("utf-16", "utf-16")):
+            self.put(f"{bytes_in}.xml", (f'<?xml version="1.0" encoding="{coding}"?>' + webpbn(UNIQUE, "\xe9")).encode(bytes_in))
+        why = "the XML cannot be read: it has letters in another coding than UTF-8 or UTF-16"
+        wanted = {"iso-8859-1.xml": why, "windows-1252.xml": why}
+        self.assertEqual({name: error for name, error in self.errors().items() if error}, wanted)
+
     def test_clues_that_cannot_be_seen(self):
         """Clues alone are judged as black ones on white, so they must be seen before their background."""
         side = "".join(f"<line><count>{length}</count></line>" for length in (2, 2))

@@ -100,10 +100,9 @@ def _puzzle_of_image(data: bytes, ground: Ground) -> Puzzle:
         raise Missing("Pillow", "reads images") from None
     except ImageFault as fault:
         raise Unreadable(str(fault)) from fault
-    most = most_of(data)
-    if ground.triple is not None and max(ground.triple) > most:
+    if ground.triple is not None and max(ground.triple) > most_of(data):
         raise Unreadable("the background is larger than the picture's samples")
-    under = WHITE if ground.triple is None else colour_shown(ground.triple, most)
+    under = WHITE if ground.triple is None else colour_shown(ground.triple, most_of(data))
     if ground.is_corner:
         under = pixels.triples(under)[0]
     triples = pixels.triples(under)
