@@ -5,7 +5,7 @@
 // It uses the npm package nonobench where that is installed, so a site can copy this file. Otherwise it uses what web/build
 // makes in the checkout; WASM is the path of nonobench.wasm if it is not in web/out.
 // Exits with status 0 if the pair is accepted, 1 if it is refused or takes too long, 2 for bad arguments, and 3 if a file
-// cannot be read.
+// or the module cannot be read, or the answer cannot be written.
 import { constants } from 'node:fs';
 import { open, readFile } from 'node:fs/promises';
 import { Worker, isMainThread, parentPort, workerData } from 'node:worker_threads';
@@ -44,6 +44,7 @@ function leave(text, status) {
 
 // Passes the files to a thread, and prints its answer.
 function ask(workerData) {
+  process.stdout.on('error', (error) => leave(error.message, 3));
   const worker = new Worker(new URL(import.meta.url), { workerData });
   let isTold = false;
   const tell = (isAccepted, text) => {
@@ -58,14 +59,15 @@ function ask(workerData) {
     const { user, system } = process.cpuUsage();
     if (user + system > MOST_PROCESSOR * 1e6 || process.uptime() > MOST_CLOCK) tell(false, 'took too long');
   }, LOOK);
-  worker.once('message', ({ accepted, text }) => tell(accepted, text));
+  worker.once('message', ({ accepted, text, broken }) => (broken ? leave(`the module cannot be loaded: ${broken}`, 3) : tell(accepted, text)));
   worker.once('error', (error) => tell(false, error.message));
 }
 
-// What the thread answers: the package's, or that of the checkout's module, whose bytes are then passed.
+// What the thread answers: the package's, or that of the checkout's module, whose bytes are then passed; or why that cannot be loaded.
 async function answer({ module, picture, certificate, background, givens }) {
   const { hintOf, load } = module ? await import('../web/nonobench.mjs') : installed;
-  const engine = await load(module ?? undefined);
+  const engine = await load(module ?? undefined).catch((error) => ({ broken: error.message }));
+  if (engine.broken) return engine;
   try {
     const { accepted, text } = engine.check(picture, certificate, { background, givens });
     const hint = hintOf(text, certificate);

@@ -836,8 +836,21 @@ test('the example checks an upload in a thread of its own, and its status tells 
     const [text, status] = uploadedBy(join(folder, 'none.wasm'), join(root, 'examples'), 'diagonal.ppm', 'diagonal.cert');
     assert.match(text, /^check_upload: the package nonobench is not installed here, and ENOENT: .*none\.wasm'\n$/);
     assert.equal(status, 3);
+    const damaged = uploadedBy(file('damaged.wasm', 'x'), join(root, 'examples'), 'diagonal.ppm', 'diagonal.cert');
+    assert.match(damaged[0], /^check_upload: the module cannot be loaded: .*\n$/);
+    assert.equal(damaged[1], 3);
   } finally {
     rmSync(folder, { recursive: true, force: true });
+  }
+});
+
+test('the example tells by its status that its answer could not be written', { skip: waits('0.7.0') }, () => {
+  const wasm = resolve(process.env.WASM ?? join(root, 'web', 'out', 'nonobench.wasm')), script = join(root, 'examples', 'check_upload.mjs');
+  const asked = 'node "$1" "$2.ppm" "$2.cert"';
+  for (const [picture, line] of [['diagonal', `${asked} > /dev/full`], ['given', `${asked} > /dev/full`], ['diagonal', `(sleep 1; ${asked}) | true; exit \${PIPESTATUS[0]}`]]) {
+    const run = spawnSync('bash', ['-c', line, 'bash', script, picture], { cwd: join(root, 'examples'), env: { ...process.env, WASM: wasm }, encoding: 'utf8' });
+    assert.match(run.stderr, /^check_upload: [^\n]*(ENOSPC|EPIPE)[^\n]*\n$/);
+    assert.equal(run.status, 3);
   }
 });
 

@@ -239,6 +239,9 @@ def png_frames():
     yield Odd("apng-frame-first", png(rows, 8, RGB, [chunk(b"fdAT", bytes(4) + body)]), None, FRAMES)
 
 
+BEHIND = b"x\x9cc\xf8\xf6\xee\r\1\5\xae\2\xd1"  # a row of one pixel, and then a distance too far back
+
+
 def png_broken():
     """Palettes with holes, and files that are no PNG."""
     rows, more, _ = png_samples(8, INDEXED)
@@ -260,14 +263,16 @@ def png_broken():
         ("cut", good[:-30]), ("no-end", good[:-12]), ("sign", good[:8]), ("head", good[:33]), ("depth", png(rows, 8, RGB, size=(5, 4))),
         ("depth-3", png(rows, 8, INDEXED, more).replace(b"\x08\x03", b"\x03\x03", 1)), ("critical", png(rgb, 8, RGB, [chunk(b"CgBI", bytes(4))])),
         ("few-rows", png(rgb, 8, RGB, size=(5, 6))), ("few-rows-laced", png(rgb, 8, RGB, is_laced=True, size=(5, 6))), ("filter", png(rgb, 8, RGB, filters=(0, 5))), ("empty", png(rgb, 8, RGB, size=(0, 4))),
-        ("head-twice", png(rgb, 8, RGB, [good[8:33]])),
+        ("head-twice", png(rgb, 8, RGB, [good[8:33]])), ("digit", png(rgb, 8, RGB, [chunk(b"a1Cd")])), ("reserved", png(rgb, 8, RGB, [chunk(b"abcd")])), ("no-letter", png(rgb, 8, RGB, [chunk(b"abC\xff")])),
+        # Data that goes wrong behind the last row: Chromium shows nothing of the row.
+        ("behind", b"".join((good[:8], chunk(b"IHDR", struct.pack(">IIBBBBB", 1, 1, 8, RGB, 0, 0, 0)), chunk(b"IDAT", BEHIND), chunk(b"IEND")))),
         ("gap", good[: at - 4] + chunk(b"IDAT", zlib.compress(bytes(9))[:4]) + chunk(b"tEXt", b"a\0b") + good[at - 4 :]),
     ):
         yield Odd(f"png-broken-{name}", data, None, BROKEN)
     yield Odd("png-more", good + b"more", shown(COLOURS))
     whole = zlib.compress(b"".join(b"\0" + bytes(row) for row in CELLS))
     for name, packed_rows in (("sum-of-rows", whole[:-1] + bytes([whole[-1] ^ 1])), ("rows-without-end", whole[:-4])):
-        yield Odd(f"png-{name}", good[: at - 4] + chunk(b"IDAT", packed_rows) + chunk(b"IEND"), None)
+        yield Odd(f"png-{name}", good[: at - 4] + chunk(b"IDAT", packed_rows) + chunk(b"IEND"), None, BROKEN)
     yield Odd("png-more-rows", png(rgb + rgb, 8, RGB, size=(5, 4)), shown(COLOURS))
     body = good[at + 4 : at + 4 + struct.unpack(">I", good[at - 4 : at])[0]]
     parts = b"".join(chunk(b"IDAT", body[one : one + 3]) for one in range(0, len(body), 3))
@@ -338,7 +343,7 @@ def gifs():
         ("cut", gif(frame())[:-9], BROKEN), ("no-frame", gif(), BROKEN), ("sign", b"GIF89a", BROKEN), ("odd-block", gif(b"\x77", frame()), BROKEN),
         ("control-long", gif(b"\x21\xf9\x05\1\0\0\0\0\0", frame()), BROKEN), ("hole-of-its-own", gif(frame(table=COLOURS[:2])), BROKEN),
         ("codes-0", gif(frame().replace(b"\x02\x0c", b"\x00\x0c", 1)), BROKEN), ("codes-12", gif(frame(least=12)), BROKEN),
-        ("two-controls", gif(control(0), control(1), frame()), BROKEN),
+        ("two-controls", gif(control(0), control(1), frame()), BROKEN), ("control-twice", gif(control(0)[:-1] + control(1)[2:], frame()), BROKEN),
     ):
         yield Odd(f"gif-{name}", data, *([wanted] if isinstance(wanted, list) else [None, wanted]))
     for key in (0, 1, 3, 9):
@@ -419,10 +424,13 @@ def bmps():
         yield Odd(f"bmp-runs-{bits}-skips", bmp([], bits, COLOURS, method=method, body=b"\0\2\1\1\1\0\0\1"), None, BROKEN)
     for name, space in (("calibrated", bytes(4)), ("windows", b" niW"), ("linked", b"KNIL"), ("embedded", b"DEBM")):
         yield Odd(f"bmp-24-{name}", bmp(triples, 24, head=124, masks=BGRA, space=space), *([pixels] if name == "windows" else [None, PROFILE]))
-    good = bmp(CELLS, 8, COLOURS)
+    good, old = bmp(CELLS, 8, COLOURS), bmp(triples, 24, head=12)
+    true = [(24, bmp(triples, 24)), (32, bmp([[one + b"\0" for one in row] for row in triples], 32))]
     for name, data in (
         ("hole", bmp(CELLS, 8, COLOURS[:3])), ("cut", good[:-9]), ("sign", b"BM"), ("head", good[:40]), ("empty", bmp([], 8, COLOURS, size=(0, 0))),
         ("png", bmp([], 0, method=5, body=b"x")), ("start", good[:10] + struct.pack("<I", 54) + good[14:]), ("start-0", good[:10] + bytes(4) + good[14:]),
+        *((f"start-{at}-{bits}", whole[:10] + struct.pack("<I", at) + whole[14:] + bytes(60)) for bits, whole in true for at in (0, 14, 53)),
+        ("start-12", old[:10] + struct.pack("<I", 20) + old[14:] + bytes(60)),
         ("wide", good[:18] + struct.pack("<i", -5) + good[22:]), ("high", good[:22] + struct.pack("<i", -(2**31)) + good[26:]), ("bits-2", bmp(CELLS, 2, COLOURS)), ("used", bmp(CELLS, 8, COLOURS, used=3)), ("used-many", bmp(CELLS, 8, COLOURS, used=1 << 30)),
     ):
         yield Odd(f"bmp-broken-{name}", data, None, BROKEN)
@@ -482,7 +490,7 @@ def webps():
         ("plain", plain, pixels), ("clear", clear, shown([WHITE, BLACK, RED, CLEAR])), ("half", half, HALF), ("lossy", by_pillow("WEBP", quality=100), LOSSY),
         ("lossy-clear", by_pillow("WEBP", "RGBA", clear_colours, quality=100), LOSSY), ("animated", file.getvalue(), FRAMES),
         ("canvas", riff(canvas(), (b"VP8L", stream)), pixels), ("canvas-clear", riff(canvas(16), (b"VP8L", clear_stream)), shown([WHITE, BLACK, RED, CLEAR])),
-        ("canvas-opaque", riff(canvas(), (b"VP8L", clear_stream)), None), ("canvas-large", riff(canvas(size=(9, 9)), (b"VP8L", stream)), BROKEN),
+        ("canvas-opaque", riff(canvas(), (b"VP8L", clear_stream)), BROKEN), ("canvas-large", riff(canvas(size=(9, 9)), (b"VP8L", stream)), BROKEN),
         ("profile", riff(canvas(32), (b"ICCP", bytes(128)), (b"VP8L", stream)), PROFILE), ("profile-unsaid", riff(canvas(), (b"ICCP", bytes(128)), (b"VP8L", stream)), PROFILE),
         ("one-frame", riff(canvas(2), (b"ANIM", bytes(6)), one), FRAMES), ("one-frame-unsaid", riff(canvas(), (b"ANIM", bytes(6)), one), FRAMES),
         ("turned", riff(canvas(8), (b"VP8L", stream), turned), TURNED), ("turned-within", riff(canvas(8), (b"VP8L", stream), (b"EXIF", TURNED_WITHIN)), TURNED),

@@ -27,7 +27,7 @@ import pytest  # noqa: E402
 import nonobench  # noqa: E402
 from nonobench import check_site  # noqa: E402
 from nonobench.collection import arguments, certificates, judging, readers, running, serving, tally, workers  # noqa: E402
-from nonobench.collection.puzzles import Unreadable  # noqa: E402
+from nonobench.collection.puzzles import Puzzle, Unreadable  # noqa: E402
 from odd_images import BROKEN, odd_images  # noqa: E402
 
 # One solution, whose certificate says much twice: it is three times as long as one with lemmas.
@@ -197,7 +197,8 @@ class Reading(unittest.TestCase):
                 if odd.pixels is not None:
                     triples = [pixel[:3] if pixel[3] else ground for row in odd.pixels for pixel in row]
                     text = nonobench.picture_of(len(odd.pixels[0]), len(odd.pixels), triples)
-                    self.assertEqual(one(odd.data, ground=readers.Ground(ground)).text, text)
+                    # PPM, PGM and PBM have nothing transparent, and some of them no sample as large as the background.
+                    self.assertEqual(one(odd.data, ground=NONE if odd.name.startswith("pnm") else readers.Ground(ground)).text, text)
                 elif odd.reason == BROKEN:
                     with self.assertRaises((Unreadable, nonobench.PictureFault)):
                         nonobench.clues(one(odd.data).text)
@@ -232,6 +233,18 @@ class Reading(unittest.TestCase):
                 self.assertEqual(beside_words(text) if kind == "givens" else ground_words(text), wanted)
             count += 1
         self.assertGreater(count, 40)
+
+    def test_a_background_in_the_scale_of_the_picture(self):
+        """Raw or plain, a picture has its background from 0 to its maxval."""
+        cells = [(0, 0, 5), (15, 15, 0), (15, 15, 0), (0, 0, 5)]
+        raw = b"P6\n2 2\n15\n" + bytes(sample for cell in cells for sample in cell)
+        puzzle = one(raw, ground=readers.ground_of("0,0,5"))
+        self.assertEqual((puzzle.text, puzzle.background), (b"P3\n2 2\n255\n0 0 85\n255 255 0\n255 255 0\n0 0 85\n", (0, 0, 85)))
+        self.assertEqual(one(b"P2 1 1 100 50", ground=readers.ground_of("50,50,50")).background, (128, 128, 128))
+        self.assertEqual(one(b"P1 1 1 1", ground=readers.ground_of("0,0,0")).background, BLACK)
+        self.assertEqual(one(raw, ground=readers.ground_of("corner")).background, (0, 0, 85))
+        with self.assertRaisesRegex(Unreadable, "the background is larger than the picture's samples"):
+            one(raw, ground=readers.ground_of("16,0,0"))
 
     @pytest.mark.since("0.7.0")
     def test_a_background_beside_a_puzzle_with_its_own(self):
@@ -638,6 +651,49 @@ class Running(Case):
         self.assertEqual(check_site.main([str(out), "--quiet"]), 0)
 
     @pytest.mark.since("0.7.0")
+    def test_kept_rows_are_of_the_pictures_that_lie_there(self):
+        self.put("one.ppm", p3(UNIQUE))
+        self.put("two.ppm", p3(UNIQUE))
+        self.put("given.ppm", p3(AMBIGUOUS))
+        self.put("given.givens", "given 2 2\n")
+        self.put("dark.xml", webpbn(UNIQUE).replace("<puzzle ", '<puzzle backgroundcolor="red" '))
+        out = self.folder / "out"
+        for more in (["--certify", "out"], []):
+            self.rows("site", "--ppm", "out", *more, status=0)
+            made = {place.name: place.read_bytes() for place in out.iterdir()}
+            # As where runs between did not write pictures.
+            (out / "one.ppm").write_bytes(p3(UNIQUE[::-1]))
+            (out / "two.givens").write_text("given 1 1\n")
+            (out / "given.givens").unlink()
+            (out / "dark.background").write_text("0,0,0\n")
+            self.rows("site", "--ppm", "out", *more, "--resume", status=0)
+            with self.subTest(more):
+                self.assertEqual({place.name: place.read_bytes() for place in out.iterdir()}, made)
+
+    @pytest.mark.since("0.7.0")
+    def test_a_picture_without_its_background_is_not_written(self):
+        """Read by a white background it would be another puzzle, of which its certificate may be right."""
+        name = "n" * 246  # too long for its background
+        self.put(f"{name}.xml", webpbn(UNIQUE).replace("<puzzle ", '<puzzle backgroundcolor="red" '))
+        out = self.folder / "out"
+        out.mkdir()
+        (out / f"{name}.ppm").write_bytes(p3(UNIQUE))
+        (row,) = self.rows("site", "--ppm", "out", "--certify", "out", status=3).values()
+        self.assertEqual(row["note"], "its picture was not written: File name too long")
+        self.assertEqual([place.suffix for place in out.iterdir()], [".cert"])
+
+    def test_no_old_picture_stays_beside_a_new_background(self):
+        """A run that is killed in between leaves no pair that is accepted as another puzzle."""
+        name, report = str(self.folder / "one"), "size 2 2\ncolours 3 maxval 255\n"
+        desk = types.SimpleNamespace(picture=lambda puzzle: puzzle.text)
+        Path(f"{name}.ppm").write_bytes(p3(UNIQUE))
+        with unittest.mock.patch.object(certificates, "_put", side_effect=KeyboardInterrupt), self.assertRaises(KeyboardInterrupt):
+            certificates.publish(desk, Puzzle(p3(UNIQUE), background=RED), report, name)
+        self.assertFalse(Path(f"{name}.ppm").exists())
+        self.assertEqual(certificates.publish(desk, Puzzle(p3(UNIQUE), background=RED), report, name), "")
+        self.assertEqual((Path(f"{name}.ppm").read_bytes(), Path(f"{name}.background").read_text()), (p3(UNIQUE), "255,0,0\n"))
+
+    @pytest.mark.since("0.7.0")
     def test_pictures_of_names_that_end_as_pictures_do(self):
         """What is written of `one.ppm.xml` lies beside the picture of `one.png`, and is not taken for what goes with that."""
         self.put("one.png", p3(UNIQUE))
@@ -729,7 +785,7 @@ class Running(Case):
         said = '{"file":"one.ppm","verdict":"unique","lines":7,"note":"its certificate was not written: x","seconds":1.5}'
         task = serving.Task(0, "one.ppm", "one.ppm", (), None, None, None, "", 1, serving.FULL)
         for why, is_late, seconds in (("no answer within 9 seconds", True, 9.0), ("its process ended by signal 9", False, 1.5)):
-            hand = types.SimpleNamespace(known=["0", "known", "unique", said, "last CERT"])
+            hand = types.SimpleNamespace(known=["0", "known", "unique", said, "last CERT"], quiet=0.0)
             pool = workers.Pool(None, 0, 9.0)
             (answer,) = pool._blame(hand, task, why, is_late)
             row = json.loads(answer.text)

@@ -69,7 +69,7 @@ class Files(Case):
         self.assertEqual(errors["cut.png"], "the image is refused: damaged")
         self.assertEqual(errors["empty.png"], "this does not begin as PNG does")
         self.assertEqual(errors["huge.png"], "60000 by 60000 pixels, and a puzzle has at most 120 by 120")
-        self.assertIsNone(errors["bomb.png"])
+        self.assertEqual(errors["bomb.png"], "the image is refused: damaged")
         self.assertIsNone(errors["text.png"])
         self.assertIsNone(errors["whole.png"])
 
@@ -152,6 +152,20 @@ class Files(Case):
                 self.assertRegex(errors[name], words)
         self.assertIsNone(errors["broken.xml#1"])
         self.assertIsNone(errors["typed.xml"])
+
+    def test_letters_that_are_read_in_two_ways(self):
+        """The page takes each file for UTF-8: by the coding that this one declares, it has three columns instead of two."""
+        colours = "".join(f'<color name="{sign}" char="{sign}">{hue}</color>' for sign, hue in (("\xc3", "000"), ("\xa9", "f00"), ("\xc3\xa9", "00f")))
+        puzzle = f'<puzzle>{colours}<solution><image>|\xc3\xa9.||.\xc3\xa9|</image></solution></puzzle>'
+        for coding in ("iso-8859-1", "windows-1252"):
+            front = f'<?xml version="1.0" encoding="{coding}"?>'
+            self.put(f"{coding}.xml", (front + puzzle).encode("latin-1"))
+            self.put(f"{coding}-plain.xml", front + webpbn(UNIQUE))
+        for coding, bytes_in in (("UTF-8", "utf-8"), ("utf-8", "utf-8-sig"), ("utf-16", "utf-16")):
+            self.put(f"{bytes_in}.xml", (f'<?xml version="1.0" encoding="{coding}"?>' + webpbn(UNIQUE, "\xe9")).encode(bytes_in))
+        why = "the XML cannot be read: it has letters in another coding than UTF-8 or UTF-16"
+        wanted = {"iso-8859-1.xml": why, "windows-1252.xml": why}
+        self.assertEqual({name: error for name, error in self.errors().items() if error}, wanted)
 
     def test_clues_that_cannot_be_seen(self):
         """Clues alone are judged as black ones on white, so they must be seen before their background."""
@@ -428,6 +442,31 @@ class Names(Case):
         (self.folder / "in" / "one.ppm").write_bytes(p3(UNIQUE))
         self.assertIn("the same names", self.run_audit("in", "site/in", "--certify", "certs", status=2).stderr)
 
+    @pytest.mark.since("0.7.0")
+    def test_a_set_is_called_one(self):
+        """The third puzzle of SET.xml is SET.3. So other names are of one puzzle each, and do not take the names of others."""
+        self.put("SET.ppm", "<puzzleset>" + webpbn(UNIQUE) * 3 + "</puzzleset>")
+        self.put("SET.3.ppm", p3(UNIQUE[::-1]))
+        self.put("one.ppm", webpbn(UNIQUE))
+        rows = self.rows("site", "--certify", "out", "--ppm", "out", "--untrusted", status=3)
+        self.assertEqual({name: row["verdict"] for name, row in rows.items()}, {"site/SET.ppm": "error", "site/SET.3.ppm": "unique", "site/one.ppm": "unique"})
+        self.assertEqual(rows["site/SET.ppm"]["error"], "several puzzles, and a name that does not end in .xml")
+        self.assertEqual(sorted(os.listdir(self.folder / "out")), ["SET.3.cert", "SET.3.ppm", "one.cert", "one.ppm"])
+        self.assertEqual((self.folder / "out" / "SET.3.ppm").read_bytes(), p3(UNIQUE[::-1]))
+
+    @pytest.mark.since("0.7.0")
+    def test_paths_whose_puzzles_would_be_called_alike(self):
+        for name in ("x/SET.xml", "x2/SET.xml", "y/SET.2.xml"):
+            self.put(name, "<puzzleset>" + webpbn(UNIQUE) * 3 + "</puzzleset>")
+        for name in ("x2/SET.ppm", "y/SET.3.ppm", "y/SET.xml.ppm", "y/SET.03.ppm", "y/SET.xml.2.ppm"):
+            self.put(name, p3(UNIQUE))
+        for names, status in (("x/SET.xml y/SET.3.ppm", 2), ("y/SET.3.ppm x/SET.xml", 2), ("x/SET.xml y/SET.2.xml", 2), ("x2/SET.xml y/SET.xml.ppm", 2),
+                              ("x2/SET.xml y/SET.xml.2.ppm", 2), ("x/SET.xml y/SET.03.ppm", 0), ("x2/SET.xml y/SET.3.ppm", 0), ("x/SET.xml site/x/../x/SET.xml", 0)):
+            with self.subTest(names):
+                paths = [name if name.startswith("site") else f"site/{name}" for name in names.split()]
+                done = self.run_audit(*paths, "--certify", "out", status=status)
+                self.assertEqual("the same names" in done.stderr, status == 2)
+
     def test_the_current_folder_is_not_run(self):
         for name in ("resource", "PIL", "defusedxml", "hashlib", "zlib", "struct", "tqdm", "jinja2"):
             self.put(f"{name}.py", f"open({str(self.folder / 'owned')!r}, 'a').write('{name} ')\n")
@@ -531,6 +570,57 @@ class Outputs(Case):
                 os.close(theirs)
             with self.subTest(words):
                 self.assertEqual((done.returncode, done.stderr), (3, "nonobench-audit: standard output was closed\n"))
+
+    def test_a_pipe_that_nobody_reads(self):
+        for at in range(700):  # more rows than a pipe holds
+            self.put(f"{at}.ppm", p3(UNIQUE))
+        os.mkfifo(self.folder / "pipe")
+        for option in ("--jsonl", "--csv"):
+            with self.subTest(option):
+                done = self.run_audit("site", option, "pipe", "--no-grade", status=3)
+                self.assertEqual(done.stderr, "nonobench-audit: pipe: No such device or address\n")
+                # Somebody begins to read, and leaves.
+                reader = os.open(self.folder / "pipe", os.O_RDONLY | os.O_NONBLOCK)
+                process = self.start("site", option, "pipe", "--no-grade", "--quiet")
+                eventually(lambda: self.heard(reader))
+                os.close(reader)
+                self.assertEqual((process.wait(PATIENCE), process.stderr.read()), (3, "nonobench-audit: pipe: Broken pipe\n"))
+        self.assertIn("rows cannot be read again", self.run_audit("site", "--jsonl", "/dev/null", "--resume", status=3).stderr)
+
+    @staticmethod
+    def heard(reader):
+        """What has come in a pipe, if anything."""
+        try:
+            return os.read(reader, 1)
+        except BlockingIOError:
+            return b""
+
+    def test_a_report_takes_no_other_place_than_a_files(self):
+        """Where somebody may write to /dev, `--html /dev/null` must not take the device away."""
+        os.mkfifo(self.folder / "pipe")
+        os.symlink("/dev/null", self.folder / "null")
+        for name in ("pipe", "null"):
+            with self.subTest(name):
+                self.assertEqual(self.run_audit("site", "--html", name, status=3).stderr, f"nonobench-audit: {name}: this is not a file\n")
+                self.assertFalse(os.path.exists(self.folder / f"{name}.new"))
+
+    def test_streams_that_are_closed(self):
+        """What is opened next must not take the number of standard output."""
+        for words, status in ((["--jsonl", "-"], 3), (["--csv", "-"], 3), ([], 3), (["--jsonl", "rows"], 1)):
+            for closed in (">&-", ">&- 2>&-", "<&- >&- 2>&-"):
+                line = " ".join(["exec", '"$@"', closed])
+                done = subprocess.run(
+                    ["sh", "-c", line, "sh", *self.words("site", *words)], cwd=self.folder, env=self.env(), capture_output=True, text=True, timeout=PATIENCE
+                )
+                with self.subTest((words, closed)):
+                    said = "" if "2>" in closed or status == 1 else "nonobench-audit: standard output: Bad file descriptor\n"
+                    self.assertEqual((done.returncode, done.stdout, done.stderr), (status, "", said))
+        self.assertEqual(len(self.read("rows")), 2)
+
+    def test_less_memory_than_is_asked_for(self):
+        bound = lambda: resource.setrlimit(resource.RLIMIT_AS, (900 << 20, 900 << 20))  # noqa: E731
+        done = subprocess.run(self.words("site"), cwd=self.folder, env=self.env(), capture_output=True, text=True, preexec_fn=bound)
+        self.assertEqual((done.returncode, done.stderr), (1, ""))
 
     @pytest.mark.since("0.7.0")
     def test_two_runs_on_one_output(self):

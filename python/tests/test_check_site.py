@@ -397,6 +397,16 @@ def test_outputs_that_cannot_be_written_or_have_few_signs(site):
         assert (run.returncode, run.stdout) == (1, f"site/{name}.cert: certificate Ended at line 2\n")
 
 
+@pytest.mark.parametrize("closed, printed, said, status", [
+    (">&-", "", "nonobench-check-site: standard output is closed\n", 3), (">&- 2>&-", "", "", 3), ("2>&-", "site/one.cert: certificate Ended at line 2\n", "", 1),
+])
+def test_streams_that_are_closed(site, closed, printed, said, status):
+    pair(site, "one", certificate="nonocert 1\n")
+    words = [sys.executable, "-m", "nonobench.check_site", "site"]
+    run = subprocess.run(["sh", "-c", f'exec "$@" {closed}', "sh", *words], cwd=site.parent, capture_output=True, text=True, timeout=PATIENCE)
+    assert (run.stdout, run.stderr, run.returncode) == (printed, said, status)
+
+
 def test_many_at_a_time_say_what_one_says(site, checked):
     for number in range(300):
         pair(site, f"{number:03}", certificate=DIAGONAL_CERT if number % 3 else "nonocert 1\n")

@@ -24,6 +24,7 @@ DAMAGED, UNKNOWN = "damaged", "of a kind that is not read"
 
 Pixel = tuple[int, ...]  # red, green, blue, and its opacity, 0 or 255
 CLEAR: Pixel = (0, 0, 0, 0)
+MOST_BEHIND = 1 << 16  # bytes of a PNG's data behind its last row
 
 
 class Pixels(NamedTuple):
@@ -66,6 +67,12 @@ def pixels_of(data: bytes) -> Pixels:
     if any(pixel[3] not in (0, 255) for pixel in pixels.cells):
         _refuse(HALF)
     return Pixels(pixels.columns, [pixel if pixel[3] else CLEAR for pixel in pixels.cells])
+
+
+def most_of(data: bytes) -> int:
+    """The largest sample that an image may have, in whose scale its background is named."""
+    head = header_of(data, 3) if re.match(rb"P[2356]", data) else None
+    return 255 if head is None else int(head[0][2][:9])
 
 
 def _reader_of(data: bytes) -> Optional[Callable[[bytes], Pixels]]:
@@ -132,12 +139,12 @@ _PASSES = ((0, 0, 8, 8), (4, 0, 8, 8), (0, 4, 4, 8), (2, 0, 4, 4), (0, 2, 2, 4),
 
 
 def _chunks(data: bytes) -> Iterator[tuple[bytes, bytes]]:
-    """The chunks of a PNG up to its end. A wrong sum is damage, wherever it is."""
+    """The chunks of a PNG up to its end. A wrong sum is damage, wherever it is, and so is a name that no chunk has."""
     at, name = 8, b""
     while name != b"IEND":
         size, name = struct.unpack_from(">I4s", data, at)
         body = data[at + 8 : at + 8 + size]
-        _need(struct.unpack_from(">I", data, at + 8 + size)[0] == zlib.crc32(name + body))
+        _need(name.isalpha() and not name[2] & 0x20 and struct.unpack_from(">I", data, at + 8 + size)[0] == zlib.crc32(name + body))
         yield name, body
         at += 12 + size
 
@@ -160,7 +167,8 @@ def _png(data: bytes) -> Pixels:
         if wide > 0
     )
     packed = b"".join(body for name, body in chunks if name == b"IDAT")
-    _need(len(zlib.decompressobj().decompress(packed, size)) == size)
+    stream = zlib.decompressobj()  # where it goes wrong behind the last row, browsers leave out rows before it, or all
+    _need(len(stream.decompress(packed, size + MOST_BEHIND)) >= size and stream.eof)
     # Its data as one chunk: Pillow takes long for many.
     parts = {**held, b"IDAT": packed}
     kept = b"".join(
@@ -223,7 +231,7 @@ def _gif(data: bytes) -> Pixels:
             at, body = _blocks(data, at + 2)
             _need(not body.startswith(b"ICCRGBG1"), PROFILE)
             if data[begun + 1] == 0xF9:
-                _need(len(body) == 4 and not told)
+                _need(len(body) == 4 and at == begun + 8 and not told)
                 told.append(body[3] if body[0] & 1 else None)
             continue
         _need(sign == 0x2C)
@@ -268,7 +276,7 @@ def _bmp(data: bytes) -> Pixels:
     _need(head <= 64 or data[70:74] in (b"BGRs", b" niW"), PROFILE)
     _need(method == 0 and (bits in (1, 4, 8, 24) or (bits, head) == (32, 40)), UNKNOWN)
     wide = (columns * bits + 31) // 32 * 4
-    _need(len(data) >= start + rows * wide)
+    _need(14 + head <= start and len(data) >= start + rows * wide)  # not all browsers take headers for pixels
     lines = [data[start + at * wide : start + (at + 1) * wide] for at in range(rows)]
     if not is_down:
         lines.reverse()
@@ -302,16 +310,16 @@ def _webp(data: bytes) -> Pixels:
     for name, body in chunks:
         if name == b"EXIF":
             _need_upright(body)
-    return _webp_stream(held[b"VP8L"], front[4:10])
+    return _webp_stream(held[b"VP8L"], front[4:10], bool(front) and not flags & 16)
 
 
-def _webp_stream(stream: bytes, canvas: bytes) -> Pixels:
-    """The pixels of a lossless stream. Browsers show its opacity even where it says that it has none."""
+def _webp_stream(stream: bytes, canvas: bytes, is_opaque: bool) -> Pixels:
+    """The pixels of a lossless stream. Browsers show opacity where it says that it has none; some also where the file says so."""
     sizes = int.from_bytes(stream[1:5], "little")
     columns, rows = (sizes & 0x3FFF) + 1, (sizes >> 14 & 0x3FFF) + 1
     _bounded(columns, rows)
     _need(stream[0] == 0x2F and canvas in (b"", (columns - 1).to_bytes(3, "little") + (rows - 1).to_bytes(3, "little")))
-    is_opaque = not stream[4] & 0x10
+    is_opaque = is_opaque or not stream[4] & 0x10
     told = b"WEBPVP8L" + struct.pack("<I", len(stream)) + stream[:4] + bytes([stream[4] | 0x10]) + stream[5:]
     # A stream that is cut goes on in what fills up its chunk.
     bodies = [told + more for more in ((b"\0", b"\xff") if len(stream) % 2 else (b"",))]

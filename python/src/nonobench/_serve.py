@@ -64,7 +64,7 @@ def write(stream: int, held: bytes) -> None:
         view = view[os.write(stream, view) :]
 
 
-def _bound(memory: int) -> None:
+def bound(memory: int) -> None:
     """Bounds the memory of this process, where it is not bounded by less."""
     import resource
 
@@ -89,7 +89,7 @@ def serve(stream: int, memory: int) -> None:
     """Answers the questions of a stream until it ends. A question that takes too long ends the process, whoever still waits."""
     alarm = ctypes.CDLL(None).alarm
     version()  # what loads the library is not bounded
-    _bound(memory)
+    bound(memory)
     while True:
         try:
             number, kind, seconds, processor, *sizes = QUESTION.unpack(read(stream, QUESTION.size))

@@ -20,6 +20,7 @@ from ._hints import hint_of
 from ._library import version
 from .collection import finding
 from .collection.arguments import _above_0, _memory, _seconds, _shard
+from .collection.outputs import hold_streams
 from .collection.puzzles import MOST_BYTES, Triple, Unreadable, one_line
 from .collection.readers import bytes_of, ground_of
 from .worker import Worker
@@ -178,7 +179,12 @@ def line_of(answer: Answer) -> str:
 
 def main(words: Optional[list[str]] = None) -> int:
     """Runs nonobench-check-site, and answers its status."""
+    is_closed = sys.stdout is None
+    hold_streams()
     told = _parser().parse_args(words)
+    if is_closed:
+        print("nonobench-check-site: standard output is closed", file=sys.stderr)
+        return UNREAD
     try:
         return _run(told)
     except KeyboardInterrupt:

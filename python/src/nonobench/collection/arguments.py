@@ -9,7 +9,7 @@ from dataclasses import dataclass
 from typing import Optional
 
 from .._library import version
-from .finding import ENDINGS, SUFFIXES, unreached
+from .finding import ENDINGS, SUFFIXES, find, front_of, unreached
 from .readers import ground_of
 
 _ENDINGS = frozenset((*SUFFIXES, ".givens", ".background", *(f".{ending}" for ending in ENDINGS)))
@@ -170,14 +170,15 @@ def _are_same(one: str, other: str) -> bool:
 
 
 def _refuse_twins(parser: argparse.ArgumentParser, paths: list[str]) -> None:
-    """Two paths must not give one certificate its name."""
-    seen: dict[str, str] = {}
-    for path in paths:
-        name = os.path.splitext(os.path.basename(os.path.normpath(path)))[0]
-        if os.path.isdir(path):
-            name = os.path.basename(os.path.realpath(path)) + "/"
-        if os.path.normpath(seen.setdefault(name, path)) != os.path.normpath(path):
-            parser.error(f"--certify or --ppm would give {seen[name]!r} and {path!r} the same names")
+    """Two paths must not give one certificate its name, as `SET.3` of the third puzzle in SET.xml."""
+    named = [(front_of(path) if os.path.isdir(path) else next(find([path])).stem, os.path.normpath(path)) for path in paths]
+    seen = dict(named)
+    for name, path in named:
+        numbered = re.fullmatch(r"(.+)\.[1-9][0-9]*", name, re.DOTALL)
+        of = seen.get(numbered[1], path) if numbered else path
+        other = of if of.lower().endswith(".xml") and of != path else seen[name]
+        if other != path:
+            parser.error(f"--certify or --ppm would give {other!r} and {path!r} the same names")
 
 
 def _refuse_publishing(parser: argparse.ArgumentParser, told: argparse.Namespace) -> None:

@@ -39,9 +39,13 @@ def _told(desk: Desk, puzzle: Puzzle, held: bytes) -> Row:
     return {"accepted": True, "givens": givens} if givens else {"accepted": True}
 
 
-def holds(desk: Desk, puzzle: Puzzle, row: Row, held: bytes, beside: list[bytes]) -> bool:
-    """Whether all that a row says of a puzzle with one solution is true, but for its grade, by its certificate."""
+def holds(desk: Desk, puzzle: Puzzle, row: Row, held: Optional[bytes], beside: list[bytes], published: Optional[str]) -> bool:
+    """Whether all that a row says of a puzzle with one solution is true, but for its grade. Its picture is written again if it differs."""
     _, report = said_of(desk, puzzle, 0)
+    if published is not None and publish(desk, puzzle, report, published):
+        return False
+    if held is None:
+        return True
     if desk.check(puzzle, held):
         return False
     wanted = {**judged_row(puzzle, Judged("unique", report, "", "")), "lines": held.count(b"\n"), **told(desk, puzzle, beside)}
@@ -63,29 +67,27 @@ def write(name: str, text: str) -> str:
 
 
 def publish(desk: Desk, puzzle: Puzzle, report: str, name: str) -> str:
-    """Writes the picture that was judged, and its givens and its background where it has them. Answers a note as `write` does."""
+    """Writes givens and background, and then the picture, which without them would be another puzzle. Answers a note as `write` does."""
     maxval = int(report.split("\n", 2)[1].split(" ")[3])
     is_white = puzzle.background in (None, (maxval,) * 3)
     parts = {
-        "ppm": desk.picture(puzzle),
         "givens": puzzle.published,
         "background": b"" if is_white else puzzle.word() + b"\n",
+        "ppm": desk.picture(puzzle),
     }
-    for ending, data in parts.items():
-        note = _keep(f"{name}.{ending}", data)
-        if note:
-            return note
-    return ""
+    if all(_lies(f"{name}.{ending}", data) for ending, data in parts.items()):
+        return ""
+    for ending in reversed(parts):
+        with contextlib.suppress(OSError):
+            os.unlink(f"{name}.{ending}")
+    return next(filter(None, (_put("picture", f"{name}.{ending}", data) for ending, data in parts.items() if data)), "")
 
 
-def _keep(path: str, data: bytes) -> str:
-    """Writes a part of what is published where it is not there yet, or takes away what there is where it is empty."""
-    with contextlib.suppress(OSError, Unreadable):
-        if not data:
-            os.unlink(path)
-        elif bytes_of(path, follows=False) == data:
-            return ""
-    return _put("picture", path, data) if data else ""
+def _lies(path: str, data: bytes) -> bool:
+    """Whether a part of what is published lies there, or nothing where there is none."""
+    with contextlib.suppress(Unreadable):
+        return bytes_of(path, follows=False) == data != b""
+    return data == b"" and not os.path.lexists(path)
 
 
 def _put(word: str, path: str, data: bytes) -> str:

@@ -96,12 +96,12 @@ def content_before(rows: list[tuple[int, Row]], made: str, limit: str, to: Optio
     return rows[0][1].get("content", "") if rows else ""
 
 
-def to_check(rows: list[tuple[int, Row]], to: Optional[str]) -> tuple[tuple[int, str, File], ...]:
-    """The rows of a file as a task has them, each with where its certificate is; none where nothing says where."""
+def to_check(rows: list[tuple[int, Row]], to: Optional[str], published: Optional[str]) -> tuple[tuple[int, str, File], ...]:
+    """The rows of a file as a task has them, each with where its certificate is; none where neither these nor pictures are written."""
     kept: list[tuple[int, str, File]] = []
-    for number, (_, row) in enumerate(rows if to is not None else (), 1):
+    for number, (_, row) in enumerate(rows if (to, published) != (None, None) else (), 1):
         is_unique = row["verdict"] == "unique"
-        certificate: File = f"{numbered_name(f'{to}', number)}.cert" if is_unique else b""
+        certificate: File = f"{numbered_name(to, number)}.cert" if is_unique and to is not None else b""
         kept.append((number, text_of(row if is_unique else {}), certificate))
     return tuple(kept)
 

@@ -60,6 +60,25 @@ def is_regular(file: BinaryIO) -> bool:
     return stat.S_ISREG(os.fstat(file.fileno()).st_mode)
 
 
+def hold_streams() -> None:
+    """Puts a file that takes nothing in the place of each standard stream that is closed: what is opened next would have its number."""
+    for number in range(3):
+        try:
+            os.fstat(number)
+        except OSError:
+            os.set_inheritable(os.open(os.devnull, os.O_RDONLY), True)
+    sys.stdout, sys.stderr = (stream or open(os.devnull, "w", encoding="utf-8") for stream in (sys.stdout, sys.stderr))
+
+
+def _opened(name: str) -> BinaryIO:
+    """A file to write to. Nothing waits for somebody to read a pipe: that there is nobody is told, now or later."""
+    if not os.path.exists(name) or not stat.S_ISFIFO(os.stat(name).st_mode):
+        return os.fdopen(os.open(name, os.O_RDWR | os.O_CREAT | os.O_APPEND | os.O_CLOEXEC, 0o666), "r+b", buffering=0)
+    handle = os.open(name, os.O_WRONLY | os.O_NONBLOCK | os.O_CLOEXEC)
+    os.set_blocking(handle, True)
+    return os.fdopen(handle, "wb", buffering=0)
+
+
 class Output:
     """Bytes on their way to a file, or to standard output, which is called `-`. What a file had is kept until something is written."""
 
@@ -73,7 +92,7 @@ class Output:
             if name == "-":
                 self.file: BinaryIO = os.fdopen(os.dup(1), "wb", buffering=0)
                 return
-            self.file = os.fdopen(os.open(name, os.O_RDWR | os.O_CREAT | os.O_APPEND | os.O_CLOEXEC, 0o666), "r+b", buffering=0)
+            self.file = _opened(name)
             if is_regular(self.file):  # a device such as /dev/null may have several runs
                 locked(name, self.file)
                 self._is_old = not keeps
@@ -129,6 +148,8 @@ class Lines:
         self._order = array("Q")
         self.has_places = name != "-" and is_regular(self._output.file)  # where rows can be put in order in the end
         if is_resumed:
+            if not self.has_places:
+                raise Failure(f"{name}: its rows cannot be read again")
             self._end = _cut_torn_line(self._output.file, name)
 
     def put(self, text: str, row: Row) -> None:

@@ -10,7 +10,8 @@ from typing import Iterator, NamedTuple, Optional, Union
 
 from .._answers import ImageFault
 from .._calls import picture_of
-from .._images import header_of, is_image, pixels_of
+from .._colours import colour_shown
+from .._images import header_of, is_image, most_of, pixels_of
 from . import webpbn
 from .puzzles import MOST_BYTES, MOST_COLOURS, WHITE, Missing, Puzzle, Triple, Unreadable, one_line
 
@@ -77,7 +78,7 @@ def puzzles_of(
     elif _is_xml(data):
         puzzles = webpbn.puzzles_of_xml(data)
         if givens is None:
-            yield from puzzles
+            yield from puzzles if suffix == ".xml" else _alone(puzzles)
             return
         puzzle = _only(puzzles)
     elif suffix == ".non":
@@ -99,13 +100,23 @@ def _puzzle_of_image(data: bytes, ground: Ground) -> Puzzle:
         raise Missing("Pillow", "reads images") from None
     except ImageFault as fault:
         raise Unreadable(str(fault)) from fault
-    under = ground.triple or WHITE
+    if ground.triple is not None and max(ground.triple) > most_of(data):
+        raise Unreadable("the background is larger than the picture's samples")
+    under = WHITE if ground.triple is None else colour_shown(ground.triple, most_of(data))
     if ground.is_corner:
         under = pixels.triples(under)[0]
     triples = pixels.triples(under)
     if len({under, *triples}) > MOST_COLOURS:
         raise Unreadable(f"more than {MOST_COLOURS} colours with the background")
     return Puzzle(picture_of(pixels.columns, len(triples) // pixels.columns, triples), background=under)
+
+
+def _alone(puzzles: Iterator[Union[Puzzle, Unreadable]]) -> Iterator[Union[Puzzle, Unreadable]]:
+    """The puzzle of a file whose name does not tell that there may be several: the name of the second could be that of another file."""
+    first = next(puzzles)
+    if next(puzzles, None) is not None:
+        raise Unreadable("several puzzles, and a name that does not end in .xml")
+    yield first
 
 
 def _only(puzzles: Iterator[Union[Puzzle, Unreadable]]) -> Puzzle:

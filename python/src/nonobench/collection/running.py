@@ -15,7 +15,7 @@ from . import certificates
 from .arguments import Options, options_of
 from .earlier import Earlier, content_before, read_row, to_check
 from .finding import Places, find, order_of
-from .outputs import CLOSED, Failure, Lines, Sheet, Table, kept_folder, lines_of
+from .outputs import CLOSED, Failure, Lines, Sheet, Table, hold_streams, kept_folder, lines_of
 from .progress import Progress
 from .rows import Row, printable, row_of, text_of
 from .serving import FULL, Settings, Task
@@ -53,6 +53,7 @@ class Kept(NamedTuple):
 
 def main(words: Optional[list[str]] = None) -> int:
     """Runs nonobench-audit, and answers its status."""
+    hold_streams()
     for number in (signal.SIGINT, signal.SIGTERM):
         signal.signal(number, _stop)
     try:
@@ -203,11 +204,11 @@ class Run:
             self._beside += len(found.beside)
             self._unread += found.unread
             to, published = (name and os.path.join(name, found.stem) for name in (options.certify, options.publish))
-            before, again = "", to_check([], None)
+            before, again = "", to_check([], None, None)
             if self._earlier is not None:
                 rows = self._earlier.rows(found.name)
                 before = content_before(rows, settings.made, settings.limit, to, published)
-                again = to_check(rows, to) if before else ()
+                again = to_check(rows, to, published) if before else ()
                 self._kept[number] = Kept(tuple((place, row["verdict"]) for place, row in rows) if before else (), to)
             elif to is not None:
                 self._kept[number] = Kept((), to)

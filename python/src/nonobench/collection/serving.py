@@ -11,7 +11,6 @@ import gc
 import hashlib
 import marshal
 import os
-import resource
 import signal
 import struct
 import threading
@@ -19,7 +18,7 @@ import time
 from typing import Any, Iterator, NamedTuple, Optional, Union
 
 from .._library import version
-from .._serve import read, write
+from .._serve import bound, read, write
 from . import certificates, readers
 from .judging import Desk, Judged, judge
 from .making import Making
@@ -82,8 +81,7 @@ def serve() -> None:
         return
     settings = Settings(*told)
     version()  # what loads the library is not bounded
-    resource.setrlimit(resource.RLIMIT_AS, (settings.memory << 20, settings.memory << 20))
-    resource.setrlimit(resource.RLIMIT_CORE, (0, 0))
+    bound(settings.memory << 20)
     gc.set_threshold(20_000)
     judging = Judging(settings, answers)
     answers.put(0, "ready", "")
@@ -222,7 +220,7 @@ class Judging:
             self._answers.put(task.number, "none", "")
 
     def _holds(self, task: Task, files: Files) -> bool:
-        """Whether there is a kept row for each puzzle, and those of puzzles with one solution are true by their certificates."""
+        """Whether there is a kept row for each puzzle, and those of puzzles with one solution are true, and their pictures there."""
         kept = {number: (row_of(text), held) for number, text, held in files.kept}
         if not kept:
             return True
@@ -232,7 +230,9 @@ class Judging:
                 row, held = kept.pop(number, (None, b""))
                 if row is None or (row and (isinstance(puzzle, Unreadable) or row.get("sha256") != sha256)):
                     return False
-                if row and isinstance(puzzle, Puzzle) and not certificates.holds(self._desk, puzzle, row, held, files.of(number)):
+                published = task.published and certificates.numbered_name(task.published, number)
+                proof = None if task.to is None else held
+                if row and isinstance(puzzle, Puzzle) and not certificates.holds(self._desk, puzzle, row, proof, files.of(number), published):
                     return False
             return not kept
         return False

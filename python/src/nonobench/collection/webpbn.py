@@ -45,6 +45,7 @@ def puzzles_of_xml(data: bytes) -> Iterator[Puzzle | Unreadable]:
         parser = ElementTree.XMLParser(forbid_entities=True)
         parser.parser.AttlistDeclHandler = _refuse_attributes
         parser.parser.StartNamespaceDeclHandler = _look_at_space
+        parser.parser.XmlDeclHandler = lambda _version, coding, _alone: _look_at_coding(data, coding or "utf-8")
         yield from _puzzles(ElementTree.iterparse(_Pieces(data, parser.parser), events=("start", "end"), parser=parser))
     except DefusedXmlException as error:
         raise Unreadable(f"the XML cannot be read: it declares entities ({type(error).__name__})") from error
@@ -71,6 +72,12 @@ class _Pieces(io.BytesIO):
 def _refuse_attributes(*_declared: Any) -> None:
     """Each element would get all attributes that are declared for it: thousands, for thousands of elements."""
     raise Unreadable("the XML cannot be read: it declares attributes")
+
+
+def _look_at_coding(data: bytes, coding: str) -> None:
+    """The page takes each file for UTF-8: in another coding, letters could be others there."""
+    if coding.lower() not in ("utf-8", "utf-16") and not data.isascii():
+        raise Unreadable("the XML cannot be read: it has letters in another coding than UTF-8 or UTF-16")
 
 
 def _look_at_space(_prefix: Optional[str], space: Optional[str]) -> None:

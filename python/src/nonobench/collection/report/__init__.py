@@ -25,6 +25,8 @@ class Report:
 
     def __init__(self, name: str, title: Optional[str]) -> None:
         self._environment = _environment()
+        if os.path.exists(name) and not os.path.isfile(name):
+            raise Failure(f"{name}: this is not a file")  # the report takes its place
         self._name = name
         self._title = title
         self._output = Output(f"{name}.new")
