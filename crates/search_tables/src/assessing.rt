@@ -30,6 +30,7 @@ pub fn assessed(
 pub fn assessed_by(alloc: Global, picture: &str, other: &str) -> Result<String> {
     let document = document_in(alloc, picture)?;
     let certified = document_in(alloc, other)?;
+    let _ = certified.picture.height();
     let mut engine = MaskEngine::make(alloc, MAX_SIDE)?;
     let cert = make_cert(alloc, &mut engine, &certified.picture, &certified.givens)?;
     let cert = cert.context("there is another picture")?;
