@@ -785,6 +785,7 @@ test('the sessions of the repository come out as they stand there', async () => 
     for (const file of readdirSync(join(root, folder)).filter((name) => name.endsWith('.session'))) {
       const stem = join(root, folder, file.slice(0, -'.session'.length));
       const word = (ending) => (existsSync(stem + ending) ? readFileSync(stem + ending, 'utf8').trim() : undefined);
+      if (waits(word('.since') ?? '0')) continue;
       const picture = existsSync(`${stem}.ppm`) ? `${stem}.ppm` : `${stem}.non`;
       const options = { format: picture.slice(-3), background: word('.background'), history: word('.history') && Number(word('.history')) };
       const bench = engine.open(readFileSync(picture), options);
