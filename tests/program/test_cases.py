@@ -93,6 +93,10 @@ def test_proved(program, text, answer, tmp_path):
     (tmp_path / 'givens').write_text(''.join(f'given {cell.replace(",", " ")}\n' for cell in named.split()))
     givens = ['--givens', tmp_path / 'givens'] if named else []
     for words in ([], ['--complete']):
+        if program.in_node and (words or givens):  # the program in JavaScript refuses both
+            run = ended([program.path, 'prove', *words, *givens, tmp_path / 'picture'])
+            assert (run.status, run.wrote) == (2, b''), run.said
+            continue
         run = ended([program.path, 'prove', *words, *givens, tmp_path / 'picture'])
         if answer == 'certificate':
             assert (run.status, run.said) == (0, b'')
