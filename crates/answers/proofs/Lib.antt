@@ -2,4 +2,3 @@ pub mod AssessLemmas
 pub mod CheckLemmas
 pub mod OpenLemmas
 pub mod ProveLemmas
-pub mod PublishedLemmas

@@ -1,26 +1,17 @@
 //! The checks of a picture's certificate: by its own givens, and by those that are published.
 
-ghost use Rattle.std.specs.Prelude.{◌≡◌, ◌⊎◌, ◌++◌, IfErr, IfOk, OnOk};
-ghost use Rattle.cert_check.specs.FirstFault.{AnswersFirst, CertFirstFault};
-ghost use Rattle.cert_check.specs.Puzzle.{IsUnique};
-ghost use Rattle.cert_check.specs.Tree.{IsProof};
-ghost use Rattle.cert_check.specs.LemmaProof.{IsLemmaProof};
-ghost use Rattle.cert_check.specs.Published.{IsPublished, IsPublishedUnique, PublishedFirstFault};
-ghost use Rattle.std.specs.List.{AllByRecursion};
+ghost use Rattle.std.specs.Prelude.{◌≡◌, ◌⊎◌, IfErr, OnOk};
 ghost use Rattle.program_options.specs.declared.fault.ProgramFault.TheVariants.{Memory, Write as Unwritten};
-ghost use Rattle.answers.specs.Check.{Answers, IsCheckOf, IsLemmaProofOf, IsOnlyPicture, IsProofOf, WritesBy, accepted_text, givens_count_text};
-ghost use Rattle.answers.specs.Published.{IsOnlyPublished, IsPublishedCheckOf, IsPublishedProofOf};
+ghost use Rattle.text_check.specs.Check.{IsLemmaProofOf, IsOnlyPicture, IsProofOf};
+ghost use Rattle.text_check.specs.Published.{IsOnlyPublished, IsPublishedProofOf};
+ghost use Rattle.answers.specs.Check.{IsCheckOf, WritesBy};
+ghost use Rattle.answers.specs.Published.{IsPublishedCheckOf};
 
-use cert_check::{check_cert, check_published};
-use cert_text::{CellNumber, Cert, CertFault, read_cert};
-use givens_text::published_cells;
-use line_settle::MaskEngine;
-use picture::{CellSet, MAX_SIDE, Picture, Rgb, send};
-use ppm_text::read_ppm;
+use picture::{Rgb, send};
 use program_options::ProgramFault;
-use report_text::push_number;
-use std::alloc::{AllocError, Global};
+use std::alloc::Global;
 use std::io::Write;
+use text_check::{checked_text, published_text};
 
 /// Checks a certificate of the picture of a P3 text, whose background is the one that is passed, or else white, and
 /// writes `certificate accepted`, with the number of givens where there are some.
@@ -70,98 +61,4 @@ pub fn run_check_published<W: Write>(
 {
     let text = published_text(alloc, file, cert, givens, background)?;
     Ok(send(&text, writer)?)
-}
-
-// The line for a certificate that is accepted, or the first error.
-fn checked_text(
-    alloc: Global,
-    file: &[u8],
-    cert: &[u8],
-    background: Option<Rgb>,
-) -> Result<Vec<u8>, ProgramFault>
-    ensures shown { Answers (IsCheckOf file.now background cert.now) result }
-    ensures only { IsProofOf file.now background cert.now → IfErr result (λ e. e ≡ Memory) }
-    ensures only_lemmas { IsLemmaProofOf file.now background cert.now
-        → IfErr result (λ e. e ≡ Memory) }
-    ensures unique { OnOk result (IsOnlyPicture file.now background cert.now) }
-{
-    let document = read_ppm(alloc, file, background)?;
-    let certificate = read_cert(alloc, cert)?;
-    check(alloc, &document.picture, &certificate)?;
-    Ok(accepted_text(alloc, &certificate)?)
-}
-
-// Checks a certificate of a picture.
-fn check(alloc: Global, picture: &Picture, cert: &Cert) -> Result<(), CertFault>
-    ensures first { AnswersFirst (CertFirstFault picture.now cert.now) result }
-    ensures only { IsProof picture.now cert.now → IfErr result (λ e. e ≡ CertFault.Memory) }
-    ensures only_lemmas { IsLemmaProof picture.now cert.now
-        → IfErr result (λ e. e ≡ CertFault.Memory) }
-    ensures unique { OnOk result (IsUnique picture.now cert.now.givens) }
-{
-    let _ = picture.height();
-    let mut engine = MaskEngine::make(alloc, MAX_SIDE)?;
-    check_cert(alloc, &mut engine, picture, cert)
-}
-
-// The same where givens are published.
-fn published_text(
-    alloc: Global,
-    file: &[u8],
-    cert: &[u8],
-    givens: &[u8],
-    background: Option<Rgb>,
-) -> Result<Vec<u8>, ProgramFault>
-    ensures shown { Answers (IsPublishedCheckOf file.now background givens.now cert.now) result }
-    ensures only { IsPublishedProofOf file.now background givens.now cert.now
-        → IfErr result (λ e. e ≡ Memory) }
-    ensures unique { OnOk result (IsOnlyPublished file.now background givens.now) }
-{
-    let document = read_ppm(alloc, file, background)?;
-    let picture = &document.picture;
-    let published = published_cells(givens, picture.height(), picture.width())?;
-    let certificate = read_cert(alloc, cert)?;
-    check_with(alloc, picture, &certificate, &published)?;
-    Ok(accepted_text(alloc, &certificate)?)
-}
-
-// Checks a certificate of a picture whose givens are published.
-fn check_with(
-    alloc: Global,
-    picture: &Picture,
-    cert: &Cert,
-    published: &CellSet,
-) -> Result<(), CertFault>
-    ensures first { AnswersFirst (PublishedFirstFault picture.now published.now cert.now) result }
-    ensures only { IsLemmaProof picture.now cert.now
-        → AllByRecursion (IsPublished picture.now published.now) cert.now.givens
-        → IfErr result (λ e. e ≡ CertFault.Memory) }
-    ensures unique { OnOk result (IsPublishedUnique picture.now published.now) }
-{
-    let _ = picture.height();
-    let mut engine = MaskEngine::make(alloc, MAX_SIDE)?;
-    check_published(alloc, &mut engine, picture, cert, published)
-}
-
-// The line for a certificate that is accepted, as text.
-fn accepted_text(alloc: Global, cert: &Cert) -> Result<Vec<u8>, AllocError>
-    ensures { IfOk result (λ text. text.items ≡ accepted_text cert.now.givens) }
-{
-    let mut text = Vec::new(alloc);
-    text.extend_from_slice(b"certificate accepted")?;
-    push_givens(&mut text, cert.givens())?;
-    text.push(b'\n')?;
-    Ok(text)
-}
-
-// Appends how many cells are given, where there are some.
-fn push_givens(text: &mut Vec<u8>, givens: &[CellNumber]) -> Result<(), AllocError>
-    ensures { OnOk result (text.new.items ≡ text.old.items ++ givens_count_text givens.now) }
-{
-    let count = givens.len();
-    if count > 0 {
-        text.extend_from_slice(b", givens ")?;
-        push_number(text, count)?;
-    }
-    Ok(())
 }

@@ -2,12 +2,15 @@ pub mod AmongLemmas
 pub mod Answering
 pub mod BaseLemmas
 pub mod BoardLemmas
+pub mod BoundLemmas
 pub mod GivenLemmas
 pub mod LemmaAccepted
 pub mod LemmaExactness
 pub mod LemmaSoundness
 pub mod MachineLemmas
+pub mod MaskLemmas
 pub mod Meeting
+pub mod NoteLemmas
 pub mod OpenLemmas
 pub mod PublishedLemmas
 pub mod SettledLemmas

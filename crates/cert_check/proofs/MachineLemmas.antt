@@ -20,6 +20,14 @@ goes_on walk facts free none = go walk.behind refl
         rw (stage, none stage) refl
     go (next ∷ others) e = refl
 
+-- several branches begin
+pub goes_over : (walk : Walk) (facts : Masks) (behind : List (List (List ℕ))) → (behind ≡ [] → walk.stage ≡ Free) → (walk.stage ≡ Free → walk.denied ≡ [])
+    → Some (walk_of facts behind walk.lemmas walk.denied walk.stage) ≡ next_at walk (facts ∷ behind)
+goes_over walk facts [] free none =
+    let stage = free refl in
+    rw (stage, none stage) refl
+goes_over walk facts (next ∷ others) free none = refl
+
 -- the next branch, whatever is at hand and waits now
 pub same_next : (walk : Walk) (facts : Masks) (behind waits : List (List (List ℕ))) → next_at (walk_of facts behind walk.lemmas walk.denied walk.stage) waits ≡ next_at walk waits
 same_next walk facts behind [] = refl
@@ -27,10 +35,10 @@ same_next walk facts behind (next ∷ []) = refl
 same_next walk facts behind (next ∷ other ∷ others) = refl
 
 -- the machine stays right where as many lemmas are being proved, and where facts still wait if some waited
-pub still_right : (picture : Rows) (old : Machined) (walk : Walk) (at_hand : List (List ℕ)) (behind : List (List (List ℕ))) (strays : ℕ) (waits : List ℕ) (settled : Lines) → IsRight picture old
-    → walk ≡ old.walk → (behind ≡ [] → walk.behind ≡ []) → IsTallied picture (boarded at_hand behind strays waits settled)
-    → IsRight picture (machined (walk_of at_hand behind walk.lemmas walk.denied walk.stage) strays waits settled)
-still_right picture old walk at_hand behind strays waits settled right w some tallied = record {
+pub still_right : (picture : Rows) (old : Machined) (walk : Walk) (at_hand : List (List ℕ)) (behind : List (List (List ℕ))) (strays : ℕ) (waits : List ℕ) (settled : Lines)
+    (parts literals spare : ℕ) → IsRight picture old → walk ≡ old.walk → (behind ≡ [] → walk.behind ≡ []) → IsTallied picture (boarded at_hand behind strays waits settled parts)
+    → IsRight picture (machined (walk_of at_hand behind walk.lemmas walk.denied walk.stage) strays waits settled parts literals spare)
+still_right picture old walk at_hand behind strays waits settled parts literals spare right w some tallied = record {
   tallied = tallied;
   free = λ e. ap (λ (x : Walk). x.stage) w ∙ right.free (ap {B = List (List (List ℕ))} (λ (x : Walk). x.behind) (sym w) ∙ some e);
   none_denied = λ e. ap {B = List Literal} (λ (x : Walk). x.denied) w ∙ right.none_denied (ap (λ (x : Walk). x.stage) (sym w) ∙ e);
@@ -45,10 +53,11 @@ pub is_without : (walk : Walk) (n : ℕ) → walk.behind ≡ [] → walk.stage �
     → Some (walk_of walk.at_hand walk.behind (set walk.lemmas n None) walk.denied walk.stage) ≡ Some (without walk n)
 is_without walk n b s d = rw (b, s, d) refl
 
-pub right_without : (picture : Rows) (old : Machined) (walk : Walk) (store : Stored) (strays : ℕ) (waits : List ℕ) (settled : Lines) → IsRight picture old → walk ≡ old.walk → strays ≡ old.strays
-    → waits ≡ old.waits → settled ≡ old.settled → store.denied ≡ walk.denied → IsRight picture (machined (walk_of walk.at_hand walk.behind store.lemmas store.denied walk.stage) strays waits settled)
-right_without picture old walk store strays waits settled right w s q t d = record {
-  tallied = rw (w, s, q, t) right.tallied;
+pub right_without : (picture : Rows) (old : Machined) (walk : Walk) (store : Stored) (strays : ℕ) (waits : List ℕ) (settled : Lines) (parts literals spare : ℕ) → IsRight picture old → walk ≡ old.walk
+    → strays ≡ old.strays → waits ≡ old.waits → settled ≡ old.settled → parts ≡ old.parts → store.denied ≡ walk.denied
+    → IsRight picture (machined (walk_of walk.at_hand walk.behind store.lemmas store.denied walk.stage) strays waits settled parts literals spare)
+right_without picture old walk store strays waits settled parts literals spare right w s q t p d = record {
+  tallied = rw (w, s, q, t, p) right.tallied;
   free = rw w right.free;
   none_denied = λ e. d ∙ (ap {B = List Literal} (λ (x : Walk). x.denied) w ∙ right.none_denied (sym (ap (λ (x : Walk). x.stage) w) ∙ e));
 }

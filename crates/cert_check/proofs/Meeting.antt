@@ -6,9 +6,9 @@ use Rattle.std.specs.List.{AllByRecursion}
 use Rattle.std.specs.Int.{bit_not, w16}
 use Rattle.std.proofs.lemmas.Bool.{cases_eq, cases_lt}
 use Rattle.std.proofs.lemmas.List.{get_or_past, length-set}
-use Rattle.std.proofs.lemmas.Nat.Bits.{bit_at-lt, bit_at_and, bit_at_not}
+use Rattle.std.proofs.lemmas.Nat.Bits.{bit_at_not}
 use Rattle.line_facts.specs.Masks.{Masks}
-use Rattle.picture.proofs.BitLaws.{bit_is_set, bit_or_not, no_bit, set_bit, unset}
+use Rattle.picture.proofs.BitLaws.{bit_is_set, bit_or_not, no_bit, unset}
 use Rattle.picture.specs.Rows.{cell_at, row_at, with_cell, Rows}
 use Rattle.line_facts.proofs.GridLaws.{shape_trans, shape_with_cell}
 use Rattle.trail.proofs.GridLemmas.{row_there, set_each}
@@ -16,19 +16,14 @@ use Rattle.cert_check.specs.Puzzle.{HasCellNumber}
 use Rattle.cert_check.proofs.Soundness.{IsRival, Keeps}
 use Rattle.cert_text.specs.declared.cert_line.Literal.{Literal}
 use Rattle.cert_check.specs.Lemmas.{HasLiteral, Lemmas, denied_all, held_by, held_off, held_to, lemma_at, left_of, still_open, used}
+use Rattle.cert_check.proofs.MaskLemmas.{bits_in_and}
 use Rattle.cert_check.proofs.OpenLemmas.{closed_first, open_first}
 
 -- ---- colours
 
-and_has : (a b k : ℕ) → IsBitSet a k → IsBitSet b k → IsBitSet (bit_and a b) k
-and_has a b k s t = bit_is_set (bit_and a b) k (let e = set_bit a k s in let f = set_bit b k t in let m = bit_at_and a b k in omega arith)
-
-and_left : (a b k : ℕ) → IsBitSet (bit_and a b) k → IsBitSet a k
-and_left a b k s = bit_is_set a k (let e = set_bit (bit_and a b) k s in let m = bit_at_and a b k in let l = bit_at-lt a k in omega arith)
-
 without_has : (mask colours k : ℕ) → colours < 2 ^ 16 → k < 16 → IsBitSet mask k → (IsBitSet colours k → ⊥) → IsBitSet (bit_and mask (bit_not w16 colours)) k
 without_has mask colours k c l s n =
-    and_has mask (bit_not w16 colours) k s (bit_is_set (bit_not w16 colours) k (let e = unset colours k n in let m = bit_at_not w16 colours k c l in omega arith))
+    bits_in_and mask (bit_not w16 colours) k s (bit_is_set (bit_not w16 colours) k (let e = unset colours k n in let m = bit_at_not w16 colours k c l in omega arith))
 
 some_colour : (mask k : ℕ) → IsBitSet mask k → 0 < mask
 some_colour mask k s = elim (cases_eq mask 0) [ inl e ↦ absurd (no_bit k (rw e at s)) | inr n ↦ omega arith ]
@@ -66,7 +61,7 @@ module _ (facts : Masks) (other : Rows) (keeps : Keeps facts other) where
       }
 
   left_met : (literal : Literal) → Meets other literal → IsBitSet (left_of facts literal) (cell_at other (literal.cell.row - 1) (literal.cell.col - 1))
-  left_met literal m = and_has _ literal.colours _ (keeps.leaves (literal.cell.row - 1) (literal.cell.col - 1) m.inside) m.has
+  left_met literal m = bits_in_and _ literal.colours _ (keeps.leaves (literal.cell.row - 1) (literal.cell.col - 1) m.inside) m.has
 
   pub held_to_keeps : (literal : Literal) → Meets other literal → Keeps (held_to facts literal) other
   held_to_keeps literal m = mask_keeps (literal.cell.row - 1) (literal.cell.col - 1) (left_of facts literal) m.inside (left_met literal m)

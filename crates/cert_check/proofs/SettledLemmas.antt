@@ -1,5 +1,5 @@
 -- Lines that are settled: when they are, and while they stay so.
-use Rattle.std.proofs.Common.{◌≡◌, ℕ, List, ◌∷◌, map, slice_index, IsBitSet, refl, sym, ap, subst, ◌∙◌, inl, inr}
+use Rattle.std.proofs.Common.{◌≡◌, ℕ, List, map, slice_index, IsBitSet, refl, sym, ap, subst, ◌∙◌, inl, inr}
 use Rattle.picture.specs.declared.line_id.Axis.{Axis}
 use Rattle.picture.specs.declared.line_id.Axis.TheVariants.{Across, Down}
 use Rattle.picture.specs.declared.line_id.LineId.{LineId}
@@ -15,23 +15,22 @@ use Rattle.line_facts.specs.NarrowedLine.{Narrows}
 use Rattle.line_facts.proofs.FitLaws.{have_narrowed}
 use Rattle.line_facts.proofs.GridLaws.{cell_on, off_with_cell, same_line_length, same_list, shape_refl, shape_trans, shape_with_cell}
 use Rattle.trail.specs.Through.{across, down}
-use Rattle.cert_check.specs.Boards.{AreSettled, Boarded, IsTallied, boarded}
+use Rattle.cert_check.specs.Boards.{AreSettled, Boarded, IsTallied, KeepsOthers, UnsettlesCell}
 use Rattle.cert_check.specs.Puzzle.{IsForced}
 use Rattle.cert_check.specs.Strays.{strays_of}
 use Rattle.cert_check.specs.Walk.{CanCheck}
+
+-- a colour that a line can have in a cell is left there
+pub had : (clue : List Block) (left : List ℕ) (i k : ℕ) → CanHave clue left i k → IsBitSet (slice_index left i) k
+had clue left i k h = let P : ℕ → Type 0 = λ c. IsBitSet (slice_index left i) c in subst P h.has (h.fits.keeps i h.within)
 
 -- a settled line forces what is known
 pub settled_forces : (picture : Rows) (facts : Masks) (line : LineId) → IsClosedLine (clue_at (clues_of picture) line) (line_of facts line) → IsForced picture facts line facts
 settled_forces picture facts line closed = record {
   same_shape = shape_refl facts;
-  exact = λ i k. (closed i k, has i k);
+  exact = λ i k. (closed i k, had (clue_at (clues_of picture) line) (line_of facts line) i k);
   elsewhere = λ row col off. refl;
 }
-  where
-    has : (i k : ℕ) → CanHave (clue_at (clues_of picture) line) (line_of facts line) i k → IsBitSet (slice_index (line_of facts line) i) k
-    has i k h =
-        let P : ℕ → Type 0 = λ c. IsBitSet (slice_index (line_of facts line) i) c in
-        subst P h.has (h.fits.keeps i h.within)
 
 -- a line is settled by its evaluation
 pub settled_by : (picture : Rows) (old new : Masks) (clues : Clues) (longest : ℕ) (clue : List Block) (line : LineId) (outcome : Outcome) (masks : List ℕ) → CanCheck picture clues longest
@@ -71,26 +70,15 @@ still_settled picture facts row col held lines fewer least settled rows columns 
 
 -- ---- the numbers of a board, and its lines
 
--- a cell is held
-pub held_tallied : (picture : Rows) (board : Boarded) (at_hand : Masks) (behind : List (List (List ℕ))) (strays : ℕ) (waits : List ℕ) (fewer least : Lines) (row col held : ℕ)
-    → IsTallied picture board → at_hand ≡ with_cell board.at_hand row col held → behind ≡ board.behind → waits ≡ board.waits → strays ≡ strays_of picture (with_cell board.at_hand row col held)
-    → TakesOutName board.settled fewer (across row) → TakesOutName fewer least (down col) → IsTallied picture (boarded at_hand behind strays waits least)
-held_tallied picture board at_hand behind strays waits fewer least row col held tallied a b w s rows columns = record {
-  same_shape = subst (SameShape picture) (sym a) (shape_trans tallied.same_shape (shape_with_cell board.at_hand row col held));
+-- a cell gets another mask
+pub changed_tallied : (picture : Rows) (old new : Boarded) (row col held : ℕ) → IsTallied picture old → new.at_hand ≡ with_cell old.at_hand row col held
+    → new.waits ≡ map (strays_of picture) new.behind → new.strays ≡ strays_of picture (with_cell old.at_hand row col held) → UnsettlesCell old.settled new.settled row col → IsTallied picture new
+changed_tallied picture old new row col held tallied a w s u = record {
+  same_shape = subst (SameShape picture) (sym a) (shape_trans tallied.same_shape (shape_with_cell old.at_hand row col held));
   strays = s ∙ ap (strays_of picture) (sym a);
-  waits = w ∙ (tallied.waits ∙ ap (map (strays_of picture)) (sym b));
-  settled = subst (λ (f : Masks). AreSettled picture f least) (sym a) (still_settled picture board.at_hand row col held board.settled fewer least tallied.settled rows columns);
+  waits = w;
+  settled = subst (λ (f : Masks). AreSettled picture f new.settled) (sym a) (still_settled picture old.at_hand row col held old.settled u.0 new.settled tallied.settled u.1.0 u.1.1);
 }
 
--- the facts at hand wait too
-pub kept_tallied : (picture : Rows) (board : Boarded) (at_hand : Masks) (behind : List (List (List ℕ))) (strays : ℕ) (waits : List ℕ) (settled : Lines)
-    → IsTallied picture board → at_hand ≡ board.at_hand → behind ≡ board.at_hand ∷ board.behind → strays ≡ board.strays → waits ≡ board.strays ∷ board.waits → settled ≡ board.settled
-    → IsTallied picture (boarded at_hand behind strays waits settled)
-kept_tallied picture board at_hand behind strays waits settled tallied a b s w e = record {
-  same_shape = subst (SameShape picture) (sym a) tallied.same_shape;
-  strays = s ∙ (tallied.strays ∙ ap (strays_of picture) (sym a));
-  waits = w
-      ∙ (ap (λ (n : ℕ). n ∷ board.waits) tallied.strays
-      ∙ (ap (λ (ns : List ℕ). strays_of picture board.at_hand ∷ ns) tallied.waits ∙ ap (map (strays_of picture)) (sym b)));
-  settled = rw (a, e) tallied.settled;
-}
+pub unsettled_others : (old new : Lines) (row col : ℕ) → UnsettlesCell old new row col → KeepsOthers old new row col
+unsettled_others old new row col u line has a d = (u.1.1 line).1 ((u.1.0 line).1 (has, a), d)

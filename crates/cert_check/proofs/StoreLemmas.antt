@@ -46,10 +46,15 @@ denied_store literals literal spans newest count is short few =
     }
 
 pub denied_view : (literals : List Literal) (literal : Literal) (spans : List Span) (newest count : ℕ) → IsStore literals spans newest count
-    → stored (lemmas_in (literals ++ literal ∷ []) spans) (drop newest (literals ++ literal ∷ [])) ≡ stored (lemmas_in literals spans) (drop newest literals ++ literal ∷ [])
-denied_view literals literal spans newest count is =
-    ap (λ (lemmas : Lemmas). stored lemmas (drop newest (literals ++ literal ∷ []))) (same_lemmas literals (literal ∷ []) newest spans is.newest_inside is.each)
-    ∙ ap (λ (denied : List Literal). stored (lemmas_in literals spans) denied) (drop-append-le newest literals (literal ∷ []) is.newest_inside)
+    → (lemmas_in (literals ++ literal ∷ []) spans ≡ lemmas_in literals spans) × (drop newest (literals ++ literal ∷ []) ≡ drop newest literals ++ literal ∷ [])
+denied_view literals literal spans newest count is = (
+  same_lemmas literals (literal ∷ []) newest spans is.newest_inside is.each,
+  drop-append-le newest literals (literal ∷ []) is.newest_inside,
+)
+
+pub same_store : (lemmas more : Lemmas) (denied other : List Literal) (literals left spare free : ℕ) → lemmas ≡ more → denied ≡ other → literals ≡ left → spare ≡ free
+    → stored lemmas denied literals spare ≡ stored more other left free
+same_store lemmas more denied other literals left spare free a b c d = rw (a, b, c, d) refl
 
 -- ---- a lemma is kept
 

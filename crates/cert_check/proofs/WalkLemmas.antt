@@ -1,7 +1,9 @@
 -- What the calls of a walk need, and the first error from the beginning.
 use Rattle.std.proofs.Common.{◌≡◌, ℕ, ◌+◌, ◌-◌, ◌<◌, ◌≤◌, ◌↔◌, List, ◌∷◌, Bool, true, false, Option, Some, Ok, Err, IsTrue, length, get_or, drop, drop-cons, add-one, refl, sym, ap}
 use Rattle.std.proofs.Common.{subst, ◌∙◌, arith, inl, inr}
+use Rattle.std.specs.List.{sum_by}
 use Rattle.std.proofs.lemmas.List.{drop_all}
+use Rattle.std.proofs.lemmas.List.Sums.{sum_by-cons}
 use Rattle.line_facts.specs.Masks.{Masks}
 use Rattle.picture.specs.declared.line_id.LineId.{LineId}
 use Rattle.picture.specs.Rows.{line_of, lines_along, HasLine, Rows}
@@ -19,9 +21,9 @@ use Rattle.cert_text.specs.declared.cert_line.LineNumber.{LineNumber}
 use Rattle.cert_text.specs.declared.cert_line.CertLine.{CertLine}
 use Rattle.cert_text.specs.declared.cert_line.CertLine.TheVariants.{Line, Use, Split, Dead, Broken, Done, Part, Lemma, Deny, Forget}
 use Rattle.cert_check.specs.Puzzle.{HasLineNumber, IsDead, IsForced, line_id}
-use Rattle.cert_check.specs.FirstFault.{AnswersFirst, FirstFault, HasFault, found_by}
+use Rattle.cert_check.specs.FirstFault.{Answers, FirstFault, HasFault, found_by}
 use Rattle.cert_check.specs.Moving.{moved_to}
-use Rattle.cert_check.specs.Machined.{Machined, Takes, reached}
+use Rattle.cert_check.specs.Machined.{Affords, AffordsAll, Machined, Spent, Takes, denials_of, lemmas_of, parts_of, reached}
 use Rattle.cert_check.specs.Walk.{CanCheck, Walk}
 
 -- ---- a line found
@@ -92,6 +94,26 @@ pub record FirstSoFar (picture : Rows) (start at : Option Walk) (place : ℕ →
 here : (lines : List CertLine) (i : ℕ) (d : CertLine) → i < length lines → drop i lines ≡ get_or lines i d ∷ drop (i + 1) lines
 here lines i d l = rw (add-one, drop-cons lines i d) refl
 
+-- ---- room for the lines that are left
+
+module _ (lines : List CertLine) (i : ℕ) (line d : CertLine) (l : i < length lines) (is : line ≡ get_or lines i d) where
+  split_sum : (f : CertLine → ℕ) → sum_by f (drop i lines) ≡ f line + sum_by f (drop (i + 1) lines)
+  split_sum f = ap (sum_by f) (here lines i d l) ∙ (sum_by-cons f (get_or lines i d) (drop (i + 1) lines) ∙ ap (λ (c : CertLine). f c + sum_by f (drop (i + 1) lines)) (sym is))
+
+  pub affords_line : (machine : Machined) → AffordsAll machine (drop i lines) → Affords machine line
+  affords_line machine all = record {
+    parts = omega (arith, all.parts, split_sum parts_of);
+    literals = omega (arith, all.literals, split_sum denials_of);
+    lemmas = omega (arith, all.lemmas, split_sum lemmas_of);
+  }
+
+  pub affords_more : (old new : Machined) → AffordsAll old (drop i lines) → Spent old new line → AffordsAll new (drop (i + 1) lines)
+  affords_more old new all spent = record {
+    parts = omega (arith, all.parts, spent.parts, split_sum parts_of);
+    literals = omega (arith, all.literals, spent.literals, split_sum denials_of);
+    lemmas = omega (arith, all.lemmas, spent.lemmas, split_sum lemmas_of);
+  }
+
 module _ (picture : Rows) (start : Option Walk) (walk : Walk) (going : Bool) (place : ℕ → ℕ) (i : ℕ) (lines : List CertLine) (l : i < length lines)
     (so_far : FirstSoFar picture start (reached going walk) place i lines (drop i lines)) where
   pub trailing_first : going ≡ false → FirstFault picture start place 0 lines (Some (Trailing (place i)))
@@ -102,9 +124,8 @@ module _ (picture : Rows) (start : Option Walk) (walk : Walk) (going : Bool) (pl
     at_line : (fault : Option CertFault) → FirstFault picture (Some walk) place i (line ∷ drop (i + 1) lines) fault → FirstFault picture start place 0 lines fault
     at_line fault f = so_far.goes fault (rw (on, here lines i d l, ← is) f)
 
-    pub refused_first : (new : Machined) (e : CertFault) → Takes picture (found_by walk line) new line i (Err e) → AnswersFirst (FirstFault picture start place 0 lines) (Err (moved_to e (place i)))
-    refused_first new e (inl m) = inl (ap (λ (f : CertFault). moved_to f (place i)) m)
-    refused_first new e (inr h) = inr (at_line (Some (moved_to e (place i))) (inl (moved_to e (place i), (moves picture (found_by walk line) line i (place i) e h, refl))))
+    pub refused_first : (new : Machined) (e : CertFault) → Takes picture (found_by walk line) new line i (Err e) → Answers (FirstFault picture start place 0 lines) (Err (moved_to e (place i)))
+    refused_first new e h = at_line (Some (moved_to e (place i))) (inl (moved_to e (place i), (moves picture (found_by walk line) line i (place i) e h, refl)))
 
     pub taken_first : (new : Machined) (more : Bool) → Takes picture (found_by walk line) new line i (Ok more)
         → FirstSoFar picture start (reached more new.walk) place (i + 1) lines (drop (i + 1) lines)

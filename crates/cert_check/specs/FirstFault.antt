@@ -88,6 +88,11 @@ CertFirstFault picture cert fault =
     × FirstFault picture (Some (root (base_of picture cert.givens))) (place_of cert.runs (2 + length cert.givens)) 0
     cert.lines fault)
 
+-- What a checker answers that has its memory: the first error, and Ok where there is none.
+abbrev pub Answers : (Option CertFault → Type 0) → Result (Unit {0}) CertFault → Type 0
+Answers Is (Ok x) = Is None
+Answers Is (Err e) = Is (Some e)
+
 -- What a checker answers: out of memory, or the first error, and Ok where there is none.
 abbrev pub AnswersFirst : (Option CertFault → Type 0) → Result (Unit {0}) CertFault → Type 0
 AnswersFirst Is (Ok x) = Is None

@@ -4,6 +4,7 @@ pub mod LemmaProof
 pub mod Lemmas
 pub mod Machined
 pub mod Moving
+pub mod Notes
 pub mod Opening
 pub mod Published
 pub mod Puzzle

@@ -6,13 +6,17 @@ use Rattle.cert_text.specs.declared.cert_line.TheConstants.{MAX_LEMMA_LITERALS, 
 use Rattle.cert_check.specs.declared.span.Span.{Span}
 use Rattle.cert_check.specs.Lemmas.{Lemmas, total}
 
--- the lemmas that are kept, and the literals of the one that is being proved
+-- the lemmas that are kept, the literals of the one that is being proved, and for how many more literals and lemmas
+-- there is room
 pub record Stored : Type 0 where
   pub lemmas : Lemmas
   pub denied : List Literal
+  pub literals : ℕ
+  pub spare : ℕ
 
-abbrev pub stored : Lemmas → List Literal → Stored
-stored lemmas denied = record { lemmas = lemmas; denied = denied }
+abbrev pub stored : Lemmas → List Literal → ℕ → ℕ → Stored
+stored lemmas denied literals spare =
+    record { lemmas = lemmas; denied = denied; literals = literals; spare = spare }
 
 abbrev pub if_kept : Bool → List Literal → Option (List Literal)
 if_kept true literals = Some literals

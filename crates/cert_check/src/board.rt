@@ -1,59 +1,61 @@
 //! The facts at hand and those that wait, and for each how many cells have another colour left than the picture's.
 
-ghost use Rattle.std.specs.Prelude.{◌≡◌, ◌<◌, ◌∷◌, ◌++◌, ◌↔◌, [], length, map, IfOk, OnOk, IsTrue};
+ghost use Rattle.std.specs.Prelude.{◌≡◌, ◌≤◌, ◌<◌, ◌+◌, ◌∷◌, ◌++◌, ◌⊎◌, ◌↔◌, [], true, ℕ, bit_and, length, vec_capacity, IsBitSet, IsTrue};
+ghost use Rattle.std.specs.Int.{bit_not, w16};
 ghost use Rattle.picture.specs.LineSet.{HasName};
 ghost use Rattle.picture.specs.Rows.{width_of, with_cell, cell_at, line_of};
 ghost use Rattle.clues.specs.ClueBook.{clue_at, clues_of};
 ghost use Rattle.line_facts.specs.Branches.{branches};
 ghost use Rattle.line_facts.specs.FactSets.{IsClosedLine, IsFacts, SameShape};
-ghost use Rattle.cert_check.specs.Boards.{IsTallied, KeepsOthers, waiting};
+ghost use Rattle.cert_check.specs.Boards.{IsTallied, KeepsOthers, UnsettlesCell, waiting};
+ghost use Rattle.cert_check.specs.Notes.{most_notes};
 ghost use Rattle.cert_check.specs.Puzzle.{ShowsOnly};
 ghost use Rattle.cert_check.specs.Strays.{strays_of};
 
+use crate::bounded_trail::BoundedTrail;
+use crate::note::Note;
 use crate::stray::{count_strays, stray};
 use line_facts::Facts;
 use picture::{Axis, LineId, LineSet, MAX_SIDE, Picture};
-use std::alloc::{AllocError, Global};
 use std::marker::Model;
-use trail::{Cell, Trail};
+use trail::Cell;
 
-// How many colours there are.
-const COLOURS: u16 = 16;
+// The highest colour.
+const HIGHEST: u32 = 15;
 
-// A trail whose cells are compared with a picture, always the same. The numbers of the branches that wait stand in the order
-// in which they wait, that of the next one last.
+// A trail whose cells are compared with a picture, always the same.
 #[derive(Drop)]
 pub(crate) struct Board {
-    trail: Trail,
+    trail: BoundedTrail,
     strays: u16,
-    waits: Vec<u16>,
     // Lines whose cells have not changed since they were evaluated.
     settled: LineSet,
 }
 
 impl Model for Board {
-    ghost use Rattle.std.specs.Prelude.{reverse};
     ghost use Rattle.cert_check.specs.Boards.{Boarded, boarded};
 
     ghost Value = { Boarded };
 
-    ghost view = { λ b. boarded b.trail.at_hand b.trail.behind b.strays (reverse b.waits.items)
-        b.settled };
+    ghost view = { λ b. boarded b.trail.at_hand b.trail.behind b.strays b.trail.waits b.settled
+        b.trail.parts };
 }
 
 impl Board {
     // A board with these facts at hand, where nothing waits.
-    pub(crate) fn start(alloc: Global, picture: &Picture, facts: Facts) -> Board
-        requires { SameShape picture.now facts }
+    pub(crate) fn start(picture: &Picture, facts: Facts, notes: Vec<Note>, parts: usize) -> Board
+        requires same_shape { SameShape picture.now facts }
+        requires empty { notes.items ≡ [] }
+        requires enough { most_notes (length facts) (width_of facts) parts ≤ vec_capacity notes }
         ensures at_hand { result.at_hand ≡ facts }
         ensures behind { result.behind ≡ [] }
+        ensures parts { result.parts ≡ parts }
         ensures tallied { IsTallied picture.now result }
     {
         let strays = count_strays(&facts, picture);
         Board {
-            trail: Trail::start(alloc, facts),
+            trail: BoundedTrail::start(facts, notes, parts),
             strays,
-            waits: Vec::new(alloc),
             settled: LineSet::empty(),
         }
     }
@@ -66,11 +68,10 @@ impl Board {
     }
 
     // Whether no branch waits.
-    pub(crate) fn is_last(&self, picture: &Picture) -> bool
-        requires { IsTallied picture.now self.now }
+    pub(crate) fn is_last(&self) -> bool
         ensures { IsTrue result ↔ (self.now.behind ≡ []) }
     {
-        self.waits.is_empty()
+        self.trail.is_last()
     }
 
     // Whether no cell of the facts at hand has a colour left other than the picture's.
@@ -101,6 +102,7 @@ impl Board {
         ensures behind { self.new.behind ≡ self.old.behind }
         ensures tallied { IsTallied picture.now self.new }
         ensures noted { HasName self.new.settled line }
+        ensures parts { self.new.parts ≡ self.old.parts }
     {
         self.settled.put(line);
     }
@@ -121,128 +123,125 @@ impl Board {
         self.strays - less + more
     }
 
-    // Sets the mask of a cell of the facts at hand.
+    // Takes the lines through a cell from those that are settled.
+    fn unsettle(&mut self, cell: Cell)
+        requires row { cell.row < MAX_SIDE }
+        requires col { cell.col < MAX_SIDE }
+        ensures at_hand { self.new.at_hand ≡ self.old.at_hand }
+        ensures behind { self.new.behind ≡ self.old.behind }
+        ensures strays { self.new.strays ≡ self.old.strays }
+        ensures waits { self.new.waits ≡ self.old.waits }
+        ensures parts { self.new.parts ≡ self.old.parts }
+        ensures settled { UnsettlesCell self.old.settled self.new.settled cell.row cell.col }
+    {
+        self.settled.take_out(LineId {
+            axis: Axis::Across,
+            at: cell.row,
+        });
+        self.settled.take_out(LineId {
+            axis: Axis::Down,
+            at: cell.col,
+        });
+    }
+
+    // Sets the mask of a cell of the facts at hand to some of the colours that are left there.
     #[inline]
-    pub(crate) fn hold(
-        &mut self,
-        picture: &Picture,
-        cell: Cell,
-        held: u16,
-    ) -> Result<(), AllocError>
+    pub(crate) fn hold(&mut self, picture: &Picture, cell: Cell, held: u16)
         requires in_rows { cell.row < length self.old.at_hand }
         requires in_columns { cell.col < width_of self.old.at_hand }
+        requires left { (k : ℕ) → IsBitSet held k
+            → IsBitSet (cell_at self.old.at_hand cell.row cell.col) k }
         requires tallied { IsTallied picture.now self.old }
-        ensures at_hand { OnOk result
-            (self.new.at_hand ≡ with_cell self.old.at_hand cell.row cell.col held) }
-        ensures behind { OnOk result (self.new.behind ≡ self.old.behind) }
-        ensures tallied { OnOk result (IsTallied picture.now self.new) }
-        ensures others { OnOk result
-            (KeepsOthers self.old.settled self.new.settled cell.row cell.col) }
+        ensures at_hand { self.new.at_hand
+            ≡ with_cell self.old.at_hand cell.row cell.col held }
+        ensures behind { self.new.behind ≡ self.old.behind }
+        ensures tallied { IsTallied picture.now self.new }
+        ensures others { KeepsOthers self.old.settled self.new.settled cell.row cell.col }
         ensures facts { IsFacts self.old.at_hand }
+        ensures parts { self.new.parts ≡ self.old.parts }
     {
         if self.trail.at_hand().left(cell.row, cell.col) != held {
             let strays = self.strays_with(picture, cell, held);
-            self.trail.hold(cell.row, cell.col, held)?;
+            self.trail.hold(cell, held);
             self.strays = strays;
-            self.settled.take_out(LineId {
-                axis: Axis::Across,
-                at: cell.row,
-            });
-            self.settled.take_out(LineId {
-                axis: Axis::Down,
-                at: cell.col,
-            });
+            self.unsettle(cell);
         }
-        Ok(())
     }
 
-    // Adds a branch before those that wait: the facts at hand with the mask of a cell set.
-    pub(crate) fn part(
-        &mut self,
-        picture: &Picture,
-        cell: Cell,
-        held: u16,
-    ) -> Result<(), AllocError>
+    // Takes some colours from a cell of the facts at hand. The branch with these alone waits before all others.
+    pub(crate) fn part(&mut self, picture: &Picture, cell: Cell, colours: u16)
         requires in_rows { cell.row < length self.old.at_hand }
         requires in_columns { cell.col < width_of self.old.at_hand }
+        requires parts { (0 < self.old.parts)
+            ⊎ ((0 < bit_and (cell_at self.old.at_hand cell.row cell.col) colours)
+            × (0 < bit_and (cell_at self.old.at_hand cell.row cell.col) (bit_not w16 colours))) }
         requires tallied { IsTallied picture.now self.old }
-        ensures at_hand { OnOk result (self.new.at_hand ≡ self.old.at_hand) }
-        ensures behind { OnOk result (self.new.behind
-            ≡ with_cell self.old.at_hand cell.row cell.col held ∷ self.old.behind) }
-        ensures tallied { OnOk result (IsTallied picture.now self.new) }
-    {
-        let strays = self.strays_with(picture, cell, held);
-        self.waits.push(strays)?;
-        self.trail.part(cell.row, cell.col, held)
-    }
-
-    // Adds the facts at hand as they are before those that wait.
-    pub(crate) fn keep_waiting(&mut self, picture: &Picture) -> Result<(), AllocError>
-        requires { IsTallied picture.now self.old }
-        ensures at_hand { OnOk result (self.new.at_hand ≡ self.old.at_hand) }
-        ensures behind { OnOk result
-            (self.new.behind ≡ self.old.at_hand ∷ self.old.behind) }
-        ensures tallied { OnOk result (IsTallied picture.now self.new) }
-    {
-        let facts = self.trail.at_hand();
-        let _ = facts.height();
-        let left = facts.left(0, 0);
-        self.waits.push(self.strays)?;
-        self.trail.part(0, 0, left)
-    }
-
-    // Adds the numbers of the branches of a cell, one for each colour that is left, before those of the branches that wait.
-    fn count_branches(&mut self, picture: &Picture, cell: Cell) -> Result<(), AllocError>
-        requires in_rows { cell.row < length self.old.at_hand }
-        requires in_columns { cell.col < width_of self.old.at_hand }
-        requires same_shape { SameShape picture.now self.old.at_hand }
-        requires strays { self.old.strays ≡ strays_of picture.now self.old.at_hand }
-        ensures at_hand { OnOk result (self.new.at_hand ≡ self.old.at_hand) }
-        ensures behind { OnOk result (self.new.behind ≡ self.old.behind) }
-        ensures strays { OnOk result (self.new.strays ≡ self.old.strays) }
-        ensures settled { OnOk result (self.new.settled ≡ self.old.settled) }
-        ensures waits { OnOk result (self.new.waits
-            ≡ map (strays_of picture.now) (branches self.old.at_hand cell.row cell.col
-            (cell_at self.old.at_hand cell.row cell.col)) ++ self.old.waits) }
+        ensures at_hand { self.new.at_hand ≡ with_cell self.old.at_hand cell.row cell.col
+            (bit_and (cell_at self.old.at_hand cell.row cell.col) (bit_not w16 colours)) }
+        ensures behind { self.new.behind ≡ with_cell self.old.at_hand cell.row cell.col
+            (bit_and (cell_at self.old.at_hand cell.row cell.col) colours) ∷ self.old.behind }
+        ensures tallied { IsTallied picture.now self.new }
+        ensures parts { self.old.parts ≤ self.new.parts + 1 }
+        ensures kept { 0 < bit_and (cell_at self.old.at_hand cell.row cell.col) colours
+            → 0 < bit_and (cell_at self.old.at_hand cell.row cell.col) (bit_not w16 colours)
+            → self.new.parts ≡ self.old.parts }
+        ensures facts { IsFacts self.old.at_hand }
     {
         let left = self.trail.at_hand().left(cell.row, cell.col);
-        for n in 0..COLOURS {
-            let colour = 1 << (COLOURS - 1 - n);
-            if left & colour != 0 {
-                let strays = self.strays_with(picture, cell, colour);
-                self.waits.push(strays)?;
-            }
-        }
-        Ok(())
+        let waiting = self.strays_with(picture, cell, left & colours);
+        let strays = self.strays_with(picture, cell, left & !colours);
+        self.trail.part(cell, colours, waiting);
+        self.strays = strays;
+        self.unsettle(cell);
     }
 
-    // Adds a branch for each colour that is left in a cell before those that wait.
-    pub(crate) fn split(&mut self, picture: &Picture, cell: Cell) -> Result<(), AllocError>
+    // The facts at hand wait as they are, where none do.
+    pub(crate) fn keep_waiting(&mut self, picture: &Picture)
+        requires tallied { IsTallied picture.now self.old }
+        requires last { self.old.behind ≡ [] }
+        ensures at_hand { self.new.at_hand ≡ self.old.at_hand }
+        ensures behind { self.new.behind ≡ self.old.at_hand ∷ [] }
+        ensures tallied { IsTallied picture.now self.new }
+        ensures parts { self.new.parts ≡ self.old.parts }
+    {
+        self.trail.keep_waiting(self.strays);
+    }
+
+    // Splits a cell in which a colour is left: the branch with the lowest one is at hand, and one for each other waits before
+    // those that wait.
+    pub(crate) fn split(&mut self, picture: &Picture, cell: Cell)
         requires in_rows { cell.row < length self.old.at_hand }
         requires in_columns { cell.col < width_of self.old.at_hand }
+        requires some { 0 < cell_at self.old.at_hand cell.row cell.col }
         requires tallied { IsTallied picture.now self.old }
-        ensures at_hand { OnOk result (self.new.at_hand ≡ self.old.at_hand) }
-        ensures behind { OnOk result (self.new.behind
-            ≡ branches self.old.at_hand cell.row cell.col
-            (cell_at self.old.at_hand cell.row cell.col) ++ self.old.behind) }
-        ensures tallied { OnOk result (IsTallied picture.now self.new) }
+        ensures branches { branches self.old.at_hand cell.row cell.col
+            (cell_at self.old.at_hand cell.row cell.col) ++ self.old.behind
+            ≡ self.new.at_hand ∷ self.new.behind }
+        ensures last { self.new.behind ≡ [] → self.old.behind ≡ [] }
+        ensures tallied { IsTallied picture.now self.new }
+        ensures parts { self.new.parts ≡ self.old.parts }
     {
-        self.count_branches(picture, cell)?;
-        self.trail.split(cell)
+        let left = self.trail.at_hand().left(cell.row, cell.col);
+        for n in 0..HIGHEST - left.trailing_zeros() {
+            let colour = 1 << (HIGHEST - n);
+            if left & colour != 0 {
+                self.part(picture, cell, colour);
+            }
+        }
     }
 
     // Ends the branch at hand and begins the next that waits. False where none does.
-    pub(crate) fn advance(&mut self, picture: &Picture) -> Result<bool, AllocError>
+    pub(crate) fn advance(&mut self, picture: &Picture) -> bool
         requires { IsTallied picture.now self.old }
-        ensures waits { IfOk result (λ going. waiting going self.new ≡ self.old.behind) }
-        ensures tallied { IfOk result (λ going. IsTallied picture.now self.new) }
+        ensures waits { waiting result self.new ≡ self.old.behind }
+        ensures tallied { result ≡ true → IsTallied picture.now self.new }
+        ensures parts { self.new.parts ≡ self.old.parts }
     {
-        let Some(strays) = self.waits.pop() else {
-            return Ok(false);
+        let Some(strays) = self.trail.advance() else {
+            return false;
         };
-        let _ = self.trail.advance()?;
         self.strays = strays;
         self.settled = LineSet::empty();
-        Ok(true)
+        true
     }
 }

@@ -4,27 +4,26 @@ ghost use Rattle.std.specs.Prelude.{◌≡◌, ◌≤◌, ◌<◌, ◌+◌, ◌*
 ghost use Rattle.std.specs.List.{AllByRecursion};
 ghost use Rattle.picture.specs.Rows.{width_of};
 ghost use Rattle.cert_text.specs.Cert.{IsOfTree, place_of};
-ghost use Rattle.cert_check.specs.FirstFault.{AnswersFirst, CertFirstFault, FirstFault};
+ghost use Rattle.cert_check.specs.FirstFault.{Answers, AnswersFirst, CertFirstFault, FirstFault};
 ghost use Rattle.cert_check.specs.LemmaProof.{IsLemmaProof};
-ghost use Rattle.cert_check.specs.Machined.{IsRight};
+ghost use Rattle.cert_check.specs.Machined.{AffordsAll, IsRight};
 ghost use Rattle.cert_check.specs.Puzzle.{HasCellNumber, IsUnique};
 ghost use Rattle.cert_check.specs.Tree.{IsProof};
 ghost use Rattle.cert_check.specs.Walk.{CanCheck};
 
+use crate::checker::Checker;
 use crate::claim::Claim;
-use crate::givens::set_givens;
 use crate::literal_engine::LiteralEngine;
 use crate::look_counter::LookCounter;
 use crate::machine::Machine;
 use crate::moving::moved;
 use cert_text::{Cert, CertFault, MAX_LEMMA_LITERALS};
-use clues::ClueBook;
-use line_facts::{Facts, LineEngine};
+use line_facts::LineEngine;
 use picture::Picture;
 use std::alloc::Global;
 
 // Takes the lines from where the machine stands on, and answers the first error.
-fn walk<E: LineEngine, L: LiteralEngine>(
+pub(crate) fn walk<E: LineEngine, L: LiteralEngine>(
     machine: &mut Machine,
     engine: &mut E,
     reader: &mut L,
@@ -33,7 +32,8 @@ fn walk<E: LineEngine, L: LiteralEngine>(
 ) -> Result<(), CertFault>
     requires can { CanCheck claim.now.picture.now claim.now.clues.now (E.longest engine.old) }
     requires right { IsRight claim.now.picture.now machine.old }
-    ensures first { AnswersFirst (FirstFault claim.now.picture.now (Some machine.old.walk)
+    requires affords { AffordsAll machine.old cert.now.lines }
+    ensures first { Answers (FirstFault claim.now.picture.now (Some machine.old.walk)
         (place_of cert.now.runs (2 + length cert.now.givens)) 0 cert.now.lines) result }
     ensures work { E.calls engine.new ≤ E.calls engine.old + length cert.now.lines }
     ensures calls { E.calls engine.old ≤ E.calls engine.new }
@@ -79,15 +79,8 @@ pub fn check_counting<E: LineEngine, L: LiteralEngine>(
     ensures calls { E.calls engine.old ≤ E.calls engine.new }
     ensures same_longest { E.longest engine.new ≡ E.longest engine.old }
 {
-    let clues = ClueBook::of(alloc, picture)?;
-    let claim = Claim {
-        picture,
-        clues: &clues,
-    };
-    let mut facts = Facts::none(alloc, picture.height(), picture.width())?;
-    set_givens(picture, &mut facts, cert.givens())?;
-    let mut machine = Machine::start(alloc, picture, facts)?;
-    walk(&mut machine, engine, reader, &claim, cert)
+    let checker = Checker::make(alloc, picture, cert)?;
+    checker.check(engine, reader, cert)
 }
 
 #[tactic(auto, using(crate::proofs::Answering::answering))]

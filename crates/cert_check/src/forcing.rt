@@ -1,6 +1,6 @@
 //! Line solving on the facts at hand of a board, which records each change.
 
-ghost use Rattle.std.specs.Prelude.{◌≡◌, ◌≤◌, ◌+◌, ◌↔◌, length, take, OnOk, IsTrue};
+ghost use Rattle.std.specs.Prelude.{◌≡◌, ◌≤◌, ◌+◌, ◌↔◌, ℕ, length, slice_index, take, IsBitSet, IsTrue};
 ghost use Rattle.picture.specs.LineSet.{HasName};
 ghost use Rattle.picture.specs.Rows.{HasLine, line_of};
 ghost use Rattle.line_facts.specs.Counts.{counted};
@@ -15,7 +15,6 @@ use crate::claim::Claim;
 use clues::Clue;
 use line_facts::{Facts, LineEngine, Outcome};
 use picture::{LineId, MAX_SIDE, Picture};
-use std::alloc::AllocError;
 use trail::Cell;
 
 // The most cells of a line.
@@ -54,57 +53,47 @@ pub(crate) fn is_dead<E: LineEngine>(
 
 #[tactic(auto, using(line_facts::proofs::AlongLaws::places))]
 // Sets the candidates of a line's cells in the facts at hand, where they differ from those that are left.
-fn hold_line(
-    board: &mut Board,
-    picture: &Picture,
-    line: LineId,
-    left: &[u16],
-    masks: &[u16],
-) -> Result<(), AllocError>
+fn hold_line(board: &mut Board, picture: &Picture, line: LineId, left: &[u16], masks: &[u16])
     requires line { HasLine board.old.at_hand line }
     requires left { left.now ≡ line_of board.old.at_hand line }
     requires whole { length masks.now ≡ length (line_of board.old.at_hand line) }
     requires fits { length masks.now ≤ MAX_SIDE }
+    requires among { (i k : ℕ) → IsBitSet (slice_index masks.now i) k
+        → IsBitSet (slice_index (line_of board.old.at_hand line) i) k }
     requires tallied { IsTallied picture.now board.old }
-    ensures holds { OnOk result
-        (HoldsLine line board.old.at_hand board.new.at_hand masks.now) }
-    ensures behind { OnOk result (board.new.behind ≡ board.old.behind) }
-    ensures tallied { OnOk result (IsTallied picture.now board.new) }
+    ensures holds { HoldsLine line board.old.at_hand board.new.at_hand masks.now }
+    ensures behind { board.new.behind ≡ board.old.behind }
+    ensures tallied { IsTallied picture.now board.new }
+    ensures parts { board.new.parts ≡ board.old.parts }
 {
     let _ = board.at_hand().height();
     for i in 0..masks.len() {
         if masks[i] != left[i] {
             let cell = Cell::on(line, i as u8);
-            board.hold(picture, cell, masks[i])?;
+            board.hold(picture, cell, masks[i]);
         }
     }
-    Ok(())
 }
 
 // Adds to the facts at hand all that a line's clue forces, in one call of the engine, or in none where the line is settled.
-pub(crate) fn force<E: LineEngine>(
-    engine: &mut E,
-    board: &mut Board,
-    claim: &Claim,
-    line: LineId,
-) -> Result<(), AllocError>
+pub(crate) fn force<E: LineEngine>(engine: &mut E, board: &mut Board, claim: &Claim, line: LineId)
     requires can { CanCheck claim.now.picture.now claim.now.clues.now (E.longest engine.old) }
     requires tallied { IsTallied claim.now.picture.now board.old }
     requires line { HasLine board.old.at_hand line }
-    ensures forced { OnOk result (IsForced claim.now.picture.now board.old.at_hand line
-        board.new.at_hand) }
-    ensures behind { OnOk result (board.new.behind ≡ board.old.behind) }
-    ensures tallied { OnOk result (IsTallied claim.now.picture.now board.new) }
+    ensures forced { IsForced claim.now.picture.now board.old.at_hand line board.new.at_hand }
+    ensures behind { board.new.behind ≡ board.old.behind }
+    ensures tallied { IsTallied claim.now.picture.now board.new }
+    ensures parts { board.new.parts ≡ board.old.parts }
     ensures same_longest { E.longest engine.new ≡ E.longest engine.old }
     ensures calls { E.calls engine.old ≤ E.calls engine.new }
     ensures work { E.calls engine.new ≤ E.calls engine.old + 1 }
-    ensures noted { OnOk result (HasName board.new.settled line) }
+    ensures noted { HasName board.new.settled line }
     ensures again { HasName board.old.settled line → E.calls engine.new ≡ E.calls engine.old }
 {
     let _ = engine.calls();
     let _ = board.at_hand().height();
     if board.is_settled(line) {
-        return Ok(());
+        return;
     }
     let facts = board.at_hand();
     let cells = usize::from(facts.line_len(line));
@@ -113,7 +102,6 @@ pub(crate) fn force<E: LineEngine>(
     let (left, masks) = (&left[..cells], &mut masks[..cells]);
     let mut count = 0;
     let _outcome = engine.narrow(&mut count, claim.clues.clue(line), left, masks);
-    hold_line(board, claim.picture, line, left, masks)?;
+    hold_line(board, claim.picture, line, left, masks);
     board.settle(claim.picture, line);
-    Ok(())
 }

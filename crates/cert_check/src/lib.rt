@@ -2,6 +2,8 @@
 #![tactic(auto)]
 
 mod board;
+mod bounded_trail;
+mod checker;
 mod checking;
 mod claim;
 mod forcing;
@@ -10,6 +12,8 @@ mod literal_engine;
 mod look_counter;
 mod machine;
 mod moving;
+mod needs;
+mod note;
 mod opening;
 mod places;
 mod publishing;
@@ -18,6 +22,7 @@ mod stage;
 mod store;
 mod stray;
 
+pub use checker::Checker;
 pub use checking::{check_cert, check_counting};
 pub use givens::set_givens;
 pub use literal_engine::LiteralEngine;

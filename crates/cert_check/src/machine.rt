@@ -1,12 +1,10 @@
 //! The walk over the lines of a certificate: what each does to the facts at hand, to those that wait, and to the lemmas.
 
-ghost use Rattle.std.specs.Prelude.{◌≡◌, ◌+◌, ◌∷◌, ◌<◌, ◌≤◌, [], true, IfErr, IfOk, OnOk};
-ghost use Rattle.line_facts.specs.FactSets.{SameShape};
-ghost use Rattle.cert_check.specs.Boards.{IsTallied};
+ghost use Rattle.std.specs.Prelude.{◌≡◌, ◌+◌, ◌∷◌, ◌<◌, ◌≤◌, [], true, OnOk};
 ghost use Rattle.cert_check.specs.FirstFault.{found_by};
 ghost use Rattle.cert_check.specs.Lemmas.{held_to, left_of};
-ghost use Rattle.cert_check.specs.Machined.{IsRight, Takes, reached};
-ghost use Rattle.cert_check.specs.Walk.{CanCheck, at_facts, next_at, root, settled};
+ghost use Rattle.cert_check.specs.Machined.{Affords, IsRight, Spent, Takes, machined, owed, reached};
+ghost use Rattle.cert_check.specs.Walk.{CanCheck, at_facts, next_at, settled, walk_of};
 
 use crate::board::Board;
 use crate::claim::Claim;
@@ -17,12 +15,10 @@ use crate::places::{cell_in, line_at};
 use crate::stage::Stage;
 use crate::store::Store;
 use cert_text::{CellNumber, CertFault, CertLine, LineNumber, Literal, MAX_LEMMA_LITERALS};
-use line_facts::{Facts, LineEngine};
-use picture::Picture;
-use std::alloc::{AllocError, Global};
+use line_facts::LineEngine;
 use std::marker::Model;
 
-// A walk over the lines of a certificate. Once memory ran out it must not be used any more.
+// A walk over the lines of a certificate, in memory that was taken before.
 #[derive(Drop)]
 pub(crate) struct Machine {
     board: Board,
@@ -38,25 +34,21 @@ impl Model for Machine {
 
     ghost view = { λ m. machined
         (walk_of m.board.at_hand m.board.behind m.store.lemmas m.store.denied m.stage)
-        m.board.strays m.board.waits m.board.settled };
+        m.board.strays m.board.waits m.board.settled m.board.parts m.store.literals m.store.spare };
 }
 
 impl Machine {
     // The walk before the first line.
-    pub(crate) fn start(
-        alloc: Global,
-        picture: &Picture,
-        facts: Facts,
-    ) -> Result<Machine, AllocError>
-        requires { SameShape picture.now facts }
-        ensures walk { IfOk result (λ m. m.walk ≡ root facts) }
-        ensures right { IfOk result (λ m. IsRight picture.now m) }
+    pub(crate) fn start(board: Board, store: Store) -> Machine
+        ensures { result ≡ machined
+            (walk_of board.at_hand board.behind store.lemmas store.denied Stage.Free)
+            board.strays board.waits board.settled board.parts store.literals store.spare }
     {
-        Ok(Machine {
-            board: Board::start(alloc, picture, facts),
-            store: Store::new(alloc)?,
+        Machine {
+            board,
+            store,
             stage: Stage::Free,
-        })
+        }
     }
 
     // Takes a line with its number, and answers whether a branch is at hand after it.
@@ -70,6 +62,8 @@ impl Machine {
     ) -> Result<bool, CertFault>
         requires can { CanCheck claim.now.picture.now claim.now.clues.now (E.longest engine.old) }
         requires right { IsRight claim.now.picture.now self.old }
+        requires affords { Affords self.old line }
+        ensures spent { OnOk result (Spent self.old self.new line) }
         ensures takes { Takes claim.now.picture.now (found_by self.old.walk line) self.new line
             number result }
         ensures calls { E.calls engine.old ≤ E.calls engine.new }
@@ -92,6 +86,9 @@ impl Machine {
         ensures strays { self.new.strays ≡ self.old.strays }
         ensures waits { self.new.waits ≡ self.old.waits }
         ensures settled { self.new.settled ≡ self.old.settled }
+        ensures parts { self.new.parts ≡ self.old.parts }
+        ensures literals { self.new.literals ≡ self.old.literals }
+        ensures spare { self.new.spare ≡ self.old.spare }
     {
         if self.stage == Stage::Denying {
             self.stage = Stage::Refuting;
@@ -109,6 +106,8 @@ impl Machine {
     ) -> Result<bool, CertFault>
         requires can { CanCheck claim.now.picture.now claim.now.clues.now (E.longest engine.old) }
         requires right { IsRight claim.now.picture.now self.old }
+        requires affords { Affords self.old line }
+        ensures spent { OnOk result (Spent self.old self.new line) }
         ensures takes { Takes claim.now.picture.now self.old.walk self.new line number result }
         ensures calls { E.calls engine.old ≤ E.calls engine.new }
         ensures same_longest { E.longest engine.new ≡ E.longest engine.old }
@@ -139,6 +138,8 @@ impl Machine {
     ) -> Result<bool, CertFault>
         requires can { CanCheck claim.now.picture.now claim.now.clues.now (E.longest engine.old) }
         requires right { IsRight claim.now.picture.now self.old }
+        requires affords { Affords self.old (CertLine.Line at) }
+        ensures spent { OnOk result (Spent self.old self.new (CertLine.Line at)) }
         ensures takes { Takes claim.now.picture.now self.old.walk self.new (CertLine.Line at)
             number result }
         ensures calls { E.calls engine.old ≤ E.calls engine.new }
@@ -150,7 +151,7 @@ impl Machine {
         let Some(line) = line_at(picture, at) else {
             return Err(CertFault::Place(number));
         };
-        force(engine, &mut self.board, claim, line)?;
+        force(engine, &mut self.board, claim, line);
         Ok(true)
     }
 
@@ -163,6 +164,8 @@ impl Machine {
         number: usize,
     ) -> Result<bool, CertFault>
         requires right { IsRight claim.now.picture.now self.old }
+        requires affords { Affords self.old (CertLine.Use lemma) }
+        ensures spent { OnOk result (Spent self.old self.new (CertLine.Use lemma)) }
         ensures takes { Takes claim.now.picture.now self.old.walk self.new (CertLine.Use lemma)
             number result }
         ensures looks { L.looks reader.new ≤ L.looks reader.old + MAX_LEMMA_LITERALS }
@@ -172,7 +175,7 @@ impl Machine {
         };
         let open = reader.open_in(self.board.at_hand(), literals);
         if let Open::One(literal) = open {
-            self.hold_to(claim, literal)?;
+            self.hold_to(claim, literal);
         }
         Ok(true)
     }
@@ -180,14 +183,19 @@ impl Machine {
     // A branch begins for each colour that is left in the cell: that of the lowest one, if there is one.
     fn split(&mut self, claim: &Claim, at: CellNumber, number: usize) -> Result<bool, CertFault>
         requires right { IsRight claim.now.picture.now self.old }
+        requires affords { Affords self.old (CertLine.Split at) }
+        ensures spent { OnOk result (Spent self.old self.new (CertLine.Split at)) }
         ensures takes { Takes claim.now.picture.now self.old.walk self.new (CertLine.Split at)
             number result }
     {
         let Some(cell) = cell_in(claim.picture, at) else {
             return Err(CertFault::Place(number));
         };
-        self.board.split(claim.picture, cell)?;
-        self.go_on(claim)
+        if self.board.at_hand().left(cell.row, cell.col) == 0 {
+            return Ok(self.go_on(claim));
+        }
+        self.board.split(claim.picture, cell);
+        Ok(true)
     }
 
     // The branch ends, since no list fits the line.
@@ -200,6 +208,8 @@ impl Machine {
     ) -> Result<bool, CertFault>
         requires can { CanCheck claim.now.picture.now claim.now.clues.now (E.longest engine.old) }
         requires right { IsRight claim.now.picture.now self.old }
+        requires affords { Affords self.old (CertLine.Dead at) }
+        ensures spent { OnOk result (Spent self.old self.new (CertLine.Dead at)) }
         ensures takes { Takes claim.now.picture.now self.old.walk self.new (CertLine.Dead at)
             number result }
         ensures calls { E.calls engine.old ≤ E.calls engine.new }
@@ -213,7 +223,7 @@ impl Machine {
         if !is_dead(engine, self.board.at_hand(), claim.clues.clue(line), line) {
             return Err(CertFault::NotDead(number));
         }
-        self.go_on(claim)
+        Ok(self.go_on(claim))
     }
 
     // The branch ends, since no literal of the lemma is open.
@@ -225,6 +235,8 @@ impl Machine {
         number: usize,
     ) -> Result<bool, CertFault>
         requires right { IsRight claim.now.picture.now self.old }
+        requires affords { Affords self.old (CertLine.Broken lemma) }
+        ensures spent { OnOk result (Spent self.old self.new (CertLine.Broken lemma)) }
         ensures takes { Takes claim.now.picture.now self.old.walk self.new (CertLine.Broken lemma)
             number result }
         ensures looks { L.looks reader.new ≤ L.looks reader.old + MAX_LEMMA_LITERALS }
@@ -234,7 +246,7 @@ impl Machine {
         };
         let open = reader.open_in(self.board.at_hand(), literals);
         match open {
-            Open::Nothing => self.go_on(claim),
+            Open::Nothing => Ok(self.go_on(claim)),
             Open::One(_) | Open::More => Err(CertFault::NotDead(number)),
         }
     }
@@ -242,18 +254,22 @@ impl Machine {
     // The branch ends, since the picture alone is left.
     fn end_shown(&mut self, claim: &Claim, number: usize) -> Result<bool, CertFault>
         requires right { IsRight claim.now.picture.now self.old }
+        requires affords { Affords self.old CertLine.Done }
+        ensures spent { OnOk result (Spent self.old self.new CertLine.Done) }
         ensures takes { Takes claim.now.picture.now self.old.walk self.new CertLine.Done
             number result }
     {
         if !self.board.shows_only(claim.picture) {
             return Err(CertFault::NotDone(number));
         }
-        self.go_on(claim)
+        Ok(self.go_on(claim))
     }
 
     // Two branches begin: the cell without the literal's colours, and then with these alone.
     fn part(&mut self, claim: &Claim, literal: Literal, number: usize) -> Result<bool, CertFault>
         requires right { IsRight claim.now.picture.now self.old }
+        requires affords { Affords self.old (CertLine.Part literal) }
+        ensures spent { OnOk result (Spent self.old self.new (CertLine.Part literal)) }
         ensures takes { Takes claim.now.picture.now self.old.walk self.new (CertLine.Part literal)
             number result }
     {
@@ -261,22 +277,22 @@ impl Machine {
         let Some(cell) = cell_in(picture, literal.cell) else {
             return Err(CertFault::Place(number));
         };
-        let left = self.board.at_hand().left(cell.row, cell.col);
-        self.board.part(picture, cell, left & literal.colours)?;
-        self.board.hold(picture, cell, left & !literal.colours)?;
+        self.board.part(picture, cell, literal.colours);
         Ok(true)
     }
 
     // A lemma begins. The facts as they are wait until it is kept.
     fn begin(&mut self, claim: &Claim, number: usize) -> Result<bool, CertFault>
         requires right { IsRight claim.now.picture.now self.old }
+        requires affords { Affords self.old CertLine.Lemma }
+        ensures spent { OnOk result (Spent self.old self.new CertLine.Lemma) }
         ensures takes { Takes claim.now.picture.now self.old.walk self.new CertLine.Lemma
             number result }
     {
-        if !self.board.is_last(claim.picture) {
+        if !self.board.is_last() {
             return Err(CertFault::Misplaced(number));
         }
-        self.board.keep_waiting(claim.picture)?;
+        self.board.keep_waiting(claim.picture);
         self.stage = Stage::Denying;
         Ok(true)
     }
@@ -284,6 +300,8 @@ impl Machine {
     // The lemma that begins gets a literal, which is denied.
     fn deny(&mut self, claim: &Claim, literal: Literal, number: usize) -> Result<bool, CertFault>
         requires right { IsRight claim.now.picture.now self.old }
+        requires affords { Affords self.old (CertLine.Deny literal) }
+        ensures spent { OnOk result (Spent self.old self.new (CertLine.Deny literal)) }
         ensures takes { Takes claim.now.picture.now self.old.walk self.new (CertLine.Deny literal)
             number result }
     {
@@ -296,20 +314,22 @@ impl Machine {
         if !self.store.has_room() {
             return Err(CertFault::Full(number));
         }
-        self.store.deny(literal)?;
+        self.store.deny(literal);
         let left = self.board.at_hand().left(cell.row, cell.col);
         self.board
-            .hold(claim.picture, cell, left & !literal.colours)?;
+            .hold(claim.picture, cell, left & !literal.colours);
         Ok(true)
     }
 
     // A lemma is kept no longer.
     fn forget(&mut self, claim: &Claim, lemma: u16, number: usize) -> Result<bool, CertFault>
         requires right { IsRight claim.now.picture.now self.old }
+        requires affords { Affords self.old (CertLine.Forget lemma) }
+        ensures spent { OnOk result (Spent self.old self.new (CertLine.Forget lemma)) }
         ensures takes { Takes claim.now.picture.now self.old.walk self.new (CertLine.Forget lemma)
             number result }
     {
-        if !self.board.is_last(claim.picture) {
+        if !self.board.is_last() {
             return Err(CertFault::Misplaced(number));
         }
         let Some(_literals) = self.store.kept(lemma) else {
@@ -320,36 +340,42 @@ impl Machine {
     }
 
     // Holds the cell of a literal to its colours.
-    fn hold_to(&mut self, claim: &Claim, literal: Literal) -> Result<(), AllocError>
+    fn hold_to(&mut self, claim: &Claim, literal: Literal)
         requires right { IsRight claim.now.picture.now self.old }
         requires some { 0 < left_of self.old.walk.at_hand literal }
-        ensures walk { OnOk result (self.new.walk
-            ≡ at_facts self.old.walk (held_to self.old.walk.at_hand literal)) }
-        ensures right { OnOk result (IsRight claim.now.picture.now self.new) }
+        ensures walk { self.new.walk
+            ≡ at_facts self.old.walk (held_to self.old.walk.at_hand literal) }
+        ensures right { IsRight claim.now.picture.now self.new }
+        ensures parts { self.new.parts ≡ self.old.parts }
+        ensures literals { self.new.literals ≡ self.old.literals }
+        ensures spare { self.new.spare ≡ self.old.spare }
     {
-        if let Some(cell) = cell_of(self.board.at_hand(), literal) {
-            let left = self.board.at_hand().left(cell.row, cell.col);
-            self.board
-                .hold(claim.picture, cell, left & literal.colours)?;
-        }
-        Ok(())
+        let Some(cell) = cell_of(self.board.at_hand(), literal) else {
+            return;
+        };
+        let left = self.board.at_hand().left(cell.row, cell.col);
+        self.board.hold(claim.picture, cell, left & literal.colours);
     }
 
-    // Leaves the branch at hand for the next one that waits. False if there is none.
-    fn go_on(&mut self, claim: &Claim) -> Result<bool, CertFault>
-        requires { IsRight claim.now.picture.now self.old }
-        ensures walk { IfOk result (λ going. reached going self.new.walk
-            ≡ next_at self.old.walk self.old.walk.behind) }
-        ensures right { IfOk result (λ going. going ≡ true → IsRight claim.now.picture.now self.new) }
-        ensures err { IfErr result (λ e. e ≡ CertFault.Memory) }
+    // Ends the branch at hand and begins the next that waits. False where none does. A lemma is kept where the last facts that
+    // wait are at hand again.
+    fn go_on(&mut self, claim: &Claim) -> bool
+        requires right { IsRight claim.now.picture.now self.old }
+        requires room { owed self.old.walk.stage ≤ self.old.spare }
+        ensures walk { reached result self.new.walk ≡ next_at self.old.walk self.old.walk.behind }
+        ensures right { result ≡ true → IsRight claim.now.picture.now self.new }
+        ensures parts { self.new.parts ≡ self.old.parts }
+        ensures literals { self.new.literals ≡ self.old.literals }
+        ensures spare { self.old.spare + owed self.new.walk.stage
+            ≤ self.new.spare + owed self.old.walk.stage }
     {
-        if !self.board.advance(claim.picture)? {
-            return Ok(false);
+        if !self.board.advance(claim.picture) {
+            return false;
         }
-        if self.stage != Stage::Free && self.board.is_last(claim.picture) {
-            self.store.keep()?;
+        if self.stage != Stage::Free && self.board.is_last() {
+            self.store.keep();
             self.stage = Stage::Free;
         }
-        Ok(true)
+        true
     }
 }

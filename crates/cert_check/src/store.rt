@@ -1,6 +1,6 @@
 //! The lemmas of a certificate by their numbers, and the literals of the one that is being proved.
 
-ghost use Rattle.std.specs.Prelude.{◌≡◌, ◌+◌, ◌<◌, ◌≤◌, ◌∷◌, ◌++◌, ◌↔◌, [], length, set, IfOk, OnOk, IsTrue, MatchOption, None, Some};
+ghost use Rattle.std.specs.Prelude.{◌≡◌, ◌+◌, ◌-◌, ◌<◌, ◌^◌, ◌≤◌, ◌∷◌, ◌++◌, ◌↔◌, [], length, set, IfOk, IsTrue, MatchOption, None, Some};
 ghost use Rattle.cert_check.specs.Lemmas.{IsKept, lemma_at, no_lemmas, total};
 ghost use Rattle.cert_check.specs.Stores.{stored};
 
@@ -22,30 +22,33 @@ pub(crate) struct Store {
 }
 
 impl Model for Store {
-    ghost use Rattle.std.specs.Prelude.{drop};
+    ghost use Rattle.std.specs.Prelude.{drop, ◌-◌, vec_capacity, vec_len};
     ghost use Rattle.cert_check.specs.Stores.{IsStore, Stored, lemmas_in, stored};
 
     ghost Value = { Stored };
 
-    ghost view = { λ s. stored (lemmas_in s.literals.items s.lemmas.items) (drop s.newest s.literals.items) };
+    ghost view = { λ s. stored (lemmas_in s.literals.items s.lemmas.items)
+        (drop s.newest s.literals.items) (vec_capacity s.literals - vec_len s.literals)
+        (vec_capacity s.lemmas - vec_len s.lemmas) };
 
     ghost invariant = { λ s. IsStore s.literals.items s.lemmas.items s.newest s.count };
 }
 
 impl Store {
-    // No lemma is kept: number 0 is none.
-    pub(crate) fn new(alloc: Global) -> Result<Store, AllocError>
-        ensures { IfOk result (λ s. s ≡ stored no_lemmas []) }
+    // No lemma is kept: number 0 is none. There is room for so many literals and lemmas.
+    pub(crate) fn new(alloc: Global, literals: usize, lemmas: usize) -> Result<Store, AllocError>
+        requires { lemmas < 2 ^ 60 }
+        ensures { IfOk result (λ s. s ≡ stored no_lemmas [] literals lemmas) }
     {
-        let mut lemmas = Vec::new(alloc);
-        lemmas.push(Span {
+        let mut spans = Vec::with_capacity(alloc, lemmas + 1)?;
+        spans.push_reserved(Span {
             start: 0,
             len: 0,
             kept: false,
-        })?;
+        });
         Ok(Store {
-            literals: Vec::new(alloc),
-            lemmas,
+            literals: Vec::with_capacity(alloc, literals)?,
+            lemmas: spans,
             newest: 0,
             count: 0,
         })
@@ -75,36 +78,37 @@ impl Store {
     }
 
     // Adds a literal to the lemma that is being proved.
-    pub(crate) fn deny(&mut self, literal: Literal) -> Result<(), AllocError>
+    pub(crate) fn deny(&mut self, literal: Literal)
         requires short { length self.old.denied < MAX_LEMMA_LITERALS }
         requires few { total self.old.lemmas + length self.old.denied < MAX_LITERALS }
-        ensures { OnOk result
-            (self.new ≡ stored self.old.lemmas (self.old.denied ++ literal ∷ [])) }
+        requires room { 0 < self.old.literals }
+        ensures { self.new ≡ stored self.old.lemmas (self.old.denied ++ literal ∷ [])
+            (self.old.literals - 1) self.old.spare }
     {
-        self.literals.push(literal)?;
+        self.literals.push_reserved(literal);
         self.count += 1;
-        Ok(())
     }
 
     // Keeps the lemma that was being proved.
-    pub(crate) fn keep(&mut self) -> Result<(), AllocError>
-        ensures { OnOk result
-            (self.new ≡ stored (self.old.lemmas ++ Some self.old.denied ∷ []) []) }
+    pub(crate) fn keep(&mut self)
+        requires { 0 < self.old.spare }
+        ensures { self.new ≡ stored (self.old.lemmas ++ Some self.old.denied ∷ []) []
+            self.old.literals (self.old.spare - 1) }
     {
         let end = self.literals.as_slice().len();
-        self.lemmas.push(Span {
+        self.lemmas.push_reserved(Span {
             start: self.newest,
             len: (end - self.newest) as u16,
             kept: true,
-        })?;
+        });
         self.newest = end;
-        Ok(())
     }
 
     // Keeps the lemma with a number no longer.
     pub(crate) fn forget(&mut self, number: u16)
         requires { IsKept self.old.lemmas number }
-        ensures { self.new ≡ stored (set self.old.lemmas number None) self.old.denied }
+        ensures { self.new ≡ stored (set self.old.lemmas number None) self.old.denied
+            self.old.literals self.old.spare }
     {
         let at = usize::from(number);
         let Span { start, len, .. } = self.lemmas[at];

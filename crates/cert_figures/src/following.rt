@@ -29,6 +29,7 @@ pub(crate) fn follow<E: LineEngine>(
     ensures follows { IfOk result
         (λ begun. Follows picture.now trail.old line begun trail.new) }
     ensures few { E.calls engine.new ≤ E.calls engine.old + 1 }
+    ensures calls { E.calls engine.old ≤ E.calls engine.new }
     ensures same_longest { E.longest engine.new ≡ E.longest engine.old }
 {
     match line {
@@ -59,6 +60,7 @@ fn force_line<E: LineEngine>(
         → IsForced picture.now trail.old.at_hand (line_id at) trail.new.at_hand) }
     ensures behind { OnOk result (trail.new.behind ≡ trail.old.behind) }
     ensures few { E.calls engine.new ≤ E.calls engine.old + 1 }
+    ensures calls { E.calls engine.old ≤ E.calls engine.new }
     ensures same_longest { E.longest engine.new ≡ E.longest engine.old }
 {
     let _ = engine.calls();

@@ -25,6 +25,7 @@ pub fn guesses_of<E: LineEngine>(
     requires tall { length picture.now ≤ E.longest engine.old }
     ensures guesses { IfOk result (HasGuesses picture.now cert.now cert.now.form) }
     ensures few { E.calls engine.new ≤ E.calls engine.old + length cert.now.lines }
+    ensures calls { E.calls engine.old ≤ E.calls engine.new }
     ensures same_longest { E.longest engine.new ≡ E.longest engine.old }
 {
     let splits = count_guesses(cert.lines());

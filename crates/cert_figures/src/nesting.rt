@@ -29,6 +29,7 @@ pub(crate) fn tree_depth<E: LineEngine>(
     ensures depth { IfOk result (λ depth. (tree : Tree) → IsTreeOf picture.now cert.now tree
         → depth ≡ depth_of tree) }
     ensures few { E.calls engine.new ≤ E.calls engine.old + length cert.now.lines }
+    ensures calls { E.calls engine.old ≤ E.calls engine.new }
     ensures same_longest { E.longest engine.new ≡ E.longest engine.old }
 {
     let clues = ClueBook::of(alloc, picture)?;
@@ -53,6 +54,7 @@ fn depth_from<E: LineEngine>(
     ensures depth { IfOk result (λ depth. (tree : Tree) → lines.now ≡ written tree
         → Proves picture.now facts tree → depth ≡ depth_of tree) }
     ensures few { E.calls engine.new ≤ E.calls engine.old + length lines.now }
+    ensures calls { E.calls engine.old ≤ E.calls engine.new }
     ensures same_longest { E.longest engine.new ≡ E.longest engine.old }
 {
     let mut trail = Trail::start(alloc, facts);

@@ -1,3 +1,4 @@
+pub mod FitLemmas
 pub mod PairLemmas
 pub mod PrintLemmas
 pub mod ProofLemmas

@@ -21,7 +21,8 @@ use Rattle.live_audit.specs.Certify.{Certifies, NamesMarks}
 use Rattle.live_audit.specs.Verdict.{IsOtherFor}
 use Rattle.session.specs.Texts.{certified_text, content}
 use Rattle.program_options.specs.declared.options.Options.{Options}
-use Rattle.answers.specs.Check.{IsCheck, IsCheckOf, accepted_text}
+use Rattle.text_check.specs.Check.{accepted_text}
+use Rattle.answers.specs.Check.{IsCheck, IsCheckOf}
 use Rattle.answers.specs.Start.{IsStarted}
 use Rattle.published.specs.Laws.{AreAccepted, ArePublished, PairsAreAccepted, background_in}
 use Rattle.published.specs.Printed.{UniqueArePublished}

@@ -17,9 +17,11 @@ use Rattle.givens_text.specs.declared.fault.GivensFault.{GivensFault}
 use Rattle.program_options.specs.declared.options.ProveOptions.{ProveOptions}
 use Rattle.program_options.specs.declared.fault.ProgramFault.{ProgramFault}
 use Rattle.answers.specs.Prove.{IsProofText, IsProve, IsProveIn, IsProveOf, Proves, ambiguous_text, given_cells}
-use Rattle.answers.specs.Check.{IsCheck, accepted_text}
-use Rattle.answers.specs.Published.{FirstFaultWith, IsPublishedCheck, IsShownWith, cells_in}
-use Rattle.answers.proofs.PublishedLemmas.{all_published}
+use Rattle.text_check.specs.Check.{accepted_text}
+use Rattle.answers.specs.Check.{IsCheck}
+use Rattle.text_check.specs.Published.{FirstFaultWith, cells_in}
+use Rattle.answers.specs.Published.{IsPublishedCheck, IsShownWith}
+use Rattle.text_check.proofs.PublishedLemmas.{all_published}
 use Rattle.published.specs.Proofs.{AreVerified, AreVerifiedWith, CompleteSearchesDecide, IsDecided, ProofsAreVerified, PublishedProofsAreVerified}
 use Rattle.published.specs.Solution.{nowhere}
 use Rattle.published.proofs.SolutionLemmas.{only_without}

@@ -17,7 +17,8 @@ use Rattle.certificate.specs.Puzzle.{HasCellNumber, IsUnique, numbered}
 use Rattle.cert_text.specs.Reading.{cert_of}
 use Rattle.edits.specs.Design.{Design}
 use Rattle.live_audit.specs.Certify.{IsCertificateFor, NamesMarks, ordered}
-use Rattle.answers.specs.Check.{IsCheck, IsCheckOf, IsOnlyPicture, accepted_text, givens_count_text}
+use Rattle.text_check.specs.Check.{IsOnlyPicture, accepted_text, givens_count_text}
+use Rattle.answers.specs.Check.{IsCheck, IsCheckOf}
 use Rattle.published.specs.Laws.{background_in}
 use Rattle.published.specs.Solution.{GivesNothing, IsSolved, PlainLinesAreOneSolution, nowhere, plain_line}
 

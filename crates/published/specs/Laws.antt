@@ -10,7 +10,8 @@ use Rattle.live_audit.specs.Certify.{NamesMarks}
 use Rattle.live_audit.specs.Verdict.{IsOtherFor}
 use Rattle.command_text.specs.declared.command.Command.TheVariants as command
 use Rattle.session.specs.Session.{SaysTo}
-use Rattle.answers.specs.Check.{IsCheckOf, IsProofOf, accepted_text}
+use Rattle.text_check.specs.Check.{IsProofOf, accepted_text}
+use Rattle.answers.specs.Check.{IsCheckOf}
 
 -- the colour of a document's background
 abbrev pub background_in : Design → Rgb

@@ -1,3 +1,4 @@
+pub mod Fit
 pub mod Laws
 pub mod Printed
 pub mod Proofs

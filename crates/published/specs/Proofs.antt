@@ -8,8 +8,10 @@ use Rattle.cert_text.specs.declared.cert_line.CellNumber.{CellNumber}
 use Rattle.cert_check.specs.Puzzle.{IsUnique}
 use Rattle.program_options.specs.declared.options.ProveOptions.{ProveOptions}
 use Rattle.answers.specs.Prove.{IsProveOf, ambiguous_text, given_cells}
-use Rattle.answers.specs.Check.{IsCheckOf, IsLemmaProofOf, IsOnlyPicture, accepted_text}
-use Rattle.answers.specs.Published.{IsOnlyPublished, IsPublishedCheckOf, IsPublishedProofOf}
+use Rattle.text_check.specs.Check.{IsLemmaProofOf, IsOnlyPicture, accepted_text}
+use Rattle.answers.specs.Check.{IsCheckOf}
+use Rattle.text_check.specs.Published.{IsOnlyPublished, IsPublishedProofOf}
+use Rattle.answers.specs.Published.{IsPublishedCheckOf}
 use Rattle.published.specs.Solution.{HasOneSolution}
 
 -- `check` accepts the text for the file, with the line for a certificate without givens, and the clues of the picture

@@ -7,7 +7,8 @@ use Rattle.clues.specs.Solution.{IsOnlySolution}
 use Rattle.ppm_text.specs.Ppm.{ppm_of}
 use Rattle.edits.specs.Design.{Design}
 use Rattle.live_audit.specs.Bench.{IsGiven, Seen}
-use Rattle.answers.specs.Check.{IsCheckOf, IsOnlyPicture}
+use Rattle.text_check.specs.Check.{IsOnlyPicture}
+use Rattle.answers.specs.Check.{IsCheckOf}
 use Rattle.published.specs.Laws.{ArePublished, background_in}
 
 -- no cell is given

@@ -1,5 +1,6 @@
 //! Laws of what is published and checked. Each function at most reads its bench, and its contract is the law.
 
+ghost use Rattle.published.specs.Fit.{FitPuzzlesAreFit};
 ghost use Rattle.published.specs.Laws.{PairsAreAccepted};
 ghost use Rattle.published.specs.Printed.{OneFileIsOneDocument, PrintedAreAccepted, StartedAreAccepted, UniqueArePublished};
 ghost use Rattle.published.specs.Proofs.{CompleteSearchesDecide, ProofsAreVerified, PublishedProofsAreVerified};
@@ -83,4 +84,10 @@ pub fn published_proofs_are_verified()
 /// in the givens, and else `ambiguous`.
 pub fn complete_searches_decide()
     ensures { CompleteSearchesDecide }
+{}
+
+/// A puzzle whose block says that it is fit to be published has exactly one solution with the givens that are published, and no flaw.
+/// Each given is needed, where no allowance is set and no certificate given.
+pub fn fit_puzzles_are_fit()
+    ensures { FitPuzzlesAreFit }
 {}

@@ -11,11 +11,13 @@ use Rattle.program_options.specs.declared.options.Options.{Options}
 use Rattle.answers.specs.declared.assessing.Block.{Block}
 use Rattle.answers.specs.Assess.{Assesses}
 use Rattle.program_options.specs.declared.options.ProveOptions.{ProveOptions}
-use Rattle.answers.specs.Check.{IsCheckOf, IsOnlyPicture}
+use Rattle.text_check.specs.Check.{IsOnlyPicture}
+use Rattle.answers.specs.Check.{IsCheckOf}
 use Rattle.program_options.specs.Faults.{fault_text, status_of}
 use Rattle.answers.specs.Open.{OpensFile}
 use Rattle.answers.specs.Prove.{IsProveOf}
-use Rattle.answers.specs.Published.{IsOnlyPublished, IsPublishedCheckOf}
+use Rattle.text_check.specs.Published.{IsOnlyPublished}
+use Rattle.answers.specs.Published.{IsPublishedCheckOf}
 use Rattle.answers.specs.Start.{IsStarted}
 use Rattle.web.specs.declared.desk.Desk.{Desk}
 use Rattle.web.specs.declared.desk.Seat.{Seat}

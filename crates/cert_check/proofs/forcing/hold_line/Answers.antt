@@ -1,11 +1,12 @@
-use Rattle.std.proofs.Common.{◌≡◌, ◌≢◌, ℕ, ◌+◌, List, ap, arith, get_or, inl, inr, refl, subst, sym, ◌∙◌}
+use Rattle.std.proofs.Common.{◌≡◌, ◌≢◌, ℕ, ◌+◌, List, ap, arith, get_or, IsBitSet, inl, inr, refl, subst, sym, ◌∙◌}
 use Rattle.std.proofs.lemmas.Bool.{cases_eq}
 use Rattle.line_facts.proofs.AlongLaws.{Written, written_all, written_apart, written_more}
+use Rattle.line_facts.proofs.GridLaws.{cell_on}
 use Rattle.line_facts.specs.Masks.{Masks}
 use Rattle.picture.specs.declared.line_id.LineId.{LineId}
-use Rattle.picture.specs.Rows.{Rows, line_of}
+use Rattle.picture.specs.Rows.{Rows, cell_at, line_of}
 use Rattle.cert_check.specs.Boards.{Boarded, IsTallied}
-use Rattle.cert_check.proofs.forcing.hold_line.Goals.{then-masks-i+in_ok-hold, else-masks-i}
+use Rattle.cert_check.proofs.forcing.hold_line.Goals.{then-masks-i, else-masks-i}
 use Rattle.cert_check.proofs.forcing.hold_line.Goals as goal
 
 -- a place that has its mask already
@@ -30,8 +31,8 @@ loop-i-preserved c =
     let masks = c.args.masks.now in
     let left = c.args.left.now in
     elim c.if-masks-i.branch [
-      | then-masks-i+in_ok-hold w ↦
-          let at = w.in_ok-hold.ensures.at_hand in
+      | then-masks-i w ↦
+          let at = w.hold.ensures.at_hand in
           let new = w.hold.new.self.at_hand in
           let is = rw (w.on-cell.ensures.row, w.on-cell.ensures.col) at at in
           let facts : c.if-masks-i.board.at_hand ≡ new = ap {B = Masks} (λ (b : Boarded). b.at_hand) w.board-is in
@@ -41,8 +42,9 @@ loop-i-preserved c =
             rest = λ j m.
                 let apart : j ≢ i = omega arith in
                 ap (λ (f : Masks). get_or (line_of f line) j 0) (facts ∙ is) ∙ (written_apart before line i j _ apart ∙ kept.rest j (omega arith));
-            behind = ap {B = List Masks} (λ (b : Boarded). b.behind) w.board-is ∙ (w.in_ok-hold.ensures.behind ∙ kept.behind);
-            tallied = subst (IsTallied c.args.picture.now) (sym w.board-is) w.in_ok-hold.ensures.tallied;
+            behind = ap {B = List Masks} (λ (b : Boarded). b.behind) w.board-is ∙ (w.hold.ensures.behind ∙ kept.behind);
+            tallied = subst (IsTallied c.args.picture.now) (sym w.board-is) w.hold.ensures.tallied;
+            parts = ap (λ (b : Boarded). b.parts) w.board-is ∙ (w.hold.ensures.parts ∙ kept.parts);
           }
       | else-masks-i w ↦
           let facts : c.if-masks-i.board.at_hand ≡ before = ap {B = Masks} (λ (b : Boarded). b.at_hand) w.board-is in
@@ -52,8 +54,19 @@ loop-i-preserved c =
             rest = λ j m. ap (λ (f : Masks). get_or (line_of f line) j 0) facts ∙ kept.rest j (omega arith);
             behind = ap {B = List Masks} (λ (b : Boarded). b.behind) w.board-is ∙ kept.behind;
             tallied = subst (IsTallied c.args.picture.now) (sym w.board-is) kept.tallied;
+            parts = ap (λ (b : Boarded). b.parts) w.board-is ∙ kept.parts;
           }
     ]
 
 pub returns-clause-holds : goal.returns-clause-holds
 returns-clause-holds c = written_all c.args.line c.args.board.now.at_hand c.loop-i.board.at_hand c.args.masks.now c.loop-i.i c.requires.whole (omega arith) c.loop-i.invariant.written
+
+pub hold-requires-clause-left : goal.hold-requires-clause-left
+hold-requires-clause-left c = λ k s.
+    let i = c.loop-i.i in
+    let line = c.args.line in
+    let here : cell_at c.loop-i.board.at_hand c.on-cell.result.row c.on-cell.result.col ≡ get_or (line_of c.args.board.now.at_hand line) i 0 =
+    rw (c.on-cell.ensures.row, c.on-cell.ensures.col)
+    (sym (cell_on c.loop-i.board.at_hand line i) ∙ (c.loop-i.invariant.rest i (omega arith) ∙ ap (λ (ls : List ℕ). get_or ls i 0) c.requires.left)) in
+    let P : ℕ → Type 0 = λ n. IsBitSet n k in
+    subst P (sym here) (c.requires.among i k s)

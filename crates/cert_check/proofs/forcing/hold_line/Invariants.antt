@@ -10,4 +10,5 @@ invariant-loop-i l = record {
   rest : (j : ℕ) → l.i ≤ j → get_or (line_of l.board.at_hand l.line) j 0 ≡ get_or l.left j 0;
   behind : l.board.behind ≡ l.initial.board.behind;
   tallied : IsTallied l.picture l.board;
+  parts : l.board.parts ≡ l.initial.board.parts;
 }

@@ -14,6 +14,7 @@ loop-line-init g c = record {
   can = c.requires.can;
   same_longest = refl;
   few = omega arith;
+  calls = omega arith;
   same_shape = subst (λ (trail : Trailed). SameShape c.args.picture.now trail.at_hand) (sym c.start-trail.ensures) c.requires.same_shape;
   ahead = λ tree w p. rw c.new-nests.ensures.items (at_start c.args.picture.now c.args.facts c.start-trail.result tree c.args.lines.now c.start-trail.ensures w p);
 }
@@ -30,6 +31,7 @@ loop-line-preserved g c =
       can = subst (CanCheck c.args.picture.now c.args.clues.now) (sym c.in_ok-begun.ensures.same_longest) c.loop-line.invariant.can;
       same_longest = c.in_ok-begun.ensures.same_longest ∙ c.loop-line.invariant.same_longest;
       few = omega arith;
+      calls = omega arith;
       same_shape = c.in_ok-begun.ensures.same_shape;
       ahead = λ tree w p. next_ahead c.args.picture.now c.loop-line.trail c.follow.new.trail lines c.loop-line.line-index c.in_ok-begun.begun c.loop-line.depth nest c.max-depth.result
           (depth_of tree) _ (reverse c.loop-line.nests.items) (reverse c.push_nests.new.nests.items) c.loop-line-test.true (small_depth tree lines w few) c.in_ok-begun.ensures.follows nest_is after_is

@@ -13,10 +13,10 @@ returns-clause-takes g c =
     let new = c.force.new.board.at_hand in
     let now : walk_of inside.board.at_hand inside.board.behind inside.store.lemmas inside.store.denied inside.stage ≡ walk = ap {B = Walk} (λ
     (m : Machined). m.walk) c.self.view_is in
-    let behind = c.in_ok-force.ensures.behind in
+    let behind = c.force.ensures.behind in
     let facts = ap {B = List (List ℕ)} (λ (w : Walk). w.at_hand) now in
-    let forced : IsForced c.args.claim.now.picture.now walk.at_hand (line_id c.args.at) new = rw (facts, c.in-Some.ensures.1) at c.in_ok-force.ensures.forced in (
-      (λ going. still_right c.args.claim.now.picture.now c.args.self.now _ new c.force.new.board.behind _ _ _ right now (λ e. sym behind ∙ e) c.in_ok-force.ensures.tallied),
+    let forced : IsForced c.args.claim.now.picture.now walk.at_hand (line_id c.args.at) new = rw (facts, c.in-Some.ensures.1) at c.force.ensures.forced in (
+      (λ going. still_right c.args.claim.now.picture.now c.args.self.now _ new c.force.new.board.behind _ _ _ _ _ _ right now (λ e. sym behind ∙ e) c.force.ensures.tallied),
       (
         new ∷ [],
         (

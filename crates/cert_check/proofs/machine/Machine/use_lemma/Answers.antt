@@ -7,8 +7,8 @@ use Rattle.cert_check.proofs.MachineLemmas.{goes_on}
 use Rattle.cert_check.proofs.OpenLemmas.{nothing_holds, one_holds}
 use Rattle.cert_check.proofs.machine.Machine.use_lemma.Goals as goal
 
-pub returns-in_ok-hold_to-clause-takes : goal.returns-in_ok-hold_to-clause-takes
-returns-in_ok-hold_to-clause-takes g c =
+pub returns-in-One-clause-takes : goal.returns-in-One-clause-takes
+returns-in-One-clause-takes g c =
     let walk = c.args.self.now.walk in
     let right = c.requires.right in
     let inside = c.self.inside in
@@ -18,12 +18,12 @@ returns-in_ok-hold_to-clause-takes g c =
     let facts = c.at_hand.ensures ∙ ap {B = List (List ℕ)} (λ (w : Walk). w.at_hand) now in
     let told = rw facts at c.open_in-open.ensures.told in
     let one = one_holds walk.at_hand (still_open walk.at_hand literals) c.in-One.literal (sym c.in-One.is ∙ told) in (
-      (λ going. c.in_ok-hold_to.ensures.right),
+      (λ going. c.hold_to.ensures.right),
       (
         used walk.at_hand literals ∷ [],
         (
           (literals, (kept, refl)),
-          ap Some c.in_ok-hold_to.ensures.walk
+          ap Some c.hold_to.ensures.walk
               ∙ (ap (λ (f : Masks). Some (at_facts walk f)) one ∙ goes_on walk (used walk.at_hand literals) right.free right.none_denied),
         ),
       ),

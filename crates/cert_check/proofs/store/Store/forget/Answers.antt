@@ -1,9 +1,10 @@
-use Rattle.std.proofs.Common.{◌≡◌, ℕ, set, drop, ap, ◌∙◌, None, false}
+use Rattle.std.proofs.Common.{◌≡◌, ℕ, List, set, ap, ◌∙◌, None, false}
 use Rattle.std.proofs.lemmas.List.{map-set}
+use Rattle.cert_text.specs.declared.cert_line.Literal.{Literal}
 use Rattle.cert_check.specs.declared.span.Span.{Span}
 use Rattle.cert_check.specs.Lemmas.{IsKept, Lemmas}
-use Rattle.cert_check.specs.Stores.{Stored, lemma_in, lemmas_in, stored}
-use Rattle.cert_check.proofs.StoreLemmas.{dropped_store, kept_there}
+use Rattle.cert_check.specs.Stores.{Stored, lemma_in, lemmas_in}
+use Rattle.cert_check.proofs.StoreLemmas.{dropped_store, kept_there, same_store}
 use Rattle.cert_check.proofs.store.Store.forget.Goals as goal
 
 pub invariant_of-self : goal.invariant_of-self
@@ -22,9 +23,7 @@ returns c =
     let inside = c.self.inside in
     let n = c.args.number in
     rw c.from-at.ensures
-    (ap (λ (lemmas : Lemmas). stored lemmas (drop inside.newest inside.literals.items)) (map-set (lemma_in inside.literals.items) inside.lemmas.items n (record {
-      start = c.index.result.now.start;
-      len = c.index.result.now.len;
-      kept = false;
-    }))
-    ∙ ap (λ (s : Stored). stored (set s.lemmas n None) s.denied) c.self.view_is)
+    (same_store _ _ _ _ _ _ _ _
+    (map-set (lemma_in inside.literals.items) inside.lemmas.items n (record { start = c.index.result.now.start; len = c.index.result.now.len; kept = false })
+    ∙ ap {B = Lemmas} (λ (s : Stored). set s.lemmas n None) c.self.view_is)
+    (ap {B = List Literal} (λ (s : Stored). s.denied) c.self.view_is) (ap (λ (s : Stored). s.literals) c.self.view_is) (ap (λ (s : Stored). s.spare) c.self.view_is))
