@@ -1,8 +1,6 @@
 // The exports of nonobench.wasm, in front of the proved calls: where bytes that a host names do not lie within the memory, the call
 // is refused, and nothing is read or written there. Where they do, it is the proved call's. A desk's pointer is not looked at.
-typedef unsigned long size_t;
-typedef unsigned long long u64;
-typedef unsigned char byte;
+#include "within.h"
 
 unsigned nonobench_start(u64 *);
 void nonobench_end(u64);
@@ -16,20 +14,8 @@ unsigned nonobench_prove(void *, const byte *, u64, const byte *, u64);
 unsigned nonobench_assess(void *, const byte *, u64, _Bool, const byte *, u64, _Bool, const byte *, u64, _Bool, const byte *, u64, unsigned);
 u64 nonobench_version(byte *, u64);
 
-// What a refused call answers (crates/web/src/status.rt).
-enum { OPTIONS = 6 };
-
 // Exports a function of this file as the call of that name.
 #define CALL(name) __attribute__((export_name("nonobench_" #name)))
-
-// Addresses come with 64 bits. Whether so many bytes from here on lie within the memory, with no null beside a length: the proved
-// calls read no null.
-static _Bool is_within(u64 at, u64 size) {
-    u64 all = (u64)__builtin_wasm_memory_size(0) << 16;
-    return size <= all && at <= all - size && (at || !size);
-}
-
-static void *here(u64 at) { return (void *)(size_t)at; }
 
 // Refuses a call as one with other options. No bench has the handle 0, so closing it does nothing but drop the last call's text.
 static unsigned refuse(u64 desk) {
