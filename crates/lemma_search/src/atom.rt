@@ -69,6 +69,11 @@ pub(crate) fn first_colour(mask: u16) -> u8 {
     mask.trailing_zeros() as u8
 }
 
+/// A mask without its lowest colour.
+pub(crate) fn without_first(mask: u16) -> u16 {
+    mask & mask.wrapping_sub(1)
+}
+
 /// Whether a mask has one colour alone.
 pub(crate) fn is_settled(mask: u16) -> bool {
     mask.count_ones() == 1

@@ -4,6 +4,9 @@ use crate::atom::has;
 use clues::Block;
 use std::alloc::{AllocError, Global};
 
+// Up to how many colours the sets of them have moves of their own.
+const FEW: usize = 5;
+
 // How many states a set can have.
 const STATES: u32 = 128;
 
@@ -13,6 +16,8 @@ const STATES: u32 = 128;
 pub(crate) struct Automaton {
     // For each colour the states from which it leads to the next state.
     moves: Vec<u128>,
+    // Where the colours are few, for each set of them the states from which one of it leads to the next state.
+    by_sets: Vec<u128>,
     // The states that a background cell may leave as they are.
     rests: u128,
     // The set of the last state, in which the whole clue is done.
@@ -33,6 +38,7 @@ impl Automaton {
         let most = blocks.iter().map(|block| block.colour).max().unwrap_or(0);
         let mut made = Automaton {
             moves: vec![in alloc; 0; usize::from(most) + 1]?,
+            by_sets: Vec::new(alloc),
             rests: 0,
             ends: 0,
         };
@@ -50,7 +56,19 @@ impl Automaton {
         }
         made.rests |= state(at);
         made.ends = state(at);
+        made.note_sets()?;
         Ok(made)
+    }
+
+    // Notes the moves of each set of colours, where there are few.
+    fn note_sets(&mut self) -> Result<(), AllocError> {
+        if self.moves.len() <= FEW {
+            for colours in 0..(1u16 << self.moves.len()) {
+                let moves = self.join(colours);
+                self.by_sets.push(moves)?;
+            }
+        }
+        Ok(())
     }
 
     // Lets a colour lead from a state to the next one, and answers that.
@@ -61,13 +79,25 @@ impl Automaton {
         at.saturating_add(1)
     }
 
-    /// The first colour above all of the clue. Cells of the line have colours below it.
-    pub(crate) fn colours(&self) -> u8 {
-        self.moves.len().min(16) as u8
+    /// The colours of the clue and background.
+    pub(crate) fn own(&self) -> u16 {
+        if self.moves.len() < 16 {
+            (1 << self.moves.len()) - 1
+        } else {
+            u16::MAX
+        }
     }
 
     // The states from which at least one of the colours leads to the next state.
     fn moves_by(&self, colours: u16) -> u128 {
+        match self.by_sets.get(usize::from(colours & self.own())) {
+            Some(moves) => *moves,
+            None => self.join(colours),
+        }
+    }
+
+    // The same, joined from the colours.
+    fn join(&self, colours: u16) -> u128 {
         let mut all = 0;
         let mut rest = colours;
         for moves in &self.moves {

@@ -48,8 +48,8 @@ pub fn learn<E: LineEngine>(
     }
 }
 
-// Tells the proof of a search that found no other picture, and then tells the lines that are left once more: a lemma with fewer
-// uses may now be told inside, and more lines can be left out.
+// Tells the proof of a search that found no other picture. If it has lemmas, the lines that are left are told once more: a lemma with
+// fewer uses may now be told inside, and more lines can be left out.
 fn tell<E: LineEngine>(alloc: Global, engine: &mut E, search: &Search) -> Result<Found, AllocError>
     ensures calls { E.calls engine.old ≤ E.calls engine.new }
     ensures same_longest { E.longest engine.new ≡ E.longest engine.old }
@@ -58,6 +58,9 @@ fn tell<E: LineEngine>(alloc: Global, engine: &mut E, search: &Search) -> Result
     let Some(told) = tell_plan(alloc, engine, search, plan)? else {
         return Ok(Found::Nothing);
     };
+    if told.plan.lemmas.is_empty() {
+        return Ok(Found::Proof(write_lines(alloc, &told)?));
+    }
     let plan = Plan::again(alloc, &told.plan, &told.lines, &told.spans)?;
     let lines = match tell_plan(alloc, engine, search, plan)? {
         Some(again) => write_lines(alloc, &again)?,

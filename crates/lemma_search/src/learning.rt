@@ -4,6 +4,7 @@ use crate::atom::{Atom, Literal, bit, has};
 use crate::explaining::{Why, explain};
 use crate::marks::{Event, NEVER, Reason};
 use crate::search::Search;
+use crate::store::Watch;
 use picture::MAX_COLOURS;
 use std::alloc::AllocError;
 
@@ -17,7 +18,7 @@ impl<'a> Search<'a> {
         self.shorten(at)?;
         let level = self.collect(at)?;
         let second = self.learning.literals.get(1).copied();
-        let last = second.map(|literal| self.last_gone(literal));
+        let last = second.map(|literal| (literal, self.last_gone(literal)));
         self.back_to(level)?;
         let depth = self.count_levels();
         let number = self.store.add(&self.learning.literals, depth)?;
@@ -25,18 +26,20 @@ impl<'a> Search<'a> {
         let Some(first) = self.learning.literals.first().copied() else {
             return Ok(false);
         };
-        if let Some(atom) = last {
+        if let Some((blocker, atom)) = last {
             let left = self.marks.left(first.cell);
-            self.store.watch(first.first_in(left), number)?;
-            self.store.watch(atom, number)?;
+            self.store
+                .watch(first.first_in(left), Watch { number, blocker })?;
+            let blocker = first;
+            self.store.watch(atom, Watch { number, blocker })?;
         }
         self.hold(first, number)?;
         self.order.decay();
         Ok(true)
     }
 
-    // Collects the premises of a conflict, or of the exclusion of some colours.
-    fn explain(
+    /// Collects the premises of a conflict, or of the exclusion of some colours.
+    pub(crate) fn explain(
         &mut self,
         reason: Reason,
         of: Option<Literal>,
@@ -51,7 +54,8 @@ impl<'a> Search<'a> {
             before,
             root,
         };
-        explain(self.board, &self.store, &self.marks, why, premises)
+        let sweep = &mut self.learning.sweep;
+        explain(self.board, &self.store, &self.marks, sweep, why, premises)
     }
 
     fn explain_event(&mut self, event: Event) -> Result<(), AllocError> {
@@ -99,6 +103,7 @@ impl<'a> Search<'a> {
     fn resolve(&mut self, conflict: Reason) -> Result<Option<u32>, AllocError> {
         self.learning.touched.clear();
         self.learning.used.clear();
+        self.learning.sweep.forget();
         let count = self.marks.count();
         self.learning.used.push((count, conflict))?;
         self.explain(conflict, None, count)?;
@@ -128,8 +133,8 @@ impl<'a> Search<'a> {
         Ok(None)
     }
 
-    // Notes the reason of an event, with the time at which it is used. The latest come first.
-    fn use_reason(&mut self, at: u32, event: Event) -> Result<(), AllocError> {
+    /// Notes the reason of an event, with the time at which it is used. The latest come first.
+    pub(crate) fn use_reason(&mut self, at: u32, event: Event) -> Result<(), AllocError> {
         let time = match event.reason {
             Reason::Line(_) => event.since,
             _ => at,
@@ -145,44 +150,6 @@ impl<'a> Search<'a> {
             return Ok(());
         }
         self.learning.used.insert(place, (time, event.reason))?;
-        Ok(())
-    }
-
-    // Whether all premises are among what is needed.
-    fn are_needed(&self) -> bool {
-        for atom in &self.learning.premises {
-            let event = self.marks.event(self.marks.when(*atom));
-            if !event.is_some_and(|event| has(event.needed, atom.colour)) {
-                return false;
-            }
-        }
-        true
-    }
-
-    // Leaves out what follows from the rest of the lemma by one reason. What a given event excluded stays.
-    fn shorten(&mut self, first: u32) -> Result<(), AllocError> {
-        self.learning.spare.clear();
-        for i in 0..self.learning.touched.len() {
-            let Some(at) = self.learning.touched.get(i).copied() else {
-                break;
-            };
-            let Some(event) = self.marks.event(at) else {
-                continue;
-            };
-            if at == first || event.needed == 0 || event.reason == Reason::Decision {
-                continue;
-            }
-            self.explain_event(event)?;
-            if self.are_needed() {
-                self.use_reason(at, event)?;
-                self.learning.spare.push(at)?;
-            }
-        }
-        for i in 0..self.learning.spare.len() {
-            if let Some(at) = self.learning.spare.get(i).copied() {
-                self.marks.set_needed(at, 0);
-            }
-        }
         Ok(())
     }
 

@@ -1,6 +1,6 @@
 //! Which colours are excluded, since when and why.
 
-use crate::atom::{Atom, Literal, STRIDE, has, small, spot};
+use crate::atom::{Atom, Literal, STRIDE, first_colour, small, spot, without_first};
 use picture::{LineId, MAX_COLOURS};
 use std::alloc::{AllocError, Global};
 use trail::Cell;
@@ -13,8 +13,8 @@ pub(crate) enum Reason {
     Lemma(u32),
 }
 
-/// The exclusion of some colours of a cell: why, how many events there were before the reason applied, at which level, and which
-/// of the colours an explanation needs.
+/// The exclusion of some colours of a cell: why, how many events there were before the reason applied, at which level, which of the
+/// colours an explanation needs, and where the premises are kept, if they are.
 #[derive(Clone, Copy)]
 pub(crate) struct Event {
     pub gone: Literal,
@@ -22,6 +22,14 @@ pub(crate) struct Event {
     pub since: u32,
     pub level: u32,
     pub needed: u16,
+    pub kept: Option<Kept>,
+}
+
+/// A part of the premises that are kept: its first place, and the one after its last.
+#[derive(Clone, Copy, Debug, PartialEq, Eq)]
+pub(crate) struct Kept {
+    pub start: u32,
+    pub end: u32,
 }
 
 /// The answer of `when` for a colour that is not excluded.
@@ -89,6 +97,11 @@ impl Marks {
         self.levels.first().copied().unwrap_or(self.count())
     }
 
+    /// How many events come before the level at hand.
+    pub(crate) fn before_last_level(&self) -> u32 {
+        self.levels.last().copied().unwrap_or(NEVER)
+    }
+
     /// How many events come before the level after a given one, if there is such a level.
     pub(crate) fn before_level(&self, level: u32) -> Option<u32> {
         self.levels.get(level as usize).copied()
@@ -120,6 +133,7 @@ impl Marks {
             since,
             level,
             needed: 0,
+            kept: None,
         })?;
         let left = self.left(gone.cell) & !gone.colours;
         self.set_left(gone.cell, left);
@@ -129,12 +143,16 @@ impl Marks {
 
     // Notes when colours were excluded.
     fn note(&mut self, gone: Literal, at: u32) {
-        for colour in 0..MAX_COLOURS {
-            if has(gone.colours, colour)
-                && let Some(when) = self.when.get_mut(gone.atom(colour).place())
-            {
+        let mut rest = gone.colours;
+        for _ in 0..MAX_COLOURS {
+            if rest == 0 {
+                break;
+            }
+            let atom = gone.atom(first_colour(rest));
+            if let Some(when) = self.when.get_mut(atom.place()) {
                 *when = at;
             }
+            rest = without_first(rest);
         }
     }
 
@@ -151,6 +169,13 @@ impl Marks {
     pub(crate) fn set_needed(&mut self, at: u32, needed: u16) {
         if let Some(event) = self.events.get_mut(at as usize) {
             event.needed = needed;
+        }
+    }
+
+    /// Notes where the premises of an event are kept.
+    pub(crate) fn set_kept(&mut self, at: u32, kept: Kept) {
+        if let Some(event) = self.events.get_mut(at as usize) {
+            event.kept = Some(kept);
         }
     }
 

@@ -2,7 +2,7 @@
 
 ghost use Rattle.std.specs.Prelude.{◌≡◌, ◌≤◌};
 
-use crate::atom::{Atom, Literal, has};
+use crate::atom::{Atom, Literal, first_colour, without_first};
 use crate::board::Masks;
 use crate::log::Step;
 use crate::marks::Reason;
@@ -57,14 +57,29 @@ impl<'a> Search<'a> {
                 break;
             };
             self.seen = self.seen.saturating_add(1);
-            for colour in 0..MAX_COLOURS {
-                if !has(event.gone.colours, colour) {
-                    continue;
-                }
-                let broken = self.look_at_all(event.gone.atom(colour))?;
-                if broken.is_some() {
-                    return Ok(broken);
-                }
+            let broken = self.look_behind(event.gone)?;
+            if broken.is_some() {
+                return Ok(broken);
+            }
+        }
+        Ok(None)
+    }
+
+    // Looks at the lemmas that watch the atoms of a literal.
+    fn look_behind(&mut self, gone: Literal) -> Result<Option<u32>, AllocError> {
+        let mut rest = gone.colours;
+        for _ in 0..MAX_COLOURS {
+            if rest == 0 {
+                break;
+            }
+            let atom = gone.atom(first_colour(rest));
+            rest = without_first(rest);
+            if !self.store.is_watched(atom) {
+                continue;
+            }
+            let broken = self.look_at_all(atom)?;
+            if broken.is_some() {
+                return Ok(broken);
             }
         }
         Ok(None)
@@ -76,19 +91,20 @@ impl<'a> Search<'a> {
         let mut kept = 0usize;
         let mut broken = None;
         for i in 0..list.len() {
-            let Some(number) = list.get(i).copied() else {
+            let Some(mut watch) = list.get(i).copied() else {
                 break;
             };
-            if broken.is_none() {
+            if broken.is_none() && !self.marks.is_true(watch.blocker) {
+                let number = watch.number;
                 match self.store.look(number, atom, &self.marks)? {
                     Watched::Moved => continue,
-                    Watched::Silent => {}
+                    Watched::Silent(literal) => watch.blocker = literal,
                     Watched::Holds(literal) => self.hold(literal, number)?,
                     Watched::Broken => broken = Some(number),
                 }
             }
             if let Some(slot) = list.get_mut(kept) {
-                *slot = number;
+                *slot = watch;
             }
             kept = kept.saturating_add(1);
         }

@@ -74,6 +74,7 @@ impl<'a> Search<'a> {
             }
             if restarts.is_due() {
                 self.back_to(0)?;
+                self.learning.kept.clear();
                 self.store.forget_some();
                 continue;
             }

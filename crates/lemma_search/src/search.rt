@@ -1,11 +1,12 @@
 //! The state of a search: facts, lemmas, what is due, and what is preferred.
 
-use crate::atom::{Atom, Literal, STRIDE, first_colour, has, is_settled, spot};
+use crate::atom::{Atom, Literal, STRIDE, first_colour, has, is_settled, spot, without_first};
 use crate::board::Board;
 use crate::log::Log;
 use crate::marks::{Marks, Reason};
 use crate::order::Order;
 use crate::store::Store;
+use crate::sweeping::Sweep;
 use picture::{Axis, LineId, LineSet, MAX_COLOURS, MAX_SIDE};
 use std::alloc::{AllocError, Global};
 use trail::Cell;
@@ -44,6 +45,9 @@ pub(crate) struct Learning {
     pub literals: Vec<Literal>,
     pub spare: Vec<u32>,
     pub levels: Vec<u32>,
+    pub sweep: Sweep,
+    // Premises that are kept from one lemma to the next, up to a restart.
+    pub kept: Vec<Atom>,
 }
 
 impl<'a> Search<'a> {
@@ -70,6 +74,8 @@ impl<'a> Search<'a> {
                 literals: Vec::new(alloc),
                 spare: Vec::new(alloc),
                 levels: Vec::new(alloc),
+                sweep: Sweep::new(),
+                kept: Vec::new(alloc),
             },
         })
     }
@@ -163,10 +169,13 @@ impl<'a> Search<'a> {
         let Some(gone) = self.marks.take_back() else {
             return Ok(());
         };
-        for colour in 0..MAX_COLOURS {
-            if !has(gone.colours, colour) {
-                continue;
+        let mut rest = gone.colours;
+        for _ in 0..MAX_COLOURS {
+            if rest == 0 {
+                break;
             }
+            let colour = first_colour(rest);
+            rest = without_first(rest);
             let atom = self.standing(gone.atom(colour));
             if atom.colour == colour {
                 self.prefer(atom, false);

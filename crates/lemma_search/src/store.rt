@@ -13,6 +13,13 @@ pub(crate) struct Span {
     pub end: usize,
 }
 
+/// A lemma that watches an atom, and a literal of it. While that is true, the lemma says nothing.
+#[derive(Clone, Copy)]
+pub(crate) struct Watch {
+    pub number: u32,
+    pub blocker: Literal,
+}
+
 /// The literals of lemmas, and for each atom the lemmas that are to be looked at when it is excluded.
 #[derive(Drop)]
 pub(crate) struct Store {
@@ -24,15 +31,15 @@ pub(crate) struct Store {
     // After how many new lemmas some are forgotten, and how many there are in all then.
     room: usize,
     full: usize,
-    watching: Vec<Vec<u32>>,
+    watching: Vec<Vec<Watch>>,
 }
 
-/// What a lemma does once an atom is excluded: it no longer watches the atom, it says nothing yet, it holds a cell to a literal, or
-/// no literal is left.
+/// What a lemma does once an atom is excluded: it no longer watches the atom, it says nothing yet since this literal is true, it holds
+/// a cell to a literal, or no literal is left.
 #[derive(Clone, Copy)]
 pub(crate) enum Watched {
     Moved,
-    Silent,
+    Silent(Literal),
     Holds(Literal),
     Broken,
 }
@@ -150,15 +157,22 @@ impl Store {
     }
 
     /// Lets a lemma watch an atom: it is looked at when the atom is excluded.
-    pub(crate) fn watch(&mut self, atom: Atom, number: u32) -> Result<(), AllocError> {
+    pub(crate) fn watch(&mut self, atom: Atom, watch: Watch) -> Result<(), AllocError> {
         if let Some(list) = self.watching.get_mut(atom.place()) {
-            list.push(number)?;
+            list.push(watch)?;
         }
         Ok(())
     }
 
+    /// Whether a lemma watches an atom.
+    pub(crate) fn is_watched(&self, atom: Atom) -> bool {
+        self.watching
+            .get(atom.place())
+            .is_some_and(|list| !list.is_empty())
+    }
+
     /// Takes the list of the lemmas that watch an atom.
-    pub(crate) fn take_list(&mut self, atom: Atom) -> Vec<u32> {
+    pub(crate) fn take_list(&mut self, atom: Atom) -> Vec<Watch> {
         let none = Vec::new(self.alloc);
         match self.watching.get_mut(atom.place()) {
             Some(list) => mem::replace(list, none),
@@ -167,7 +181,7 @@ impl Store {
     }
 
     /// Puts such a list back.
-    pub(crate) fn put_list(&mut self, atom: Atom, list: Vec<u32>) {
+    pub(crate) fn put_list(&mut self, atom: Atom, list: Vec<Watch>) {
         if let Some(slot) = self.watching.get_mut(atom.place()) {
             *slot = list;
         }
@@ -212,10 +226,14 @@ impl Store {
             return Ok(Watched::Moved);
         }
         if marks.is_true(held) {
-            return Ok(Watched::Silent);
+            return Ok(Watched::Silent(held));
         }
         let span = Span { start: after, end };
-        if self.moves(number, span, watched, marks)? {
+        let watch = Watch {
+            number,
+            blocker: held,
+        };
+        if self.moves(watch, span, watched, marks)? {
             return Ok(Watched::Moved);
         }
         Ok(if marks.is_false(held) {
@@ -228,7 +246,7 @@ impl Store {
     // Lets a lemma watch another literal of a span that begins with the watched one, if one can be true.
     fn moves(
         &mut self,
-        number: u32,
+        watch: Watch,
         span: Span,
         watched: Literal,
         marks: &Marks,
@@ -243,7 +261,7 @@ impl Store {
             }
             self.set_literal(at, watched);
             self.set_literal(span.start, literal);
-            self.watch(literal.first_in(left), number)?;
+            self.watch(literal.first_in(left), watch)?;
             return Ok(true);
         }
         Ok(false)

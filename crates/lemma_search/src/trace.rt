@@ -7,6 +7,7 @@ use crate::board::{Board, Masks};
 use crate::explaining::{Why, explain};
 use crate::marks::{Marks, NEVER, Reason};
 use crate::store::{Span, Store};
+use crate::sweeping::Sweep;
 use line_facts::{LineEngine, Outcome};
 use picture::{Axis, LineId};
 use std::alloc::{AllocError, Global};
@@ -49,6 +50,7 @@ pub(crate) struct Trace<'a> {
     // For each line of the picture the next line of the proof that evaluates it.
     next: Vec<u32>,
     premises: Vec<Atom>,
+    sweep: Sweep,
     // What branches use.
     used: Vec<Atom>,
     // Where lemmas begin.
@@ -85,6 +87,7 @@ impl<'a> Trace<'a> {
             needed: Vec::new(alloc),
             next: vec![in alloc; NEVER; LINES]?,
             premises: Vec::new(alloc),
+            sweep: Sweep::new(),
             used: Vec::new(alloc),
             lemmas: Vec::new(alloc),
             root: 0,
@@ -253,11 +256,13 @@ impl<'a> Trace<'a> {
             before,
             root,
         };
-        explain(self.board, self.store, &self.marks, why, &mut self.premises)
+        let (sweep, premises) = (&mut self.sweep, &mut self.premises);
+        explain(self.board, self.store, &self.marks, sweep, why, premises)
     }
 
-    // Forgets where lines of the picture are evaluated later.
+    // Forgets where lines of the picture are evaluated later, and what was explained.
     fn begin_trim(&mut self) {
+        self.sweep.forget();
         for next in self.next.iter_mut() {
             *next = NEVER;
         }
