@@ -160,5 +160,18 @@ settling_few clues picture base (Err fault.Memory) old new before after is s w =
     let same = w.1 in
     omega arith
 
+-- settling does not let the engine's calls fall
+pub settling_calls : (clues : Clues) (base : Masks) (result : Result Masks CloseFault) (old new : Meter) (before after : ℕ) → before < 2 ^ 64
+    → SettlingWorks clues base result old new before after → before ≤ after
+settling_calls clues base (Ok map) old new before after some w =
+    let calls = w.1.1.counts.calls in
+    omega arith
+settling_calls clues base (Err fault.Dead) old new before after some w =
+    let calls = w.1.1.1.counts.calls in
+    omega arith
+settling_calls clues base (Err fault.Memory) old new before after some w =
+    let same = w.1 in
+    omega arith
+
 pub closable_by : (clues : Clues) (facts : Masks) (longest : ℕ) → AreClosable clues MAX_SIDE facts → MAX_SIDE ≤ longest → AreClosable clues longest facts
 closable_by clues facts longest c long = record { rows = c.rows; columns = c.columns; wide = omega arith; tall = omega arith }

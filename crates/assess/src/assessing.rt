@@ -34,6 +34,7 @@ pub fn assess<E: LineEngine>(
     ensures assessment { IfOk result (IsAssessment document.now is_named allowance) }
     ensures few { AreFewInAll document.now.picture document.now.givens allowance
         (E.calls engine.old) (E.calls engine.new) }
+    ensures calls { E.calls engine.old ≤ E.calls engine.new }
     ensures same_longest { E.longest engine.new ≡ E.longest engine.old }
 {
     let _ = (engine.calls(), document.picture.height());

@@ -38,6 +38,7 @@ pub(crate) fn grade_if<E: LineEngine>(
     ensures graded { IfOk result (λ graded. IsGradedIf document.now.picture document.now.givens
         figures verdict.now graded.cert graded.grade) }
     ensures few { E.calls engine.new ≤ E.calls engine.old + most_to_grade document.now.picture }
+    ensures calls { E.calls engine.old ≤ E.calls engine.new }
     ensures same_longest { E.longest engine.new ≡ E.longest engine.old }
 {
     match verdict {
@@ -70,6 +71,7 @@ fn grade<E: LineEngine>(
     ensures graded { IfOk result (λ graded. IsGraded document.now.picture document.now.givens
         figures graded.cert graded.grade) }
     ensures few { E.calls engine.new ≤ E.calls engine.old + most_to_grade document.now.picture }
+    ensures calls { E.calls engine.old ≤ E.calls engine.new }
     ensures same_longest { E.longest engine.new ≡ E.longest engine.old }
 {
     let _ = (engine.calls(), document.picture.height());
@@ -99,6 +101,7 @@ fn short_cert<E: LineEngine>(
     ensures makes { IfOk result (λ found. IfSome found
         (IsShortCert document.now.picture document.now.givens)) }
     ensures few { E.calls engine.new ≤ E.calls engine.old + most_in_trees document.now.picture }
+    ensures calls { E.calls engine.old ≤ E.calls engine.new }
     ensures same_longest { E.longest engine.new ≡ E.longest engine.old }
 {
     let _ = (engine.calls(), document.picture.height());
@@ -120,6 +123,7 @@ pub(crate) fn grade_by<E: LineEngine>(
     requires { MAX_SIDE ≤ E.longest engine.old }
     ensures grade { IfOk result (IsGradeBy document.now.picture cert.now figures) }
     ensures few { E.calls engine.new ≤ E.calls engine.old + length cert.now.lines }
+    ensures calls { E.calls engine.old ≤ E.calls engine.new }
     ensures same_longest { E.longest engine.new ≡ E.longest engine.old }
 {
     let _ = (engine.calls(), document.picture.height());

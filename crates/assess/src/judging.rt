@@ -32,6 +32,7 @@ pub(crate) fn judge_map<E: LineEngine>(
         (IsVerdict document.now.picture document.now.givens allowance) }
     ensures few { AreFewInParts document.now.picture allowance (E.calls engine.old)
         (E.calls engine.new) }
+    ensures calls { E.calls engine.old ≤ E.calls engine.new }
     ensures same_longest { E.longest engine.new ≡ E.longest engine.old }
 {
     let _ = (engine.calls(), document.picture.height());
@@ -80,6 +81,7 @@ pub(crate) fn judge_afresh<E: LineEngine>(
         (IsVerdict document.now.picture document.now.givens allowance) }
     ensures few { AreFewJudged document.now.picture allowance 1 (E.calls engine.old)
         (E.calls engine.new) }
+    ensures calls { E.calls engine.old ≤ E.calls engine.new }
     ensures same_longest { E.longest engine.new ≡ E.longest engine.old }
 {
     let _ = engine.calls();
@@ -98,6 +100,7 @@ fn settled<E: LineEngine>(
     requires long { MAX_SIDE ≤ E.longest engine.old }
     ensures map { IfOk result (IsMap document.now.picture document.now.givens) }
     ensures few { E.calls engine.new ≤ E.calls engine.old + most_to_close document.now.picture }
+    ensures calls { E.calls engine.old ≤ E.calls engine.new }
     ensures same_longest { E.longest engine.new ≡ E.longest engine.old }
 {
     let _ = (engine.calls(), document.picture.height());

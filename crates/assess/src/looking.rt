@@ -30,6 +30,7 @@ pub(crate) fn look<E: LineEngine>(
     ensures few { IfOk result (λ looked.
         E.calls engine.new ≤ E.calls engine.old + looked.figures.evaluations) }
     ensures idle { IfErr result (λ _. E.calls engine.new ≡ E.calls engine.old) }
+    ensures calls { E.calls engine.old ≤ E.calls engine.new }
     ensures same_longest { E.longest engine.new ≡ E.longest engine.old }
 {
     let _ = (engine.calls(), document.picture.height());

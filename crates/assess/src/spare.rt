@@ -31,6 +31,7 @@ pub(crate) fn find_spare_if<E: LineEngine>(
         (IsSpareIf document.now.picture document.now.givens allowance verdict.now) }
     ensures few { AreFewJudged document.now.picture allowance (cell_count document.now.givens)
         (E.calls engine.old) (E.calls engine.new) }
+    ensures calls { E.calls engine.old ≤ E.calls engine.new }
     ensures same_longest { E.longest engine.new ≡ E.longest engine.old }
 {
     match verdict {
@@ -53,6 +54,7 @@ fn find_spare<E: LineEngine>(
     ensures spare { IfOk result (IsSpare document.now.picture document.now.givens allowance) }
     ensures few { AreFewJudged document.now.picture allowance (cell_count document.now.givens)
         (E.calls engine.old) (E.calls engine.new) }
+    ensures calls { E.calls engine.old ≤ E.calls engine.new }
     ensures same_longest { E.longest engine.new ≡ E.longest engine.old }
 {
     let _ = (
@@ -108,6 +110,7 @@ fn judge_without<E: LineEngine>(
         (IsWithout document.now.picture document.now.givens allowance cell.row cell.col) }
     ensures few { AreFewJudged document.now.picture allowance 1 (E.calls engine.old)
         (E.calls engine.new) }
+    ensures calls { E.calls engine.old ≤ E.calls engine.new }
     ensures same_longest { E.longest engine.new ≡ E.longest engine.old }
 {
     let _ = (engine.calls(), document.picture.height());

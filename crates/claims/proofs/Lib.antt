@@ -1,3 +1,5 @@
+mod AssessLemmas
+mod FitLemmas
 mod LineLemmas
 mod OutcomeLemmas
 mod RunLemmas

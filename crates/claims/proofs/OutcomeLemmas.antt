@@ -10,7 +10,7 @@ use Rattle.givens_text.specs.declared.fault.GivensFault.{GivensFault}
 use Rattle.program_options.specs.declared.fault.ProgramFault.{ProgramFault}
 use Rattle.program_options.specs.declared.fault.ProgramFault.TheVariants as fault
 use Rattle.command_line.specs.declared.words.Task.{Task}
-use Rattle.command_line.specs.declared.words.Task.TheVariants.{Check, Clues, Help, Prove, Work}
+use Rattle.command_line.specs.declared.words.Task.TheVariants.{Assess, Check, Clues, Help, Prove, Work}
 use Rattle.program_options.specs.declared.options.Options.{Options}
 use Rattle.program_options.specs.declared.options.ProveOptions.{ProveOptions}
 use Rattle.program_options.specs.Faults.{session_fault_of, status_of}
@@ -28,6 +28,7 @@ use Rattle.program.specs.World.{World}
 use Rattle.live_audit.specs.Calls.{machine}
 use Rattle.session.specs.Laws.{SessionsAreTrue}
 use Rattle.claims.specs.Outcome.{Comes, IsDone, IsSilent, Opens, TellsNone, files_of}
+use Rattle.claims.proofs.AssessLemmas.{assessed, blocks_written, files_opened}
 use Rattle.command_text.specs.Words.{Texts}
 
 pub fails : (f : ProgramFault) → status_of f ≡ 0 → ⊥
@@ -42,6 +43,8 @@ fails (fault.Non f) e = absurd cc
 fails (fault.Edit f) e = absurd cc
 fails fault.NoPicture e = absurd cc
 fails fault.NoGoal e = absurd cc
+fails fault.OneFile e = absurd cc
+fails fault.Unfit e = absurd cc
 fails (fault.Cert f) e = absurd cc
 fails fault.NoCertificate e = absurd cc
 fails (fault.Givens f) e = absurd cc
@@ -61,6 +64,7 @@ done_by held before after (Work path options) law (inr worked) = record {
   last = machine worked.works.last.history worked.works.last.allowance;
   truth = law before.input after.input before.output after.output worked.works.fresh worked.works.last (Ok tt) worked.works.started.audited worked.works.runs;
 }
+done_by held before after (Assess files options givens cert) law c = assessed held files.items givens cert options before after c
 done_by held before after (Help text) law shown = shown.sends
 done_by held before after (Check path cert givens background) law (inl stopped) = absurd (let is = stopped.is in cc)
 done_by held before after (Check path cert givens background) law (inr (inl half)) = absurd (let is = half.stopped.is in cc)
@@ -129,6 +133,7 @@ opened held before after (Prove path (Some givens) options) r (inl stopped) = (1
 opened held before after (Prove path None options) r (inr proving) = (1, proving.names)
 opened held before after (Prove path (Some givens) options) r (inr (inl half)) = (2, half.stopped.only.names)
 opened held before after (Prove path (Some givens) options) r (inr (inr proving)) = (2, proving.names)
+opened held before after (Assess files options givens cert) r c = files_opened held files.items givens cert options before after r c
 opened held before after (Help text) r c = (0, c.names ∙ sym (append-nil before.opened))
 
 refused : (f : ProgramFault) (before after : World) (r : Result (Unit {0}) ProgramFault) → IsRefused f before after r → status_after r ≡ 0 → ⊥
@@ -207,6 +212,7 @@ kept held before after (Prove path givens options) f one (inl stopped) = inl sto
 kept held before after (Prove path None options) f one (inr proving) = word_kept _ _ f proving.file None options one proving.writes
 kept held before after (Prove path (Some givens) options) f one (inr (inl half)) = inl half.stopped.only.output
 kept held before after (Prove path (Some givens) options) f one (inr (inr proving)) = word_kept _ _ f proving.file (Some proving.givens) options one proving.writes
+kept held before after (Assess files options givens cert) f one c = inr (blocks_written held files.items givens cert options before after f (not_write f one) c)
 kept held before after (Help text) f one shown = absurd (not_write f one shown.sends.0)
 
 at_most : (arguments : Texts) (before after : World) (task : Task) → IsTask arguments (Ok task) → AtMostWord task before after → IsSilent arguments before after

@@ -23,12 +23,14 @@ use Rattle.program_options.specs.declared.fault.ProgramFault.{ProgramFault}
 use Rattle.program_options.specs.declared.fault.ProgramFault.TheVariants.{Memory, Read, TooLong, Write}
 use Rattle.program_options.specs.declared.options.Options.{Options}
 use Rattle.program_options.specs.declared.options.ProveOptions.{ProveOptions}
-use Rattle.answers.specs.Check.{IsCheck, IsCheckOf, IsLemmaProofOf, IsProofOf, WritesBy, accepted_text}
+use Rattle.text_check.specs.Check.{IsLemmaProofOf, IsProofOf, accepted_text}
+use Rattle.answers.specs.Check.{IsCheck, IsCheckOf, WritesBy}
 use Rattle.answers.specs.Prove.{IsProveOf}
 use Rattle.answers.specs.Start.{IsStarted}
-use Rattle.answers.specs.Published.{IsOnlyPublished, IsPublishedCheck, IsPublishedCheckOf, IsShownWith, cells_in}
+use Rattle.text_check.specs.Published.{IsOnlyPublished, cells_in}
+use Rattle.answers.specs.Published.{IsPublishedCheck, IsPublishedCheckOf, IsShownWith}
 use Rattle.command_line.specs.declared.words.Task.{Task}
-use Rattle.command_line.specs.declared.words.Task.TheVariants.{Check, Clues, Help, Prove, Work}
+use Rattle.command_line.specs.declared.words.Task.TheVariants.{Assess, Check, Clues, Help, Prove, Work}
 use Rattle.command_text.specs.Words.{Texts}
 use Rattle.program.specs.Endings.{status_after}
 use Rattle.program.specs.Files.{HasFailed, Held, Holds, IsContent, IsUnread, IsUnreadFile}
@@ -77,6 +79,7 @@ session_of : (held : List ℕ → Held) (before after : World) (task : Task) (pa
 session_of held before after Clues path options file input text is holds had held_none wrote made c = absurd is
 session_of held before after (Check file' cert givens background) path options file input text is holds had held_none wrote made c = absurd is
 session_of held before after (Prove file' background single) path options file input text is holds had held_none wrote made c = absurd is
+session_of held before after (Assess files asked with by) path options file input text is holds had held_none wrote made c = absurd is
 session_of held before after (Help shown) path options file input text is holds had held_none wrote made c = absurd is
 session_of held before after (Work file' chosen) path options file input text is holds had held_none wrote made (inl stopped) = absurd (let e = stopped.is in cc)
 session_of held before after (Work file' chosen) path options file input text is holds had held_none wrote made (inr worked) =
@@ -221,6 +224,7 @@ checked held before after Clues r path cert_path background picture cert text d 
 checked held before after (Work file options) r path cert_path background picture cert text d first second same none wrote accepted is c = absurd is
 checked held before after (Prove file chosen options) r path cert_path background picture cert text d first second same none wrote accepted is c = absurd is
 checked held before after (Check file certificate (Some givens) chosen) r path cert_path background picture cert text d first second same none wrote accepted is c = absurd is
+checked held before after (Assess files asked with by) r path cert_path background picture cert text d first second same none wrote accepted is c = absurd is
 checked held before after (Help shown) r path cert_path background picture cert text d first second same none wrote accepted is c = absurd is
 checked held before after (Check file certificate None chosen) r path cert_path background picture cert text d first second same none wrote accepted is (inl stopped) =
     stopped_first picture cert (held file.now) _ before after (HasLine d (Some []) (Some text)) r (ap held is.0 ∙ first) stopped
@@ -269,6 +273,7 @@ made_by_run : (held : List ℕ → Held) (before after : World) (task : Task) (p
 made_by_run held before after Clues path background file text holds none wrote is c = absurd is
 made_by_run held before after (Work file' options) path background file text holds none wrote is c = absurd is
 made_by_run held before after (Check file' cert givens chosen) path background file text holds none wrote is c = absurd is
+made_by_run held before after (Assess files asked with by) path background file text holds none wrote is c = absurd is
 made_by_run held before after (Help shown) path background file text holds none wrote is c = absurd is
 made_by_run held before after (Prove file' (Some givens) options) path background file text holds none wrote is c = absurd is
 made_by_run held before after (Prove file' None options) path background file text holds none wrote is (inl stopped) = absurd (let e = stopped.is in cc)
@@ -304,6 +309,7 @@ plain held before after Clues r path cert_path background file cert text first s
 plain held before after (Work file' options) r path cert_path background file cert text first second none wrote accepted is c = absurd is
 plain held before after (Prove file' chosen options) r path cert_path background file cert text first second none wrote accepted is c = absurd is
 plain held before after (Check file' cert' (Some givens) chosen) r path cert_path background file cert text first second none wrote accepted is c = absurd is
+plain held before after (Assess files asked with by) r path cert_path background file cert text first second none wrote accepted is c = absurd is
 plain held before after (Help shown) r path cert_path background file cert text first second none wrote accepted is c = absurd is
 plain held before after (Check file' cert' None chosen) r path cert_path background file cert text first second none wrote accepted is (inl stopped) =
     stopped_first file cert (held file'.now) _ before after (text ≡ codes "certificate accepted\n") r (ap held is.0 ∙ first) stopped
@@ -356,6 +362,7 @@ only_task held before after Clues path cert_path givens_path background file giv
 only_task held before after (Work file' options) path cert_path givens_path background file givens is first last done = absurd is
 only_task held before after (Prove file' chosen options) path cert_path givens_path background file givens is first last done = absurd is
 only_task held before after (Check file' cert' None chosen) path cert_path givens_path background file givens is first last done = absurd is
+only_task held before after (Assess files asked with by) path cert_path givens_path background file givens is first last done = absurd is
 only_task held before after (Help shown) path cert_path givens_path background file givens is first last done = absurd is
 only_task held before after (Check file' cert' (Some givens') chosen) path cert_path givens_path background file givens is first last done =
     let read : done.file ≡ file = content_is (held file'.now) file done.file (ap held is.0 ∙ first) done.content in

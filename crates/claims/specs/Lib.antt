@@ -1,3 +1,4 @@
+pub mod Assessments
 pub mod Line
 pub mod Outcome
 pub mod Runs

@@ -4,7 +4,7 @@ use Rattle.std.specs.Io.KnownBytes.{Appends}
 use Rattle.cert_text.specs.declared.cert_line.CellNumber.{CellNumber}
 use Rattle.edits.specs.Design.{Design}
 use Rattle.live_audit.specs.Certify.{NamesMarks}
-use Rattle.answers.specs.Check.{accepted_text}
+use Rattle.text_check.specs.Check.{accepted_text}
 
 -- the line `certificate accepted` was written, with the number of the document's givens if it has some
 pub record HasLine (d : Design) (had has : Option (List ℕ)) : Type 0 where

@@ -9,13 +9,16 @@ use Rattle.session.specs.Truth.{TellsTruth}
 use Rattle.program_options.specs.declared.fault.ProgramFault.{ProgramFault}
 use Rattle.program_options.specs.declared.options.Options.{Options}
 use Rattle.program_options.specs.declared.options.ProveOptions.{ProveOptions}
-use Rattle.answers.specs.Check.{IsCheckOf, IsOnlyPicture}
+use Rattle.text_check.specs.Check.{IsOnlyPicture}
+use Rattle.answers.specs.Check.{IsCheckOf}
 use Rattle.answers.specs.Prove.{IsProveOf, ambiguous_text, undecided_text}
-use Rattle.answers.specs.Published.{IsOnlyPublished, IsPublishedCheckOf}
+use Rattle.text_check.specs.Published.{IsOnlyPublished}
+use Rattle.answers.specs.Published.{IsPublishedCheckOf}
 use Rattle.answers.specs.Run.{shown}
 use Rattle.answers.specs.Start.{IsStarted}
 use Rattle.command_line.specs.declared.words.Task.{Task}
-use Rattle.command_line.specs.declared.words.Task.TheVariants.{Check, Clues, Help, Prove, Work}
+use Rattle.command_line.specs.declared.words.Task.TheVariants.{Assess, Check, Clues, Help, Prove, Work}
+use Rattle.claims.specs.Assessments.{HasAssessed, files_assessed}
 use Rattle.program.specs.Endings.{status_after}
 use Rattle.program.specs.Files.{Held, IsContent}
 use Rattle.program.specs.Run.{AnswersAll, IsTask}
@@ -30,6 +33,7 @@ files_of (Check file cert None background) = file.now ∷ cert.now ∷ []
 files_of (Check file cert (Some givens) background) = file.now ∷ cert.now ∷ givens.now ∷ []
 files_of (Prove file None options) = file.now ∷ []
 files_of (Prove file (Some givens) options) = file.now ∷ givens.now ∷ []
+files_of (Assess files options givens cert) = files_assessed files.items givens cert
 files_of (Help text) = []
 
 -- ---- a task that is done
@@ -107,15 +111,18 @@ IsDone held before after (Check file cert (Some givens) background) =
 IsDone held before after (Prove file None options) = HasMade (held file.now) options before after
 IsDone held before after (Prove file (Some givens) options) =
     HasMadeWith (held file.now) (held givens.now) options before after
+IsDone held before after (Assess files options givens cert) =
+    HasAssessed held files.items givens cert options before after
 IsDone held before after (Help text) = Appends before.output after.output (string_bytes text)
 
--- the word that stands in a certificate's place was written, where one was asked for
+-- the word that stands in a certificate's place was written, where one was asked for; or lines for puzzles
 abbrev pub TellsNone : Task → World → World → Type 0
 TellsNone (Prove file givens options) before after =
     Appends before.output after.output ambiguous_text ⊎ Appends before.output after.output undecided_text
+TellsNone (Assess files options givens cert) before after = (text : List ℕ) × Appends before.output after.output text
 TellsNone _ before after = ⊥
 
--- nothing was written; or such a word, for arguments that ask for a certificate
+-- nothing was written; or this, for arguments that ask for a certificate or for assessments
 abbrev pub IsSilent : Texts → World → World → Type 0
 IsSilent arguments before after =
     Keeps before.output after.output
@@ -133,7 +140,7 @@ Opens arguments held before after status =
 
 -- A run that opens files in this way. Its outcome is what is exactly to come of the arguments and the files, and the
 -- status is that of the outcome: 0 without an error, else the error's. With status 1 nothing was written, or the word
--- that stands in a certificate's place.
+-- that stands in a certificate's place, or lines for puzzles, which are as `answers` says.
 pub record Comes (arguments : Texts) (held : List ℕ → Held) (before after : World) (status : ℕ) : Type 0 where
   pub outcome : Result (Unit {0}) ProgramFault
   pub right_status : status ≡ status_after outcome

@@ -1,22 +1,25 @@
 -- Runs of the program, of which a later one checks what earlier ones wrote.
 use Rattle.std.specs.Prelude.{◌≡◌, ◌≢◌, ◌⊎◌, ℕ, ◌<◌, false, List, [], codes, Option, None, Some, Result, Ok, Err}
-use Rattle.std.specs.Prelude.{IfErr, OnOk, length, map, string_bytes}
+use Rattle.std.specs.Prelude.{IfErr, OnOk, length, map, option_map, string_bytes}
+use Rattle.std.specs.List.{AllByRecursion}
 use Rattle.std.proofs.Common.{String, Global}
 use Rattle.picture.specs.declared.rgb.Rgb.{Rgb}
 use Rattle.edits.specs.Design.{Design}
 use Rattle.session.specs.Refusal.{memory_line}
 use Rattle.program_options.specs.declared.fault.ProgramFault.{ProgramFault}
 use Rattle.program_options.specs.declared.fault.ProgramFault.TheVariants.{Memory, Read, TooLong, Write}
+use Rattle.program_options.specs.declared.assessing.AssessOptions.{AssessOptions}
 use Rattle.program_options.specs.declared.options.Options.{Options}
 use Rattle.answers.specs.Open.{OpensFile}
-use Rattle.answers.specs.Published.{IsOnlyPublished}
+use Rattle.text_check.specs.Published.{IsOnlyPublished}
 use Rattle.command_line.specs.declared.words.Task.{Task}
-use Rattle.command_line.specs.declared.words.Task.TheVariants.{Check, Prove, Work}
+use Rattle.command_line.specs.declared.words.Task.TheVariants.{Assess, Check, Prove, Work}
 use Rattle.command_text.specs.Words.{Texts}
 use Rattle.program.specs.Endings.{status_after}
 use Rattle.program.specs.Files.{Held, Holds}
-use Rattle.program.specs.Run.{AnswersAll, IsTask}
+use Rattle.program.specs.Run.{AnswersAll, IsTask, texts}
 use Rattle.program.specs.World.{World, world}
+use Rattle.published.specs.Fit.{IsFitText}
 use Rattle.published.specs.Laws.{background_in}
 use Rattle.claims.specs.Line.{HasLine}
 
@@ -151,3 +154,28 @@ PublishedAreUnique arguments held status =
     (path cert_path givens_path : List ℕ) (background : Option Rgb) (file givens : List ℕ)
     → AskOnly arguments (IsCheckWith path cert_path givens_path background)
     → held path ≡ Holds file → held givens_path ≡ Holds givens → status ≡ 0 → IsOnlyPublished file background givens
+
+-- ---- assessments
+
+-- assessments of the puzzles in files of these names, with these files beside them
+abbrev pub IsAssessOn : Texts → Option (List ℕ) → Option (List ℕ) → AssessOptions → Task → Type 0
+IsAssessOn paths givens_path cert_path options (Assess files chosen givens cert) =
+    (texts files.items ≡ paths)
+    × ((option_map (λ path. path.now) givens ≡ givens_path)
+    × ((option_map (λ path. path.now) cert ≡ cert_path) × (chosen ≡ options)))
+IsAssessOn paths givens_path cert_path options _ = ⊥
+
+-- the text that a name holds, if there is one
+abbrev pub HoldsIf : (List ℕ → Held) → Option (List ℕ) → Option (List ℕ) → Type 0
+HoldsIf held None text = text ≡ None
+HoldsIf held (Some path) None = ⊥
+HoldsIf held (Some path) (Some text) = held path ≡ Holds text
+
+-- Where the arguments ask for assessments alone, and the names hold these texts, status 0 means that the puzzle in each
+-- file is fit to be published with these givens.
+abbrev pub AssessedAreFit : Texts → (List ℕ → Held) → ℕ → Type 0
+AssessedAreFit arguments held status =
+    (paths : Texts) (givens_path cert_path : Option (List ℕ)) (options : AssessOptions) (givens cert : Option (List ℕ))
+    → AskOnly arguments (IsAssessOn paths givens_path cert_path options)
+    → HoldsIf held givens_path givens → HoldsIf held cert_path cert → status ≡ 0
+    → AllByRecursion (λ path. (file : List ℕ) → held path ≡ Holds file → IsFitText file givens cert options) paths

@@ -5,11 +5,12 @@ ghost use Rattle.std.specs.Io.KnownBytes.{Keeps};
 ghost use Rattle.std.specs.Process.{exit_status};
 ghost use Rattle.command_line.specs.declared.words.Task.{Task};
 ghost use Rattle.claims.specs.Outcome.{Comes};
-ghost use Rattle.claims.specs.Runs.{PublishedAreUnique};
+ghost use Rattle.claims.specs.Runs.{AssessedAreFit, PublishedAreUnique};
 ghost use Rattle.program.specs.Run.{IsTask};
 ghost use Rattle.program.specs.World.{world};
 
 use program::{Ended, Files, run};
+use published::laws::fit_puzzles_are_fit;
 use session::laws::sessions_are_true;
 use std::alloc::Global;
 use std::io::{Read, Write};
@@ -37,10 +38,11 @@ pub fn run_refused<F: Files, R: Read, W: Write, V: Write>(
 
 /// The whole program. Of the files that the task of its arguments names, it opens all, or only the first ones. Its exit status
 /// is that of its outcome, which is what the arguments and the files call for: a body that does the task and ends with another
-/// status does not meet this. With status 1 nothing was written, or, where a certificate was asked for, `ambiguous` or `undecided`.
-/// With status 0 there is such a task, and it is done: the clues or help were written; or a true text for each line of the input;
-/// or a certificate; or the line of a check, and the picture of the first file is the only one of its size with its clues and its
-/// colours in the certificate's givens, or, with a file of givens, in the cells that are published.
+/// status does not meet this. With status 1 nothing was written; or, where a certificate was asked for, `ambiguous` or `undecided`; or
+/// lines for puzzles that are assessed. With status 0 there is such a task, and it is done: the clues or help were written; or a true
+/// text for each line of the input; or a certificate; or the block of each puzzle, all of which are fit to be published; or the line of
+/// a check, and the picture of the first file is the only one of its size with its clues and its colours in the certificate's givens,
+/// or, with a file of givens, in the cells that are published.
 pub fn run_asked<F: Files, R: Read, W: Write, V: Write>(
     alloc: Global,
     arguments: Vec<String>,
@@ -73,5 +75,22 @@ pub fn run_published<F: Files, R: Read, W: Write, V: Write>(
     ensures { PublishedAreUnique (map (λ text. string_bytes text) arguments.items)
         (F.held files.old) (exit_status result.code) }
 {
+    run_asked(alloc, arguments, files, reader, writer, errors)
+}
+
+/// The whole program for arguments that ask for assessments: with status 0, the puzzle in each file has exactly one solution with
+/// the givens that are published, and no flaw.
+pub fn run_assessed<F: Files, R: Read, W: Write, V: Write>(
+    alloc: Global,
+    arguments: Vec<String>,
+    files: &mut F,
+    reader: &mut R,
+    writer: &mut W,
+    errors: &mut V,
+) -> Ended
+    ensures { AssessedAreFit (map (λ text. string_bytes text) arguments.items)
+        (F.held files.old) (exit_status result.code) }
+{
+    fit_puzzles_are_fit();
     run_asked(alloc, arguments, files, reader, writer, errors)
 }

@@ -1,8 +1,8 @@
 //! A certificate of any form proves uniqueness, in its own givens or in those that are published.
 
 ghost use Rattle.std.specs.Prelude.{◌≡◌, true};
-ghost use Rattle.answers.specs.Check.{IsOnlyPicture};
-ghost use Rattle.answers.specs.Published.{IsOnlyPublished};
+ghost use Rattle.text_check.specs.Check.{IsOnlyPicture};
+ghost use Rattle.text_check.specs.Published.{IsOnlyPublished};
 
 use answers::{run_check, run_check_published};
 use picture::Rgb;

@@ -11,7 +11,7 @@ mod stroke;
 mod verdict;
 mod work;
 
-pub use arguments::{run_asked, run_published, run_refused};
+pub use arguments::{run_asked, run_assessed, run_published, run_refused};
 pub use check::{certificate_is_accepted, published_is_accepted};
 pub use lines::{answered, answered_until};
 pub use list::{Call, call_all, edit_and_undo, edit_twice, verdict_after};

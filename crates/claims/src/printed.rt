@@ -2,7 +2,8 @@
 
 ghost use Rattle.std.specs.Prelude.{◌≡◌, ◌⊎◌, true, IfErr, OnOk, codes};
 ghost use Rattle.std.specs.Io.KnownBytes.{Appends};
-ghost use Rattle.answers.specs.Check.{IsCheckOf, WritesBy, accepted_text};
+ghost use Rattle.text_check.specs.Check.{accepted_text};
+ghost use Rattle.answers.specs.Check.{IsCheckOf, WritesBy};
 ghost use Rattle.answers.specs.Prove.{IsProveOf};
 ghost use Rattle.answers.specs.Published.{IsPublishedCheckOf};
 ghost use Rattle.claims.specs.Line.{HasLine};

@@ -7,8 +7,9 @@ use Rattle.clap.specs.declared.builder.value_parser.ValueParser.{ValueParser}
 use Rattle.clap.specs.declared.error.Error.{Error}
 use Rattle.clap.specs.declared.error.kind.ErrorKind.TheVariants.{OutOfMemory}
 use Rattle.clap.specs.declared.parser.matches.ArgMatches.{ArgMatches}
-use Rattle.command_line.specs.Program.{AreFormats, AreOfCerts, AreOfFiles, Formats, IsLocal, ParsesAs, background_rule, check_shape, complete_rule, file_rule, file_shape, givens_rule}
-use Rattle.command_line.specs.Program.{format_rule, opening_shape, program_app, prove_shape, searching_shape, top_shape, work_shape}
+use Rattle.command_line.specs.Program.{AreFormats, AreOfCerts, AreOfFiles, Formats, IsLocal, ParsesAs, assess_shape, assessing_shape, background_rule, check_shape}
+use Rattle.command_line.specs.Program.{complete_rule, file_rule, file_shape, files_rule, format_rule, givens_rule}
+use Rattle.command_line.specs.Program.{opening_shape, program_app, prove_shape, puzzles_shape, searching_shape, top_shape, work_shape}
 
 -- the file's command with the format
 pub opening_made : {E : Type 0} (base : Command) (a : Arg) (r : Result Command E) → IfOk r (AddsArg base a) → a.global ≡ false → shape_of base ≡ file_shape
@@ -22,6 +23,21 @@ opening_made base a (Ok c) h g s f = (
     ap (λ (x : App). x.top) (h.shape g)
         ∙ ap (λ (x : Shape). let y : Shape = record x { rules = x.rules ++ rule_of a ∷ [] } in y) s
         ∙ ap (λ (x : Rule). let y : Shape = record file_shape { rules = file_rule ∷ x ∷ [] } in y) f.1.1,
+  ),
+)
+
+-- the puzzles' command with their format
+pub assessing_made : {E : Type 0} (base : Command) (a : Arg) (r : Result Command E) → IfOk r (AddsArg base a) → a.global ≡ false → shape_of base ≡ puzzles_shape
+    → (formats : ValueParser) × (AreOfFiles formats × (rule_of a ≡ format_rule (codes "ppm") formats))
+    → IfOk r (λ c. (formats : ValueParser) × (AreOfFiles formats × (shape_of c ≡ assessing_shape formats)))
+assessing_made base a (Err e) h g s f = h
+assessing_made base a (Ok c) h g s f = (
+  f.0,
+  (
+    f.1.0,
+    ap (λ (x : App). x.top) (h.shape g)
+        ∙ ap (λ (x : Shape). let y : Shape = record x { rules = x.rules ++ rule_of a ∷ [] } in y) s
+        ∙ ap (λ (x : Rule). let y : Shape = record puzzles_shape { rules = files_rule ∷ x ∷ [] } in y) f.1.1,
   ),
 )
 
@@ -43,13 +59,14 @@ abbrev bare : App
 bare = record { top = top_shape; subs = [] }
 
 -- the program's command with its subcommands
-pub command_made : {E : Type 0} (top work first check second prove third verify : Command) (r : Result Command E) → app_of top ≡ bare → AddsSubcommand top work first
+pub command_made : {E : Type 0} (top work first check second prove third assess fourth verify : Command) (r : Result Command E) → app_of top ≡ bare → AddsSubcommand top work first
     → AddsSubcommand first check second
-    → AddsSubcommand second prove third → IfOk r (AddsSubcommand third verify) → IsLocal work → IsLocal check → IsLocal prove → IsLocal verify
-    → shape_of check ≡ check_shape (codes "check") → (forms : ValueParser) × (AreOfCerts forms × (shape_of prove ≡ prove_shape forms)) → shape_of verify ≡ check_shape (codes "verify")
+    → AddsSubcommand second prove third → AddsSubcommand third assess fourth → IfOk r (AddsSubcommand fourth verify) → IsLocal work → IsLocal check → IsLocal prove → IsLocal assess → IsLocal verify
+    → shape_of check ≡ check_shape (codes "check") → (forms : ValueParser) × (AreOfCerts forms × (shape_of prove ≡ prove_shape forms))
+    → (kinds : ValueParser) × (AreOfFiles kinds × (shape_of assess ≡ assess_shape kinds)) → shape_of verify ≡ check_shape (codes "verify")
     → (formats : ValueParser) × (AreOfFiles formats × (shape_of work ≡ work_shape formats)) → IfOk r (λ c. (formats : Formats) × (AreFormats formats × (app_of c ≡ program_app formats)))
-command_made top work first check second prove third verify (Err e) t a b d h l m o n s p v f = h
-command_made top work first check second prove third verify (Ok c) t a b d h l m o n s p v f =
+command_made top work first check second prove third assess fourth verify (Err e) t a b d u h l m o q n s p k v f = h
+command_made top work first check second prove third assess fourth verify (Ok c) t a b d u h l m o q n s p k v f =
     let one : app_of first ≡ with_subcommand bare (work_shape f.0) =
     a.shape l ∙ ap (λ (x : App). with_subcommand x (shape_of work)) t ∙ ap (λ (x : Shape). with_subcommand bare x) f.1.1 in
     let two = with_subcommand (with_subcommand bare (work_shape f.0)) (check_shape (codes "check")) in
@@ -57,9 +74,11 @@ command_made top work first check second prove third verify (Ok c) t a b d h l m
     b.shape m ∙ ap (λ (x : App). with_subcommand x (shape_of check)) one ∙ ap (λ (x : Shape). with_subcommand (with_subcommand bare (work_shape f.0)) x) s in
     let three = with_subcommand two (prove_shape p.0) in
     let more : app_of third ≡ three = d.shape o ∙ ap (λ (x : App). with_subcommand x (shape_of prove)) both ∙ ap (λ (x : Shape). with_subcommand two x) p.1.1 in
-    let formats : Formats = (f.0, p.0) in
-    let all : app_of c ≡ program_app formats = h.shape n ∙ ap (λ (x : App). with_subcommand x (shape_of verify)) more ∙ ap (λ (x : Shape). with_subcommand three x) v in
-    (formats, ((f.1.0, p.1.0), all))
+    let four = with_subcommand three (assess_shape k.0) in
+    let most : app_of fourth ≡ four = u.shape q ∙ ap (λ (x : App). with_subcommand x (shape_of assess)) more ∙ ap (λ (x : Shape). with_subcommand three x) k.1.1 in
+    let formats : Formats = (f.0, p.0, k.0) in
+    let all : app_of c ≡ program_app formats = h.shape n ∙ ap (λ (x : App). with_subcommand x (shape_of verify)) most ∙ ap (λ (x : Shape). with_subcommand four x) v in
+    (formats, ((f.1.0, p.1.0, k.1.0), all))
 
 -- the errors by which a parse of the words fails
 abbrev Fails : List Text → Result ArgMatches Error → App → Type 0

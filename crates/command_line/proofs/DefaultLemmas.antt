@@ -46,7 +46,18 @@ enters_work formats word = refl
 
 -- what is given for such words
 abbrev given_alone : Text → Given
-given_alone path = record { file = Some path; cert = None; givens = None; format = Some (codes "ppm"); background = None; history = Some (codes "100"); complete = None }
+given_alone path = record {
+  file = Some path;
+  cert = None;
+  givens = None;
+  format = Some (codes "ppm");
+  background = None;
+  history = Some (codes "100");
+  complete = None;
+  files = [];
+  certificate = None;
+  allow = None;
+}
 
 gives_alone : (formats : Formats) (word : Text)
     → given_in (finished (work_built formats).rules

@@ -1,48 +1,44 @@
 -- The words of the command line, by the contract of the parser.
-use Rattle.std.proofs.Common.{◌≡◌, ◌≢◌, ◌⊎◌, ◌↔◌, ◌≤◌, ℕ, Bool, List, [], ◌∷◌, get_or, codes, Option, None, Some, Result, Ok, Err, IsTrue, option_map, true, false, true≢false, refl, sym, ap}
-use Rattle.std.proofs.Common.{subst, eqb, eq-eqb, ◌∙◌, arith, inl, inr, ⊎_elim}
+use Rattle.std.proofs.Common.{◌≡◌, ◌≢◌, ◌⊎◌, ◌↔◌, ℕ, Bool, List, [], ◌∷◌, bytes_eq, codes, Option, None, Some, Result, Ok, Err, IsTrue, option_map, true, false, true≢false, refl, sym, ap}
+use Rattle.std.proofs.Common.{subst, unwrap_or, ◌<◌, ◌^◌, ◌∙◌, arith, inl, inr, ⊎_elim}
+use Rattle.std.proofs.lemmas.Slice.Eq.{bytes_eq-Decides}
 use Rattle.std.specs.Str.Parse.{ParsesUnsigned}
 use Rattle.clap.specs.declared.error.Error.{Error}
 use Rattle.clap.specs.declared.error.kind.ErrorKind.{ErrorKind}
 use Rattle.clap.specs.declared.error.kind.ErrorKind.TheVariants as kind
-use Rattle.clap.specs.Words.{App, HasKind, IsAmong, Kinds, ReadsOne, Row, Text, fault_of, first_of, first_value, kind_of, one_of, one_text, rows_of, subcommand_name_of}
-use Rattle.clap.specs.Words.{subcommand_of, subcommand_rows_of, takes}
+use Rattle.clap.specs.Words.{App, HasKind, IsAmong, Kinds, ReadsOne, Row, Text, fault_of, kind_of, rows_of, subcommand_name_of, subcommand_of, subcommand_rows_of}
+use Rattle.clap.specs.Words.{takes}
 use Rattle.clap.specs.declared.parser.matches.ArgMatches.{ArgMatches}
 use Rattle.clap.specs.declared.parser.matches.Found.{Found}
-use Rattle.clap.proofs.WalkLemmas.{first_value-rows, one_text-rows}
+use Rattle.clap.proofs.WalkLemmas.{first_value-rows, one_text-rows, raw_values-rows}
 use Rattle.program_options.specs.declared.fault.ProgramFault.{ProgramFault}
 use Rattle.program_options.specs.declared.fault.ProgramFault.TheVariants as fault
 use Rattle.command_line.specs.declared.words.Task.{Task}
-use Rattle.command_line.specs.declared.words.Task.TheVariants.{Clues, Work, Check, Prove, Help}
+use Rattle.command_line.specs.declared.words.Task.TheVariants.{Clues, Work, Check, Prove, Assess, Help}
 use Rattle.command_line.specs.Program.{AreFormats, Formats, ParsesAs, program_app}
-use Rattle.command_line.specs.Words.{Given, IsAsked, IsCheck, IsNamed, IsProve, IsTaskBy, IsTaskOf, IsUntaken, IsWork, Spells, given_in, given_of, is_shown}
+use Rattle.command_line.specs.Words.{IsAsked, IsAssess, IsCheck, IsNamed, IsProve, IsTaskBy, IsTaskOf, IsUntaken, IsWork, Spells, given_in, given_of, is_shown}
 use Rattle.command_line.proofs.EnterLemmas.{names_one, some_kind}
 
 -- ---- values
 
-abbrev made : Option Text → Option Text → Option Text → Option Text → Option Text → Option Text → Option Text → Given
-made file cert givens format background history complete =
-    record { file = file; cert = cert; givens = givens; format = format; background = background; history = history; complete = complete }
-
 -- the values of a parse's entries are those of its rows
 pub given_same : (f : Found) → given_of f ≡ given_in (rows_of f)
 given_same f =
-    let v : Text → Option Text = λ id. first_value f id in
-    let r : Text → Option Text = λ id. first_of id (rows_of f) in
-    let file = codes "file" in
-    let cert = codes "cert" in
-    let givens = codes "givens" in
-    let format = codes "format" in
-    let background = codes "background" in
-    let old = one_text f (codes "history") in
-    let off = one_text f (codes "complete") in
-    ap (λ (x : Option Text). made x (v cert) (v givens) (v format) (v background) old off) (first_value-rows f file)
-    ∙ ap (λ (x : Option Text). made (r file) x (v givens) (v format) (v background) old off) (first_value-rows f cert)
-    ∙ ap (λ (x : Option Text). made (r file) (r cert) x (v format) (v background) old off) (first_value-rows f givens)
-    ∙ ap (λ (x : Option Text). made (r file) (r cert) (r givens) x (v background) old off) (first_value-rows f format)
-    ∙ ap (λ (x : Option Text). made (r file) (r cert) (r givens) (r format) x old off) (first_value-rows f background)
-    ∙ ap (λ (x : Option Text). made (r file) (r cert) (r givens) (r format) (r background) x off) (one_text-rows f (codes "history"))
-    ∙ ap (λ (x : Option Text). made (r file) (r cert) (r givens) (r format) (r background) (one_of (codes "history") (rows_of f)) x) (one_text-rows f (codes "complete"))
+    let first = first_value-rows f in
+    let one = one_text-rows f in
+    let all = raw_values-rows f (codes "files") in
+    λ i. record {
+      file = first (codes "file") i;
+      cert = first (codes "cert") i;
+      givens = first (codes "givens") i;
+      format = first (codes "format") i;
+      background = first (codes "background") i;
+      history = one (codes "history") i;
+      complete = one (codes "complete") i;
+      files = unwrap_or (all i) [];
+      certificate = first (codes "certificate") i;
+      allow = one (codes "allow") i;
+    }
 
 -- ---- the subcommand
 
@@ -60,30 +56,13 @@ name_in = option_map (λ p. p.0)
 abbrev rows_in : Option (Text × List Row) → Option (List Row)
 rows_in = option_map (λ p. p.1)
 
--- two names that begin with different letters
-apart : (a b : Text) (m n : ℕ) → get_or a 0 0 ≡ m → get_or b 0 0 ≡ n → eqb m n ≡ false → a ≡ b → ⊥
-apart a b m n p q other e = true≢false (sym (eq-eqb m n (sym p ∙ (ap (λ (t : Text). get_or t 0 0) e ∙ q))) ∙ other)
-
-check_not_work : codes "check" ≡ codes "work" → ⊥
-check_not_work = apart (codes "check") (codes "work") 99 119 refl refl refl
-
-prove_not_work : codes "prove" ≡ codes "work" → ⊥
-prove_not_work = apart (codes "prove") (codes "work") 112 119 refl refl refl
-
-verify_not_work : codes "verify" ≡ codes "work" → ⊥
-verify_not_work = apart (codes "verify") (codes "work") 118 119 refl refl refl
-
-prove_not_check : codes "prove" ≡ codes "check" → ⊥
-prove_not_check = apart (codes "prove") (codes "check") 112 99 refl refl refl
-
-verify_not_check : codes "verify" ≡ codes "check" → ⊥
-verify_not_check = apart (codes "verify") (codes "check") 118 99 refl refl refl
-
-verify_not_prove : codes "verify" ≡ codes "prove" → ⊥
-verify_not_prove = apart (codes "verify") (codes "prove") 118 112 refl refl refl
-
 some_text : (a b : Text) → Some a ≡ Some b → a ≡ b
 some_text a b e = cc
+
+-- one subcommand is entered, and no other
+other_name : (entered : Option (Text × List Row)) (name other : Text) → name_in entered ≡ Some name → bytes_eq name other ≡ false → (rows : List Row) → entered ≡ Some (other, rows) → ⊥
+other_name entered name other is differ rows e =
+    true≢false (sym ((bytes_eq-Decides name other).1 (some_text name other (sym is ∙ ap name_in e))) ∙ differ)
 
 some_rows : (a b : List Row) → Some a ≡ Some b → a ≡ b
 some_rows a b e = cc
@@ -92,45 +71,59 @@ pub asked_work : (entered : Option (Text × List Row)) (rows : List Row) (r : Re
     → option_map (λ p. p.1) entered ≡ Some rows → IsWork (given_in rows) r → IsAsked entered r
 asked_work entered rows r name is asked = record {
   work = λ there e. subst (λ (x : List Row). IsWork (given_in x) r) (some_rows rows there (sym is ∙ ap rows_in e)) asked;
-  check = λ there e. absurd (check_not_work (some_text (codes "check") (codes "work") (sym (ap name_in e) ∙ name)));
-  prove = λ there e. absurd (prove_not_work (some_text (codes "prove") (codes "work") (sym (ap name_in e) ∙ name)));
-  verify = λ there e. absurd (verify_not_work (some_text (codes "verify") (codes "work") (sym (ap name_in e) ∙ name)));
+  check = λ there e. absurd (other_name entered (codes "work") (codes "check") name refl there e);
+  prove = λ there e. absurd (other_name entered (codes "work") (codes "prove") name refl there e);
+  assess = λ there e. absurd (other_name entered (codes "work") (codes "assess") name refl there e);
+  verify = λ there e. absurd (other_name entered (codes "work") (codes "verify") name refl there e);
 }
 
 pub asked_check : (entered : Option (Text × List Row)) (rows : List Row) (r : Result Task ProgramFault) → option_map (λ p. p.0) entered ≡ Some (codes "check")
     → option_map (λ p. p.1) entered ≡ Some rows → IsCheck (given_in rows) r → IsAsked entered r
 asked_check entered rows r name is asked = record {
-  work = λ there e. absurd (check_not_work (some_text (codes "check") (codes "work") (sym name ∙ ap name_in e)));
+  work = λ there e. absurd (other_name entered (codes "check") (codes "work") name refl there e);
   check = λ there e. subst (λ (x : List Row). IsCheck (given_in x) r) (some_rows rows there (sym is ∙ ap rows_in e)) asked;
-  prove = λ there e. absurd (prove_not_check (some_text (codes "prove") (codes "check") (sym (ap name_in e) ∙ name)));
-  verify = λ there e. absurd (verify_not_check (some_text (codes "verify") (codes "check") (sym (ap name_in e) ∙ name)));
+  prove = λ there e. absurd (other_name entered (codes "check") (codes "prove") name refl there e);
+  assess = λ there e. absurd (other_name entered (codes "check") (codes "assess") name refl there e);
+  verify = λ there e. absurd (other_name entered (codes "check") (codes "verify") name refl there e);
 }
 
 pub asked_prove : (entered : Option (Text × List Row)) (rows : List Row) (r : Result Task ProgramFault) → option_map (λ p. p.0) entered ≡ Some (codes "prove")
     → option_map (λ p. p.1) entered ≡ Some rows → IsProve (given_in rows) r → IsAsked entered r
 asked_prove entered rows r name is asked = record {
-  work = λ there e. absurd (prove_not_work (some_text (codes "prove") (codes "work") (sym name ∙ ap name_in e)));
-  check = λ there e. absurd (prove_not_check (some_text (codes "prove") (codes "check") (sym name ∙ ap name_in e)));
+  work = λ there e. absurd (other_name entered (codes "prove") (codes "work") name refl there e);
+  check = λ there e. absurd (other_name entered (codes "prove") (codes "check") name refl there e);
   prove = λ there e. subst (λ (x : List Row). IsProve (given_in x) r) (some_rows rows there (sym is ∙ ap rows_in e)) asked;
-  verify = λ there e. absurd (verify_not_prove (some_text (codes "verify") (codes "prove") (sym (ap name_in e) ∙ name)));
+  assess = λ there e. absurd (other_name entered (codes "prove") (codes "assess") name refl there e);
+  verify = λ there e. absurd (other_name entered (codes "prove") (codes "verify") name refl there e);
+}
+
+pub asked_assess : (entered : Option (Text × List Row)) (rows : List Row) (r : Result Task ProgramFault) → option_map (λ p. p.0) entered ≡ Some (codes "assess")
+    → option_map (λ p. p.1) entered ≡ Some rows → IsAssess (given_in rows) r → IsAsked entered r
+asked_assess entered rows r name is asked = record {
+  work = λ there e. absurd (other_name entered (codes "assess") (codes "work") name refl there e);
+  check = λ there e. absurd (other_name entered (codes "assess") (codes "check") name refl there e);
+  prove = λ there e. absurd (other_name entered (codes "assess") (codes "prove") name refl there e);
+  assess = λ there e. subst (λ (x : List Row). IsAssess (given_in x) r) (some_rows rows there (sym is ∙ ap rows_in e)) asked;
+  verify = λ there e. absurd (other_name entered (codes "assess") (codes "verify") name refl there e);
 }
 
 pub asked_verify : (entered : Option (Text × List Row)) (rows : List Row) (r : Result Task ProgramFault) → option_map (λ p. p.0) entered ≡ Some (codes "verify")
     → option_map (λ p. p.1) entered ≡ Some rows → IsCheck (given_in rows) r → IsAsked entered r
 asked_verify entered rows r name is asked = record {
-  work = λ there e. absurd (verify_not_work (some_text (codes "verify") (codes "work") (sym name ∙ ap name_in e)));
-  check = λ there e. absurd (verify_not_check (some_text (codes "verify") (codes "check") (sym name ∙ ap name_in e)));
-  prove = λ there e. absurd (verify_not_prove (some_text (codes "verify") (codes "prove") (sym name ∙ ap name_in e)));
+  work = λ there e. absurd (other_name entered (codes "verify") (codes "work") name refl there e);
+  check = λ there e. absurd (other_name entered (codes "verify") (codes "check") name refl there e);
+  prove = λ there e. absurd (other_name entered (codes "verify") (codes "prove") name refl there e);
+  assess = λ there e. absurd (other_name entered (codes "verify") (codes "assess") name refl there e);
   verify = λ there e. subst (λ (x : List Row). IsCheck (given_in x) r) (some_rows rows there (sym is ∙ ap rows_in e)) asked;
 }
 
--- ---- the history
+-- ---- numbers
 
 -- the number that is read from a text is the one that the text writes
-pub depth_read : {E : Type 0} (n : ℕ) (text : Text) (found : Option ℕ) (gives : List ℕ → Result ℕ E → Type 0) → ((t : List ℕ) (r : Result ℕ E) → gives t r → ParsesUnsigned 16 10 t r) → n ≤ 1000
-    → Spells text n → ReadsOne gives text found → found ≡ Some n
-depth_read {E} n text (Some m) gives parses few spells reads = ap Some ((parses text (Ok m) reads).1 ∙ spells.value)
-depth_read {E} n text None gives parses few spells reads =
+pub number_read : {E : Type 0} (bits n : ℕ) (text : Text) (found : Option ℕ) (gives : List ℕ → Result ℕ E → Type 0) → ((t : List ℕ) (r : Result ℕ E) → gives t r → ParsesUnsigned bits 10 t r)
+    → n < 2 ^ bits → Spells text n → ReadsOne gives text found → found ≡ Some n
+number_read {E} bits n text (Some m) gives parses few spells reads = ap Some ((parses text (Ok m) reads).1 ∙ spells.value)
+number_read {E} bits n text None gives parses few spells reads =
     let value = spells.value in
     absurd (parses text (Err reads.0) reads.1 (spells.numeral, omega (arith, few)))
 
@@ -183,6 +176,7 @@ memory_or k (Ok Clues) u = absurd u
 memory_or k (Ok (Work file options)) u = absurd u
 memory_or k (Ok (Check file cert givens background)) u = absurd u
 memory_or k (Ok (Prove file givens options)) u = absurd u
+memory_or k (Ok (Assess files options givens cert)) u = absurd u
 memory_or k (Ok (Help text)) u = inr (shown_not_memory k u)
 memory_or k (Err (fault.Words text)) u = inr u.1
 memory_or k (Err (fault.Ppm x)) u = inl (memory_is (fault.Ppm x) u)
@@ -198,6 +192,8 @@ memory_or k (Err fault.TooLong) u = inl (memory_is fault.TooLong u)
 memory_or k (Err fault.NotText) u = inl (memory_is fault.NotText u)
 memory_or k (Err fault.Background) u = inl (memory_is fault.Background u)
 memory_or k (Err fault.BackgroundOfNon) u = inl (memory_is fault.BackgroundOfNon u)
+memory_or k (Err fault.OneFile) u = inl (memory_is fault.OneFile u)
+memory_or k (Err fault.Unfit) u = inl (memory_is fault.Unfit u)
 memory_or k (Err fault.Read) u = inl (memory_is fault.Read u)
 memory_or k (Err fault.Write) u = inl (memory_is fault.Write u)
 

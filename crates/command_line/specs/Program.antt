@@ -1,5 +1,6 @@
 -- The program's command line, as the parser of words sees it.
 use Rattle.std.specs.Prelude.{◌≡◌, true, false, pos, List, [], ◌∷◌, codes, map, Some, Result, Ok, Err}
+use Rattle.clap.specs.Lexer.{usize_max}
 use Rattle.clap.specs.Words.{App, HasKind, Rule, Shape, Text, fault_of, kind_of, new_rule, subcommand_of}
 use Rattle.clap.specs.Words.{subcommand_rows_of, takes}
 use Rattle.clap.specs.Simple.{new_shape}
@@ -50,6 +51,25 @@ history_rule = record (new_rule (codes "history")) {
   parser = Some (parser.Signed (pos 1) (pos 1000));
 }
 
+-- one file or more
+abbrev pub files_rule : Rule
+files_rule = record (word_rule (codes "files")) {
+  range = Some (record {
+    start_inclusive = 1;
+    end_inclusive = usize_max;
+  });
+}
+
+abbrev pub allow_rule : Rule
+allow_rule = record (new_rule (codes "allow")) {
+  long = Some (codes "allow");
+  value_names = 1;
+  parser = Some (parser.Signed (pos 0) (pos 99999));
+}
+
+abbrev pub certificate_rule : Rule
+certificate_rule = record (new_rule (codes "certificate")) { long = Some (codes "certificate"); value_names = 1 }
+
 -- ---- the subcommands
 
 abbrev pub file_shape : Shape
@@ -83,6 +103,24 @@ prove_shape forms = record (new_shape (codes "prove")) {
   rules = file_rule ∷ background_rule ∷ givens_rule ∷ complete_rule ∷ format_rule (codes "2") forms ∷ [];
 }
 
+abbrev pub puzzles_shape : Shape
+puzzles_shape = record (new_shape (codes "assess")) { rules = files_rule ∷ [] }
+
+abbrev pub assessing_shape : ValueParser → Shape
+assessing_shape formats =
+    record (new_shape (codes "assess")) { rules = files_rule ∷ format_rule (codes "ppm") formats ∷ [] }
+
+abbrev pub bounding_shape : ValueParser → Shape
+bounding_shape formats = record (new_shape (codes "assess")) {
+  rules = files_rule ∷ format_rule (codes "ppm") formats ∷ background_rule ∷ allow_rule ∷ [];
+}
+
+abbrev pub assess_shape : ValueParser → Shape
+assess_shape formats = record (new_shape (codes "assess")) {
+  rules = files_rule ∷ format_rule (codes "ppm") formats ∷ background_rule ∷ allow_rule ∷ givens_rule
+      ∷ certificate_rule ∷ [];
+}
+
 -- ---- the program
 
 abbrev pub top_shape : Shape
@@ -92,14 +130,15 @@ top_shape = record (new_shape (codes "nonobench")) {
   subcommand_required = true;
 }
 
--- the parsers of the formats of a session's file, and of those of a certificate
+-- the parsers of the formats of a session's file, of those of a certificate, and of those of a puzzle's file
 abbrev pub Formats : Type 0
-Formats = ValueParser × ValueParser
+Formats = ValueParser × ValueParser × ValueParser
 
 abbrev pub program_app : Formats → App
 program_app formats = record {
   top = record top_shape { is_leaf = false };
-  subs = work_shape formats.0 ∷ check_shape (codes "check") ∷ prove_shape formats.1 ∷ check_shape (codes "verify") ∷ [];
+  subs = work_shape formats.0 ∷ check_shape (codes "check") ∷ prove_shape formats.1 ∷ assess_shape formats.2
+      ∷ check_shape (codes "verify") ∷ [];
 }
 
 -- one of these names is taken
@@ -107,7 +146,7 @@ abbrev pub Takes : List Text → ValueParser → Type 0
 Takes texts (parser.Names names) = map (λ s. s.now) names.now ≡ texts
 Takes texts _ = ⊥
 
--- the formats that the file of a session can have
+-- the formats that the file of a session or of a puzzle can have
 abbrev pub AreOfFiles : ValueParser → Type 0
 AreOfFiles formats = Takes (codes "ppm" ∷ codes "non" ∷ []) formats
 
@@ -116,7 +155,7 @@ abbrev pub AreOfCerts : ValueParser → Type 0
 AreOfCerts formats = Takes (codes "1" ∷ codes "2" ∷ []) formats
 
 abbrev pub AreFormats : Formats → Type 0
-AreFormats formats = AreOfFiles formats.0 × AreOfCerts formats.1
+AreFormats formats = AreOfFiles formats.0 × AreOfCerts formats.1 × AreOfFiles formats.2
 
 -- a command with no global argument
 abbrev pub IsLocal : Command → Type 0

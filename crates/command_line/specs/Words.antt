@@ -1,23 +1,25 @@
 -- What the words ask for, by the values that the parser of words found.
-use Rattle.std.specs.Prelude.{◌≡◌, ◌⊎◌, ℕ, ◌<◌, ◌≤◌, ◌↔◌, Bool, true, false, List, [], ◌∷◌, codes, unwrap_or, Option}
-use Rattle.std.specs.Prelude.{option_map}
+use Rattle.std.specs.Prelude.{◌≡◌, ◌⊎◌, ◌||◌, ℕ, ◌<◌, ◌≤◌, ◌↔◌, Bool, true, false, List, [], ◌∷◌, codes, Option}
+use Rattle.std.specs.Prelude.{is_some, length, option_map, unwrap_or}
 use Rattle.std.specs.Prelude.{None, Some, Result, Ok, Err, refl}
 use Rattle.std.specs.Str.Parse.{IsNumeral, digits_value, without_leading_plus}
-use Rattle.clap.specs.Words.{App, IsAmong, Kinds, Row, Text, fault_of, first_of, first_value, one_of, one_text}
-use Rattle.clap.specs.Words.{subcommand_of, takes}
+use Rattle.clap.specs.Walk.{texts}
+use Rattle.clap.specs.Words.{App, IsAmong, Kinds, Row, Text, all_of, fault_of, first_of, first_value, matched_of}
+use Rattle.clap.specs.Words.{one_of, one_text, raw_values, subcommand_of, takes}
 use Rattle.clap.specs.declared.error.kind.ErrorKind.{ErrorKind}
 use Rattle.clap.specs.declared.error.kind.ErrorKind.TheVariants.{DisplayHelp, DisplayVersion, OutOfMemory}
 use Rattle.clap.specs.declared.parser.matches.Found.{Found}
 use Rattle.picture.specs.declared.rgb.Rgb.{Rgb}
 use Rattle.program_options.specs.declared.fault.ProgramFault.{ProgramFault}
 use Rattle.program_options.specs.declared.fault.ProgramFault.TheVariants as fault
+use Rattle.program_options.specs.declared.assessing.AssessOptions.{AssessOptions}
 use Rattle.program_options.specs.declared.options.Options.{Options}
 use Rattle.program_options.specs.declared.options.ProveOptions.{ProveOptions}
 use Rattle.program_options.specs.Background.{background_of}
 use Rattle.program_options.specs.Options.{IsLawful}
 use Rattle.command_line.specs.Program.{AreFormats, Formats, program_app}
 use Rattle.command_line.specs.declared.words.Task.{Task}
-use Rattle.command_line.specs.declared.words.Task.TheVariants.{Work, Check, Prove, Help}
+use Rattle.command_line.specs.declared.words.Task.TheVariants.{Work, Check, Prove, Assess, Help}
 
 -- the options of a session are lawful
 abbrev pub IsLawfulTask : Task → Type 0
@@ -26,7 +28,7 @@ IsLawfulTask _ = Unit {0}
 
 -- ---- the values of a subcommand
 
--- the text of each argument, where it has one
+-- the text of each argument, where it has one, and the texts of the files
 pub record Given : Type 0 where
   pub file : Option Text
   pub cert : Option Text
@@ -35,6 +37,9 @@ pub record Given : Type 0 where
   pub background : Option Text
   pub history : Option Text
   pub complete : Option Text
+  pub files : List Text
+  pub certificate : Option Text
+  pub allow : Option Text
 
 -- these texts in the rows of a parse
 abbrev pub given_in : List Row → Given
@@ -46,6 +51,9 @@ given_in rows = record {
   background = first_of (codes "background") rows;
   history = one_of (codes "history") rows;
   complete = one_of (codes "complete") rows;
+  files = unwrap_or (all_of (codes "files") rows) [];
+  certificate = first_of (codes "certificate") rows;
+  allow = one_of (codes "allow") rows;
 }
 
 -- these texts in the entries of a subcommand
@@ -58,6 +66,9 @@ given_of f = record {
   background = first_value f (codes "background");
   history = one_text f (codes "history");
   complete = one_text f (codes "complete");
+  files = unwrap_or (option_map raw_values (matched_of f (codes "files"))) [];
+  certificate = first_value f (codes "certificate");
+  allow = one_text f (codes "allow");
 }
 
 -- ---- the task
@@ -87,7 +98,7 @@ pub record AreOptions (g : Given) (options : Options) : Type 0 where
 abbrev pub path_of : Option Text → Text
 path_of path = unwrap_or path []
 
--- Why no session is asked for: the background names no colour; or it names one, and the file is a .non text.
+-- Why nothing is asked for: the background names no colour; or it names one, and the file is a .non text.
 abbrev pub IsRefused : Given → ProgramFault → Type 0
 IsRefused g e =
     (background_asked g.background ≡ Err e)
@@ -125,18 +136,50 @@ IsProve g (Ok (Prove file givens options)) =
 IsProve g (Ok _) = ⊥
 IsProve g (Err e) = background_asked g.background ≡ Err e
 
+-- ---- assessments
+
+-- The format and the background are those of the words; so is
+-- the allowance, where its text writes a number up to 99,999.
+pub record AreAssessOptions (g : Given) (options : AssessOptions) : Type 0 where
+  pub format : (options.non ≡ true) ↔ (g.format ≡ Some (codes "non"))
+  pub background : background_asked g.background ≡ Ok options.background
+  pub unbounded : g.allow ≡ None → options.allowance ≡ None
+  pub allowance : (text : Text) (n : ℕ) → n ≤ 99999 → Spells text n → g.allow ≡ Some text → options.allowance ≡ Some n
+
+-- givens or a certificate are named
+abbrev pub has_beside : Given → Bool
+has_beside g = is_some g.givens || is_some g.certificate
+
+-- Why no assessment is asked for: as for a session; or givens or a certificate are named for another number of
+-- files than one.
+abbrev pub IsUnassessed : Given → ProgramFault → Type 0
+IsUnassessed g e =
+    IsRefused g e ⊎ ((e ≡ fault.OneFile) × ((has_beside g ≡ true) × (length g.files ≡ 1 → ⊥)))
+
+-- assessments of these files with these options, and the files beside the puzzle's
+abbrev pub IsAssess : Given → Result Task ProgramFault → Type 0
+IsAssess g (Ok (Assess files options givens cert)) =
+    (texts files.items ≡ g.files)
+    × (AreAssessOptions g options
+    × ((option_map (λ path. path.now) givens ≡ g.givens)
+    × ((option_map (λ path. path.now) cert ≡ g.certificate) × (has_beside g ≡ true → length g.files ≡ 1))))
+IsAssess g (Ok _) = ⊥
+IsAssess g (Err e) = (e ≡ fault.Memory) ⊎ IsUnassessed g e
+
 -- the subcommand that was entered is one of the program's
 abbrev pub IsNamed : Option (Text × List Row) → Type 0
 IsNamed None = ⊥
 IsNamed (Some entered) =
     (entered.0 ≡ codes "work")
-    ⊎ ((entered.0 ≡ codes "check") ⊎ ((entered.0 ≡ codes "prove") ⊎ (entered.0 ≡ codes "verify")))
+    ⊎ ((entered.0 ≡ codes "check") ⊎ ((entered.0 ≡ codes "prove")
+    ⊎ ((entered.0 ≡ codes "assess") ⊎ (entered.0 ≡ codes "verify"))))
 
 -- what a subcommand that was entered asks for, by its name and its rows; `verify` is the old name of `check`
 pub record IsAsked (entered : Option (Text × List Row)) (r : Result Task ProgramFault) : Type 0 where
   pub work : (rows : List Row) → entered ≡ Some (codes "work", rows) → IsWork (given_in rows) r
   pub check : (rows : List Row) → entered ≡ Some (codes "check", rows) → IsCheck (given_in rows) r
   pub prove : (rows : List Row) → entered ≡ Some (codes "prove", rows) → IsProve (given_in rows) r
+  pub assess : (rows : List Row) → entered ≡ Some (codes "assess", rows) → IsAssess (given_in rows) r
   pub verify : (rows : List Row) → entered ≡ Some (codes "verify", rows) → IsCheck (given_in rows) r
 
 -- ---- words that are not taken

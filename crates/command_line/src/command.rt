@@ -3,13 +3,13 @@
 ghost use Rattle.std.specs.Prelude.{◌≡◌, [], codes, false, IfOk};
 ghost use Rattle.clap.specs.Walk.{texts};
 ghost use Rattle.clap.specs.Words.{app_of, rule_of, shape_of};
-ghost use Rattle.command_line.specs.Program.{AreFormats, AreOfCerts, AreOfFiles, IsLocal, ParsesAs, background_rule, check_shape, file_shape, format_rule, givens_rule, history_rule, opening_shape, pair_shape, program_app, prove_shape, proving_shape, top_shape, word_rule, work_shape, complete_rule, searching_shape};
+ghost use Rattle.command_line.specs.Program.{AreFormats, AreOfCerts, AreOfFiles, IsLocal, ParsesAs, allow_rule, assess_shape, assessing_shape, background_rule, bounding_shape, certificate_rule, check_shape, complete_rule, file_shape, files_rule, format_rule, givens_rule, history_rule, opening_shape, pair_shape, program_app, prove_shape, proving_shape, puzzles_shape, searching_shape, top_shape, word_rule, work_shape};
 
 use clap::{Arg, ArgAction, ArgMatches, Command, Error, value_parser};
 use program_options::VERSION;
 use std::alloc::{AllocError, Global};
 
-// The formats that the file of a session can have: a P3 text or a .non text.
+// The formats that the file of a session or of a puzzle can have: a P3 text or a .non text.
 static FORMATS: [&str; 2] = ["ppm", "non"];
 
 // The formats that a certificate can be made in: nonolemma 1 or nonolemma 2.
@@ -35,10 +35,12 @@ fn command<'a>(alloc: Global) -> Result<Command<'a>, AllocError>
     let work = work_command(alloc)?;
     let check = check_command(alloc, "check", CHECK)?;
     let prove = prove_command(alloc)?;
+    let assess = assess_command(alloc)?;
     let verify = check_command(alloc, "verify", VERIFY)?;
     let command = top.subcommand(work)?;
     let command = command.subcommand(check)?;
     let command = command.subcommand(prove)?;
+    let command = command.subcommand(assess)?;
     command.subcommand(verify)
 }
 
@@ -94,6 +96,15 @@ fn file_command<'a>(alloc: Global) -> Result<Command<'a>, AllocError>
 const CHECK: &str = "Checks a certificate: whether the picture is the only one with its clues";
 
 const VERIFY: &str = "The old name of check";
+
+// What help says of the file of givens: of a check, of a certificate that is made, and of an assessment.
+const CHECK_GIVENS: &str =
+    "The givens that are published, as lines 'given R C': CERT may name no others";
+
+const PROVE_GIVENS: &str =
+    "The givens that are published, as lines 'given R C': the certificate names all of them";
+
+const ASSESS_GIVENS: &str = "The givens that are published, as lines 'given R C', with one FILE";
 
 // The command that checks a certificate, under a name.
 fn check_command<'a>(
@@ -152,6 +163,58 @@ fn proving<'a>(alloc: Global) -> Result<Command<'a>, AllocError>
         .arg(background(alloc))
 }
 
+// The command `assess`, which says whether puzzles are fit to be published.
+fn assess_command<'a>(alloc: Global) -> Result<Command<'a>, AllocError>
+    ensures shape { IfOk result (λ c. (formats : _)
+        × (AreOfFiles formats × (shape_of c ≡ assess_shape formats))) }
+    ensures local { IfOk result IsLocal }
+{
+    bounding(alloc)?
+        .arg(givens(alloc, ASSESS_GIVENS))?
+        .arg(certificate(alloc))
+}
+
+// The command `assess` with the puzzles' files, their format, the background and the allowance.
+fn bounding<'a>(alloc: Global) -> Result<Command<'a>, AllocError>
+    ensures shape { IfOk result (λ c. (formats : _)
+        × (AreOfFiles formats × (shape_of c ≡ bounding_shape formats))) }
+    ensures local { IfOk result IsLocal }
+{
+    assessing(alloc)?.arg(background(alloc))?.arg(allow(alloc))
+}
+
+// The command `assess` with the puzzles' files and their format.
+fn assessing<'a>(alloc: Global) -> Result<Command<'a>, AllocError>
+    ensures shape { IfOk result (λ c. (formats : _)
+        × (AreOfFiles formats × (shape_of c ≡ assessing_shape formats))) }
+    ensures local { IfOk result IsLocal }
+{
+    puzzles_command(alloc)?.arg(format(alloc))
+}
+
+// The command `assess` with the puzzles' files.
+fn puzzles_command<'a>(alloc: Global) -> Result<Command<'a>, AllocError>
+    ensures shape { IfOk result (λ c. shape_of c ≡ puzzles_shape) }
+    ensures local { IfOk result IsLocal }
+{
+    Command::new(alloc, "assess")
+        .about("Says whether puzzles are fit to be published, and how hard they are")
+        .after_help("Example: nonobench assess heart.ppm")
+        .arg(files(alloc))
+}
+
+// One file or more.
+fn files<'a>(alloc: Global) -> Arg<'a>
+    ensures rule { rule_of result ≡ files_rule }
+    ensures local { result.global ≡ false }
+{
+    Arg::new(alloc, "files")
+        .value_name("FILE")
+        .required(true)
+        .num_args(1..)
+        .help("The puzzles, as P3 texts or as .non texts with a goal")
+}
+
 // A required argument without a flag, with what help shows for its value and its meaning.
 fn word<'a>(alloc: Global, name: &'a str, value: &'a str, help: &'a str) -> Arg<'a>
     ensures rule { rule_of result ≡ word_rule name.entry.now }
@@ -201,12 +264,26 @@ fn history<'a>(alloc: Global) -> Arg<'a>
         .help("How many edits can be undone, 1 to 1000")
 }
 
-// What help says of the file of givens, of a check and of a certificate that is made.
-const CHECK_GIVENS: &str =
-    "The givens that are published, as lines 'given R C': CERT may name no others";
+fn allow<'a>(alloc: Global) -> Arg<'a>
+    ensures rule { rule_of result ≡ allow_rule }
+    ensures local { result.global ≡ false }
+{
+    Arg::new(alloc, "allow")
+        .long("allow")
+        .value_name("N")
+        .value_parser(value_parser!(u32).range(0..=99999))
+        .help("How many splits the search of a part may make, 0 to 99999")
+}
 
-const PROVE_GIVENS: &str =
-    "The givens that are published, as lines 'given R C': the certificate names all of them";
+fn certificate<'a>(alloc: Global) -> Arg<'a>
+    ensures rule { rule_of result ≡ certificate_rule }
+    ensures local { result.global ≡ false }
+{
+    Arg::new(alloc, "certificate")
+        .long("certificate")
+        .value_name("CERT")
+        .help("A certificate to take in place of a search, with one FILE")
+}
 
 fn givens<'a>(alloc: Global, help: &'a str) -> Arg<'a>
     ensures rule { rule_of result ≡ givens_rule }

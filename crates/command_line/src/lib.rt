@@ -1,6 +1,7 @@
 //! The command line: what its arguments ask the program for.
 #![tactic(auto)]
 
+mod assessing;
 mod command;
 pub mod laws;
 mod words;

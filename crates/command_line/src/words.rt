@@ -6,12 +6,13 @@ ghost use Rattle.clap.specs.Words.{Text, first_value, found_of, kind_of, one_tex
 ghost use Rattle.command_line.specs.declared.words.Task.TheVariants.{Clues};
 ghost use Rattle.command_line.specs.Words.{IsAsked, IsCheck, IsLawfulTask, IsProve, IsTaskOf, IsUntaken, IsWork, Spells, background_asked, given_of};
 
+use crate::assessing::assess_of;
 use crate::command::parsed;
 use clap::error::ErrorKind;
 use clap::{ArgMatches, Error};
 use edits::MAX_DEPTH;
 use picture::Rgb;
-use program_options::{Options, ProgramFault, ProveOptions, background_in};
+use program_options::{AssessOptions, Options, ProgramFault, ProveOptions, background_in};
 use std::alloc::Global;
 
 /// What the words ask the program for. Paths are as they were given.
@@ -39,6 +40,15 @@ pub enum Task<'a> {
         givens: Option<&'a str>,
         options: ProveOptions,
     },
+    /// Assessments of puzzles, one after the other.
+    Assess {
+        files: Vec<&'a str>,
+        options: AssessOptions,
+        /// The file of the givens that are published with the only puzzle, where one is named.
+        givens: Option<&'a str>,
+        /// The file of its certificate, where one is named.
+        cert: Option<&'a str>,
+    },
     /// The parser's text for help or the version, which is to be shown.
     Help(String),
 }
@@ -48,8 +58,9 @@ const DEPTH: u16 = 100;
 
 /// Reads the words after the program's own name. No words at all ask for the clues.
 ///
-/// File, certificate, givens, format, background and history are those of the words, as the parser reads them. Help and version
-/// are a task. The errors are `Words`, which carries the parser's text, `Background`, `BackgroundOfNon` and `Memory`.
+/// Files, certificate, givens, format, background, history and allowance are those of the words, as the parser reads them. Help
+/// and version are a task. The errors are `Words`, which carries the parser's text, `Background`, `BackgroundOfNon`, `OneFile` and
+/// `Memory`.
 pub fn read_words<'a>(alloc: Global, words: &'a [&str]) -> Result<Task<'a>, ProgramFault>
     ensures none { words.entry.now ≡ [] → result ≡ Ok Clues }
     ensures lawful { IfOk result IsLawfulTask }
@@ -59,13 +70,13 @@ pub fn read_words<'a>(alloc: Global, words: &'a [&str]) -> Result<Task<'a>, Prog
         return Ok(Task::Clues);
     }
     match parsed(alloc, words)? {
-        Ok(matches) => task_of(&matches),
+        Ok(matches) => task_of(alloc, &matches),
         Err(error) => untaken(alloc, &error),
     }
 }
 
 // The task that words ask for.
-fn task_of<'a>(matches: &ArgMatches<'a>) -> Result<Task<'a>, ProgramFault>
+fn task_of<'a>(alloc: Global, matches: &ArgMatches<'a>) -> Result<Task<'a>, ProgramFault>
     ensures asked { IsAsked (subcommand_rows_of matches.now) result }
     ensures lawful { IfOk result IsLawfulTask }
 {
@@ -77,6 +88,9 @@ fn task_of<'a>(matches: &ArgMatches<'a>) -> Result<Task<'a>, ProgramFault>
     }
     if let Some(matches) = matches.subcommand_matches("prove") {
         return prove_of(matches);
+    }
+    if let Some(matches) = matches.subcommand_matches("assess") {
+        return assess_of(alloc, matches);
     }
     // The old name of `check`.
     if let Some(matches) = matches.subcommand_matches("verify") {
@@ -135,7 +149,7 @@ fn work_of<'a>(matches: &ArgMatches<'a>) -> Result<Task<'a>, ProgramFault>
 }
 
 // Whether the format is the one with this name.
-fn has_format(matches: &ArgMatches<'_>, name: &str) -> bool
+pub(crate) fn has_format(matches: &ArgMatches<'_>, name: &str) -> bool
     ensures { (result ≡ true)
         ↔ (first_value (found_of matches.now) (codes "format") ≡ Some name.now) }
 {
@@ -145,7 +159,7 @@ fn has_format(matches: &ArgMatches<'_>, name: &str) -> bool
 }
 
 // The colour of the background, where one is given.
-fn background_of(matches: &ArgMatches<'_>) -> Result<Option<Rgb>, ProgramFault>
+pub(crate) fn background_of(matches: &ArgMatches<'_>) -> Result<Option<Rgb>, ProgramFault>
     ensures { result ≡ background_asked (first_value (found_of matches.now) (codes "background")) }
 {
     let Some(text) = matches.get_str("background") else {

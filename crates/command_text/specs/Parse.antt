@@ -1,6 +1,6 @@
 -- The command that words name, or the first error.
-use Rattle.std.specs.Prelude.{ℕ, ◌<◌, IfSome, List, [], ◌∷◌, length, codes, Option, None, Some, Result, Ok, Err}
-use Rattle.std.specs.Prelude.{option_map, ◌==◌, if◌then◌else◌}
+use Rattle.std.specs.Prelude.{ℕ, ◌<◌, IfSome, true, false, List, [], ◌∷◌, length, codes, Option, None, Some, Result}
+use Rattle.std.specs.Prelude.{Ok, Err, option_map, ◌==◌, if◌then◌else◌}
 use Rattle.std.specs.Borrow.{Bor}
 use Rattle.std.specs.Map.{lookup}
 use Rattle.std.specs.Option.{ok_or}
@@ -117,6 +117,11 @@ palette_at words = read_by ((codes "add", made edit.AddColour (exactly 3 rgb_at)
 abbrev pub bare_at : Command → Meaning Command
 bare_at c words = counted 0 words >>= λ none. Ok c
 
+-- `named` says that the background was named; without a word it was not
+unfoldable pub assess_at : Meaning Command
+assess_at [] = Ok (command.Assess false)
+assess_at (word ∷ words) = read_by ((codes "named", bare_at (command.Assess true)) ∷ []) (word ∷ words)
+
 -- ---- the command
 
 -- A colour is a number below 16, and an allowance one of at most five digits.
@@ -132,6 +137,7 @@ IsBounded command.Certify = Unit {0}
 IsBounded command.WritePpm = Unit {0}
 IsBounded command.WriteNon = Unit {0}
 IsBounded command.Report = Unit {0}
+IsBounded (command.Assess is_named) = Unit {0}
 IsBounded command.Path = Unit {0}
 IsBounded (command.Allow allowance) = IfSome allowance (λ splits. splits < 100000)
 
@@ -157,6 +163,7 @@ commands =
     ∷ (codes "write", read_by ((codes "ppm", bare_at command.WritePpm) ∷ (codes "non", bare_at command.WriteNon) ∷ []))
     ∷ (codes "report", bare_at command.Report)
     ∷ (codes "path", bare_at command.Path)
+    ∷ (codes "assess", assess_at)
     ∷ (codes "allow", made command.Allow (exactly 1 (field_at allowance_of BadNumber))) ∷ []
 
 -- ---- the answers of functions that read words

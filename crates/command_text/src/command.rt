@@ -27,6 +27,8 @@ pub enum Command {
     WriteNon,
     /// Shows a report: the document, its clues, its map, the verdict and the history's lengths.
     Report,
+    /// Asks whether the puzzle is fit to be published, with a background that was named or was not.
+    Assess { is_named: bool },
     /// Shows the path of line logic.
     Path,
     /// Sets how many splits the search of each part may make. None removes that bound.

@@ -5,7 +5,7 @@ ghost use Rattle.picture.specs.Readers.{Reads};
 ghost use Rattle.edits.specs.declared.edit.Edit.TheVariants as edit;
 ghost use Rattle.command_text.specs.declared.command.Command.TheVariants as command;
 ghost use Rattle.command_text.specs.declared.fault.CommandFault.TheVariants.{BadNumber};
-ghost use Rattle.command_text.specs.Parse.{IsBounded, allowance_of, bare_at, both, colour_at, commands, exactly, field_at, fill_at, made, palette_at, read_by, spot_at, swap_at};
+ghost use Rattle.command_text.specs.Parse.{IsBounded, allowance_of, assess_at, bare_at, both, colour_at, commands, exactly, field_at, fill_at, made, palette_at, read_by, spot_at, swap_at};
 ghost use Rattle.command_text.specs.Words.{words_of};
 
 use crate::command::Command;
@@ -107,6 +107,19 @@ fn read_allow(rest: &[u8]) -> Result<Command, CommandFault>
     Ok(Command::Allow(splits))
 }
 
+#[tactic(auto, unfolding(crate::specs::Parse::assess_at))]
+// Whether the puzzle is fit to be published. The word `named` says that its background was named.
+fn read_assess(rest: &[u8]) -> Result<Command, CommandFault>
+    ensures value { Reads (λ c. c) result (assess_at (words_of rest.now)) }
+    ensures bounded { IfOk result IsBounded }
+{
+    match read_word(rest) {
+        Err(_) => Ok(Command::Assess { is_named: false }),
+        Ok((b"named", rest)) => bare(Command::Assess { is_named: true }, rest),
+        Ok(_) => Err(CommandFault::UnknownWord),
+    }
+}
+
 // Why a cell does not have a colour.
 fn read_why(rest: &[u8]) -> Result<Command, CommandFault>
     ensures value { Reads (λ c. c) result (made (λ spot. command.Why spot.0.0 spot.0.1 spot.1)
@@ -147,6 +160,7 @@ pub(crate) fn read_command(word: &[u8], rest: &[u8]) -> Result<Command, CommandF
         b"write" => read_write(rest),
         b"report" => bare(Command::Report, rest),
         b"path" => bare(Command::Path, rest),
+        b"assess" => read_assess(rest),
         b"allow" => read_allow(rest),
         _ => Err(CommandFault::UnknownWord),
     }

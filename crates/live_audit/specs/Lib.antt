@@ -1,7 +1,7 @@
+pub mod Assessing
 pub mod Bench
 pub mod Calls
 pub mod Laws
-pub mod Pathing
 pub mod Reason
 pub mod Stroke
 pub mod Verdict

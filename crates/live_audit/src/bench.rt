@@ -6,7 +6,7 @@ ghost use Rattle.clues.specs.Change.{IsChangeOf};
 ghost use Rattle.edits.specs.declared.fault.EditFault.TheVariants.{Memory};
 ghost use Rattle.edits.specs.Design.{design_of};
 ghost use Rattle.edits.specs.History.{IsPlanFor, advanced};
-ghost use Rattle.live_audit.specs.Pathing.{IsPathOf};
+ghost use Rattle.live_audit.specs.Assessing.{AreFewToAssess, IsAssessmentOf, IsPathOf};
 ghost use Rattle.live_audit.specs.Bench.{Begins, FitsDepth, IsAudited};
 ghost use Rattle.live_audit.specs.Calls.{Accepts, CarriesOn, IsAsBefore, IsAtOnce, IsFoundOn, Learns, Refuses};
 ghost use Rattle.live_audit.specs.Certify.{Certifies};
@@ -15,12 +15,13 @@ ghost use Rattle.live_audit.specs.Stroke.{Edits, Redoes, Undoes};
 ghost use Rattle.live_audit.specs.Verdict.{Tells, Decides, IsToldBy, IsVerdictOn, AnswersAs};
 ghost use Rattle.second_search.specs.JudgedParts.{HasNoFilling};
 
+use crate::assessing::{assessment_of, path_of};
 use crate::certifying::{Finding, certify_ordered};
 use crate::judging::{answers_next, other_kept, rule, rule_beside};
-use crate::pathing::path_of;
 use crate::verdict::Verdict;
 use crate::why::Why;
 use crate::work::{NO_WORK, Work};
+use assess::Assessment;
 use certificate::Cert;
 use clues::ClueBook;
 use edits::{Edit, EditFault, MAX_DEPTH, Prepared, Studio};
@@ -420,6 +421,26 @@ impl<E: LineEngine + Drop, A: Agenda + Drop> Bench<E, A> {
             &mut self.engine,
             self.studio.document(),
             &self.audit,
+        )
+    }
+
+    /// Assesses the present puzzle under the allowance: whether it is fit to be published. `is_named` says whether its background
+    /// was named. What was found before does not count, nothing is kept, and nothing changes but `calls`.
+    pub fn assess(&mut self, is_named: bool) -> Result<Assessment, AllocError>
+        ensures assessment { IfOk result
+            (IsAssessmentOf self.old.history.document is_named self.old.allowance) }
+        ensures few { AreFewToAssess self.old.history.document self.old.allowance self.old.calls
+            self.new.calls }
+        ensures as_before { IsAsBefore self.old self.new }
+        ensures calls { self.old.calls ≤ self.new.calls }
+        ensures audited { IsAudited self.new }
+    {
+        assessment_of(
+            self.alloc,
+            &mut self.engine,
+            self.studio.document(),
+            is_named,
+            self.allowance,
         )
     }
 }

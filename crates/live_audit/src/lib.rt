@@ -1,11 +1,11 @@
 //! A bench: one picture with its history, its clues, its book and its verdicts, up to date after every stroke.
 #![tactic(auto)]
 
+mod assessing;
 mod bench;
 mod certifying;
 mod judging;
 pub mod laws;
-mod pathing;
 mod verdict;
 mod why;
 mod work;

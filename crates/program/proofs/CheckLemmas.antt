@@ -7,8 +7,10 @@ use Rattle.program_options.specs.declared.fault.ProgramFault.{ProgramFault}
 use Rattle.program_options.specs.declared.fault.ProgramFault.TheVariants.{Memory, Write}
 use Rattle.command_line.specs.declared.words.Task.{Task}
 use Rattle.command_line.specs.declared.words.Task.TheVariants.{Check}
-use Rattle.answers.specs.Check.{IsCheckOf, IsLemmaProofOf, IsOnlyPicture, IsProofOf, WritesBy}
-use Rattle.answers.specs.Published.{IsOnlyPublished, IsPublishedCheckOf, IsPublishedProofOf}
+use Rattle.text_check.specs.Check.{IsLemmaProofOf, IsOnlyPicture, IsProofOf}
+use Rattle.answers.specs.Check.{IsCheckOf, WritesBy}
+use Rattle.text_check.specs.Published.{IsOnlyPublished, IsPublishedProofOf}
+use Rattle.answers.specs.Published.{IsPublishedCheckOf}
 use Rattle.program.specs.Files.{HasFailed, Held, IsContent, IsUnreadFile}
 use Rattle.program.specs.Work.{CarriesOut, IsCheckedWith, IsHalfRead, IsWithoutGivens}
 use Rattle.program.specs.World.{World, world}

@@ -1,3 +1,4 @@
+pub mod AssessLemmas
 pub mod CheckLemmas
 pub mod EndLemmas
 pub mod FileLemmas

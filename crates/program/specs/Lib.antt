@@ -1,3 +1,4 @@
+pub mod Assess
 pub mod Endings
 pub mod Files
 pub mod Run

@@ -12,15 +12,18 @@ use Rattle.program_options.specs.declared.fault.ProgramFault.{ProgramFault}
 use Rattle.program_options.specs.declared.fault.ProgramFault.TheVariants.{Memory, Write}
 use Rattle.program_options.specs.declared.options.Options.{Options}
 use Rattle.program_options.specs.declared.options.ProveOptions.{ProveOptions}
-use Rattle.answers.specs.Check.{IsCheckOf, IsLemmaProofOf, IsOnlyPicture, IsProofOf, WritesBy}
+use Rattle.text_check.specs.Check.{IsLemmaProofOf, IsOnlyPicture, IsProofOf}
+use Rattle.answers.specs.Check.{IsCheckOf, WritesBy}
 use Rattle.answers.specs.Prove.{IsProveOf, WritesProof}
-use Rattle.answers.specs.Published.{IsOnlyPublished, IsPublishedCheckOf, IsPublishedProofOf}
+use Rattle.text_check.specs.Published.{IsOnlyPublished, IsPublishedProofOf}
+use Rattle.answers.specs.Published.{IsPublishedCheckOf}
 use Rattle.program_options.specs.Faults.{session_fault_of}
 use Rattle.answers.specs.Open.{OpensFile}
 use Rattle.answers.specs.Run.{Writes, shown}
 use Rattle.answers.specs.Start.{IsStarted}
 use Rattle.command_line.specs.declared.words.Task.{Task}
-use Rattle.command_line.specs.declared.words.Task.TheVariants.{Clues, Work, Check, Prove, Help}
+use Rattle.command_line.specs.declared.words.Task.TheVariants.{Clues, Work, Check, Prove, Assess, Help}
+use Rattle.program.specs.Assess.{AssessesNamed}
 use Rattle.program.specs.Files.{HasFailed, Held, IsContent, IsUnread}
 use Rattle.program.specs.World.{IsStopped, World}
 
@@ -185,7 +188,7 @@ ProvesFile held path givens options before after r =
 
 -- What comes of each task, by what its files hold, with its options or its background. Where a file could not be read,
 -- that is the error, the input was left alone and nothing was written. In all other cases no opening and no read of a
--- file failed.
+-- file failed. Puzzles that are assessed go on past a file that could not be read.
 abbrev pub CarriesOut : (List ℕ → Held) → World → World → Task → Result (Unit {0}) ProgramFault → Type 0
 CarriesOut held before after Clues r = ShowsClues before after r
 CarriesOut held before after (Work path options) r =
@@ -195,4 +198,6 @@ CarriesOut held before after (Check path certificate givens background) r =
     ⊎ (IsHalfRead (held path.now) (held certificate.now) path.now certificate.now before after r
     ⊎ ChecksBy held path.now certificate.now givens background before after r)
 CarriesOut held before after (Prove path givens options) r = ProvesFile held path.now givens options before after r
+CarriesOut held before after (Assess files options givens cert) r =
+    AssessesNamed held files.items givens cert options before after r
 CarriesOut held before after (Help text) r = IsShown (string_bytes text) before after r

@@ -36,14 +36,15 @@ pub fn end_with<W: Write>(outcome: Result<(), ProgramFault>, errors: &mut W) -> 
     }
 }
 
-// A text of the parser is written as it is, every other error as a line; nothing where a word stands in a certificate's place.
+// A text of the parser is written as it is, every other error as a line; nothing where standard output has the word that stands in a
+// certificate's place, or the block that says that a puzzle is unfit.
 fn tell<W: Write>(fault: &ProgramFault, errors: &mut W) -> io::Result<()>
     ensures { OnOk result
         (Appends (W.contents errors.old) (W.contents errors.new) (fault_line fault.now)) }
 {
     match fault {
         ProgramFault::Words(text) => write!(errors, "{text}"),
-        ProgramFault::NoCertificate => Ok(()),
+        ProgramFault::NoCertificate | ProgramFault::Unfit => Ok(()),
         _ => writeln!(errors, "nonobench: {fault}"),
     }
 }

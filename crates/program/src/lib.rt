@@ -1,12 +1,14 @@
 //! The program over any files and streams: what it reads and writes, and how it ends, for its arguments.
 #![tactic(auto)]
 
+mod assessing;
 mod ending;
 mod files;
 mod input;
 mod running;
 mod work;
 
+pub use assessing::{Standing, assess_files};
 pub use ending::{Ended, end_with};
 pub use files::{Files, read_file};
 pub use input::{MAX_INPUT, read_input};

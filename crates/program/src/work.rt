@@ -5,6 +5,7 @@ ghost use Rattle.command_line.specs.Words.{IsLawfulTask};
 ghost use Rattle.program.specs.Work.{CarriesOut, ProvesFile, ShowsClues, Works};
 ghost use Rattle.program.specs.World.{world};
 
+use crate::assessing::assess_files;
 use crate::files::{Files, read_file};
 use crate::input::read_input;
 use answers::{
@@ -60,6 +61,12 @@ pub fn carry_out<F: Files, R: Read, W: Write>(
             givens,
             options,
         } => show_proof(alloc, file, *givens, *options, files, writer),
+        Task::Assess {
+            files: paths,
+            options,
+            givens,
+            cert,
+        } => assess_files(alloc, paths, (*givens, *cert), options, files, writer),
         Task::Help(text) => Ok(send(text.as_bytes(), writer)?),
     }
 }

@@ -2,7 +2,7 @@
 
 ghost use Rattle.std.specs.Prelude.{◌≡◌, Some};
 ghost use Rattle.program_options.specs.declared.fault.ProgramFault.TheVariants.{Givens as Refused, Memory, Write as Unwritten};
-ghost use Rattle.program_options.specs.Faults.{cert_fault_of, fault_of, fault_text, non_fault_of, session_fault_of, status_of};
+ghost use Rattle.program_options.specs.Faults.{cert_fault_of, check_fault_of, fault_of, fault_text, non_fault_of, session_fault_of, status_of};
 
 use cert_text::CertFault;
 use command_text::SessionFault;
@@ -13,6 +13,7 @@ use picture::WriteFault;
 use ppm_text::PpmFault;
 use std::alloc::AllocError;
 use std::fmt;
+use text_check::CheckFault;
 
 /// Why the program ends with a status other than 0. `Display` gives its message, and `status` the exit status.
 #[derive(Debug, PartialEq, Eq, Drop)]
@@ -45,6 +46,10 @@ pub enum ProgramFault {
     Background,
     /// A background's colour was given for a .non text.
     BackgroundOfNon,
+    /// A file of givens or a certificate was named for several puzzles.
+    OneFile,
+    /// A puzzle that was assessed is unfit or was refused, as its block says.
+    Unfit,
     /// A read failed.
     Read,
     /// A write failed.
@@ -67,6 +72,7 @@ impl ProgramFault {
         match self {
             ProgramFault::Words(_) | ProgramFault::NotText => 2,
             ProgramFault::Background | ProgramFault::BackgroundOfNon => 2,
+            ProgramFault::OneFile => 2,
             ProgramFault::Read | ProgramFault::Write => 3,
             _ => 1,
         }
@@ -78,31 +84,37 @@ impl fmt::Display for ProgramFault {
 
     fn fmt<W: fmt::Write>(&self, f: &mut fmt::Formatter<W>) -> fmt::Result {
         match self {
-            ProgramFault::Ppm(fault) => {
-                let place = fault.place().unwrap_or(0);
-                write!(f, "ppm {} at byte {place}", fault.name())
-            }
+            ProgramFault::Ppm(fault) => CheckFault::Ppm(*fault).fmt(f),
             ProgramFault::Non(fault) => write!(f, "non {}", fault.name()),
             ProgramFault::Edit(fault) => write!(f, "edit {}", fault.name()),
             ProgramFault::NoPicture => f.write_str("no picture has these clues"),
             ProgramFault::NoGoal => f.write_str("non NoGoal"),
-            ProgramFault::Cert(fault) => {
-                let line = fault.place().unwrap_or(0);
-                write!(f, "certificate {} at line {line}", fault.name())
-            }
+            ProgramFault::Cert(fault) => CheckFault::Cert(*fault).fmt(f),
             ProgramFault::NoCertificate => f.write_str("no certificate"),
-            ProgramFault::Givens(fault) => {
-                let line = fault.place();
-                write!(f, "givens {} at line {line}", fault.name())
-            }
-            ProgramFault::Memory => f.write_str("memory"),
+            ProgramFault::Givens(fault) => CheckFault::Givens(*fault).fmt(f),
+            ProgramFault::Memory => CheckFault::Memory.fmt(f),
             ProgramFault::TooLong => f.write_str("input too long"),
             ProgramFault::Words(text) => f.write_str(text.as_str()),
             ProgramFault::NotText => f.write_str("a word is not UTF-8"),
             ProgramFault::Background => f.write_str("background must be R,G,B"),
             ProgramFault::BackgroundOfNon => f.write_str("background goes with ppm"),
+            ProgramFault::OneFile => f.write_str("givens and certificate go with one file"),
+            ProgramFault::Unfit => f.write_str("unfit"),
             ProgramFault::Read => f.write_str("read failed"),
             ProgramFault::Write => f.write_str("write failed"),
+        }
+    }
+}
+
+impl From<CheckFault> for ProgramFault {
+    ghost from_gives = { λ fault e. e ≡ check_fault_of fault };
+
+    fn from(fault: CheckFault) -> ProgramFault {
+        match fault {
+            CheckFault::Ppm(fault) => ProgramFault::Ppm(fault),
+            CheckFault::Givens(fault) => ProgramFault::Givens(fault),
+            CheckFault::Cert(fault) => ProgramFault::Cert(fault),
+            CheckFault::Memory => ProgramFault::Memory,
         }
     }
 }
@@ -111,10 +123,7 @@ impl From<PpmFault> for ProgramFault {
     ghost from_gives = { λ fault e. e ≡ fault_of fault };
 
     fn from(fault: PpmFault) -> ProgramFault {
-        match fault {
-            PpmFault::Memory => ProgramFault::Memory,
-            _ => ProgramFault::Ppm(fault),
-        }
+        ProgramFault::from(CheckFault::from(fault))
     }
 }
 
@@ -144,10 +153,7 @@ impl From<CertFault> for ProgramFault {
     ghost from_gives = { λ fault e. e ≡ cert_fault_of fault };
 
     fn from(fault: CertFault) -> ProgramFault {
-        match fault {
-            CertFault::Memory => ProgramFault::Memory,
-            _ => ProgramFault::Cert(fault),
-        }
+        ProgramFault::from(CheckFault::from(fault))
     }
 }
 

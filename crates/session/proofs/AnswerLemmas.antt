@@ -21,7 +21,9 @@ use Rattle.live_audit.specs.declared.verdict.Verdict.{Verdict}
 use Rattle.live_audit.specs.declared.why.Why.{Why}
 use Rattle.live_audit.specs.Bench.{IsAudited, Seen}
 use Rattle.grade.specs.declared.pathing.Path.{Path}
-use Rattle.live_audit.specs.Pathing.{IsPathOf}
+use Rattle.assess.specs.declared.assessment.Assessment.{Assessment}
+use Rattle.assess_text.specs.AssessmentText.{assessment_text}
+use Rattle.live_audit.specs.Assessing.{IsAssessmentOf, IsPathOf}
 use Rattle.live_audit.specs.Calls.{Accepts, IsAsBefore, Learns, Refuses}
 use Rattle.live_audit.specs.Certify.{Certifies}
 use Rattle.live_audit.specs.Reason.{Explains}
@@ -117,7 +119,14 @@ unfolding Replies
 replies_certify old new (Ok text) learns before audited calls found = (inl (found.0, (found.1.0, (found.1.1, (learns, audited)))), calls)
 replies_certify old new (Err e) learns before audited calls found = (inr (refl, before), calls)
 
--- the path
+-- what was worked out of the document
+pub replies_assess : {E : Type 0} (old new : Seen) (is_named : Bool) (outcome : Result (Vec ℕ Global) E) → IsAsBefore old new → old.calls ≤ new.calls
+    → IfOk outcome (λ text. (found : Assessment) × (IsAssessmentOf old.history.document is_named old.allowance found × (text.items ≡ assessment_text found)))
+    → Replies (command.Assess is_named) old (answer_text (text_said outcome)) new
+unfolding Replies
+replies_assess old new is_named (Ok text) before calls found = (inl (found.0, (found.1.0, (found.1.1, before))), calls)
+replies_assess old new is_named (Err e) before calls found = (inr (refl, before), calls)
+
 pub replies_path : {E : Type 0} (old new : Seen) (outcome : Result (Vec ℕ Global) E) → IsAsBefore old new → old.calls ≤ new.calls
     → IfOk outcome (λ text. (path : Path) × (IsPathOf old.history.document path × (text.items ≡ path_shown path)))
     → Replies command.Path old (answer_text (text_said outcome)) new

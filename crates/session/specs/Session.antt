@@ -12,7 +12,7 @@ use Rattle.edits.specs.declared.fault.EditFault.TheVariants.{Place}
 use Rattle.edits.specs.Fault.{has_cell}
 use Rattle.live_audit.specs.declared.verdict.Verdict.{Verdict}
 use Rattle.live_audit.specs.declared.why.Why.{Why}
-use Rattle.live_audit.specs.Pathing.{IsPathOf}
+use Rattle.live_audit.specs.Assessing.{IsAssessmentOf, IsPathOf}
 use Rattle.live_audit.specs.Bench.{IsAudited, Seen}
 use Rattle.live_audit.specs.Calls.{Accepts, IsAsBefore, Learns, Refuses}
 use Rattle.live_audit.specs.Reason.{Explains}
@@ -31,8 +31,8 @@ use Rattle.command_text.specs.Faults.{name_of}
 use Rattle.command_text.specs.Lines.{ended_lines_of, lines_of, request_of}
 use Rattle.command_text.specs.Words.{Texts}
 use Rattle.session.specs.Refusal.{edit_line, memory_line, refused}
+use Rattle.assess_text.specs.AssessmentText.{assessment_text}
 use Rattle.session.specs.Texts.{certified_text, content, done_text, path_shown, verdict_text, verdict_word, why_text}
-use Rattle.grade.specs.declared.pathing.Path.{Path}
 use Rattle.report_text.specs.Report.{report_text}
 use Rattle.report_text.specs.Shown.{map_text}
 
@@ -68,6 +68,10 @@ abbrev pub JudgesAs : Seen → Seen → Verdict → Type 0
 JudgesAs old new verdict =
     Tells old new verdict × (IsAudited new × IsVerdictOn old.history.document old.allowance verdict)
 
+-- the text shows what was worked out of the document, and nothing changed but the engine's calls
+abbrev pub ShowsFound : {X : Type 0} → (X → Type 0) → (X → List ℕ) → Seen → List ℕ → Seen → Type 0
+ShowsFound {X} Is shown old text new = (found : X) × (Is found × ((text ≡ shown found) × IsAsBefore old new))
+
 -- Memory ran out, and nothing changed but the engine's calls.
 abbrev pub LacksMemory : Seen → List ℕ → Seen → Type 0
 LacksMemory old text new = (text ≡ memory_line) × IsAsBefore old new
@@ -86,6 +90,7 @@ IsShort (command.Why row col colour) old text new =
 IsShort command.WritePpm old text new = LacksMemory old text new
 IsShort command.WriteNon old text new = (is_two_colour old.history.document.rows ≡ true) × LacksMemory old text new
 IsShort command.Report old text new = LacksMemory old text new
+IsShort (command.Assess is_named) old text new = LacksMemory old text new
 IsShort command.Path old text new = LacksMemory old text new
 IsShort command.Certify old text new = LacksMemory old text new
 IsShort (command.Allow allowance) old text new = ⊥
@@ -110,8 +115,9 @@ SaysTo old command.Report text new = (verdict : Verdict) × (JudgesAs old new ve
 SaysTo old command.Certify text new =
     (found : Option Certificate)
     × (Certifies old.history.document found × ((text ≡ certified_text found) × (Learns old new × IsAudited new)))
-SaysTo old command.Path text new =
-    (path : Path) × (IsPathOf old.history.document path × ((text ≡ path_shown path) × IsAsBefore old new))
+SaysTo old (command.Assess is_named) text new =
+    ShowsFound (IsAssessmentOf old.history.document is_named old.allowance) assessment_text old text new
+SaysTo old command.Path text new = ShowsFound (IsPathOf old.history.document) path_shown old text new
 SaysTo old (command.Allow allowance) text new = (text ≡ done_text) × (new ≡ record old { allowance = allowance })
 
 -- The command is answered, or memory ran out; and the engine's calls do not fall.

@@ -30,7 +30,9 @@ use Rattle.cert_check.specs.Tree.{IsProof}
 use Rattle.live_audit.specs.declared.verdict.Verdict.{Verdict}
 use Rattle.live_audit.specs.declared.verdict.Verdict.TheVariants.{Undecided}
 use Rattle.grade.specs.declared.pathing.Path.{Path}
-use Rattle.live_audit.specs.Pathing.{IsPathOf}
+use Rattle.assess.specs.declared.assessment.Assessment.{Assessment}
+use Rattle.assess_text.specs.AssessmentText.{assessment_text}
+use Rattle.live_audit.specs.Assessing.{IsAssessmentOf, IsPathOf}
 use Rattle.live_audit.specs.Calls.{Machine, machine}
 use Rattle.live_audit.specs.Certify.{NamesMarks, ordered}
 use Rattle.live_audit.specs.Verdict.{IsOtherFor, IsVerdictOn}
@@ -146,6 +148,8 @@ IsShown h allowance m command.Report text = OrMemory text ((verdict : Verdict)
     × (IsTrueVerdict h.document m.map allowance verdict × (text ≡ report_text h.document
     (clues_of h.document.rows) m.map (verdict_word verdict) (length h.past) (length h.future))))
 IsShown h allowance m command.Certify text = OrMemory text (TellsProof h.document text)
+IsShown h allowance m (command.Assess is_named) text = OrMemory text ((found : Assessment)
+    × (IsAssessmentOf h.document is_named allowance found × (text ≡ assessment_text found)))
 IsShown h allowance m command.Path text =
     OrMemory text ((path : Path) × (IsPathOf h.document path × (text ≡ path_shown path)))
 IsShown h allowance m c text = ⊥

@@ -12,7 +12,9 @@ ghost use Rattle.command_text.specs.Lines.{AsksBounded};
 ghost use Rattle.report_text.specs.Room.{TakesRoom, picture_room};
 ghost use Rattle.report_text.specs.Shown.{map_text, picture_text};
 ghost use Rattle.grade.specs.declared.pathing.Path.{Path};
-ghost use Rattle.live_audit.specs.Pathing.{IsPathOf};
+ghost use Rattle.assess.specs.declared.assessment.Assessment.{Assessment};
+ghost use Rattle.assess_text.specs.AssessmentText.{assessment_text};
+ghost use Rattle.live_audit.specs.Assessing.{IsAssessmentOf, IsPathOf};
 ghost use Rattle.live_audit.specs.Certify.{Certifies};
 ghost use Rattle.live_audit.specs.Calls.{IsAsBefore, Learns};
 ghost use Rattle.live_audit.specs.Bench.{IsAudited};
@@ -22,6 +24,7 @@ ghost use Rattle.session.specs.Session.{Replies, Says, report_on};
 ghost use Rattle.session.specs.Texts.{certified_text, path_shown, verdict_text, verdict_word, why_text};
 
 use crate::refusal::Refusal;
+use assess_text::push_assessment;
 use certificate::{Cert, write_cert};
 use command_text::{Command, Request};
 use edits::{Edit, EditFault};
@@ -271,6 +274,24 @@ fn push_found(text: &mut Vec<u8>, found: &Option<Cert>) -> Result<(), AllocError
     }
 }
 
+// Whether the puzzle is fit to be published. `is_named` says whether its background was named.
+fn assessment_text<E: LineEngine + Drop, A: Agenda + Drop>(
+    alloc: Global,
+    bench: &mut Bench<E, A>,
+    is_named: bool,
+) -> Result<Vec<u8>, AllocError>
+    ensures text { IfOk result (λ text. (found : Assessment)
+        × (IsAssessmentOf bench.old.history.document is_named bench.old.allowance found
+        × (text.items ≡ assessment_text found))) }
+    ensures as_before { IsAsBefore bench.old bench.new }
+    ensures calls { bench.old.calls ≤ bench.new.calls }
+{
+    let mut text = Vec::new(alloc);
+    let found = bench.assess(is_named)?;
+    push_assessment(&mut text, &found)?;
+    Ok(text)
+}
+
 // The path of line logic.
 fn path_text<E: LineEngine + Drop, A: Agenda + Drop>(
     alloc: Global,
@@ -312,6 +333,7 @@ fn answer_command<E: LineEngine + Drop, A: Agenda + Drop>(
             Answer::Done
         }
         Command::Certify => text_answer(certificate_text(alloc, bench)),
+        Command::Assess { is_named } => text_answer(assessment_text(alloc, bench, is_named)),
         Command::Path => text_answer(path_text(alloc, bench)),
     }
 }

@@ -6,13 +6,14 @@ use Rattle.assess.proofs.spare.find_spare.Goals as goal
 pub loop-row-init : goal.loop-row-init
 loop-row-init g c =
     let d = c.args.document.now in
-    record { tried = none_tried d.picture d.givens c.args.allowance _; same_longest = refl }
+    record { tried = none_tried d.picture d.givens c.args.allowance _; calls = omega arith; same_longest = refl }
 
 pub loop-row-preserved : goal.loop-row-preserved
 loop-row-preserved g c =
     let d = c.args.document.now in
     record {
       tried = next_row d.picture d.givens c.args.allowance c.loop-col.waiting c.loop-col.spare c.loop-row.row c.loop-col.col _ _ d.inside (omega arith) c.loop-col.invariant.tried;
+      calls = c.loop-col.invariant.calls;
       same_longest = c.loop-col.invariant.same_longest;
     }
 
@@ -24,6 +25,7 @@ loop-col-preserved-then-not-has g c =
       tried =
           skipped d.picture d.givens c.args.allowance c.loop-col.waiting c.loop-col.spare c.loop-row.row c.loop-col.col _ _ i.tried
           (λ h. false≢true (sym c.if-not-has.true ∙ c.has.ensures.value.1 h));
+      calls = i.calls;
       same_longest = i.same_longest;
     }
 
@@ -37,6 +39,7 @@ loop-col-preserved g c =
           one_more d.picture d.givens c.args.allowance c.loop-col.waiting c.take_out.new.self c.loop-col.spare c.spare_after-spare.result c.in_ok-verdict.verdict c.loop-row.row c.loop-col.col _ _ _
           i.tried has c.take_out.ensures.members (c.take_out.ensures.fewer has) c.in_ok-verdict.ensures.without c.judge_without.ensures.few c.spare_after-spare.ensures
           (sym c.is_given.ensures ∙ c.if-is_given.false);
+      calls = (let before = i.calls in let more = c.judge_without.ensures.calls in omega (arith, before, more));
       same_longest = c.judge_without.ensures.same_longest ∙ i.same_longest;
     }
 

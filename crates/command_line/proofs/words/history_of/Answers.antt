@@ -1,9 +1,10 @@
+use Rattle.std.proofs.Common.{arith}
 use Rattle.std.specs.Str.Parse.{ExplainsUnsignedError, HasUnsignedDigitsIfOk, ParsesUnsigned}
-use Rattle.command_line.proofs.WordLemmas.{depth_read}
+use Rattle.command_line.proofs.WordLemmas.{number_read}
 use Rattle.command_line.proofs.words.history_of.Goals as goal
 
 pub returns-clause-read : goal.returns-clause-read
 returns-clause-read c = λ text n some few spells is.
-    let read = depth_read n text c.get_one.result (λ bs r. ParsesUnsigned 16 10 bs r × ExplainsUnsignedError 10 bs r × HasUnsignedDigitsIfOk bs r) (λ t r g. g.0) few spells
+    let read = number_read 16 n text c.get_one.result (λ bs r. ParsesUnsigned 16 10 bs r × ExplainsUnsignedError 10 bs r × HasUnsignedDigitsIfOk bs r) (λ t r g. g.0) (omega (arith, few)) spells
     (c.get_one.ensures.value text is) in
     c.depth_or_default.ensures.kept n some few read

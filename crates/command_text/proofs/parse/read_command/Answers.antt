@@ -50,5 +50,8 @@ returns-in-paint-clause-value c = rw (text_from_reads c.args.word.now (codes "pa
 pub returns-in-unpin-clause-value : goal.returns-in-unpin-clause-value
 returns-in-unpin-clause-value c = rw (text_from_reads c.args.word.now (codes "unpin") (search rules) (search rules)) (search rules)
 
+pub returns-in-assess-clause-value : goal.returns-in-assess-clause-value
+returns-in-assess-clause-value c = rw (text_from_reads c.args.word.now (codes "assess") (search rules) (search rules)) c.read_assess.ensures.value
+
 pub returns-in-path-clause-value : goal.returns-in-path-clause-value
 returns-in-path-clause-value c = rw (text_from_reads c.args.word.now (codes "path") (search rules) (search rules)) c.bare-in-path.ensures.value

@@ -1,5 +1,6 @@
 use Rattle.std.proofs.Common.{Err, ap, ◌∙◌}
 use Rattle.std.proofs.lemmas.Result.{err_from_is_err_and}
+use Rattle.program.proofs.AssessLemmas.{assesses}
 use Rattle.program.proofs.CheckLemmas.{checked, checked_with, half_read, none_named, without_givens}
 use Rattle.program.proofs.work.carry_out.Goals as goal
 
@@ -55,3 +56,8 @@ returns-in_ok-givens-in-Check g c =
       next = givens.ensures.opens;
     }) c.args.task.now task.givens task.background task.is c.in-Some.is _ givens.givens.items c.deref-in-Check.result.now c.deref-in-Check-2.result.now c.deref-in-Check-3.result.now
     c.run_check_published.result givens.ensures.reads.0 givens.ensures.cause c.deref-in-Check.ensures.value c.deref-in-Check-2.ensures.value c.deref-in-Check-3.ensures.value e.writes e.only e.unique
+
+pub returns-in-Assess : goal.returns-in-Assess
+returns-in-Assess g c =
+    let task = c.in-Assess in
+    assesses _ _ _ c.args.task.now task.paths c.deref-in-Assess.result.now task.options task.givens task.cert c.assess_files.result task.is c.deref-in-Assess.ensures.value (c.assess_files.ensures _)

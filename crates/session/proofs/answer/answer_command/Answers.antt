@@ -1,7 +1,8 @@
 use Rattle.std.proofs.Common.{inl}
 use Rattle.live_audit.specs.Stroke.{Edits, Redoes, Undoes}
 use Rattle.session.specs.Session.{Replies}
-use Rattle.session.proofs.AnswerLemmas.{allowed, replies_allow, replies_certify, replies_clues, replies_map, replies_non, replies_path, replies_ppm, replies_report, replies_verdict, says_stroke}
+use Rattle.session.proofs.AnswerLemmas.{allowed, replies_allow, replies_assess, replies_certify, replies_clues, replies_map, replies_non, replies_path}
+use Rattle.session.proofs.AnswerLemmas.{replies_ppm, replies_report, replies_verdict, says_stroke}
 use Rattle.session.proofs.answer.answer_command.Goals as goal
 
 pub allow-requires : goal.allow-requires
@@ -59,6 +60,12 @@ returns-in-Certify g c =
     let e = c.certificate_text.ensures in
     rw (c.in-Certify.is, c.text_answer-in-Certify.ensures)
     (replies_certify c.args.bench.now c.certificate_text.new.bench c.certificate_text.result e.learns e.as_before e.audited e.calls e.text)
+
+pub returns-in-Assess : goal.returns-in-Assess
+returns-in-Assess g c =
+    let e = c.assessment_text.ensures in
+    rw (c.in-Assess.is, c.text_answer-in-Assess.ensures)
+    (replies_assess c.args.bench.now c.assessment_text.new.bench c.in-Assess.is_named c.assessment_text.result e.as_before e.calls e.text)
 
 pub returns-in-Path : goal.returns-in-Path
 returns-in-Path g c =

@@ -1,9 +1,13 @@
--- The path of line logic on a document: its looks that excluded something.
+-- What is worked out of a document as it is, with nothing kept: the path of line logic, and whether it is fit to be
+-- published.
 use Rattle.std.specs.Prelude.{◌≡◌, ℕ, Bool, List, Option}
 use Rattle.line_facts.specs.Masks.{Masks}
 use Rattle.picture.specs.declared.document.Document.{Document}
 use Rattle.clues.specs.ClueBook.{clues_of}
 use Rattle.edits.specs.Design.{Design, design_of}
+use Rattle.assess.specs.declared.assessment.Assessment.{Assessment}
+use Rattle.assess.specs.Assessed.{IsAssessment}
+use Rattle.assess.specs.Calls.{AreFewInAll}
 use Rattle.grade.specs.declared.pathing.Path.{Path}
 use Rattle.grade.specs.Figures.{open_cells}
 use Rattle.grade.specs.Looks.{Look}
@@ -33,3 +37,13 @@ pub record IsPath (path : Path) (document : Document) : Type 0 where
 
 abbrev pub IsPathOf : Design → Path → Type 0
 IsPathOf d path = HoldsOf d (IsPath path)
+
+-- An assessment of the document under an allowance. It starts with nothing known of the parts.
+abbrev pub IsAssessmentOf : Design → Bool → Option ℕ → Assessment → Type 0
+IsAssessmentOf d is_named allowance found =
+    HoldsOf d (λ document. IsAssessment document is_named allowance found)
+
+-- it calls the engine no more often than an assessment of the document does under the allowance
+abbrev pub AreFewToAssess : Design → Option ℕ → ℕ → ℕ → Type 0
+AreFewToAssess d allowance before after =
+    HoldsOf d (λ document. AreFewInAll document.picture document.givens allowance before after)

@@ -1,11 +1,12 @@
-//! The path of line logic on a document.
+//! What is worked out of a document, with nothing kept.
 
 ghost use Rattle.std.specs.Prelude.{◌≡◌, ◌≤◌, IfOk};
 ghost use Rattle.kept_audit.specs.Audit.{IsAuditOf};
 ghost use Rattle.edits.specs.Design.{design_of};
-ghost use Rattle.live_audit.specs.Pathing.{IsPathOf};
+ghost use Rattle.live_audit.specs.Assessing.{AreFewToAssess, IsAssessmentOf, IsPathOf};
 
 use crate::judging::scene_of;
+use assess::{Assessment, assess};
 use grade::{Path, make_path, start_facts};
 use kept_audit::Audit;
 use line_facts::LineEngine;
@@ -30,4 +31,23 @@ pub(crate) fn path_of<E: LineEngine>(
     let start = start_facts(alloc, document, scene.clues)?;
     let path = make_path(alloc, engine, start, scene.clues)?;
     Ok(path)
+}
+
+/// An assessment of a document. `is_named` says whether its background was named.
+pub(crate) fn assessment_of<E: LineEngine>(
+    alloc: Global,
+    engine: &mut E,
+    document: &Document,
+    is_named: bool,
+    allowance: Option<u32>,
+) -> Result<Assessment, AllocError>
+    requires { MAX_SIDE ≤ E.longest engine.old }
+    ensures assessment { IfOk result (IsAssessmentOf (design_of document.now) is_named allowance) }
+    ensures few { AreFewToAssess (design_of document.now) allowance (E.calls engine.old)
+        (E.calls engine.new) }
+    ensures calls { E.calls engine.old ≤ E.calls engine.new }
+    ensures same_longest { E.longest engine.new ≡ E.longest engine.old }
+{
+    let _ = document.givens.has(0, 0);
+    assess(alloc, engine, document, is_named, allowance)
 }

@@ -1,5 +1,5 @@
 use Rattle.std.proofs.Common.{refl, ◌∙◌}
-use Rattle.live_audit.proofs.pathing.path_of.Goals as goal
+use Rattle.live_audit.proofs.assessing.path_of.Goals as goal
 
 pub returns-clause-path : goal.returns-clause-path
 returns-clause-path g c =
