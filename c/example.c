@@ -1,5 +1,5 @@
-/* Checks a picture with its certificate, given the cells that are published: example PICTURE CERTIFICATE [ROW,COLUMN ..]. Exits with
- * status 0 if it is accepted, 1 if it is refused, 2 for bad arguments, and 3 if a file cannot be read. */
+/* Says whether a picture is fit to be published, by its certificate and with the cells that are published: example PICTURE CERTIFICATE
+ * [ROW,COLUMN ..]. Exits with status 0 if it is fit, 1 if it is not or is refused, 2 for bad arguments, and 3 if a file cannot be read. */
 #include "nonobench.h"
 #include <errno.h>
 #include <inttypes.h>
@@ -43,17 +43,20 @@ static bool read_places(char **words, size_t count, nonobench_place *places) {
 
 int main(int count, char **names) {
     static nonobench_place published[MOST_PUBLISHED];
-    char said[200];
+    static char said[4096];
+    static nonobench_assessment found;
     nonobench_text text = {said, sizeof said, 0};
     if (count < 3 || count > 3 + MOST_PUBLISHED || !read_places(names + 3, (size_t)count - 3, published)) {
         fprintf(stderr, "usage: example PICTURE CERTIFICATE [ROW,COLUMN ..]\n");
         return 2;
     }
+    found.size = sizeof found;
     nonobench_options options = {NULL, published, (size_t)count - 3, false};
     file picture = read_file(names[1]), certificate = read_file(names[2]);
-    uint32_t status = nonobench_check_pair(picture.bytes, picture.size, certificate.bytes, certificate.size, &options, &text);
+    uint32_t status = nonobench_assess_puzzle(picture.bytes, picture.size, false, certificate.bytes, certificate.size, &options, -1,
+                                              &found, &text);
     printf(status == NONOBENCH_DONE ? "%s" : "refused: %s\n", said);
     free(picture.bytes);
     free(certificate.bytes);
-    return status == NONOBENCH_DONE ? 0 : 1;
+    return status == NONOBENCH_DONE && found.is_fit ? 0 : 1;
 }

@@ -179,6 +179,44 @@ uint32_t nonobench_prove_picture(const void *picture, size_t size, const char *b
 uint32_t nonobench_audit(const void *picture, size_t size, const char *background, int32_t allowance, nonobench_audited *found,
                          nonobench_text *text);
 
+/* The word of a grade. There is one if the ruling is UNIQUE; it is UNKNOWN if no certificate was found within bounds. */
+typedef enum nonobench_grade {
+    NONOBENCH_NO_GRADE,
+    NONOBENCH_UNKNOWN,
+    NONOBENCH_EASY,
+    NONOBENCH_MEDIUM,
+    NONOBENCH_HARD,
+    NONOBENCH_VERY_HARD,
+    NONOBENCH_EXPERT
+} nonobench_grade;
+
+#define NONOBENCH_MOST_ALIKE 120
+
+/* Whether a puzzle is fit to be published (docs/FORMATS.md, nonobench assess). A later version may have more fields behind these: `size`,
+ * which the caller sets to sizeof(nonobench_assessment), says how many bytes are written. A cell that there is not has row 0. */
+typedef struct nonobench_assessment {
+    size_t size;
+    nonobench_ruling ruling;
+    bool is_fit;
+    uint32_t rows, columns, colours, givens, open;
+    nonobench_grade grade;
+    uint64_t rounds, evaluations, wait, splits, depth; /* 0 where the grade has none */
+    bool is_blank, lacks_background;                   /* flaws */
+    nonobench_place given, spare;                      /* flaws: a given that is not needed, or that the certificate does not name */
+    nonobench_place unknown;                           /* no flaw: a given of which the allowance leaves open whether it is needed */
+    uint32_t alike_count;                              /* a flaw, if above 0: pairs of colours, by their letters */
+    char alike[NONOBENCH_MOST_ALIKE][2];
+} nonobench_assessment;
+
+/* Assesses a puzzle, a P3 text or (`non`) a .non text with a goal. A background counts as named where the options have one. With a
+ * certificate (not null) the checker says what is unique, and nothing is searched; `any_given` then publishes the givens that it names.
+ * Otherwise `allowance` is as for nonobench_verdict. The text is what the program prints for the puzzle, or why it is refused: then all
+ * of `found` is 0, but its size.
+ * `options` and `text` may be null. */
+uint32_t nonobench_assess_puzzle(const void *puzzle, size_t puzzle_size, bool non, const void *certificate, size_t certificate_size,
+                                 const nonobench_options *options, int32_t allowance, nonobench_assessment *found,
+                                 nonobench_text *text);
+
 #ifdef __cplusplus
 }
 #endif

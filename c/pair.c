@@ -135,6 +135,14 @@ size_t nonobench_givens(const void *certificate, size_t size, nonobench_place *p
 /* The bytes of a line `given R C` at the most. */
 #define MOST_GIVEN 28
 
+/* Room of our own: DONE, or MEMORY with its text. */
+static uint32_t reserve(void **room, size_t size, nonobench_text *text) {
+    *room = malloc(size);
+    if (*room) return NONOBENCH_DONE;
+    put(text, "memory");
+    return NONOBENCH_MEMORY;
+}
+
 /* Puts the published cells into room of their own, as a file of givens has them: a line each, in their order. */
 static uint32_t write_givens(const nonobench_options *options, char **givens, size_t *size, nonobench_text *text) {
     if (!options->published && options->published_count > 0) {
@@ -145,11 +153,7 @@ static uint32_t write_givens(const nonobench_options *options, char **givens, si
         put(text, "input too long");
         return NONOBENCH_REFUSED;
     }
-    *givens = (char *)malloc(options->published_count * MOST_GIVEN + 1);
-    if (!*givens) {
-        put(text, "memory");
-        return NONOBENCH_MEMORY;
-    }
+    if (reserve((void **)givens, options->published_count * MOST_GIVEN + 1, text) != NONOBENCH_DONE) return NONOBENCH_MEMORY;
     for (size_t at = 0; at < options->published_count; at++) {
         nonobench_place place = options->published[at];
         *size += (size_t)sprintf(*givens + *size, "given %" PRIu32 " %" PRIu32 "\n", place.row, place.column);
@@ -292,5 +296,115 @@ uint32_t nonobench_audit(const void *picture, size_t size, const char *backgroun
     if (status == NONOBENCH_DONE && found->ruling == NONOBENCH_UNIQUE) status = certify(&desk, handle, found, text);
     nonobench_end(desk);
     if (status != NONOBENCH_DONE) found->ruling = NONOBENCH_UNDECIDED;
+    return status;
+}
+
+/* Reads the line of a grade. */
+static void read_grade(const char *line, nonobench_assessment *found) {
+    static const char *const WORDS[] = {"", "unknown", "easy", "medium", "hard", "very-hard", "expert"};
+    char word[10] = "";
+    sscanf(line, "grade %9s %" SCNu64 " %" SCNu64 " %" SCNu64 " %" SCNu64 " %" SCNu64, word, &found->rounds, &found->evaluations,
+           &found->wait, &found->splits, &found->depth);
+    for (int grade = NONOBENCH_UNKNOWN; grade <= NONOBENCH_EXPERT; grade++) {
+        if (strcmp(word, WORDS[grade]) == 0) found->grade = (nonobench_grade)grade;
+    }
+}
+
+/* Reads the line of a flaw. */
+static void read_flaw(const char *line, nonobench_assessment *found) {
+    char *pair = found->alike[found->alike_count < NONOBENCH_MOST_ALIKE ? found->alike_count : 0];
+    if (strcmp(line, "flaw blank") == 0) found->is_blank = true;
+    if (strcmp(line, "flaw background") == 0) found->lacks_background = true;
+    sscanf(line, "flaw given %" SCNu32 " %" SCNu32, &found->given.row, &found->given.column);
+    sscanf(line, "flaw spare %" SCNu32 " %" SCNu32, &found->spare.row, &found->spare.column);
+    if (sscanf(line, "flaw alike %c %c", &pair[0], &pair[1]) == 2) found->alike_count++;
+}
+
+/* Reads a line of an assessment. No row of a picture is like one. */
+static void read_assessed(const char *line, nonobench_assessment *found) {
+    static const char *const RULINGS[] = {"undecided", "unique", "ambiguous"};
+    for (int ruling = 0; ruling < 3; ruling++) {
+        if (strcmp(line, RULINGS[ruling]) == 0) found->ruling = (nonobench_ruling)ruling;
+    }
+    sscanf(line, "size %" SCNu32 " %" SCNu32, &found->rows, &found->columns);
+    sscanf(line, "colours %" SCNu32, &found->colours);
+    sscanf(line, "givens %" SCNu32, &found->givens);
+    sscanf(line, "open %" SCNu32, &found->open);
+    sscanf(line, "unknown given %" SCNu32 " %" SCNu32, &found->unknown.row, &found->unknown.column);
+    if (strncmp(line, "grade ", 6) == 0) read_grade(line, found);
+    if (strncmp(line, "flaw ", 5) == 0) read_flaw(line, found);
+    found->is_fit = strcmp(line, "fit") == 0;
+}
+
+/* Lets an assessment be undecided, and not fit. */
+static void clear(nonobench_assessment *found) {
+    size_t size = found->size;
+    memset(found, 0, size);
+    if (size >= sizeof size) found->size = size;
+}
+
+/* Reads the text of the last call, an assessment, as far as there is room for its fields. */
+static uint32_t keep_assessed(nonobench_desk **desk, nonobench_assessment *found, nonobench_text *text) {
+    nonobench_assessment own = {0};
+    uint8_t none;
+    size_t size = nonobench_take(desk, &none, 0);
+    char *said, *line, *end;
+    if (reserve((void **)&said, size + 1, text) != NONOBENCH_DONE) return NONOBENCH_MEMORY;
+    nonobench_take(desk, (uint8_t *)said, size);
+    said[size] = 0;
+    for (line = said; (end = strchr(line, '\n')); line = end + 1) {
+        *end = 0;
+        read_assessed(line, &own);
+    }
+    free(said);
+    own.size = found->size;
+    memcpy(found, &own, own.size < sizeof own ? own.size : sizeof own);
+    return NONOBENCH_DONE;
+}
+
+/* The givens that a certificate names, whichever they are, as those that are published. Of a picture it is checked first, on a desk:
+ * what is wrong with it is told as its own fault. A .non text has no desk here. */
+static uint32_t publish_named(nonobench_desk **desk, const uint8_t *files[3], const size_t sizes[3], nonobench_options *asked,
+                              nonobench_place **places, nonobench_text *text) {
+    uint32_t status = desk ? nonobench_check(desk, files[0], sizes[0], files[1], sizes[1], files[2], sizes[2]) : NONOBENCH_DONE;
+    if (status != NONOBENCH_DONE) return tell(desk, status, text);
+    asked->published_count = nonobench_givens(files[1], sizes[1], NULL, 0);
+    status = reserve((void **)places, (asked->published_count + 1) * sizeof **places, text);
+    if (status == NONOBENCH_DONE) nonobench_givens(files[1], sizes[1], *places, asked->published_count);
+    asked->published = *places;
+    return status;
+}
+
+uint32_t nonobench_assess_puzzle(const void *puzzle, size_t puzzle_size, bool non, const void *certificate, size_t certificate_size,
+                                 const nonobench_options *options, int32_t allowance, nonobench_assessment *found,
+                                 nonobench_text *text) {
+    nonobench_options asked = options ? *options : (nonobench_options){NULL, NULL, 0, false};
+    const uint8_t *files[] = {bytes_of(puzzle), bytes_of(certificate), bytes_of(asked.background)};
+    const size_t sizes[] = {puzzle_size, certificate_size, length_of(asked.background)};
+    size_t size = 0;
+    char *givens = NULL;
+    nonobench_place *named = NULL;
+    nonobench_desk *desk;
+    uint32_t status = look_allowance(allowance, text);
+    clear(found);
+    if (status == NONOBENCH_DONE) status = look(puzzle, puzzle_size, text);
+    if (status == NONOBENCH_DONE) status = look(certificate, certificate_size, text);
+    if (status == NONOBENCH_DONE && non && sizes[2] > 0) {
+        put(text, "background goes with ppm");
+        status = NONOBENCH_OPTIONS;
+    }
+    if (status == NONOBENCH_DONE) status = start(&desk, text);
+    if (status != NONOBENCH_DONE) return status;
+    if (asked.any_given && certificate) status = publish_named(non ? NULL : &desk, files, sizes, &asked, &named, text);
+    if (status == NONOBENCH_DONE) status = write_givens(&asked, &givens, &size, text);
+    if (status == NONOBENCH_DONE) {
+        status = nonobench_assess(&desk, files[0], sizes[0], non, files[2], sizes[2], true, bytes_of(givens), size, certificate != NULL,
+                                  files[1], sizes[1], allowance < 0 ? UINT32_MAX : (uint32_t)allowance);
+        tell(&desk, status, text);
+        if (status == NONOBENCH_DONE) status = keep_assessed(&desk, found, text);
+    }
+    nonobench_end(desk);
+    free(givens);
+    free(named);
     return status;
 }

@@ -1,5 +1,6 @@
 /* Tests of libnonobench: test FOLDER [TIMES], with the folder that has pictures.case, certificates.case, lemmas.case and published.case.
  * TIMES is how often what could grow is done. Expected answers stand in those files, or follow from docs/FORMATS.md by hand. */
+#include "cases.h"
 #include "nonobench.h"
 
 #include <malloc.h>
@@ -14,19 +15,7 @@
 #define TRIED NONOBENCH_VERSION
 #endif
 
-#define MOST 4096
 #define THREADS 4
-
-static int failed = 0, passed = 0;
-
-static void expect(bool holds, const char *what, const char *got) {
-    if (holds) {
-        passed++;
-    } else {
-        failed++;
-        printf("failed: %s\n  got: %.300s\n", what, got);
-    }
-}
 
 /* Two rows, black and white, white and black: another picture has the clues, and a given decides it. */
 static const char DIAGONAL[] = "P3 2 2 255 0 0 0 255 255 255 255 255 255 0 0 0\n";
@@ -35,69 +24,6 @@ static const char GIVEN[] = "nonocert 2\ngiven 1 1\nline r 1\nline c 1\nline r 2
 /* The options of a caller who publishes whatever givens a certificate names, and of one who publishes the given. */
 static const nonobench_place FIRST = {1, 1};
 static const nonobench_options ANY = {NULL, NULL, 0, true}, ONE = {NULL, &FIRST, 1, false};
-
-/* The bytes of a text as printf reads it: \n, \t, \r, \v, \f, \a, \b, \e, \\, \xHH and octal digits. */
-static size_t unescape(const char *text, size_t size, char *out) {
-    static const char names[] = "ntrvfabe\\", bytes[] = "\n\t\r\v\f\a\b\033\\";
-    size_t count = 0;
-    for (size_t at = 0; at < size; at++) {
-        if (text[at] != '\\' || at + 1 == size) {
-            out[count++] = text[at];
-            continue;
-        }
-        const char *name = strchr(names, text[++at]);
-        if (name) {
-            out[count++] = bytes[name - names];
-        } else {
-            bool hex = text[at] == 'x';
-            char digits[4] = "";
-            size_t most = hex ? 2 : 3, found = 0;
-            size_t from = hex ? at + 1 : at;
-            while (found < most && from + found < size && strchr(hex ? "0123456789abcdefABCDEF" : "01234567", text[from + found])) {
-                digits[found] = text[from + found];
-                found++;
-            }
-            out[count++] = (char)strtol(digits, NULL, hex ? 16 : 8);
-            at = from + found - 1;
-        }
-    }
-    return count;
-}
-
-/* A picture of white, black (a) and red (b) cells, its rows joined by /. */
-static void picture_of(const char *rows, size_t size, char *out) {
-    size_t height = 1, width = 0;
-    for (size_t at = 0; at < size; at++) height += rows[at] == '/';
-    while (width < size && rows[width] != '/') width++;
-    out += sprintf(out, "P3\n%zu %zu\n255\n", width, height);
-    for (size_t at = 0; at < size; at++) {
-        const char *triple = rows[at] == '.' ? "255 255 255\n" : rows[at] == 'a' ? "0 0 0\n" : "255 0 0\n";
-        if (rows[at] != '/') out += sprintf(out, "%s", triple);
-    }
-}
-
-/* Whether a status and a text are those of a case's answer: `! TEXT` is refused, else the lines are joined by ` | `. */
-static bool is_answer(const char *answer, uint32_t status, const char *text) {
-    char wanted[MOST] = "";
-    if (strncmp(answer, "! ", 2) == 0) return status == NONOBENCH_REFUSED && strcmp(answer + 2, text) == 0;
-    for (char *to = wanted;; answer += 3) {
-        const char *cut = strstr(answer, " | ");
-        size_t size = cut ? (size_t)(cut - answer) : strlen(answer);
-        to += sprintf(to, "%.*s\n", (int)size, answer);
-        answer += size;
-        if (!cut) break;
-    }
-    return status == NONOBENCH_DONE && strcmp(wanted, text) == 0;
-}
-
-/* The answer of a line of cases, past the last ` => `, which becomes a NUL. */
-static char *answer_of(char *line) {
-    char *answer = NULL;
-    for (char *at = line; (at = strstr(at, " => ")); at++) answer = at;
-    if (!answer) return NULL;
-    *answer = 0;
-    return answer + 4;
-}
 
 /* A picture without a certificate: its clues. */
 static void run_picture(char *line, const char *answer) {

@@ -18,20 +18,21 @@ _nonobench() {
             mapfile -t COMPREPLY < <(compgen -W "$formats" -- "$word")
             return
             ;;
-        --givens)
+        --givens | --certificate)
             compopt -o filenames 2>/dev/null
             mapfile -t COMPREPLY < <(compgen -f -- "$word")
             return
             ;;
-        --background | --history) return ;;
+        --background | --history | --allow) return ;;
     esac
     local offered
     case $command in
-        '') offered='work check prove verify help --help --version' ;;
+        '') offered='work check prove assess verify help --help --version' ;;
         work) offered='--format --background --history --help' files=1 ;;
         check | verify) offered='--givens --background --help' files=1 ;;
         prove) offered='--background --givens --complete --format --help' files=1 ;;
-        help) offered='work check prove verify help' ;;
+        assess) offered='--format --background --allow --givens --certificate --help' files=1 ;;
+        help) offered='work check prove assess verify help' ;;
         *) return ;;
     esac
     if [[ $files = 1 && $word != -* ]]; then

@@ -1,6 +1,8 @@
 #!/usr/bin/env node
-// Checks an upload: node check_upload.mjs PICTURE CERTIFICATE [GIVENS [R,G,B]]. GIVENS has a line `given R C` for each cell that is
-// published; without it, none is. R,G,B is the background, by default white. Only regular files are read, and none of more than 4 MiB.
+// Checks an upload: node check_upload.mjs [--allow-flaw KIND ..] PICTURE CERTIFICATE [GIVENS [R,G,B]]. GIVENS has a line `given R C` for each
+// cell that is published; without it, none is. R,G,B is the background, by default white. It prints what the engine says of the puzzle, and
+// accepts it if the certificate is right and it has no flaw; KIND is a flaw that is allowed: blank, background, given, alike or any.
+// Only regular files are read, and none of more than 4 MiB.
 // The check runs in a thread, which is ended after ten seconds of processor time, or 60 by the clock.
 // It uses the npm package nonobench where that is installed, so a site can copy this file. Otherwise it uses what web/build
 // makes in the checkout; WASM is the path of nonobench.wasm if it is not in web/out.
@@ -14,6 +16,8 @@ const MOST_BYTES = 4 << 20;
 const MOST_PROCESSOR = 10; // seconds
 const MOST_CLOCK = 60; // seconds
 const LOOK = 100; // milliseconds between looks at the time
+const FLAWS = ['blank', 'background', 'given', 'alike', 'any'];
+const USAGE = 'usage: check_upload.mjs [--allow-flaw KIND ..] PICTURE CERTIFICATE [GIVENS [R,G,B]]';
 
 // The package, where it is installed for this file; else null.
 const installed = await import('nonobench').catch((error) => {
@@ -63,23 +67,41 @@ function ask(workerData) {
   worker.once('error', (error) => tell(false, error.message));
 }
 
+// Whether a flaw is of an allowed kind. A published cell that the certificate does not name counts as a given.
+function isAllowed(flaw, allowed) {
+  const [kind] = flaw.replace('spare', 'given').split(' ');
+  return allowed.includes('any') || allowed.includes(kind);
+}
+
 // What the thread answers: the package's, or that of the checkout's module, whose bytes are then passed; or why that cannot be loaded.
-async function answer({ module, picture, certificate, background, givens }) {
+async function answer({ module, picture, certificate, background, givens, allowed }) {
   const { hintOf, load } = module ? await import('../web/nonobench.mjs') : installed;
   const engine = await load(module ?? undefined).catch((error) => ({ broken: error.message }));
   if (engine.broken) return engine;
   try {
-    const { accepted, text } = engine.check(picture, certificate, { background, givens });
-    const hint = hintOf(text, certificate);
-    return { accepted, text: hint ? `${text.trimEnd()} (${hint})` : text };
+    const { verdict, flaws, text } = engine.assess(picture, { background, givens, certificate, format: 'ppm' });
+    const why = flaws.filter((flaw) => !isAllowed(flaw, allowed)).map((flaw) => `flaw ${flaw}`);
+    return { accepted: verdict === 'unique' && why.length === 0, text: why.join('; ') || text };
   } catch (fault) {
-    return { accepted: false, text: fault.text ?? fault.message };
+    const text = fault.text ?? fault.message, hint = hintOf(text, certificate);
+    return { accepted: false, text: hint ? `${text} (${hint})` : text };
   }
 }
 
+// The words of the command: files with the background, and allowed flaws.
+function wordsOf(args) {
+  const [names, allowed] = [[], []];
+  for (let at = 0; at < args.length; at += 1) {
+    if (args[at] === '--allow-flaw') allowed.push(args[at += 1]);
+    else if (args[at].startsWith('--')) leave(USAGE, 2);
+    else names.push(args[at]);
+  }
+  if (names.length < 2 || names.length > 4 || !allowed.every((kind) => FLAWS.includes(kind))) leave(USAGE, 2);
+  return { names, allowed };
+}
+
 if (isMainThread) {
-  const names = process.argv.slice(2);
-  if (names.length < 2 || names.length > 4) leave('usage: check_upload.mjs PICTURE CERTIFICATE [GIVENS [R,G,B]]', 2);
+  const { names, allowed } = wordsOf(process.argv.slice(2));
   const background = names[3] ?? null;
   const samples = background?.split(',') ?? [0, 0, 0];
   const isGround = samples.length === 3 && samples.every((sample) => /^\d{1,5}$/.test(sample) && sample < 65536);
@@ -90,7 +112,7 @@ if (isMainThread) {
     });
     const [picture, certificate, givens = Buffer.alloc(0)] = await Promise.all(names.slice(0, 3).map(bytesOf));
     if (!picture || !certificate || !givens) leave(`a file has more than ${MOST_BYTES} bytes`, 1);
-    ask({ module, picture, certificate, background, givens });
+    ask({ module, picture, certificate, background, givens, allowed });
   } catch (error) {
     leave(error.message, 3);
   }

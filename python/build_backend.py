@@ -10,7 +10,9 @@ import zipfile
 from pathlib import Path
 
 HERE = Path(__file__).resolve().parent
-LIBRARY = "libnonobench.so"
+# The library of a system, and for Windows the program too. One of these lies beside the package, or c/build left the first.
+LIBRARIES = ("libnonobench.so", "nonobench.dll")
+PROGRAM = "nonobench.exe"
 # What the package has: code, and the parts of the report that an audit makes.
 CARRIED = (".py", ".html", ".css", ".js")
 # What is put below the folder of an environment: the recipes and their examples, where they lie beside this file.
@@ -25,7 +27,7 @@ def build_wheel(wheel_directory, config_settings=None, metadata_directory=None):
     """Writes the wheel into a folder, and answers its name. The setting `platform` names the platform of a library that is packed."""
     project = _project()
     files = _package()
-    is_pure = f"nonobench/{LIBRARY}" not in files
+    is_pure = not any(f"nonobench/{library}" in files for library in LIBRARIES)
     platform = (config_settings or {}).get("platform", sysconfig.get_platform())
     tag = "py3-none-" + ("any" if is_pure else re.sub(r"\W", "_", platform))
     title = "{name}-{version}".format(**project)
@@ -87,8 +89,11 @@ def _package():
     sources = HERE / "src" / "nonobench"
     files = [file for file in sorted(sources.rglob("*")) if file.suffix in CARRIED or file.name == "py.typed"]
     packed = {file.relative_to(HERE / "src").as_posix(): file.read_bytes() for file in files}
-    libraries = [place for place in (sources / LIBRARY, HERE.parent / "c" / "out" / LIBRARY) if place.is_file()][:1]
-    return {**packed, **{f"nonobench/{LIBRARY}": place.read_bytes() for place in libraries}}
+    binaries = [place for place in (sources / name for name in (*LIBRARIES, PROGRAM)) if place.is_file()]
+    built = HERE.parent / "c" / "out" / LIBRARIES[0]
+    if not binaries and built.is_file():
+        binaries = [built]
+    return {**packed, **{f"nonobench/{place.name}": place.read_bytes() for place in binaries}}
 
 
 def _entry(place):

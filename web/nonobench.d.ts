@@ -53,6 +53,59 @@ export type Proved =
   /** Another picture has the clues; or neither such a picture nor a certificate was found within the bounds of the search. */
   | { ruling: 'ambiguous' | 'undecided'; certificate: null; proof: null };
 
+export interface AssessOptions {
+  /** The colour of the background in a P3 picture, 'r,g,b', which then counts as named; by default white. */
+  background?: string | null;
+  /** The published cells, or a file with a line `given R C` for each; by default none. */
+  givens?: readonly Place[] | Input | null;
+  /** A certificate of the puzzle with these cells: nothing is searched. */
+  certificate?: Input | null;
+  /** How many splits the search of a part may make, 0 to 99999; by default there is no such bound, and a call may take very long. */
+  allowance?: number | null;
+  /** The file's format; by default it is recognised by the file's contents. */
+  format?: 'ppm' | 'non';
+}
+
+/** How hard a puzzle with one solution is (docs/FORMATS.md). Splits and depth are null if the word is 'unknown'. */
+export interface Grade {
+  word: 'easy' | 'medium' | 'hard' | 'very-hard' | 'expert' | 'unknown';
+  rounds: number;
+  evaluations: number;
+  wait: number;
+  splits: number | null;
+  depth: number | null;
+}
+
+/**
+ * Why a puzzle is not fit to be published, besides its verdict: no cell has another colour than the background; no cell has the
+ * background that was named; a given without which there is still one solution, or with a certificate a published cell that it does
+ * not name; two colours that a solver may confuse, by their letters.
+ */
+export type Flaw = 'blank' | 'background' | `given ${number} ${number}` | `spare ${number} ${number}` | `alike ${string} ${string}`;
+
+/** What is said of a puzzle. */
+export interface Assessment {
+  verdict: 'unique' | 'ambiguous' | 'undecided';
+  /** The rows of another picture with the clues, if the puzzle is ambiguous. */
+  other: string[] | null;
+  rows: number;
+  columns: number;
+  /** The colours that cells have, the background among them if a cell has it. */
+  colours: number;
+  givens: number;
+  /** The cells that line logic leaves open. */
+  open: number;
+  /** If the puzzle is unique. */
+  grade: Grade | null;
+  flaws: Flaw[];
+  /** The first given of which the allowance leaves open whether it is needed, if none is known to be needless. It is no flaw. */
+  unknown: Place | null;
+  /** It is unique and has no flaw. */
+  fit: boolean;
+  /** The text that the engine gave. */
+  text: string;
+}
+
 /** An open picture, until it is closed. A bench without references is closed some time later. */
 export interface Bench {
   /** Answers lines, each a command, with exactly what the program writes for them. */
@@ -70,6 +123,8 @@ export interface Engine {
   check(picture: Input, certificate: Input, options?: CheckOptions): Checked;
   /** @deprecated The old name of `check`. */
   verify(picture: Input, certificate: Input, options?: CheckOptions): Checked;
+  /** Assesses a puzzle: a P3 picture, or a .non text with a goal. Throws a Fault if it, the givens or the certificate is refused. */
+  assess(puzzle: Input, options?: AssessOptions): Assessment;
   /** Makes a certificate with lemmas. It may take minutes. */
   prove(picture: Input, options?: ProveOptions): Proved;
   /** The clues of a file, a line each, as the program prints them. */
@@ -96,6 +151,9 @@ export class Fault extends Error {
  * CR LF, it is UTF-16, or it begins with a byte order mark. Empty if there is no sign of that.
  */
 export function hintOf(text: string, certificate: Input): string;
+
+/** What an assessment says, of its text as the program or a session prints it. Throws a TypeError for another text. */
+export function readAssessment(text: string): Assessment;
 
 /** Makes an engine of the bytes of nonobench.wasm. */
 export function load(bytes: Uint8Array | ArrayBuffer): Promise<Engine>;

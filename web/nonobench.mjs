@@ -6,6 +6,7 @@
 //     bench.say('clues\nverdict\n')                         // what the program `nonobench work` answers
 //     bench.close()
 //     engine.check(picture, certificate, {givens: [[1, 1]]})    // {accepted, status, text, givens}
+//     engine.assess(picture, {background: '0,0,0'})         // {verdict, .., grade, flaws, fit}
 //     engine.prove(picture)                                 // {ruling, certificate}, a certificate with lemmas
 //     engine.clues(picture)                                 // what the program `nonobench` prints for it
 //     engine.version                                        // as `nonobench --version` prints it after the name
@@ -16,6 +17,10 @@ const OPTIONS = 6;
 
 // How many bytes an input may have, as for the program.
 const MOST_BYTES = 16777216;
+
+// How many splits an allowance may name. What is above stands for none.
+const MOST_SPLITS = 99999;
+const NO_ALLOWANCE = 0xffffffff;
 
 // The room that a text is first taken in.
 const ROOM = 65536;
@@ -46,6 +51,24 @@ function bytesOf(input) {
   throw new TypeError('expected a string, a Uint8Array or an ArrayBuffer');
 }
 
+// The bytes of a file, which may have so many as for the program.
+function inputOf(input) {
+  // A text has as many bytes as letters, or more.
+  if ((typeof input === 'string' ? input.length : input?.byteLength) > MOST_BYTES) throw new Fault('open', 'input too long');
+  const bytes = bytesOf(input);
+  if (bytes.length > MOST_BYTES) throw new Fault('open', 'input too long');
+  return bytes;
+}
+
+// The word for a background: empty where none is given, and then not taken for one.
+function backgroundOf(options) {
+  const word = own(options, 'background');
+  if (word === undefined || word === null) return '';
+  const text = String(word);
+  if (!/^[0-9]+,[0-9]+,[0-9]+$/.test(text)) throw new Fault('open', 'background must be R,G,B');
+  return text;
+}
+
 // Whether a file is a .non text: a line of it begins with a word of that format, and it does not begin as a picture does.
 function isNon(bytes) {
   if (bytes[0] === 0x50) return false;
@@ -55,15 +78,29 @@ function isNon(bytes) {
 
 const NONE = new Uint8Array(0);
 
-// The cells that are published as a file of givens: a line for each pair, or a text as it is; null for 'any'.
+// The cells that are published as a file of givens: a line for each pair, or a text as it is; null for 'any'. Each is an own property
+// of its array, read once.
 function publishedOf(givens) {
   if (givens === undefined || givens === null) return NONE;
   if (givens === 'any') return null;
   if (!Array.isArray(givens)) return givens;
-  if (!givens.every((place) => Array.isArray(place) && place.length === 2 && Number.isInteger(place[0]) && Number.isInteger(place[1]))) {
-    throw new TypeError("givens must be pairs [row, column] that count from 1, a file of givens, or 'any'");
+  let lines = '';
+  for (let at = 0; at < givens.length; at++) {
+    const place = own(givens, at), [row, column] = Array.isArray(place) && place.length === 2 ? [own(place, 0), own(place, 1)] : [];
+    if (!Number.isInteger(row) || !Number.isInteger(column)) {
+      throw new TypeError("givens must be pairs [row, column] that count from 1, a file of givens, or 'any'");
+    }
+    lines += `given ${row} ${column}\n`;
   }
-  return givens.map(([row, column]) => `given ${row} ${column}\n`).join('');
+  return lines;
+}
+
+// Whether the file of a call is a .non text, as the option says or its contents do. A background goes with a picture alone.
+function isNonFor(bytes, options, background) {
+  const format = own(options, 'format') ?? null, non = format === null ? isNon(bytes) : format === 'non';
+  if (![null, 'ppm', 'non'].includes(format)) throw new Fault('open', 'format must be ppm or non');
+  if (non && background.length > 0) throw new Fault('open', 'background goes with ppm');
+  return non;
 }
 
 // The givens that a right certificate names: their lines stand directly below its first one.
@@ -74,6 +111,13 @@ function givensOf(certificate) {
   line.lastIndex = from;
   for (let found = line.exec(text); found; found = line.exec(text)) givens.push([Number(found[1]), Number(found[2])]);
   return givens;
+}
+
+// The answer to a check, by its status and its text.
+function checkedOf(status, text, cert) {
+  const givens = status === DONE || text.startsWith('certificate UnpublishedGiven ') ? givensOf(cert) : [];
+  if (status === DONE && text !== `certificate accepted${givens.length > 0 ? `, givens ${givens.length}` : ''}\n`) throw new Fault('ended', `the module names other givens: ${text}`);
+  return { accepted: status === DONE, status, text, givens };
 }
 
 const UTF_16 = 'it is UTF-16, and must be ASCII';
@@ -95,6 +139,29 @@ export function hintOf(text, certificate) {
   return odd ?? (line.endsWith('\r') ? 'its lines end with CR LF, and must end with LF alone' : '');
 }
 
+// The text of an assessment, line by line.
+const ASSESSMENT = new RegExp([
+  '^(?<verdict>unique|ambiguous|undecided)\\n(?<other>(?:[.a-o]+\\n)*)size (?<rows>N) (?<columns>N)\\ncolours (?<colours>N)\\n',
+  'givens (?<givens>N)\\nopen (?<open>N)\\n(?:grade (?<word>[a-z-]+) (?<rounds>N) (?<evaluations>N) (?<wait>N)(?: (?<splits>N) (?<depth>N))?\\n)?',
+  '(?<said>(?:(?:flaw|unknown) [a-z]+(?: [.a-o0-9]+)*\\n)*)(?<end>fit|unfit)\\n$',
+].join('').replaceAll('N', '\\d+'));
+
+const numbersIn = (found, names) => Object.fromEntries(names.map((name) => [name, found[name] === undefined ? null : Number(found[name])]));
+
+/** What an assessment says, as a value: of the text of the library's call, the program or a session, which is in `text`. */
+export function readAssessment(text) {
+  const found = ASSESSMENT.exec(text)?.groups;
+  if (!found) throw new TypeError(`this is no assessment: ${text.slice(0, 60)}`);
+  const lines = found.said.split('\n'), unknown = lines.find((line) => line.startsWith('unknown given '));
+  return {
+    verdict: found.verdict, other: found.verdict === 'ambiguous' ? found.other.split('\n').slice(0, -1) : null,
+    ...numbersIn(found, ['rows', 'columns', 'colours', 'givens', 'open']),
+    grade: found.word ? { word: found.word, ...numbersIn(found, ['rounds', 'evaluations', 'wait', 'splits', 'depth']) } : null,
+    flaws: lines.filter((line) => line.startsWith('flaw ')).map((line) => line.slice(5)), unknown: unknown ? unknown.split(' ').slice(2).map(Number) : null,
+    fit: found.end === 'fit', text,
+  };
+}
+
 /** An instance of the module with its memory. Each has benches of its own. */
 class Engine {
   #calls;
@@ -110,11 +177,9 @@ class Engine {
 
   /** Opens a bench. Throws a Fault if the file is refused. */
   open(file, options = {}) {
-    const bytes = this.#input(file), history = own(options, 'history') ?? 100, format = own(options, 'format');
+    const bytes = this.#input(file), history = own(options, 'history') ?? 100;
     if (!Number.isInteger(history) || history < 1 || history > 1000) throw new Fault('open', 'history must be 1 to 1000');
-    const non = format === undefined ? isNon(bytes) : format === 'non';
-    const background = this.#background(options);
-    if (non && background.length > 0) throw new Fault('open', 'background goes with ppm');
+    const background = this.#background(options), non = isNonFor(bytes, options, background);
     // Each bench has a desk of its own, which ends in a moment, however many others are open.
     const cell = this.#desk();
     try {
@@ -143,14 +208,31 @@ class Engine {
     const call = published === null ? 'nonobench_check' : 'nonobench_check_published';
     const status = this.#lend(files, (lent) => this.#calls[call](this.#cell, ...lent.flatMap(({ at, size }) => [at, size])));
     if (status === MEMORY || status === OPTIONS) this.#refuse(status);
-    const text = this.#text();
-    const givens = status === DONE || text.startsWith('certificate UnpublishedGiven ') ? givensOf(cert) : [];
-    if (status === DONE && text !== `certificate accepted${givens.length > 0 ? `, givens ${givens.length}` : ''}\n`) throw new Fault('ended', `the module names other givens: ${text}`);
-    return { accepted: status === DONE, status, text, givens };
+    return checkedOf(status, this.#text(), cert);
   }
 
   /** @deprecated The old name of `check`. */
   verify(...words) { return this.check(...words); }
+
+  /**
+   * Assesses a puzzle, a picture or a .non text with a goal: what readAssessment gives of the engine's text. A background that is passed
+   * counts as named. `givens` are published in place of the picture's own, as for `check`, and with a `certificate` nothing is searched.
+   * `allowance` bounds the splits of each part. Throws a Fault where one of the files is refused.
+   */
+  assess(puzzle, options = {}) {
+    const file = this.#input(puzzle), background = this.#background(options), non = isNonFor(file, options, background);
+    const allowance = own(options, 'allowance') ?? NO_ALLOWANCE;
+    if (allowance !== NO_ALLOWANCE && !(Number.isInteger(allowance) && allowance >= 0 && allowance <= MOST_SPLITS)) {
+      throw new Fault('open', `allowance must be 0 to ${MOST_SPLITS}`);
+    }
+    const [givens, certificate] = ['givens', 'certificate'].map((name) => own(options, name) ?? null);
+    const texts = [givens === null || givens === 'any' ? givens : publishedOf(givens), certificate].map((text) => text !== null && this.#input(text));
+    const status = this.#lend([file, background, ...texts.map((text) => text || NONE)], ([picture, word, listed, cert]) =>
+      this.#calls.nonobench_assess(this.#cell, picture.at, picture.size, non ? 1 : 0, word.at, word.size,
+        texts[0] ? 1 : 0, listed.at, listed.size, texts[1] ? 1 : 0, cert.at, cert.size, allowance));
+    if (status !== DONE) this.#refuse(status);
+    return readAssessment(this.#text());
+  }
 
   /**
    * Makes a certificate with lemmas of a picture: {ruling, certificate}. The ruling is 'unique' with the certificate, which has no
@@ -220,22 +302,9 @@ class Engine {
     this.#calls.free(cell);
   }
 
-  #input(input) {
-    // A text has as many bytes as letters, or more.
-    if ((typeof input === 'string' ? input.length : input?.byteLength) > MOST_BYTES) throw new Fault('open', 'input too long');
-    const bytes = bytesOf(input);
-    if (bytes.length > MOST_BYTES) throw new Fault('open', 'input too long');
-    return bytes;
-  }
+  #input(input) { return inputOf(input); }
 
-  // The word for a background: empty where none is given, and then not taken for one.
-  #background(options) {
-    const word = own(options, 'background');
-    if (word === undefined || word === null) return new Uint8Array(0);
-    const text = String(word);
-    if (!/^[0-9]+,[0-9]+,[0-9]+$/.test(text)) throw new Fault('open', 'background must be R,G,B');
-    return encoder.encode(text);
-  }
+  #background(options) { return encoder.encode(backgroundOf(options)); }
 
   #refuse(status, cell = this.#cell) {
     if (status === MEMORY) throw new Fault('memory', 'memory');
@@ -339,3 +408,6 @@ export async function load(bytes) {
   const { instance } = await WebAssembly.instantiate(bytes, {});
   return new Engine(instance);
 }
+
+// What web/check.mjs takes over.
+export { backgroundOf, checkedOf, inputOf, own, publishedOf };

@@ -9,9 +9,8 @@ import test from 'node:test';
 import { fileURLToPath } from 'node:url';
 import { setFlagsFromString } from 'node:v8';
 import { runInNewContext } from 'node:vm';
-import { colourShown, coloursTooNear } from './colours.mjs';
 import { TRIED, waits } from '../tests/waits.mjs';
-import { Fault, hintOf, load } from './nonobench.mjs';
+import { Fault, hintOf, load, readAssessment } from './nonobench.mjs';
 
 const root = join(dirname(fileURLToPath(import.meta.url)), '..');
 const bytes = readFileSync(process.env.WASM ?? join(root, 'web', 'out', 'nonobench.wasm'));
@@ -48,6 +47,11 @@ function taken(calls, run) {
 const DIAGONAL = 'P3 2 2 255 0 0 0 255 255 255 255 255 255 0 0 0\n';
 const PUZZLE = 'width 2\nheight 2\n\nrows\n1\n1\n\ncolumns\n1\n1\n\ngoal "1001"\n';
 
+// The plain call that assesses a puzzle in P3, with the texts of its background, its givens and its certificate: addresses and lengths.
+function assessPlainly(calls, cell, [file, size, word, wordSize, givens, givensSize, cert, certSize]) {
+  return calls.nonobench_assess(cell, file, size, 0, word, wordSize, 1, givens, givensSize, 1, cert, certSize, 0);
+}
+
 // What a call throws.
 function faultOf(call) {
   try {
@@ -75,6 +79,10 @@ test('what files, options and words are refused, and how it is said', async () =
   assert.deepEqual(faultOf(() => engine.open('width 2\n')), ['open', 'non MissingSize']);
   assert.deepEqual(faultOf(() => engine.open('width 2\n', { format: 'ppm' })), ['open', 'ppm NotP3 at byte 0']);
   assert.deepEqual(faultOf(() => engine.open('width 1\nheight 1\nrows\n1\ncolumns\n0\n')), ['open', 'no picture has these clues']);
+  for (const format of ['', 'NON', 'ppm ', 'xml', 1, ['non'], false]) {
+    assert.deepEqual(faultOf(() => engine.open(PUZZLE, { format })), ['open', 'format must be ppm or non']);
+  }
+  assert.equal(engine.open(PUZZLE, { format: null }).say('verdict\n'), engine.open(PUZZLE, { format: 'non' }).say('verdict\n'));
   for (const history of [0, 1001, 1.5, NaN, '5']) {
     assert.deepEqual(faultOf(() => engine.open(DIAGONAL, { history })), ['open', 'history must be 1 to 1000']);
   }
@@ -188,6 +196,7 @@ test('lengths past the memory are refused by each plain call, there is no text, 
   const open = (at, length, word = [file, 0n], handle = cell + 8n) => calls.nonobench_open(cell, at, length, 0, ...word, 1, handle);
   const check = (...pairs) => calls.nonobench_check(cell, ...pairs.flat(), file, 0n);
   const published = (...words) => calls.nonobench_check_published(cell, ...words.flat());
+  const assess = (...words) => assessPlainly(calls, cell, words.flat());
   assert.equal(open(file, size), 0);
   const past = [[file, 2n ** 32n + 1n], [file, 2n ** 64n - 1n], [2n ** 63n, 1n], [2n ** 64n - 1n, 1n]];
   const refused = [
@@ -196,6 +205,8 @@ test('lengths past the memory are refused by each plain call, there is no text, 
     (...at) => published(at, [file, size, file, 0n, file, 0n]), (...at) => published([file, size], at, [file, 0n, file, 0n]),
     (...at) => published([file, size, file, size], at, [file, 0n]), (...at) => published([file, size, file, size, file, 0n], at),
     (...at) => calls.nonobench_prove(cell, ...at, file, 0n), (...at) => calls.nonobench_prove(cell, file, size, ...at),
+    (...at) => assess(at, [file, 0n, file, 0n, file, 0n]), (...at) => assess([file, size], at, [file, 0n, file, 0n]),
+    (...at) => assess([file, size, file, 0n], at, [file, 0n]), (...at) => assess([file, size, file, 0n, file, 0n], at),
     (at) => calls.nonobench_start(at - 6n),
   ];
   const places = [() => [end(), 1n], () => [end() + 1n, 0n], () => [end() - 1n, 2n ** 32n], ...past.slice(2).map((place) => () => place)];
@@ -247,6 +258,11 @@ test('bytes up to the last of the memory are taken by each plain call, and the h
   assert.equal(calls.nonobench_check_published(cell, file, size, file, size, file, 0n, ...last('0,0,0')), 1);
   assert.equal(calls.nonobench_prove(cell, ...last(DIAGONAL), file, 0n), 0);
   assert.equal(calls.nonobench_prove(cell, file, size, ...last('0,0,0')), 0);
+  const assess = (...words) => assessPlainly(calls, cell, words);
+  assert.equal(assess(...last(DIAGONAL), file, 0n, file, 0n, file, 0n), 1);
+  assert.equal(assess(file, size, ...last('0,0,0'), file, 0n, file, 0n), 1);
+  assert.equal(assess(file, size, file, 0n, ...last('given 1 1\n'), file, 0n), 1);
+  assert.equal(assess(file, size, file, 0n, file, 0n, ...last('nonocert 2\n')), 1);
   assert.equal(calls.nonobench_say(cell, 1, ...last('verdict\n')), 0);
   assert.equal(calls.nonobench_take(cell, BigInt(end() - 3), 3n), 16n);
   assert.equal(new TextDecoder().decode(new Uint8Array(calls.memory.buffer, end() - 3, 3)), 'amb');
@@ -273,6 +289,7 @@ test('a null beside a length is refused by each plain call, and nothing is read 
     const files = [[file, size], [file, size], [0n, 0n], [0n, 0n]];
     files[nth] = [0n, 1n];
     assert.equal(calls.nonobench_check_published(cell, ...files.flat()), 6);
+    assert.equal(assessPlainly(calls, cell, files.flat()), 6);
   }
   assert.equal(calls.nonobench_prove(cell, 0n, 1n, 0n, 0n), 6);
   assert.equal(calls.nonobench_prove(cell, file, size, 0n, 1n), 6);
@@ -360,19 +377,85 @@ test('products and shifts of 128 bits are those of whole numbers', async () => {
   }
 });
 
-test('colours are too near as the cases say, and are shown in eight bits', () => {
+// What is said of puzzles, worked out from docs/FORMATS.md: the lines of the text, with `/` between them.
+const ALL_CELLS = [[1, 1], [1, 2], [2, 1], [2, 2]];
+const TWO_GREYS = (maxval, one, other) => `P3 2 1 ${maxval} ${one} ${one} ${one} ${other} ${other} ${other}\n`;
+const ASSESSED = [
+  // Two pictures have the clues; a given decides it, and is needed.
+  [DIAGONAL, {}, 'ambiguous/.a/a./size 2 2/colours 2/givens 0/open 4/unfit'],
+  [PUZZLE, {}, 'ambiguous/.a/a./size 2 2/colours 2/givens 0/open 4/unfit'],
+  [DIAGONAL, { givens: [[1, 1]] }, 'unique/size 2 2/colours 2/givens 1/open 0/grade easy 1 4 2 0 0/fit'],
+  [PUZZLE, { givens: 'given 1 1', format: 'non' }, 'unique/size 2 2/colours 2/givens 1/open 0/grade easy 1 4 2 0 0/fit'],
+  // Without a split nothing is found of the puzzle without that given.
+  [DIAGONAL, { allowance: 0 }, 'undecided/size 2 2/colours 2/givens 0/open 4/unfit'],
+  [DIAGONAL, { allowance: 0, givens: [[1, 1]] }, 'unique/size 2 2/colours 2/givens 1/open 0/grade easy 1 4 2 0 0/unknown given 1 1/fit'],
+  // One given too many, and all cells given.
+  [DIAGONAL, { givens: [[2, 2], [1, 1]] }, 'unique/size 2 2/colours 2/givens 2/open 0/grade easy 1 2 1 0 0/flaw given 1 1/unfit'],
+  [DIAGONAL, { givens: ALL_CELLS }, 'unique/size 2 2/colours 2/givens 4/open 0/grade easy 0 0 0 0 0/flaw given 1 1/unfit'],
+  // A certificate that names all published cells, and one that names fewer.
+  [DIAGONAL, { givens: [[1, 1]], certificate: text('examples', 'given.cert') }, 'unique/size 2 2/colours 2/givens 1/open 0/grade easy 1 4 2 0 0/fit'],
+  [DIAGONAL, { givens: [[2, 2], [1, 1]], certificate: text('examples', 'given.cert') }, 'unique/size 2 2/colours 2/givens 2/open 0/grade easy 1 2 1 0 0/flaw spare 2 2/unfit'],
+  // Blank; a background that no cell has, named and not named.
+  ['P3 1 1 1 1 1 1', {}, 'unique/size 1 1/colours 1/givens 0/open 0/grade easy 0 0 0 0 0/flaw blank/unfit'],
+  ['P3 1 1 1 0 0 0', {}, 'unique/size 1 1/colours 1/givens 0/open 0/grade easy 1 1 1 0 0/fit'],
+  ['P3 1 1 1 0 0 0', { background: '1,0,0' }, 'unique/size 1 1/colours 1/givens 0/open 0/grade easy 1 1 1 0 0/flaw background/unfit'],
+  // Colours as shown: white and a white one less, in 8 and in 16 bits; a grey that is just far enough.
+  [TWO_GREYS(255, 255, 254), {}, 'unique/size 1 2/colours 2/givens 0/open 0/grade easy 1 3 2 0 0/flaw alike . a/unfit'],
+  [TWO_GREYS(65535, 65535, 65280), {}, 'unique/size 1 2/colours 2/givens 0/open 0/grade easy 1 3 2 0 0/flaw alike . a/unfit'],
+];
+
+test('puzzles are assessed as the cases say, and what is said is a value', { skip: waits('0.7.0') }, async () => {
+  const engine = await fresh();
+  for (const [puzzle, options, lines] of ASSESSED) assert.equal(engine.assess(puzzle, options).text, lines.replaceAll('/', '\n') + '\n', lines);
+  const { text: said, ...one } = engine.assess(DIAGONAL, { givens: [[1, 1], [2, 2]] });
+  assert.deepEqual(one, {
+    verdict: 'unique', other: null, rows: 2, columns: 2, colours: 2, givens: 2, open: 0, unknown: null, fit: false,
+    grade: { word: 'easy', rounds: 1, evaluations: 2, wait: 1, splits: 0, depth: 0 }, flaws: ['given 1 1'],
+  });
+  assert.deepEqual(engine.assess(DIAGONAL).other, ['.a', 'a.']);
+  assert.equal(engine.assess(DIAGONAL).grade, null);
+  assert.deepEqual(engine.assess(DIAGONAL, { allowance: 0, givens: [[1, 1]] }).unknown, [1, 1]);
+  assert.deepEqual(engine.assess(TWO_GREYS(255, 255, 254)).flaws, ['alike . a']);
+  const [hard] = ['unique/size 3 4/colours 2/givens 0/open 8/grade unknown 2 10 4/fit/'].map((lines) => readAssessment(lines.replaceAll('/', '\n')));
+  assert.deepEqual([hard.grade.word, hard.grade.splits, hard.grade.depth, hard.fit], ['unknown', null, null, true]);
+  for (const other of ['', 'unique\n', said.slice(0, -1), `${said}fit\n`]) assert.throws(() => readAssessment(other), TypeError);
+});
+
+test('colours are alike as the cases say', { skip: waits('0.7.0') }, async () => {
+  const engine = await fresh();
   let count = 0;
   for (const line of text('tests', 'cases', 'near_colours.txt').split('\n')) {
     if (line === '' || line.startsWith('#')) continue;
-    const [one, other, answer] = line.split(' '), pair = [one, other].map((colour) => colour.split(',').map(Number));
-    assert.equal(coloursTooNear(...pair), answer === 'near', line);
-    assert.equal(coloursTooNear(...pair.reverse()), answer === 'near', line);
+    const [one, other, answer] = line.split(' ');
+    if (one === other) continue; // one colour
+    for (const [ground, cell] of [[one, other], [other, one]]) {
+      const { flaws } = engine.assess(`P3 2 1 255 ${ground} ${cell}`.replaceAll(',', ' '), { background: ground });
+      assert.equal(flaws.includes('alike . a'), answer === 'near', line);
+    }
     count += 1;
   }
   assert.ok(count > 20, `${count}`);
-  assert.deepEqual(colourShown([1, 3, 5], 510), [1, 2, 3]);
-  assert.deepEqual(colourShown([0, 32767, 65535], 65535), [0, 127, 255]);
-  assert.deepEqual(colourShown([0, 1, 1], 1), [0, 255, 255]);
+});
+
+test('what cannot be assessed is refused, and an option is a property of the object itself', { skip: waits('0.7.0') }, async () => {
+  const engine = await fresh();
+  const refused = (puzzle, options) => faultOf(() => engine.assess(puzzle, options));
+  assert.deepEqual(refused('P4\n'), ['open', 'ppm NotP3 at byte 0']);
+  assert.deepEqual(refused('width 1\nheight 1\nrows\n1\ncolumns\n1\n'), ['open', 'non NoGoal']);
+  assert.deepEqual(refused(PUZZLE, { background: '0,0,0' }), ['open', 'background goes with ppm']);
+  assert.deepEqual(refused(DIAGONAL, { background: 'white' }), ['open', 'background must be R,G,B']);
+  assert.deepEqual(refused(DIAGONAL, { givens: [[3, 1]] }), ['open', 'givens Place at line 1']);
+  assert.deepEqual(refused(DIAGONAL, { givens: 'any' }), ['open', 'givens BadLine at line 1']);
+  assert.deepEqual(refused(DIAGONAL, { certificate: '' }), ['open', 'certificate NotCert at line 1']);
+  assert.deepEqual(refused(DIAGONAL, { certificate: text('examples', 'given.cert') }), ['open', 'certificate UnpublishedGiven at line 2']);
+  for (const allowance of [-1, 100000, 1.5, NaN, '5']) assert.deepEqual(refused(DIAGONAL, { allowance }), ['open', 'allowance must be 0 to 99999']);
+  assert.deepEqual(refused(new Uint8Array(16777217)), ['open', 'input too long']);
+  assert.deepEqual(refused(DIAGONAL, { givens: new Uint8Array(16777217) }), ['open', 'input too long']);
+  assert.throws(() => engine.assess(DIAGONAL, { givens: [[1]] }), TypeError);
+  assert.throws(() => engine.assess(null), TypeError);
+  assert.equal(engine.assess(DIAGONAL, Object.create({ givens: [[1, 1]], allowance: 0 })).verdict, 'ambiguous');
+  assert.equal(engine.assess(DIAGONAL, { background: null, givens: null, certificate: null, allowance: null }).verdict, 'ambiguous');
+  assert.equal(engine.assess(DIAGONAL, { givens: [] }).verdict, 'ambiguous');
 });
 
 test('the version is that of the crates, whole or as far as there is room', async () => {
@@ -443,7 +526,7 @@ test('after a trap the engine is of no use, and says so', async () => {
   isTrap = true;
   assert.deepEqual(faultOf(() => bench.say('pin 1 2\n')), ['ended', 'the module has ended: unreachable']);
   isTrap = false;
-  for (const call of [() => bench.say('verdict\n'), () => bench.close(), () => engine.open(DIAGONAL), () => engine.check(DIAGONAL, ''), () => engine.prove(DIAGONAL)]) {
+  for (const call of [() => bench.say('verdict\n'), () => bench.close(), () => engine.open(DIAGONAL), () => engine.check(DIAGONAL, ''), () => engine.assess(DIAGONAL), () => engine.prove(DIAGONAL)]) {
     assert.deepEqual(faultOf(call), ['ended', 'the module has ended']);
   }
 });
@@ -614,8 +697,12 @@ test('an option is a property of the object itself', { skip: waits('0.7.0') }, a
   assert.equal(polluted(pollution, () => engine.clues(unique)), engine.clues(unique));
   const bench = polluted(pollution, () => engine.open(unique));
   assert.equal(bench.say('pin 1 1\npin 1 2\nundo\nundo\n'), 'ok\n'.repeat(4));
-  // A hole in a pair is no number, whatever stands on the prototype.
-  assert.throws(() => polluted({ 1: 1 }, () => engine.check(DIAGONAL, all, { givens: [new Array(2)] })), TypeError);
+  // A hole in a pair is no number, and one among pairs is no pair, whatever stands on the prototype.
+  for (const givens of [[new Array(2)], new Array(1), [, [1, 1], [1, 2], [2, 1], [2, 2]], [[1, 1], [1, 2], [2, 1], , [2, 2]]]) {
+    for (const put of [1, [1, 1], 'given 1 1\ngiven 1 2\ngiven 2 1\ngiven 2 2\n']) {
+      assert.throws(() => polluted({ 0: put, 1: put, 3: put }, () => engine.check(DIAGONAL, all, { givens })), TypeError);
+    }
+  }
 });
 
 test('a bench is closed in a moment, however many others are open', async () => {
@@ -714,9 +801,11 @@ test('each growth refused in turn while a certificate is checked or made is a fa
   const { engine, calls } = await watched();
   const picture = text('examples', 'given.ppm'), certificate = text('examples', 'given.cert'), givens = [[1, 1]];
   const lemmas = `nonolemma 1${certificate.slice(10)}`, unique = pictureOf('a./.b'), made = engine.prove(unique);
+  const assessed = engine.assess(picture, { givens });
   const accepted = { accepted: true, status: 0, text: 'certificate accepted, givens 1\n', givens };
   const asked = [
     [() => engine.check(picture, certificate, { givens }), accepted], [() => engine.check(picture, lemmas, { givens: 'any' }), accepted],
+    [() => engine.assess(picture, { givens }), assessed], [() => engine.assess(picture, { givens, certificate }), assessed],
     [() => engine.prove(unique), made], [() => engine.prove(DIAGONAL), { ruling: 'ambiguous', certificate: null, proof: null }],
   ];
   for (const [call, wanted] of asked) {
@@ -798,6 +887,9 @@ test('the sessions of the repository come out as they stand there', async () => 
   assert.ok(count > 20, `${count}`);
 });
 
+// What it prints for examples/diagonal.ppm, which tests/cases/grade.case works out too.
+const DIAGONAL_SAID = 'unique\nsize 2 2\ncolours 3\ngivens 0\nopen 0\ngrade easy 1 4 3 0 0\nfit\n';
+
 // Runs the example from a folder, and gives what it printed and its status.
 function uploaded(folder, ...words) {
   return uploadedBy(resolve(process.env.WASM ?? join(root, 'web', 'out', 'nonobench.wasm')), folder, ...words);
@@ -817,10 +909,22 @@ test('the example checks an upload in a thread of its own, and its status tells 
   try {
     const one = file('one', 'given 1 1\n'), cross = file('cross.ppm', 'P3\n2 2\n1\n0 0 0 1 1 1\n1 1 1 0 0 0\n');
     const all = file('cross.cert', 'nonocert 2\ngiven 1 1\ngiven 1 2\ngiven 2 1\ngiven 2 2\ndone\n');
-    assert.deepEqual(said('diagonal.ppm', 'diagonal.cert'), ['certificate accepted\n', 0]);
-    assert.deepEqual(said('given.ppm', 'given.cert', one), ['certificate accepted, givens 1\n', 0]);
+    assert.deepEqual(said('diagonal.ppm', 'diagonal.cert'), [DIAGONAL_SAID, 0]);
+    const given = 'unique\nsize 2 2\ncolours 2\ngivens 1\nopen 0\ngrade easy 1 4 2 0 0\nfit\n';
+    assert.deepEqual(said('given.ppm', 'given.cert', one), [given, 0]);
     const lemmas = file('lemmas.cert', 'nonolemma 2\ngiven 1 1\nline r1 c1 r2\ndone\n');
-    assert.deepEqual(said('given.ppm', lemmas, one), ['certificate accepted, givens 1\n', 0]);
+    assert.deepEqual(said('given.ppm', lemmas, one), [given, 0]);
+    const two = file('two', 'given 2 2\ngiven 1 1\n');
+    assert.deepEqual(said('given.ppm', 'given.cert', two), ['refused: flaw spare 2 2\n', 1]);
+    assert.deepEqual(said('given.ppm', 'given.cert', two, '255,0,0'), ['refused: flaw background; flaw spare 2 2\n', 1]);
+    for (const kind of ['blank', 'alike', 'background']) assert.deepEqual(said('--allow-flaw', kind, 'given.ppm', 'given.cert', two), ['refused: flaw spare 2 2\n', 1]);
+    const spare = 'unique\nsize 2 2\ncolours 2\ngivens 2\nopen 0\ngrade easy 1 2 1 0 0\nflaw spare 2 2\nunfit\n';
+    for (const words of [['given'], ['any'], ['blank', '--allow-flaw', 'given']]) {
+      assert.deepEqual(said('--allow-flaw', ...words, 'given.ppm', 'given.cert', two), [spare, 0]);
+    }
+    for (const words of [['--allow-flaw', 'spare'], ['--allow-flaw'], ['--other']]) {
+      assert.deepEqual(said('given.ppm', 'given.cert', two, ...words), ['check_upload: usage: check_upload.mjs [--allow-flaw KIND ..] PICTURE CERTIFICATE [GIVENS [R,G,B]]\n', 2]);
+    }
     assert.deepEqual(said('given.ppm', lemmas), ['refused: certificate UnpublishedGiven at line 2\n', 1]);
     assert.deepEqual(said('given.ppm', 'given.cert'), ['refused: certificate UnpublishedGiven at line 2\n', 1]);
     assert.deepEqual(said('given.ppm', 'diagonal.cert'), ['refused: certificate NotDead at line 5\n', 1]);
@@ -833,7 +937,7 @@ test('the example checks an upload in a thread of its own, and its status tells 
     for (const ground of ['', '1,2', '1,2,3,4', '-1,0,0', '1e1,0,0', '65536,0,0', '1, 2,3']) {
       assert.deepEqual(said('given.ppm', 'given.cert', one, ground), ['check_upload: the background must be R,G,B\n', 2]);
     }
-    assert.deepEqual(said('given.ppm', 'given.cert', one, '255,00255,255'), ['certificate accepted, givens 1\n', 0]);
+    assert.deepEqual(said('given.ppm', 'given.cert', one, '255,00255,255'), [given, 0]);
     const [text, status] = uploadedBy(join(folder, 'none.wasm'), join(root, 'examples'), 'diagonal.ppm', 'diagonal.cert');
     assert.match(text, /^check_upload: the package nonobench is not installed here, and ENOENT: .*none\.wasm'\n$/);
     assert.equal(status, 3);
@@ -867,7 +971,7 @@ test('the example loads nothing from the current folder', { skip: waits('0.7.0')
     writeFileSync(join(folder, 'package.json'), '{"imports": {"#x": "./index.js"}, "main": "index.js"}');
     writeFileSync(join(folder, 'nonobench.wasm'), 'no module');
     const pair = ['diagonal.ppm', 'diagonal.cert'].map((name) => join(root, 'examples', name));
-    assert.deepEqual(uploaded(folder, ...pair), ['certificate accepted\n', 0]);
+    assert.deepEqual(uploaded(folder, ...pair), [DIAGONAL_SAID, 0]);
     assert.ok(!existsSync(mark));
   } finally {
     rmSync(folder, { recursive: true, force: true });
@@ -947,7 +1051,7 @@ test('the example ends a check that takes too long, by the processor or by the c
     const wait = (seconds) => Atomics.wait(new Int32Array(new SharedArrayBuffer(4)), 0, 0, seconds * 1000);
     const tasks = { some: () => wait(12), clock: () => wait(3600), processor: () => { for (;;); } };
     export const hintOf = () => '';
-    export const load = async () => ({ check() { tasks[/(\\w+)\\.mjs$/.exec(process.argv[1])[1]](); return { accepted: true, text: 'certificate accepted\\n' }; } });
+    export const load = async () => ({ assess() { tasks[/(\\w+)\\.mjs$/.exec(process.argv[1])[1]](); return { verdict: 'unique', flaws: [], text: 'fit\\n' }; } });
   `);
   const script = readFileSync(join(root, 'examples', 'check_upload.mjs'), 'utf8');
   const asked = async (name, limits) => {
@@ -959,5 +1063,5 @@ test('the example ends a check that takes too long, by the processor or by the c
     return [await new Promise((done) => { child.on('close', done); }), said];
   };
   const answers = await Promise.all([asked('some', {}), asked('clock', { MOST_CLOCK: 3 }), asked('processor', { MOST_PROCESSOR: 2, MOST_CLOCK: 3600 })]);
-  assert.deepEqual(answers, [[0, 'certificate accepted\n'], [1, 'refused: took too long\n'], [1, 'refused: took too long\n']]);
+  assert.deepEqual(answers, [[0, 'fit\n'], [1, 'refused: took too long\n'], [1, 'refused: took too long\n']]);
 });

@@ -8,7 +8,6 @@ a process that is ended where it takes too long, and what is shown is escaped.
 
 import contextlib
 import hashlib
-import itertools
 import json
 import logging
 import os
@@ -150,11 +149,6 @@ class Picture:
         self.palette = {triple: nonobench.colour_shown(triple, maxval) for triple in dict.fromkeys([(maxval,) * 3, *exact])}
         self.cells = [self.palette[triple] for triple in exact]
 
-    def near(self):
-        """Two colours that a solver may take for each other, where there are two; white is that of cells which stay empty."""
-        pairs = itertools.combinations(self.palette.values(), 2)
-        return next((pair for pair in pairs if nonobench.colours_too_near(*pair)), None)
-
     def sum(self):
         """A sum of the size and of all that is shown."""
         return hashlib.sha256(json.dumps([self.columns, self.cells]).encode()).hexdigest()
@@ -170,13 +164,17 @@ def puzzle_of(picture, clues, givens):
     })
 
 
-def refuse_no_puzzle(picture, givens):
-    """Refuses what is proved, and yet no puzzle that a solver can be handed."""
-    near = picture.near()
-    if near:
-        first, second = ("white" if triple == WHITE else "rgb({}, {}, {})".format(*triple) for triple in near)
-        raise Refused(f"Two colours look alike: {first} and {second}. Make them differ more; white is the background.")
-    if len(givens) == len(picture.cells):
+def refuse_unfit(picture, said):
+    """Refuses what is proved, and yet not fit to be published, or no puzzle since nothing is left to solve."""
+    for flaw in said.flaws:
+        if flaw.kind == "alike":
+            shown = list(picture.palette.values())
+            pair = [shown[".abcdefghijklmno".index(letter)] for letter in flaw.colours]
+            first, second = ("white" if triple == WHITE else "rgb({}, {}, {})".format(*triple) for triple in pair)
+            raise Refused(f"Two colours look alike: {first} and {second}. Make them differ more; white is the background.")
+    if not said.is_fit:
+        raise Refused("The picture is blank." if "blank" in map(str, said.flaws) else "The puzzle is not fit to be published.")
+    if said.givens == said.rows * said.columns:
         raise Refused("The certificate gives every cell, so there is nothing left to solve.")
 
 
@@ -271,10 +269,10 @@ class Site:
                 self.workers.get_nowait().close()
 
     def proved(self, file, certificate):
-        """A picture whose certificate is accepted, and what is published of it: with the givens that this names."""
+        """A picture that is fit to be published by its certificate, and what is published of it: with the givens that this names."""
         try:
             with self.worker() as worker:
-                givens = worker.check(file, certificate, published=nonobench.ANY_GIVEN).givens
+                said = worker.assess(file, certificate, published=nonobench.ANY_GIVEN)
                 clues = worker.clues(file)
         except nonobench.Fault as fault:
             raise Refused(reason_of(fault, certificate)) from fault
@@ -283,8 +281,8 @@ class Site:
         except MemoryError as error:
             raise Refused("The check took too much memory.", 503) from error
         picture = Picture(file)
-        refuse_no_puzzle(picture, givens)
-        return picture, puzzle_of(picture, clues, givens)
+        refuse_unfit(picture, said)
+        return picture, puzzle_of(picture, clues, said.named)
 
     def database(self):
         """The connection of this request."""

@@ -19,6 +19,18 @@ async function check({ files, givens, options: { background } }) {
   write(text);
 }
 
+// The block of a puzzle's file, and its status: 0 if the puzzle is fit, 1 if it is not or is refused, 3 if it could not be read.
+function blockOf(engine, path, options) {
+  try {
+    const { text, fit } = engine.assess(readFile(path), options);
+    return [text, fit ? 0 : 1];
+  } catch (error) {
+    if (error instanceof Fault && error.kind === 'open') return [`refused ${error.text}\n`, 1];
+    if (!(error instanceof Ending)) throw error;
+    return error.status === 3 ? ['refused read\n', 3] : ['refused too long\n', 1];
+  }
+}
+
 // A certificate with lemmas in its older form: a step on each line.
 function singleSteps(certificate) {
   const lines = (line, word, steps) => steps.split(' ').map((step) => `${word} ${word === 'line' ? `${step[0]} ${step.slice(1)}` : step}`).join('\n');
@@ -40,6 +52,19 @@ const TASKS = {
 
   verify: check, // its old name
 
+  async assess({ files, givens, certificate, options: { format, background, allowance } }) {
+    const [cells, lines] = [givens, certificate].map((path) => (path === undefined ? undefined : readFile(path)));
+    const engine = await load();
+    let worst = 0;
+    for (const [at, path] of files.entries()) {
+      const [block, status] = blockOf(engine, path, { format, background, allowance, givens: cells, certificate: lines });
+      write(files.length > 1 ? `puzzle ${at + 1}\n${block}` : block);
+      worst = Math.max(worst, status);
+    }
+    if (worst === 3) throw ended(3, 'read failed');
+    if (worst === 1) throw new Ending(1, ''); // the blocks say why
+  },
+
   async prove({ files, givens, complete, options: { background, format } }) {
     if (givens !== undefined || complete) throw ended(2, 'prove takes --givens and --complete in the native program alone');
     const { ruling, certificate } = (await load()).prove(readFile(files[0]), { background });
@@ -53,11 +78,10 @@ const TASKS = {
   },
 };
 
-// How the program ends on what was thrown.
+// How the program ends on what was thrown. What nobody expects, such as a module that cannot be loaded, is no refusal.
 function endingOf(error) {
   if (error instanceof Ending) return error;
-  if (error instanceof Fault) return ended(1, error.text);
-  throw error;
+  return error instanceof Fault ? ended(1, error.text) : ended(3, `the module cannot be used: ${error.message}`);
 }
 
 try {

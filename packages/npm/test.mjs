@@ -34,24 +34,25 @@ function done(args) {
 // What the package's program would do.
 function asked(args) {
   try {
-    const { task, page } = readWords(args);
+    const { task, page, files, givens, certificate } = readWords(args);
     if (task === 'help') return { status: 0, wrote: help[page], said: '' };
     if (task === 'version') return { status: 0, wrote: done(['--version']).wrote, said: '' };
     if (task === 'clues') return done([]);
-    return { status: 3, wrote: '', said: 'nonobench: read failed\n' };
+    const blocks = files.map((_, at) => `${files.length > 1 ? `puzzle ${at + 1}\n` : ''}refused read\n`).join('');
+    return { status: 3, wrote: task === 'assess' && (givens ?? certificate) === undefined ? blocks : '', said: 'nonobench: read failed\n' };
   } catch ({ status, message }) {
     return { status, wrote: '', said: message };
   }
 }
 
-const PIECES = ['work', 'check', 'verify', 'prove', 'help', '--help', '-h', '--version', '-V', '--', '-', '', 'one', 'two', '-x', '-1', '--other', '--help=1', '-hV', '-Vh', '-xh',
+const PIECES = ['work', 'check', 'verify', 'assess', 'prove', 'help', '--help', '-h', '--version', '-V', '--', '-', '', 'one', 'two', '-x', '-1', '--other', '--help=1', '-hV', '-Vh', '-xh',
   '--history', '--history=5', '--history=', '5', '+5', '007', '0', '1000', '1001', '5x', '--format', '--format=non', '--format=gif', 'non', 'ppm',
-  '--format=1', '--format=2', '--givens', '--givens=', '--givens=three', '--complete', '--complete=1', '--background', '--background=1,2,3', '--background=', '1,2,3', '1,2', '0,0,65536', '00001,2,3', '--no-help', '---', '--=x', '-=', '-h=1', '--histor'];
+  '--format=1', '--format=2', '--givens', '--givens=', '--givens=three', '--certificate', '--certificate=four', '--allow', '--allow=0', '--allow=99999', '--allow=100000', '--allow=off', '--complete', '--complete=1', '--background', '--background=1,2,3', '--background=', '1,2,3', '1,2', '0,0,65536', '00001,2,3', '--no-help', '---', '--=x', '-=', '-h=1', '--histor'];
 
 test('arguments are taken and refused as by the native program', () => {
   const chance = new Chance(20);
   for (let time = 0; time < 2000; time += 1) {
-    const front = chance.below(4) === 0 ? [] : [['work', 'check', 'verify', 'prove', 'help'][chance.below(5)]];
+    const front = chance.below(4) === 0 ? [] : [['work', 'check', 'verify', 'assess', 'prove', 'help'][chance.below(6)]];
     const args = front.concat(Array.from({ length: chance.below(5) }, () => PIECES[chance.below(PIECES.length)]));
     const here = asked(args), there = done(args);
     // What a parser says of arguments is its own.
@@ -186,4 +187,18 @@ test('a module that fails is told, with a status', (t) => {
   `);
   const { status, stdout, stderr } = spawnSync(process.execPath, [join(place, 'program.mjs')], { input: '', encoding: 'utf8' });
   assert.deepEqual([status, stdout, stderr], [1, '', 'nonobench: the module has ended: unreachable\n']);
+});
+
+test('a module that cannot be loaded refuses nothing', (t) => {
+  const place = ownFolder(t);
+  assert.equal(spawnSync('cp', ['-r', `${folder}/.`, place]).status, 0);
+  const module = join(place, 'nonobench.wasm'), bytes = readFileSync(module);
+  for (const damage of [() => writeFileSync(module, bytes.subarray(0, 1000)), () => rmSync(module)]) {
+    damage();
+    for (const args of [['check', example('diagonal.ppm'), example('diagonal.cert')], ['assess', example('diagonal.ppm')]]) {
+      const { status, stdout, stderr } = spawnSync(process.execPath, [join(place, 'program.mjs'), ...args], { encoding: 'utf8' });
+      assert.deepEqual([status, stdout], [3, '']);
+      assert.match(stderr, /^nonobench: the module cannot be used: .+\n$/);
+    }
+  }
 });

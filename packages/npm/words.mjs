@@ -11,11 +11,15 @@ const COMMANDS = {
   work: { files: 1, options: { ...HELP, ...BACKGROUND, format: { type: 'string' }, history: { type: 'string' } } },
   check: CHECK,
   verify: CHECK, // its old name
+  assess: {
+    files: Infinity,
+    options: { ...HELP, ...BACKGROUND, format: { type: 'string' }, allow: { type: 'string' }, givens: { type: 'string' }, certificate: { type: 'string' } },
+  },
   prove: { files: 1, options: { ...HELP, ...BACKGROUND, format: { type: 'string' }, givens: { type: 'string' }, complete: { type: 'boolean' } } },
 };
-const FORMATS = { work: ['ppm', 'non'], prove: ['1', '2'] };
+const FORMATS = { work: ['ppm', 'non'], assess: ['ppm', 'non'], prove: ['1', '2'] };
 const MOST_SAMPLE = 65535;
-const MOST_HISTORY = 1000;
+const BOUNDS = { history: [1, 1000], allow: [0, 99999] }; // of numbers
 
 function refuse(why) {
   throw new Ending(2, `error: ${why}\n\nFor more information, try 'nonobench --help'.\n`);
@@ -26,9 +30,10 @@ const tokensOf = (args, options) => parseArgs({ args, options, strict: false, al
 // What is wrong with the value of an option, if anything. A background is looked at later, when all else is known to be right.
 function wrongValue(command, name, value) {
   if (name === 'format' && !FORMATS[command].includes(value)) return `it must be ${FORMATS[command].join(' or ')}`;
-  if (name !== 'history') return undefined;
+  if (!Object.hasOwn(BOUNDS, name)) return undefined;
   if (!/^\+?[0-9]+$/.test(value)) return 'it must be a number';
-  return Number(value) >= 1 && Number(value) <= MOST_HISTORY ? undefined : `it must be 1 to ${MOST_HISTORY}`;
+  const [least, most] = BOUNDS[name];
+  return Number(value) >= least && Number(value) <= most ? undefined : `it must be ${least} to ${most}`;
 }
 
 // Takes the value of an option.
@@ -64,9 +69,11 @@ function commandOf(command, args) {
     if (token.kind === 'option') takeOption(found, token, command);
     if (token.kind === 'positional' && files.push(token.value) > wanted) refuse(`unexpected argument '${token.value}' found`);
   }
-  if (files.length < wanted) refuse(`${command} needs ${wanted === 1 ? 'a file' : 'a picture and a certificate'}`);
-  const { format = command === 'prove' ? '2' : 'ppm', history = '100', givens, complete } = found;
-  return { task: command, files, givens, complete, options: { format, history: Number(history), background: backgroundOf(found) } };
+  if (files.length < (wanted === 2 ? 2 : 1)) refuse(`${command} needs ${wanted === 2 ? 'a picture and a certificate' : 'a file'}`);
+  const { format = command === 'prove' ? '2' : 'ppm', history = '100', allow, givens, certificate, complete } = found;
+  const more = { format, history: Number(history), background: backgroundOf(found), allowance: allow === undefined ? undefined : Number(allow) };
+  if (command === 'assess' && files.length > 1 && (givens ?? certificate) !== undefined) throw ended(2, 'givens and certificate go with one file');
+  return { task: command, files, givens, certificate, complete, options: more };
 }
 
 // What `help` and the command behind it ask for.
@@ -87,8 +94,8 @@ function topOf(args) {
 }
 
 /**
- * What the arguments ask for: {task}, which is 'clues', 'work', 'check', 'verify', 'prove', 'help' or 'version', with
- * {files, givens, complete, options} or {page}.
+ * What the arguments ask for: {task}, which is 'clues', 'work', 'check', 'verify', 'assess', 'prove', 'help' or 'version', with
+ * {files, givens, certificate, complete, options} or {page}.
  * Throws an Ending where they are refused. Node puts U+FFFD for bytes that are not UTF-8, so an argument with it is refused too.
  */
 export function readWords(args) {

@@ -23,3 +23,12 @@ export function freeName(name, taken) {
     return tried;
   }
 }
+
+/**
+ * A text in a table of comma-separated values, as spreadsheets read it. One that they would take for a formula begins with an
+ * apostrophe, also where its first sign is a wide or a small one.
+ */
+export function valueText(text) {
+  const isFormula = /^[=+\-@]/.test(text.trimStart().normalize('NFKC'));
+  return `"${isFormula ? "'" : ''}${text.replaceAll('"', '""')}"`;
+}

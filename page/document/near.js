@@ -1,7 +1,18 @@
-// Colours of a document that a solver may take for one another, by the definition of web/colours.mjs.
+// Colours that a solver may take for one another, as docs/FORMATS.md defines it. The engine says the same of a document; here it is asked of
+// palettes that are no document yet, with each cell that is painted, and of colours as other eyes see them.
 
-import { colourShown, coloursTooNear } from '../../web/colours.mjs';
 import { LETTERS } from './limits.js';
+
+const NEAR = 2097152;
+
+/** A colour of samples from 0 to maxval as it is shown: from 0 to 255, rounded, a half up. */
+const colourShown = (colour, maxval) => colour.map((sample) => Math.floor((510 * sample + maxval) / (2 * maxval)));
+
+/** Whether two colours of eight bits are too similar. */
+export function coloursTooNear(one, other) {
+  const [red, green, blue] = one.map((sample, at) => sample - other[at]), reds = one[0] + other[0];
+  return (1024 + reds) * red * red + 2048 * green * green + (1534 - reds) * blue * blue < NEAR;
+}
 
 /** The pairs of letters whose colours are too near to be told apart; of colours that no cell has, the background alone counts. */
 export function nearPairs({ colours, maxval, picture }) {

@@ -22,6 +22,7 @@ const UNDECIDED = pattern('undecided N');
 const CLUE = pattern('([rc]) N: (0|[0-9]+[a-o](?: [0-9]+[a-o])*)');
 const BLOCK = /^([1-9][0-9]*)([a-o])$/;
 const REASON = pattern('by ([rc]) N( given(?: [1-9][0-9]*=[.a-o]+)+)?');
+const LOOK = pattern('([rc]) N N N((?: [1-9][0-9]*=[.a-o])*)');
 const CERT_LINE = /^(?:line [rc] \d{1,3}|dead [rc] \d{1,3}|split \d{1,3} \d{1,3}|given \d{1,3} \d{1,3}|done)$/;
 
 class Reader {
@@ -163,6 +164,22 @@ function readWhy(reader) {
   return { kind: 'why', word: 'by', axis, at: Number(at), premises, text };
 }
 
+// The looks of line logic that exclude something, each with the line (rows first), the round, and the cells that fell; and how many cells
+// stay open.
+function readPath(reader, size) {
+  must(size, 'a path was asked for while the size is not known');
+  const { rows, columns } = size;
+  const looks = [];
+  while (!reader.peek().startsWith('open ')) {
+    const [, axis, number, round, excluded, fallen] = reader.match(LOOK, 'a look');
+    const at = Number(number) - 1;
+    const indexOf = (place) => (axis === 'r' ? at * columns + place : place * columns + at);
+    const falls = fallen.split(' ').slice(1).map((word) => word.split('=')).map(([place, letter]) => ({ index: indexOf(Number(place) - 1), letter }));
+    looks.push({ line: axis === 'r' ? at : rows + at, round: Number(round), excluded: Number(excluded), falls });
+  }
+  return { kind: 'path', looks, open: numbers(reader.match(OPEN, 'the open cells'), 1)[0] };
+}
+
 // A certificate ends where no line of one follows. A row of a map may look like such a line ('done'): so nothing that
 // begins with rows may be asked behind `certify` in one text.
 function readCertificate(reader) {
@@ -204,6 +221,7 @@ const READERS = {
   map: (reader, size) => ({ kind: 'map', map: reader.rows(size, MAP_ROW) }),
   verdict: readVerdict,
   why: readWhy,
+  path: readPath,
   certify: readCertificate,
   report: readReport,
   'write ppm': readPpm,

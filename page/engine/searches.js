@@ -5,6 +5,7 @@ import { baseOf } from '../document/cover.js';
 import { docOf } from '../document/document.js';
 import { phrase } from '../texts/phrase.js';
 import { answersTo } from './answers.js';
+import { assessed } from './assessing.js';
 
 const TICK = 250; // milliseconds between two looks at the clock
 const REST = 200; // milliseconds without a stroke before a verdict is searched for
@@ -138,18 +139,14 @@ export class Searches {
   }
 
   /**
-   * A grade, `puzzle` being as page/grade has it, or null. Where line logic solves the puzzle that is a moment of the second worker,
-   * which a stroke does not end. Else it is a job without a name, for it asks for a certificate.
+   * What the engine says of the present picture, as `assessed` has it, or null. Where line logic solves it and no cell is given, that is a
+   * moment of the second worker, which a stroke does not end. Else it is a job without a name.
    */
-  async grade(puzzle, seconds) {
-    if (!puzzle.map.some((row) => row.includes('?'))) {
-      this.engine ??= this.hooks.start();
-      return this.engine.call('grade', { puzzle }).catch(() => null);
-    }
-    return this.job('', seconds, async (copy, run) => {
-      const [answer] = await copy.say('certify');
-      return this.within(run, run.engine.call('grade', { puzzle: { ...puzzle, certificate: answer.text ?? null } }));
-    });
+  async assess(seconds) {
+    const { state } = this;
+    if (state.open > 0 || state.givens.size > 0) return this.job('', seconds, (copy, run) => this.within(run, assessed(run.engine, run.state)));
+    this.engine ??= this.hooks.start();
+    return assessed(this.engine, state).catch(() => null);
   }
 
   tellVerdict(version, verdict) {

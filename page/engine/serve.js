@@ -2,9 +2,20 @@
 // that a long call tells what it finds, {id, told}.
 
 import { hintOf } from '../../web/nonobench.mjs';
-import { gradeOf } from '../grade/grade.js';
 import { Board } from '../repair/board.js';
 import { aim, give, mix, repair } from '../repair/repair.js';
+import { answersTo } from './answers.js';
+
+/** What an engine says of cells of a board with givens: the cells that line logic leaves open, and where it leaves none the grade. */
+export const grading = (engine, { rows, columns }) => (cells, givens) => {
+  const puzzle = `P3 ${columns} ${rows} 15\n${Array.from(cells, (colour) => `${colour} 0 0`).join('\n')}\n`;
+  const places = [...givens].map((index) => [Math.floor(index / columns) + 1, (index % columns) + 1]);
+  const { open, grade } = engine.assess(puzzle, { background: '0,0,0', givens: places, allowance: 0, format: 'ppm' });
+  return { ...grade, open, word: open ? null : grade?.word };
+};
+
+/** The places of the cells that fall in a session's picture, in that order. */
+export const fallsOf = (say, size) => answersTo(['path'], say(['path']), size)[0].looks.flatMap(({ falls }) => falls.map(({ index }) => index));
 
 /** Lets a worker's scope answer calls; `load` makes an engine of the module's bytes, as web/nonobench.mjs has it. */
 export function serve(scope, load) {
@@ -43,10 +54,10 @@ export function serve(scope, load) {
       return mix({ board: new Board(board), goal, near, bound, seconds, say }, { found: (found) => told({ found }) });
     },
     aim({ board, word, seconds }, told) {
-      return aim({ board: new Board(board), word, seconds, say }, { found: (found) => told({ found }) });
+      return aim({ board: new Board(board), word, seconds, say, path: () => fallsOf(say, board), grade: grading(engine, board) }, { found: (found) => told({ found }) });
     },
-    grade({ puzzle }) {
-      return gradeOf(puzzle);
+    assess({ puzzle, options }) {
+      return engine.assess(puzzle, options);
     },
     close() {
       opened?.close();

@@ -125,5 +125,6 @@ export async function exportPath() {
   if (state.verdict.word !== 'unique') return say(phrase('export.pathNeedsOne'), 'alarm');
   const puzzle = atHand();
   const walk = await pathOf(state);
+  if (!walk || !bench.state) return undefined;
   return exportAs('gif', new Blob([animated(puzzle, walk)]), '-path');
 }

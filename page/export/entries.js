@@ -1,11 +1,11 @@
 // What sheets say of a puzzle: its clues, title, facts, and the names of its colours.
 
+import { gradeName } from '../base/names.js';
 import { sizeText } from '../base/words.js';
 import { lightness, plainHexOf } from '../document/colours.js';
 import { eightBitDoc } from '../document/document.js';
 import { LETTERS } from '../document/limits.js';
 import { hasOneInk, signsOf } from '../draw/papers.js';
-import { gradeName } from '../grade/names.js';
 import { phrase } from '../texts/phrase.js';
 import { inkName } from '../view/dress.js';
 

@@ -2,14 +2,15 @@
 // download.
 
 import { $, make, say } from '../base/elements.js';
+import { GRADE_MARK } from '../base/names.js';
 import { bareName, clamp } from '../base/words.js';
 import { docOf, eightBitDoc, sameDoc } from '../document/document.js';
 import { canvasPaper } from '../draw/papers.js';
 import { drawSmall } from '../draw/small.js';
 import { bench } from '../engine/bench.js';
+import { Judge } from '../engine/judging.js';
 import { ppmTextOf } from '../formats/ppm_notes.js';
 import { writeZip } from '../formats/zip.js';
-import { GRADE_MARK } from '../grade/grade.js';
 import { keep } from '../library/keep.js';
 import { exportAs, saveDownload, saving, showFileName } from '../library/saving.js';
 import { phrase } from '../texts/phrase.js';
@@ -18,10 +19,11 @@ import { openDialog } from '../view/dialogs.js';
 import { nearText } from '../view/dress.js';
 import { gradeAtHand, gradeLine } from '../view/grading.js';
 import { asSeen, heard } from '../view/tools.js';
-import { certificateText } from '../view/verdict.js';
+import { certificateText, secondsChosen } from '../view/verdict.js';
 import { exportPath } from './animation.js';
 import { WARNINGS, atHand, startPrinting } from './printing.js';
 
+const MOST_SECONDS = 30; // for what the engine says of a puzzle
 const PNG_SIDE = 1600; // pixels that the longer side of a PNG comes near to
 const pngCell = ({ rows, columns }) => clamp(Math.floor(PNG_SIDE / Math.max(rows, columns)), 8, 32);
 
@@ -66,13 +68,22 @@ async function exportCertificate() {
   if (found) exportAs('cert', found.text);
 }
 
-// What a site checks a puzzle by, as nonobench-audit calls it: the picture, its certificate, and what lies beside it.
+// The engine's text of a document, '' where there is none in the time.
+async function saidByEngine(doc) {
+  const judge = new Judge({ seconds: Math.min(MOST_SECONDS, secondsChosen()) });
+  const { text } = await judge.judge(doc);
+  judge.end();
+  return text;
+}
+
+// What a site checks a puzzle by, as nonobench-audit calls it: the picture, its certificate, what lies beside it, and what the engine says of it.
 async function exportForSite() {
   const found = await certified();
   if (!found) return;
   const { doc, text } = found;
   const ground = doc.colours[0].join(',');
-  const parts = { ppm: ppmTextOf(doc), cert: text, givens: (text.match(/^given .*\n/gm) ?? []).join(''), background: ground === '255,255,255' ? '' : `${ground}\n` };
+  const said = await saidByEngine(doc);
+  const parts = { ppm: ppmTextOf(doc), cert: text, txt: said, givens: (text.match(/^given .*\n/gm) ?? []).join(''), background: ground === '255,255,255' ? '' : `${ground}\n` };
   const files = Object.entries(parts).filter(([, part]) => part).map(([ending, part]) => ({ name: `${bench.name}.${ending}`, bytes: new TextEncoder().encode(part) }));
   exportAs('zip', writeZip(files), '-site');
 }
@@ -85,7 +96,7 @@ const withGrade = (text) => [...text.split('\n').filter((line) => line && !line.
 
 /** Asks for the texts about the puzzle, which go into its files and on the printed sheet, and for the name of the file. */
 async function askAbout() {
-  const { about } = bench.state;
+  const { term, state: { about } } = bench;
   const field = (name) => (LONG_FIELDS.includes(name) ? make('textarea', { rows: 3, maxlength: '5000' }, about[name] ?? '') : make('input', { type: 'text', value: about[name] ?? '', maxlength: '500' }));
   const fields = Object.keys(ABOUT_FIELDS).map((name) => [name, field(name)]);
   const file = make('input', { type: 'text', value: bench.name, maxlength: '80' });
@@ -94,6 +105,10 @@ async function askAbout() {
   const content = make('div', { class: 'rows' }, ...fields.map(([name, input]) => make('label', {}, ABOUT_FIELDS[name], input)), make('label', {}, phrase('export.nameFile'), file));
   if (gradeAtHand()) content.append(make('button', { type: 'button', id: 'about-grade', onclick: addGrade }, phrase('export.putGradeIntoDescription')));
   if (!(await openDialog({ title: phrase('export.aboutPuzzle'), content, buttons: [{ name: 'OK', value: true, main: true }] }))) return;
+  if (bench.term !== term) {
+    say(phrase('export.otherPictureOpened'), 'alarm');
+    return;
+  }
   const texts = Object.fromEntries(fields.map(([name, input]) => [name, input.value.trim()]).filter(([, text]) => text));
   const without = (doc) => Object.fromEntries(Object.entries(doc.about).filter(([name]) => !(name in ABOUT_FIELDS)));
   await heard(bench.become((doc) => ({ ...doc, about: { ...without(doc), ...texts } })));

@@ -1,20 +1,20 @@
 // Print for books: the picture at hand, and on wish others of the library, as sheets, for the browser's print or as SVG.
 
 import { $, choiceOf, make, say } from '../base/elements.js';
+import { gradeName, verdictName } from '../base/names.js';
 import { clamp, sizeText } from '../base/words.js';
 import { docOf } from '../document/document.js';
 import { smallestText } from '../draw/papers.js';
 import { bench } from '../engine/bench.js';
 import { writeZip } from '../formats/zip.js';
-import { gradeName, verdictName } from '../grade/names.js';
 import { keep } from '../library/keep.js';
 import { withClues } from '../library/open.js';
 import { SAVE_TYPES, download, exportAs } from '../library/saving.js';
 import { LANGUAGE, phrase } from '../texts/phrase.js';
 import { addAction } from '../view/actions.js';
 import { openDialog } from '../view/dialogs.js';
-import { gradeAtHand } from '../view/grading.js';
 import { nearText } from '../view/dress.js';
+import { gradeAtHand } from '../view/grading.js';
 import { asSeen } from '../view/tools.js';
 import { SHEET_TEXTS, entryOf } from './entries.js';
 import { GRIDS, PAPERS, isLarge, partsOf, sheetsOf } from './sheets.js';

@@ -22,10 +22,9 @@ export function readGivens(text, { rows, columns }) {
 
 /**
  * The background that a text names: white, the colour of the first pixel, or R,G,B. It is a function, which gives the triple of eight
- * bits for an image whose samples go up to `maxval`; null where the text is empty.
+ * bits for an image whose samples go up to `maxval`. An empty text names none.
  */
 export function readGround(text) {
-  if (!text) return null;
   const word = text.trim();
   const triple = /^[0-9]{1,5}(,[0-9]{1,5}){2}$/.test(word) ? word.split(',').map(Number) : null;
   if (!triple && !['white', 'corner'].includes(word)) throw new FileFault(phrase('formats.noBackground'));

@@ -76,13 +76,17 @@ class XmlReader {
       const quote = this.text[this.at];
       if (quote !== '"' && quote !== "'") throw this.fault(phrase('formats.attributeNoQuotes', { name }));
       this.at++;
-      element.attributes.set(name, plainText(this.past(quote, phrase('formats.value'))));
+      element.attributes.set(name, plainText(this.past(quote, phrase('formats.value')).replace(/[\t\n]/g, ' ')));
     }
   }
 }
 
-/** The outermost element of an XML text, as `{ name, attributes, children, text }`; children are elements. */
-export function readXml(text) {
+/**
+ * The outermost element of an XML text, as `{ name, attributes, children, text }`; children are elements. As XML wants it, each line
+ * ends with a line feed, and one within an attribute counts for a blank, as a tabulator does.
+ */
+export function readXml(source) {
+  const text = source.replace(/\r\n?/g, '\n');
   const reader = new XmlReader(text);
   const top = { name: '', attributes: new Map(), children: [], text: '' };
   const open = [top];

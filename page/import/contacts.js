@@ -1,11 +1,12 @@
 // A contact sheet of an image: puzzles of some sizes and numbers of colours, each with its verdict and grade; one click takes one.
 
 import { make } from '../base/elements.js';
+import { gradeName, verdictName } from '../base/names.js';
 import { sizeText } from '../base/words.js';
 import { MOST_CELLS } from '../document/limits.js';
 import { drawSmall } from '../draw/small.js';
+import { gradeIn } from '../engine/assessing.js';
 import { Judge } from '../engine/judging.js';
-import { gradeName, verdictName } from '../grade/names.js';
 import { phrase } from '../texts/phrase.js';
 import { openDialog } from '../view/dialogs.js';
 import { docApart } from './proposing.js';
@@ -63,10 +64,11 @@ export async function contactSheet(sizes, docOf) {
       if (judge.isEnded) return;
     }
     for (const { doc, verdict, element } of tiles) {
-      const found = await judge.judge(doc).catch(() => ({ word: 'undecided', grade: null }));
-      if (!found) return;
-      verdict.textContent = [verdictName(found.word), found.grade ? gradeName(found.grade.word) : ''].filter(Boolean).join(', ');
-      element.dataset.word = found.word;
+      const said = await judge.judge(doc).catch(() => ({ verdict: 'undecided', grade: null }));
+      if (!said) return;
+      const grade = gradeIn(said);
+      verdict.textContent = [verdictName(said.verdict), grade ? gradeName(grade.word) : ''].filter(Boolean).join(', ');
+      element.dataset.word = said.verdict;
     }
   };
   const filled = fill();

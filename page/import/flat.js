@@ -2,8 +2,8 @@
 // for one another, then those that look most alike, by their distance in Oklab, by the area that each has, and by how much of that is
 // edges alone.
 
-import { coloursTooNear } from '../../web/colours.mjs';
 import { isAmong, oklabOf } from '../document/colours.js';
+import { coloursTooNear } from '../document/near.js';
 import { isTransparent } from './images.js';
 import { farness, keyOf, nearestOf, once, spotsOf, weightOf } from './spots.js';
 

@@ -1,11 +1,8 @@
 // What a puzzle that is not open yet would be like: its verdict and grade, worked out in a worker of its own, of the newest one alone.
 
-import { baseOf } from '../document/cover.js';
-import { pageOf } from '../document/document.js';
-import { answersTo } from '../engine/answers.js';
+import { gradeName } from '../base/names.js';
+import { assessed, gradeIn } from '../engine/assessing.js';
 import { startEngine } from '../engine/client.js';
-import { openedIn } from '../engine/opening.js';
-import { gradeName } from '../grade/names.js';
 import { phrase } from '../texts/phrase.js';
 
 const TEXT = {
@@ -62,14 +59,11 @@ export class Judging {
       engine.end();
     }, this.seconds * 1000);
     let found;
-    let known = null; // before its grade is
     try {
-      found = await judged(engine, doc, (part) => {
-        known = part;
-        if (turn === this.turn) this.told(part);
-      });
+      const said = await assessed(engine, doc);
+      found = { word: said.verdict, open: said.open, grade: gradeIn(said) };
     } catch {
-      found = known ?? { word: isLate ? 'undecided' : 'failed' };
+      found = { word: isLate ? 'undecided' : 'failed' };
     }
     clearTimeout(clock);
     if (engine.isEnded && this.engine === engine) this.engine = null;
@@ -78,17 +72,3 @@ export class Judging {
     this.told(found);
   }
 }
-
-// Opens a document in an engine, and asks for its verdict and, where it is unique, its grade.
-async function judged(engine, doc, told) {
-  const state = await openedIn(engine, baseOf(doc), pageOf({}));
-  const { open, map } = state;
-  const word = state.verdict.word === 'undecided' ? (await asked(engine, ['allow off', 'verdict'], state)).at(-1).word : state.verdict.word;
-  if (word !== 'unique') return { word, open };
-  told({ word, open });
-  const [certificate] = open ? await asked(engine, ['certify'], state) : [{}];
-  const grade = await engine.call('grade', { puzzle: { picture: state.picture, givens: [...state.givens], verdict: word, map, certificate: certificate.text ?? null } });
-  return { word, open, grade: grade.none ? null : grade };
-}
-
-const asked = async (engine, lines, state) => answersTo(lines, await engine.say(lines), state);

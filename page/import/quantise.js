@@ -1,8 +1,8 @@
 // An image of cells as a document: its palette, which colour each cell gets, and which of them is the background.
 
-import { coloursTooNear } from '../../web/colours.mjs';
 import { isAmong, oklabOf } from '../document/colours.js';
 import { LETTERS } from '../document/limits.js';
+import { coloursTooNear } from '../document/near.js';
 import { Votes, dithered, withoutSpecks } from './cells.js';
 import { flatPalette, isFlat, nearestPalette } from './flat.js';
 import { photoPalette } from './photo.js';

@@ -1,15 +1,17 @@
 // A row of the table of several files: a picture, or a file that none is read from, with what is known about it so far.
 
 import { make } from '../base/elements.js';
+import { gradeName, gradePlace, verdictName, verdictPlace } from '../base/names.js';
 import { sizeText } from '../base/words.js';
 import { nameOf } from '../document/colours.js';
 import { smallPicture } from '../draw/small.js';
-import { gradeName, gradePlace, verdictName, verdictPlace } from '../grade/names.js';
+import { gradeIn } from '../engine/assessing.js';
 import { faultText } from '../library/open.js';
 import { phrase } from '../texts/phrase.js';
+import { fitText } from '../view/dress.js';
 
 /** The heads of the table's columns. */
-export const HEADS = [phrase('view.name'), phrase('import.size'), phrase('view.colours'), phrase('import.verdict'), phrase('import.grade')];
+export const HEADS = [phrase('view.name'), phrase('import.size'), phrase('view.colours'), phrase('import.verdict'), phrase('import.grade'), phrase('view.fitToPublish')];
 const THUMB = 40; // pixels of the screen
 
 // Under what a verdict holds: the size of a document, how many cells are given, and a background that is not white.
@@ -32,22 +34,22 @@ export class Row {
     this.word = doc ? '…' : '';
     this.repainted = 0; // cells
     /** @type {any} */
-    this.grade = null;
+    this.said = null; // by the engine
     this.element = make('tr', { tabindex: doc ? '0' : null, 'data-name': name });
     this.show();
   }
 
   /** The texts of the table's columns, as a report has them too. */
   get texts() {
-    const { doc, word, grade } = this;
+    const { doc, word, grade, said } = this;
     const verdict = [verdictName(word), this.repainted ? phrase('import.cellsRepainted', { cells: this.repainted }) : ''].filter(Boolean).join(', ');
-    return doc ? [this.name, factsOf(doc), countOf(doc), verdict, grade ? gradeName(grade.word) : '–'] : [this.name, this.fault, '', '', ''];
+    return doc ? [this.name, factsOf(doc), countOf(doc), verdict, grade ? gradeName(grade.word) : '–', said ? fitText(doc, said) : '–'] : [this.name, this.fault, '', '', '', ''];
   }
 
   /** What the table is sorted by, for each of its columns. A file that is not read comes last. */
   get keys() {
-    const { doc, word, grade } = this;
-    return doc ? [this.name, doc.rows * doc.columns, doc.colours.length, verdictPlace(word), gradePlace(grade?.word)] : [this.name, Infinity, Infinity, Infinity, Infinity];
+    const { doc, word, grade, said } = this;
+    return doc ? [this.name, doc.rows * doc.columns, doc.colours.length, verdictPlace(word), gradePlace(grade?.word), said?.fit ? 0 : 1] : [this.name, ...Array(HEADS.length - 1).fill(Infinity)];
   }
 
   show() {
@@ -59,10 +61,14 @@ export class Row {
   }
 
   async judge(judge) {
-    const found = await judge.judge(this.doc).catch((fault) => ({ word: faultText(fault), grade: null }));
-    if (!found) return;
-    Object.assign(this, { word: found.word, grade: found.grade });
+    const said = await judge.judge(this.doc).catch((fault) => ({ verdict: faultText(fault) }));
+    if (!said) return;
+    Object.assign(this, { word: said.verdict, said: said.flaws ? said : null });
     this.show();
+  }
+
+  get grade() {
+    return this.said && gradeIn(this.said);
   }
 
   /** Whether a repair is looked for. */
@@ -73,7 +79,7 @@ export class Row {
   async mend(mender, judge) {
     const found = await mender.mend(this.doc);
     if (!found) return false;
-    Object.assign(this, { doc: found.doc, repainted: found.cells, grade: null });
+    Object.assign(this, { doc: found.doc, repainted: found.cells, said: null });
     await this.judge(judge);
     return true;
   }

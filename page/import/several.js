@@ -3,7 +3,7 @@
 
 import { make, say } from '../base/elements.js';
 import { tell } from '../base/events.js';
-import { bareName } from '../base/words.js';
+import { bareName, valueText } from '../base/words.js';
 import { FileFault } from '../document/limits.js';
 import { Judge } from '../engine/judging.js';
 import { Mender } from '../engine/mending.js';
@@ -41,8 +41,6 @@ async function rowsOf(units, imageDocs) {
   return rows;
 }
 
-// A table of comma-separated values, as spreadsheets read it. A text that one would take for a formula begins with an apostrophe.
-const valueText = (text) => `"${text.replace(/^[=+\-@]/, "'$&").replaceAll('"', '""')}"`;
 const valuesText = (rows) => [HEADS, ...rows.map((row) => row.texts)].map((texts) => texts.map(valueText).join(',')).join('\r\n');
 
 async function keepAll(rows) {

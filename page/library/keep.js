@@ -39,6 +39,7 @@ keep.said = ({ kind, why }) => {
  * copy. What is blank, or such a copy, is kept from the first stroke on.
  */
 keep.begin = async (id = null, isBlank = false) => {
+  keep.grade = null;
   const own = id !== null && id === keep.id ? keep.free : null; // opened again in this tab
   if (!own) keep.end();
   let free = own ?? (id === null ? null : await claim(id, globalThis));
@@ -46,7 +47,6 @@ keep.begin = async (id = null, isBlank = false) => {
   keep.id = isElsewhere || id === null ? newId() : id;
   free ??= await claim(keep.id, globalThis);
   keep.free = free;
-  keep.grade = null;
   keep.when = Date.now();
   keep.untouched = isBlank || isElsewhere ? docOf(bench.state) : null;
   if (isElsewhere) say(phrase('library.pictureOpenAnotherTab'), 'alarm');

@@ -10,6 +10,7 @@ import { leftOutOfPpm, ppmTextOf } from '../formats/ppm_notes.js';
 import { leavesOut, webpbnText } from '../formats/webpbn.js';
 import { phrase } from '../texts/phrase.js';
 import { openDialog } from '../view/dialogs.js';
+import { gradeAtHand } from '../view/grading.js';
 import { asSeen } from '../view/tools.js';
 import { keep } from './keep.js';
 
@@ -170,7 +171,7 @@ const tellFileName = behindFrame(showFileName);
 export function startSaving() {
   on('shown', () => {
     if (!keep.isPaused) {
-      keep.grade = null;
+      keep.grade = gradeAtHand()?.word ?? null;
       keep.changed();
     }
     tellFileName();

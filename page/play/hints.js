@@ -1,13 +1,11 @@
-// Hints: which line first, then which of its cells, then why. They follow from the player's own marks.
+// Hints: which line first, then which of its cells, then why. They follow from the player's own marks: the engine tells the path of the
+// puzzle in which these cells are given.
 
-import { cellsOf, Puzzle } from '../grade/puzzle.js';
-import { LETTERS } from '../document/limits.js';
 import { phrase } from '../texts/phrase.js';
-import { nextStep } from '../walk/steps.js';
+import { searches } from '../view/verdict.js';
 import { play } from './play.js';
 
-/** A puzzle of the picture that is played. */
-export const puzzleOf = (state) => new Puzzle(state.rows, state.columns, cellsOf(state.picture), state.givens);
+const MOST_SECONDS = 30;
 
 const lineName = (line) => (line < play.state.rows ? phrase('view.rowLine', { line: line + 1 }) : phrase('play.columnLine', { rows: line - play.state.rows + 1 }));
 const placeIn = (line, index) => (line < play.state.rows ? (index % play.state.columns) + 1 : Math.floor(index / play.state.columns) + 1);
@@ -24,38 +22,50 @@ export function placesText(line, cells) {
   return line < play.state.rows ? phrase('play.inColumns', found) : phrase('play.inRows', found);
 }
 
-/** What a step says, as far as it is told: 'line', 'cells' or 'why'. */
-export function stepText({ line, cells, settled, premises }, how = 'why') {
-  const told = settled.length ? settled : cells.map(({ index }) => index);
-  if (how === 'line') return phrase('play.tellsMore', { lineName: lineName(line) });
-  const fields = { lineName: lineName(line), places: placesText(line, told) };
-  const first = settled.length ? phrase('play.settles', fields) : phrase('play.narrows', fields);
-  if (how === 'cells') return `${first}.`;
-  return `${first}${premises.length ? phrase('play.sinceCountKnown', { places: placesText(line, premises), count: premises.length }) : phrase('play.clueAlone')}.`;
+/** The cells of a line that are known, by the letters of all cells. */
+export function knownIn(line, letters) {
+  const { rows, columns } = play.state;
+  const all = line < rows ? Array.from({ length: columns }, (_, at) => line * columns + at) : Array.from({ length: rows }, (_, at) => at * columns + line - rows);
+  return all.filter((index) => letters[index] !== '?');
 }
 
-// What is known of each cell by the marks.
-function masksOf(puzzle) {
-  const masks = puzzle.candidates();
-  play.marks.forEach((row, at) => row.forEach((mark, col) => { if (mark !== '?') masks[at * play.state.columns + col] = 1 << LETTERS.indexOf(mark); }));
-  return masks;
+/** What a step says, as far as it is told: 'line', 'cells' or 'why', that is, with the cells of its line that were known. */
+export function stepText({ line, cells, premises }, how = 'why') {
+  if (how === 'line' || !cells.length) return phrase('play.tellsMore', { lineName: lineName(line) });
+  const first = phrase('play.settles', { lineName: lineName(line), places: placesText(line, cells) });
+  if (how === 'cells' || !premises.length) return `${first}.`;
+  return `${first}${phrase('play.sinceCountKnown', { places: placesText(line, premises), count: premises.length })}.`;
+}
+
+// The first look that settles a cell, where what is marked is known; null where none does, undefined where the engine does not answer.
+async function nextStep(state, letters) {
+  const marked = [...letters.keys()].filter((index) => letters[index] !== '?' && !state.givens.has(index));
+  const pins = marked.map((index) => `pin ${Math.floor(index / state.columns) + 1} ${(index % state.columns) + 1}`);
+  const answers = await searches.job('', MOST_SECONDS, (copy) => {
+    copy.changes();
+    return copy.say(...pins, 'path');
+  });
+  if (!answers) return undefined;
+  const look = answers.at(-1).looks.find(({ falls }) => falls.length);
+  return look ? { line: look.line, cells: look.falls.map(({ index }) => index), premises: knownIn(look.line, letters) } : null;
 }
 
 const isWrong = () => play.marks.some((row, at) => row.some((mark, col) => mark !== '?' && mark !== play.state.picture[at][col]));
 const HOWS = ['line', 'cells', 'why'];
 
-/** The next part of a hint: its text, and what of it is shown. The same marks get more each time. */
-export function nextHint() {
-  const { state, hint } = play;
-  if (state.verdict.word === 'unique' && isWrong()) return { text: phrase('play.markWrongCheckShows'), shown: null };
-  const key = play.marks.map((row) => row.join('')).join('/');
-  if (hint?.key !== key) {
-    const puzzle = puzzleOf(state);
-    play.hint = { key, told: 0, step: nextStep(puzzle, masksOf(puzzle)) };
-  } else hint.told = Math.min(hint.told + 1, HOWS.length - 1);
+/** The next part of a hint: its text, and what of it is shown; null where there are other marks by then. The same marks get more each time. */
+export async function nextHint() {
+  const { state } = play;
+  if (isWrong()) return { text: phrase('play.markWrongCheckShows'), shown: null };
+  const marks = () => play.marks.flat();
+  const key = marks().join('');
+  if (play.hint?.key !== key) {
+    const step = await nextStep(state, marks());
+    if (step === undefined || play.state !== state || marks().join('') !== key) return null;
+    play.hint = { key, told: 0, step };
+  } else play.hint.told = Math.min(play.hint.told + 1, HOWS.length - 1);
   const { step, told } = play.hint;
-  if (!step) return { text: play.marks.some((row) => row.includes('?')) ? phrase('play.noLineSettlesCell') : phrase('play.nothingLeft'), shown: null };
-  if (step.kind === 'dead') return { text: phrase('play.cannotFilledAnyMore', { lineName: lineName(step.line) }), shown: { line: step.line, cells: [], premises: [] } };
+  if (!step) return { text: key.includes('?') ? phrase('play.noLineSettlesCell') : phrase('play.nothingLeft'), shown: null };
   const how = HOWS[told];
-  return { text: stepText(step, how), shown: { line: step.line, cells: how === 'line' ? [] : step.settled, premises: how === 'why' ? step.premises : [] } };
+  return { text: stepText(step, how), shown: { line: step.line, cells: how === 'line' ? [] : step.cells, premises: how === 'why' ? step.premises : [] } };
 }

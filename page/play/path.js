@@ -1,33 +1,75 @@
-// The whole solving path of a puzzle: the one place that says where its steps come from.
+// The solving path of a puzzle, as the engine tells it: its looks at lines, and where these end before the picture does, a cell that is
+// guessed. The guess is the first split of a certificate: any other colour there leads nowhere.
 
-import { searches } from '../view/verdict.js';
-import { Walk, easiestSteps, onlyStep, treeSteps } from '../walk/steps.js';
-import { puzzleOf } from './hints.js';
+import { phrase } from '../texts/phrase.js';
+import { searches, secondsChosen } from '../view/verdict.js';
+import { marksOf } from './crossing.js';
 
-const SLICE = 40; // milliseconds of work at a time
+/** The path: steps with what is known of each cell after so many of them. A step is `{ line, round, cells: [{ index, letter }] }`; of a guess the line is null. */
+export class Walk {
+  constructor(state, steps = []) {
+    this.state = state;
+    this.steps = steps;
+    this.isWhole = false;
+    this.falls = new Map(steps.flatMap(({ round, cells }) => cells.map(({ index }) => [index, round])));
+  }
 
-/** Works on a path for some milliseconds. */
-export function workOn(walk, milliseconds) {
-  const until = performance.now() + milliseconds;
-  walk.grow(() => performance.now() < until);
-}
+  /** The letters of the cells after so many steps, '?' where several are left. */
+  letters(count) {
+    const letters = marksOf(this.state).flat();
+    for (const { cells } of this.steps.slice(0, count)) for (const { index, letter } of cells) letters[index] = letter;
+    return letters;
+  }
 
-/** A path that goes on by a certificate, where lines alone do not end it. */
-export const followed = (walk, tree) => walk.and([...treeSteps(walk.puzzle, tree), onlyStep(walk.puzzle)]);
+  /** The number of the hardest step, counted from 1: the first guess; else of those that settle cells the one with fewest of them for each block of its clue. */
+  get hardest() {
+    const guess = this.steps.findIndex(({ line }) => line === null);
+    if (guess >= 0) return guess + 1;
+    const { rows, columns } = this.state.clues;
+    const clues = [...rows, ...columns];
+    const ease = ({ line, cells }) => (cells.length ? cells.length / (1 + clues[line].length) : Infinity);
+    const eases = this.steps.map(ease);
+    return eases.indexOf(Math.min(...eases)) + 1;
+  }
 
-async function lengthen(walk) {
-  while (!walk.isWhole) {
-    workOn(walk, SLICE);
-    await new Promise((go) => { setTimeout(go); });
+  /** The round of line logic in which each cell falls, from 1; 0 where it was settled at the start, -1 where it needs a guess. */
+  get rounds() {
+    return this.state.map.join('').split('').map((letter, index) => (letter === '?' ? -1 : this.falls.get(index) ?? 0));
   }
 }
 
-/** The path through a state's puzzle: by lines, and where it has to guess, on by a certificate. */
-export async function pathOf(state) {
-  const puzzle = puzzleOf(state);
-  const walk = new Walk(puzzle, easiestSteps(puzzle));
-  await lengthen(walk);
-  const tree = state.open > 0 && state.verdict.word === 'unique' ? await searches.certify() : null;
-  if (tree) await lengthen(followed(walk, tree));
-  return walk;
+// Steps of the path of a copy's picture with its givens, without the cells that are known already.
+async function looksOf(copy, known) {
+  const [{ looks, open }] = await copy.say('path');
+  const steps = looks.map(({ line, round, falls }) => ({ line, round, cells: falls.filter(({ index }) => !known.has(index)) }));
+  return { open, steps: known.size ? steps.filter(({ cells }) => cells.length) : steps };
+}
+
+// A cell that is guessed in a copy's picture, which gives it from here on.
+async function guessed(copy, { picture, columns }) {
+  const [{ text }] = await copy.say('certify');
+  const [row, column] = /^split (\d+) (\d+)$/m.exec(text).slice(1).map(Number);
+  copy.changes();
+  await copy.say(`pin ${row} ${column}`);
+  return { line: null, round: -1, cells: [{ index: (row - 1) * columns + column - 1, letter: picture[row - 1][column - 1] }] };
+}
+
+/** The path through a state's puzzle; `told` hears it as far as it is known. Null where nothing is known of it. */
+export async function pathOf(state, told = null) {
+  return searches.job(phrase('play.walkThrough'), secondsChosen(), async (copy) => {
+    const known = new Set();
+    let walk = new Walk(state);
+    const add = (steps) => {
+      for (const { cells } of steps) for (const { index } of cells) known.add(index);
+      walk = copy.found = new Walk(state, [...walk.steps, ...steps]);
+    };
+    for (;;) {
+      const { open, steps } = await looksOf(copy, known);
+      add(steps);
+      walk.isWhole = open === 0 || state.verdict.word !== 'unique';
+      told?.(walk);
+      if (walk.isWhole) return walk;
+      add([await guessed(copy, state)]);
+    }
+  });
 }

@@ -175,11 +175,12 @@ function checkPlay() {
   drawPlay();
 }
 
-function hintPlay() {
-  const { text, shown } = nextHint();
-  play.shown = shown;
+async function hintPlay() {
+  const hint = await nextHint();
+  if (!hint || !$('play-field')) return;
+  play.shown = hint.shown;
   drawPlay();
-  playSays(text);
+  playSays(hint.text);
 }
 
 function clearPlay() {

@@ -1,9 +1,10 @@
 // A grade as the goal: few cells to repaint, or one to give, until line logic solves the puzzle and the word for how hard that is is the
-// wanted one. `grade(puzzle)` gives the figures with the word, or a promise of them: whoever grades is named there alone.
+// wanted one. The engine grades each candidate.
 
-import { farFrom, solveByLines } from '../grade/grade.js';
-import { Narrowing, Puzzle } from '../grade/puzzle.js';
 import { Candidate } from './board.js';
+
+/** The words of puzzles that line logic solves, the easiest first. */
+export const LINE_WORDS = ['easy', 'medium', 'hard'];
 
 const MOST_CELLS = 4; // that are repainted
 const WIDTH = 10; // candidates gone on from at each step
@@ -11,42 +12,45 @@ const MOVES = 60; // moves tried behind each of them: those that came nearest by
 const ENOUGH = 24; // repaints found
 const FOR_GIVEN = 0.25; // of the time
 
+// The bounds of docs/FORMATS.md. They rank candidates alone: the engine says which word each has.
+const BOUNDS = { easy: { rounds: 2, wait: 8 }, medium: { rounds: 4, wait: 15 } };
+
+const parts = (bounds, of) => Object.entries(bounds).map(([name, most]) => of(name, most) / most);
+const above = (figures, bounds) => parts(bounds, (name, most) => Math.max(0, figures[name] - most)).reduce((sum, one) => sum + one, 0);
+const below = (figures, bounds) => Math.max(0, Math.min(...parts(bounds, (name, most) => most + 1 - figures[name])));
+
+/** How far what the engine says of a candidate is from a word: 0 where it has it. An open cell is farther than any figure is. */
+export function farFrom(figures, word) {
+  if (figures.open > 0) return 1000 + figures.open;
+  if (figures.word === word) return 0;
+  const easier = LINE_WORDS[LINE_WORDS.indexOf(word) - 1];
+  return (BOUNDS[word] ? above(figures, BOUNDS[word]) : 0) + (easier ? below(figures, BOUNDS[easier]) : 0);
+}
+
 /** The search for one word. `found` hears `{ moves, codes }` of what is repainted, or `{ given }`. */
 export class Aiming {
-  board; word; grade; asker; limit; found;
+  board; word; grade; path; asker; limit; found;
 
-  constructor({ board, word, grade, asker, limit, found }) {
-    Object.assign(this, { board, word, grade, limit, found, asker });
+  constructor({ board, word, grade, path, asker, limit, found }) {
+    Object.assign(this, { board, word, grade, path, limit, found, asker });
     this.candidate = new Candidate(board);
     this.seen = new Set();
     this.count = 0; // repaints found
   }
 
-  check() {
+  async gradeOf(cells, givens) {
     this.limit.check(this.asker.questions);
-  }
-
-  async gradeOf(cells, givens, clues) {
-    this.check();
-    const { rows, columns } = this.board;
-    return this.grade(new Puzzle(rows, columns, cells, givens, clues));
-  }
-
-  // Whether the session says, too, that line logic solves it.
-  async isProved(cells, pins = new Set()) {
-    const { word, open } = await this.asker.ask(cells, pins);
-    return word === 'unique' && open === 0;
+    return this.grade(cells, givens);
   }
 
   /** One cell to be given: those that line logic settles last are tried first. */
   async give() {
     const { board } = this;
-    for (const index of latest(board)) {
+    const falls = new Set((await this.path()).reverse());
+    const open = [...board.cells.keys()].filter((index) => !falls.has(index) && !board.givens.includes(index));
+    for (const index of [...open, ...falls]) {
       if (!this.limit.share(FOR_GIVEN)) return;
-      const figures = await this.gradeOf(board.cells, [...board.givens, index], board.clues);
-      if (figures.word !== this.word || !(await this.isProved(board.cells, new Set([index])))) continue;
-      this.found({ given: [index] });
-      return;
+      if ((await this.gradeOf(board.cells, [...board.givens, index])).word === this.word) return void this.found({ given: [index] });
     }
   }
 
@@ -57,9 +61,9 @@ export class Aiming {
     const isTwice = candidate.codes.some((code, at) => at > 0 && code >> 4 === candidate.codes[at - 1] >> 4);
     if (isTwice || candidate.codes.length > MOST_CELLS || this.seen.has(candidate.key) || !candidate.isNeat()) return null;
     this.seen.add(candidate.key);
-    const figures = await this.gradeOf(candidate.cells, board.givens, candidate.allClues());
+    const figures = await this.gradeOf(candidate.cells, board.givens);
     const far = farFrom(figures, this.word);
-    if (far === 0 && (await this.isProved(candidate.cells))) {
+    if (figures.word === this.word) {
       this.count++;
       this.found({ moves: [...moves], codes: [...candidate.codes] });
     }
@@ -96,11 +100,3 @@ export class Aiming {
 }
 
 const nearest = (list) => list.sort((one, other) => one.far - other.far || one.pain - other.pain);
-
-// The cells of a board that are not given, those first that line logic settles last or not at all.
-function latest({ rows, columns, cells, givens, clues }) {
-  const narrowing = new Narrowing(new Puzzle(rows, columns, cells, givens, clues));
-  const inTurn = [];
-  solveByLines(narrowing, (_line, _round, { settled }) => inTurn.push(...settled));
-  return [...narrowing.openCells(), ...inTurn.reverse()];
-}

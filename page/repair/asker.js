@@ -1,8 +1,8 @@
 // Questions to the proved session about candidates of a picture: what line logic leaves, and whether another picture has the clues.
 
-import { cellsOf } from '../grade/puzzle.js';
+import { LETTERS, cellsOf } from './board.js';
 
-const LETTERS = '.abcdefghijklmno';
+const ALLOWANCE = 300; // that bounds the search behind each question
 
 /** Memory ran out, or the session is not that of the picture. */
 export class AskError extends Error {}
@@ -12,10 +12,9 @@ export class AskError extends Error {}
  * picture goes from one candidate to the next, and is the board's again after `restore`.
  */
 export class Asker {
-  constructor(board, say, allowance = 300) {
+  constructor(board, say) {
     this.board = board;
     this.say = say;
-    this.allowance = allowance;
     this.questions = 0;
     this.shown = board.cells.slice();
     this.pinned = new Set();
@@ -34,15 +33,21 @@ export class Asker {
 
   /**
    * What the session says of a picture's cells, where `pins` are given too: `{ word, open, map, other }`, `other` a second
-   * picture's cells or null. `allowance` bounds the search.
+   * picture's cells or null.
    */
-  async ask(cells, pins = new Set(), allowance = this.allowance) {
+  async ask(cells, pins = new Set()) {
     const lines = this.#changes(cells, pins);
     this.questions++;
-    const text = await this.say([...lines, `allow ${allowance}`, 'map', 'verdict']);
+    const text = await this.say([...lines, `allow ${ALLOWANCE}`, 'map', 'verdict']);
     this.shown.set(cells);
     this.pinned = new Set(pins);
     return this.#read(text, lines.length + 1);
+  }
+
+  /** Whether the session says that line logic solves a picture where `pins` are given too. */
+  async isSolved(cells, pins) {
+    const { word, open } = await this.ask(cells, pins);
+    return word === 'unique' && open === 0;
   }
 
   #read(text, oks) {

@@ -1,7 +1,6 @@
 // The picture that is to be repaired: which cells may take which colour, by what rule, and a candidate of it that is changed in place.
 
-import { clueOf } from '../grade/lines.js';
-import { Puzzle, cellsOf } from '../grade/puzzle.js';
+import { clueOf } from './lines.js';
 
 const HALF = 2 ** 26; // two halves of a key, each below this, make a number that is exact
 
@@ -11,6 +10,12 @@ function keys(count) {
   for (let at = 0, state = 12345; at < count; at++, state = (state * 48271) % 2147483647) found[at] = state % HALF;
   return found;
 }
+
+/** The letters of colours by number. */
+export const LETTERS = '.abcdefghijklmno';
+
+/** Colour numbers, row by row, of a picture of letters. */
+export const cellsOf = (picture) => Uint8Array.from([...picture.join('')], (letter) => LETTERS.indexOf(letter));
 
 /** One change: `codes` are its cells as index * 16 + colour, more than one where symmetry is kept; `pain` ranks it. */
 class Move {
@@ -48,14 +53,14 @@ export class Board {
     this.around = Array.from(cells, (_, index) => this.#around(index));
     this.wasLone = Uint8Array.from(cells, (_, index) => (this.isLone(cells, index) ? 1 : 0));
     this.moves = this.#moves();
-    this.clues = new Puzzle(rows, columns, cells).clues;
+    this.clues = this.cluesOf(cells);
   }
 
   /** The same with some cells painted: what givens are looked for on. */
   painted(changes) {
     const cells = this.cells.slice();
     for (const { index, colour } of changes) cells[index] = colour;
-    return Object.assign(Object.create(Board.prototype), this, { cells, clues: new Puzzle(this.rows, this.columns, cells).clues });
+    return Object.assign(Object.create(Board.prototype), this, { cells, clues: this.cluesOf(cells) });
   }
 
   /** The same where some cells more are given: what is changed is elsewhere. */
@@ -84,8 +89,19 @@ export class Board {
     return line < this.rows ? this.columns : this.rows;
   }
 
+  /** The index of a line's first cell, and the step from one cell to the next. */
   placeOf(line) {
     return line < this.rows ? [line * this.columns, 1] : [line - this.rows, this.columns];
+  }
+
+  /** The clue of a line of some cells. */
+  clueAt(cells, line) {
+    const [first, step] = this.placeOf(line);
+    return clueOf(Uint8Array.from({ length: this.sizeOf(line) }, (_, at) => cells[first + at * step]));
+  }
+
+  cluesOf(cells) {
+    return Array.from({ length: this.lines }, (_, line) => this.clueAt(cells, line));
   }
 
   /** The cells that share a side with a cell. */
@@ -182,7 +198,7 @@ export class Candidate {
 
   /** The clues of all lines. Only those that changed since the last time are worked out. */
   allClues() {
-    for (let line = 0; line < this.clues.length; line++) this.clues[line] ??= clueOf(this.#lineOf(line));
+    for (let line = 0; line < this.clues.length; line++) this.clues[line] ??= this.board.clueAt(this.cells, line);
     return this.clues;
   }
 
@@ -192,13 +208,6 @@ export class Candidate {
     let sum = 0;
     for (let line = 0; line < clues.length; line++) sum += clues[line].looseness ??= loosenessOf(clues[line], this.board.sizeOf(line));
     return sum;
-  }
-
-  #lineOf(line) {
-    const [first, step] = this.board.placeOf(line);
-    const cells = new Uint8Array(this.board.sizeOf(line));
-    for (let at = 0; at < cells.length; at++) cells[at] = this.cells[first + at * step];
-    return cells;
   }
 
   has(move) {

@@ -1,4 +1,4 @@
-// Ways down to the goal, however many cells it takes: a dive by what the engine answers, and a climb by the plain solver alone.
+// Ways down to the goal, however many cells it takes: a dive by what the engine answers, and a climb by line logic alone.
 // Needless cells are taken back at the end.
 
 import { countLiving } from './search.js';
@@ -63,7 +63,7 @@ function rankedMoves({ candidate, board, pool }, finding, seen) {
 }
 
 /**
- * Goes move by move among those near open cells, each time to the `width` candidates that the plain solver leaves fewest open cells
+ * Goes move by move among those near open cells, each time to the `width` candidates that line logic leaves fewest open cells
  * of, until the goal is met. Only the candidates gone to are judged.
  */
 export async function climb(search, { width = 1, steps, draw }) {

@@ -3,16 +3,13 @@
 // Each second picture is a set of cells one of which must be given. The fewest cells that meet all sets so far are asked for, and
 // a further picture is a further set: so what has one solution at last has the fewest cells, and that is known.
 
-import { Narrowing, Puzzle } from '../grade/puzzle.js';
+import { Narrowing } from './narrowing.js';
 
 const FEW = 3; // so many given cells for line logic are looked for by trying all
 const MOST_TRIED = 40; // open cells that are tried where no second picture is known
 
-/** The open cells of the plain solver's end, where `given` are given besides the board's own. */
-export function openWith(board, given) {
-  const puzzle = new Puzzle(board.rows, board.columns, board.cells, [...board.givens, ...given], board.clues);
-  return new Narrowing(puzzle, puzzle.candidates(board.all)).settle().openCells();
-}
+/** The cells that line logic leaves open where `given` are given besides the board's own. */
+export const openWith = (board, given) => new Narrowing(board, { givens: [...board.givens, ...given] }).settle().openCells();
 
 // The cells in which two pictures differ, in parts that share no line: each part alone is a second picture.
 function partsOf(board, other) {
@@ -168,26 +165,21 @@ function settlers(board, bound, check) {
 /** Cells, fewer than `bound`, that have line logic solve the puzzle, as the session says too; or null. */
 export async function fewForLines(board, asker, limit, bound) {
   const chosen = settlers(board, bound, () => limit.check(asker.questions));
-  return chosen && (await isProved(board, asker, chosen)) ? chosen : null;
+  return chosen && (await asker.isSolved(board.cells, new Set(chosen))) ? chosen : null;
 }
 
 /** Few cells to be given until line logic solves the puzzle: the cell that settles most, again and again; then by trying all few. */
 export async function givensForLines(board, asker, limit, hooks) {
   const check = () => limit.check(asker.questions);
   const chosen = settlers(board, Infinity, check);
-  if (!(await isProved(board, asker, chosen))) return;
+  if (!(await asker.isSolved(board.cells, new Set(chosen)))) return;
   hooks.found({ given: chosen, isLeast: chosen.length < 2 });
   const open = openWith(board, []);
   for (let count = 1; count < chosen.length && count <= FEW; count++) {
     const given = anyOf(board, open, count, check);
-    if (given && (await isProved(board, asker, given))) return void hooks.found({ given, isLeast: true });
+    if (given && (await asker.isSolved(board.cells, new Set(given)))) return void hooks.found({ given, isLeast: true });
   }
   if (chosen.length <= FEW + 1) hooks.found({ given: chosen, isLeast: true });
-}
-
-async function isProved(board, asker, given) {
-  const { word, open } = await asker.ask(board.cells, new Set(given));
-  return word === 'unique' && open === 0;
 }
 
 // So many of the open cells that suffice, or null.

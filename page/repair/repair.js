@@ -5,8 +5,6 @@
 // `say` puts lines to a proved session that shows the board's picture, and gives its text or a promise of it. Every proposal was
 // judged by the session. `give` looks for cells to give, `mix` for some of both, and `aim` for a grade.
 
-import { gradeByLines } from '../grade/grade.js';
-import { Puzzle } from '../grade/puzzle.js';
 import { Aiming } from './aiming.js';
 import { Asker } from './asker.js';
 import { climb, dive } from './descents.js';
@@ -57,7 +55,7 @@ function drawing() {
   return () => (state = (state * 48271) % 2147483647) / 2147483647;
 }
 
-// A descent: by the engine's second pictures, or where many cells are open by the plain solver alone.
+// A descent: by the engine's second pictures, or where many cells are open by line logic alone.
 async function descend(search, isDusty, options) {
   await (isDusty ? climb : dive)(search, { steps: STEPS, ...options });
   await search.improve(30);
@@ -216,17 +214,18 @@ async function solvable(board, asker, limit) {
 }
 
 /**
- * Looks for few cells to repaint, or one to give, until line logic solves the puzzle and `word` says how hard that is. `grade(puzzle)` gives
- * the figures of line logic with their word, or a promise of them. Answers `{ isThere, isThrough, questions }`: whether the picture has
- * the word as it is, and whether the search came through.
+ * Looks for few cells to repaint, or one to give, until line logic solves the puzzle and `word` says how hard that is. `grade(cells, givens)`
+ * answers for the engine: `{ open, word, rounds, wait }`, with a word where no cell is open; and `path()` the places of the cells that fall
+ * in the session's picture, in that order. Answers `{ isThere, isThrough, questions }`: whether the picture has the word as it is, and
+ * whether the search came through.
  */
-export async function aim({ board, word, say, seconds, grade = gradeByLines, ...bounds }, { found = null } = {}) {
+export async function aim({ board, word, say, seconds, grade, path, ...bounds }, { found = null } = {}) {
   const limit = new Limit({ seconds, ...bounds });
   const asker = new Asker(board, say);
-  const now = await grade(new Puzzle(board.rows, board.columns, board.cells, board.givens, board.clues));
+  const now = await grade(board.cells, board.givens);
   if (now.word === word) return { isThere: true, isThrough: true, questions: 0 };
   const told = (one) => found?.(one.given ? { goal: word, given: one.given, isLeast: true } : proposalOf(one, word, { open: 0 }));
-  const aiming = new Aiming({ board, word, grade, asker, limit, found: told });
+  const aiming = new Aiming({ board, word, grade, path, asker, limit, found: told });
   const isThrough = await bounded(asker, async () => {
     await aiming.give();
     const begun = now.open > 0 ? await solvable(board, asker, new Limit({ seconds: seconds / 2, ...bounds })) : [];

@@ -1,7 +1,7 @@
 // Witnesses that a candidate misses the goal. For one solution: other colours for some cells with the same clues. For line logic:
 // cells whose candidates hold one another up. Kept, one refutes further candidates without a question to the engine.
 
-import { clueOf, narrow } from '../grade/lines.js';
+import { clueOf, narrow } from './lines.js';
 
 const MOST = 120;
 const line = new Uint8Array(MOST);

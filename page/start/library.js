@@ -2,10 +2,10 @@
 
 import { $, choiceOf, make, say } from '../base/elements.js';
 import { on } from '../base/events.js';
+import { gradeName, verdictName } from '../base/names.js';
 import { cleanName, sizeText } from '../base/words.js';
 import { smallPicture } from '../draw/small.js';
 import { bench } from '../engine/bench.js';
-import { gradeName, verdictName } from '../grade/names.js';
 import { exportAll } from '../import/archives.js';
 import { keep } from '../library/keep.js';
 import { openRecord } from '../library/open.js';

@@ -6,10 +6,10 @@ import { fileURLToPath } from 'node:url';
 import { load } from '../../web/nonobench.mjs';
 import { serve } from '../engine/serve.js';
 
-const file = process.env.WASM ?? fileURLToPath(new URL('../../web/out/nonobench.wasm', import.meta.url));
-export const hasModule = existsSync(file);
-export const needsModule = { skip: hasModule ? false : `no module at ${file}: set WASM` };
-const bytes = hasModule ? readFileSync(file) : null;
+export const moduleFile = process.env.WASM ?? fileURLToPath(new URL('../../web/out/nonobench.wasm', import.meta.url));
+export const hasModule = existsSync(moduleFile);
+export const needsModule = { skip: hasModule ? false : `no module at ${moduleFile}: set WASM` };
+const bytes = hasModule ? readFileSync(moduleFile) : null;
 
 /** The line in which the page speaks, in place of the browser's: its `text` and `dataset.kind` are what was said last. */
 export function saidLine() {

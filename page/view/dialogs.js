@@ -43,6 +43,7 @@ export function openDialog({ title, content = '', buttons = [{ name: 'OK', value
     });
     $('dialogs').append(dialog);
     dialog.showModal();
+    if (document.activeElement instanceof HTMLInputElement) document.activeElement.select(); // what is typed replaces it
   });
 }
 

@@ -29,6 +29,17 @@ export function nearText(doc) {
   return phrase('view.tooMuchAlikeTold', { value: pairs.slice(0, 2).join('; '), more });
 }
 
+// What the engine finds wrong with a puzzle, in words.
+function flawText(doc, { kind, letters, place }) {
+  if (kind === 'alike') return phrase('view.flawAlike', { name: letterName(doc, letters[0]), name2: letterName(doc, letters[1]) });
+  if (kind === 'blank') return phrase('view.flawBlank');
+  if (kind === 'background') return phrase('view.flawBackground');
+  return phrase('view.flawGiven', { place: phrase('view.placeOfCell', { value: place[0], columns: place[1] }) });
+}
+
+/** Whether a puzzle is fit to be published, or what is wrong with it. */
+export const fitText = (doc, { fit, flaws }) => (fit ? phrase('view.publishYes') : flaws.map((flaw) => flawText(doc, flaw)).join('; ') || phrase('view.publishNo'));
+
 /** A colour of a document by its swatch and its name. */
 export function swatchChip(doc, letter) {
   const chip = make('span', { class: 'swatch-chip' }, make('span', { class: 'swatch', 'aria-hidden': 'true' }), inkName(doc, letter));

@@ -3,15 +3,14 @@
 
 import { $, choiceOf, make, say } from '../base/elements.js';
 import { on, tell } from '../base/events.js';
+import { gradeName } from '../base/names.js';
 import { number } from '../base/words.js';
 import { placeOf, sameBenchPart } from '../document/document.js';
 import { LETTERS } from '../document/limits.js';
 import { cellsThatDiffer } from '../document/shapes.js';
 import { sheet } from '../draw/sheet.js';
 import { bench } from '../engine/bench.js';
-import { LINE_WORDS, gradeByLines } from '../grade/grade.js';
-import { gradeName } from '../grade/names.js';
-import { Puzzle } from '../grade/puzzle.js';
+import { LINE_WORDS } from '../repair/aiming.js';
 import { phrase } from '../texts/phrase.js';
 import { boardOf, limitChoices, showLocks } from './locking.js';
 import { placeText, proposalItem } from './proposals.js';
@@ -31,6 +30,7 @@ const FALLBACK = 1.5; // seconds for one solution, where no guessing is not to b
 const MIRRORED = 0.7; // seconds for repairs that keep both halves of a picture alike
 const REST = 400; // milliseconds between a stroke and the search for what mends it, while proposals are shown
 const NO_PLACES = [];
+const MOST_SECONDS = 2; // for the grade of a picture that is aimed for
 const SPARE = 5; // seconds that a search in the worker has left to end by itself
 const LONGER = phrase('view.longerSearchTimeMay');
 const LOOSE = phrase('view.pictureTooLooseBolder');
@@ -169,9 +169,12 @@ async function findRepairs() {
 }
 
 // Looks for what mends another picture. Where it has the grade that was aimed for, the list stays for an undo.
-function findAgain() {
+async function findAgain() {
   const { goal } = fixing;
-  if (isGrade(goal) && gradeByLines(Puzzle.of(bench.state.picture, bench.state.givens)).word === goal) fixSays(phrase('view.gradeThere', { grade: gradeName(goal) }));
+  const { state } = bench;
+  const said = isGrade(goal) && state.verdict.word === 'unique' && state.open === 0 ? await searches.assess(MOST_SECONDS) : null;
+  if (state !== bench.state || goal !== fixing.goal) return;
+  if (said?.grade?.word === goal) fixSays(phrase('view.gradeThere', { grade: gradeName(goal) }));
   else findRepairs();
 }
 

@@ -1,38 +1,43 @@
-// The grade beside the verdict: worked out in the second worker once the hand rests, never on the way of a stroke.
+// What the engine says beside the verdict: the grade, and whether the puzzle is fit to be published. The second worker is asked once the hand
+// rests, never on the way of a stroke.
 
 import { $ } from '../base/elements.js';
 import { on, tell } from '../base/events.js';
+import { gradeName, gradeText } from '../base/names.js';
+import { gradeIn } from '../engine/assessing.js';
 import { bench } from '../engine/bench.js';
-import { gradeByLines, gradeText } from '../grade/grade.js';
-import { gradeName } from '../grade/names.js';
-import { Puzzle } from '../grade/puzzle.js';
 import { phrase } from '../texts/phrase.js';
 import { addAction } from './actions.js';
+import { fitText } from './dress.js';
 import { openFix } from './fixing.js';
 import { searches, secondsChosen } from './verdict.js';
 
 const REST = 1000; // milliseconds without a stroke or a search
-const MOST_SECONDS = 5; // for a certificate
+const MOST_SECONDS = 5;
 
-const grading = { of: null, grade: null, waits: 0 };
+const grading = { of: null, said: null, waits: 0 };
 
-const isSame = (one, other) => one !== null && one.picture === other.picture && one.givens === other.givens;
+const isSame = (one, other) => one !== null && one.picture === other.picture && one.givens === other.givens && one.colours === other.colours;
+
+// What was said of the picture at hand, or null.
+const saidAtHand = () => (bench.state && grading.of && isSame(grading.of, bench.state) ? grading.said : null);
 
 /** The grade of the picture at hand, or null where there is none yet. */
-export const gradeAtHand = () => (bench.state && grading.of && isSame(grading.of, bench.state) && !grading.grade.none ? grading.grade : null);
+export const gradeAtHand = () => (saidAtHand() ? gradeIn(saidAtHand()) : null);
 
 /** The grade in one line with its figures, or '' where there is none. */
-export const gradeLine = () => (gradeAtHand() ? gradeText(gradeAtHand()) : '');
+export const gradeLine = () => (gradeAtHand() ? gradeText(saidAtHand()) : '');
 
 // The figures in words.
-function figuresText({ rounds, evaluations, wait, open, splits, depth }) {
+function figuresText({ open, grade: { rounds, evaluations, wait, splits, depth } }) {
   const lines = phrase('view.roundsLinesLookedLongest', { rounds, lines: evaluations, wait });
   return open ? phrase('view.cellsGuessSplitsDepth', { open, splits, depth, lines }) : lines;
 }
 
 function showGrade() {
-  const grade = gradeAtHand();
-  $('grade').textContent = grade ? `${gradeName(grade.word)} (${figuresText(grade)})` : '–';
+  const [said, grade] = [saidAtHand(), gradeAtHand()];
+  $('grade').textContent = grade ? `${gradeName(grade.word)} (${figuresText(said)})` : '–';
+  $('publish').textContent = $('publish').title = said ? fitText(bench.state, said) : '–';
 }
 
 // Waits for rest. Any other search comes first.
@@ -45,26 +50,21 @@ async function work() {
   const { state } = bench;
   if (!state) return;
   if (searches.running || bench.running) return schedule();
-  const puzzle = { picture: state.picture, givens: [...state.givens], verdict: state.verdict.word, map: state.map };
-  const grade = await searches.grade(puzzle, Math.min(MOST_SECONDS, secondsChosen()));
-  if (bench.state && isSame(bench.state, state) && (grade || !searches.running)) {
-    Object.assign(grading, { of: state, grade: grade ?? { none: 'time' } });
-    if (grade?.none === 'map') console.error('The plain solver ends elsewhere than the proved map.');
+  const said = await searches.assess(Math.min(MOST_SECONDS, secondsChosen()));
+  if (bench.state && isSame(bench.state, state) && (said || !searches.running)) {
+    Object.assign(grading, { of: state, said });
     showGrade();
     tell('graded', gradeAtHand());
   } else schedule();
 }
 
 // What one may aim for first: the next word that is easier, or else harder.
-function nextWord({ picture, givens }) {
-  const { word } = gradeByLines(Puzzle.of(picture, givens));
-  return word === 'easy' || word === 'hard' ? 'medium' : 'easy';
-}
+const nextWord = () => (['easy', 'hard'].includes(gradeAtHand()?.word) ? 'medium' : 'easy');
 
 /** Hears verdicts. */
 export function startGrading() {
   const isSolved = () => bench.state.verdict.word === 'unique' && bench.state.open === 0;
-  addAction({ place: 'check', id: 'aim', name: phrase('view.aimAction'), run: () => openFix(nextWord(bench.state)), can: isSolved });
+  addAction({ place: 'check', id: 'aim', name: phrase('view.aimAction'), run: () => openFix(nextWord()), can: isSolved });
   on('stroke', () => clearTimeout(grading.waits));
   for (const name of ['shown', 'judged']) {
     on(name, () => {

@@ -1,14 +1,14 @@
 // Proposals as they are shown: the part of the picture that changes, as it will be, large enough to be seen; what takes or keeps one.
 
 import { make } from '../base/elements.js';
+import { gradeName } from '../base/names.js';
 import { cssOf } from '../document/colours.js';
 import { LETTERS } from '../document/limits.js';
 import { boxAround } from '../document/regions.js';
 import { cutOut } from '../document/shapes.js';
 import { givenCorners } from '../draw/given.js';
 import { smallPicture } from '../draw/small.js';
-import { LINE_WORDS } from '../grade/grade.js';
-import { gradeName } from '../grade/names.js';
+import { LINE_WORDS } from '../repair/aiming.js';
 import { phrase } from '../texts/phrase.js';
 import { inkName, letterName } from './dress.js';
 

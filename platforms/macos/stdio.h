@@ -2,3 +2,4 @@
 #include <stddef.h>
 int sprintf(char *to, const char *form, ...);
 int snprintf(char *to, size_t room, const char *form, ...);
+int sscanf(const char *text, const char *form, ...);

@@ -14,9 +14,9 @@ from math import floor
 from pathlib import Path
 from typing import NamedTuple, Optional
 
-BITS, PROFILE, GAMMA, FRAMES, SMALL, HALF, LOSSY, TURNED = REASONS = (
+BITS, PROFILE, GAMMA, FRAMES, SMALL, HALF, LOSSY, TURNED, SCALED = REASONS = (
     "samples of 16 bits", "a colour profile", "a gamma", "several frames", "a frame smaller than its screen", "half transparent", "lossy",
-    "turned by its orientation",
+    "turned by its orientation", "scaled by its Exif",
 )
 BROKEN = "broken"  # refused too, since it is no whole image of its format, or of a kind that is not read
 CLEAR = (0, 0, 0, 0)  # what is transparent has no other colour
@@ -193,6 +193,8 @@ def png_colours():
         ("turned-within", [chunk(b"eXIf", TURNED_WITHIN)], TURNED), ("upright-intel", [chunk(b"eXIf", exif(1, "<"))], ""), ("gamma-twice", [PLAIN_GAMMA, chunk(b"gAMA", struct.pack(">I", 1000))], GAMMA),
         ("srgb-4", [chunk(b"sRGB", b"\4"), PLAIN_GAMMA, OTHERS], BROKEN), ("srgb-long", [chunk(b"sRGB", bytes(2)), PLAIN_GAMMA, OTHERS], BROKEN),
         ("srgb-last", [PLAIN_GAMMA, OTHERS, SRGB], ""),
+        ("sized", [chunk(b"eXIf", sized(5, 4, 72, 72))], ""), ("sized-intel", [chunk(b"eXIf", sized(5, 4, 144, 144, "<"))], ""), ("exif-twice", [chunk(b"eXIf", exif(1))] * 2, BROKEN), ("rows-twice", [chunk(b"iDOT", bytes(28))], BROKEN),
+        *((f"scaled-{wide}-{high}", [chunk(b"eXIf", sized(wide, high, 72 * 5 // wide, 72 * 4 // high, order))], SCALED) for wide, high, order in ((10, 8, "<"), (5, 2, ">"), (1, 4, ">"), (10, 4, "<"))),
         ("luminance", [chunk(b"mDCV", bytes(24)), chunk(b"cLLI", struct.pack(">2I", 10000000, 4000000))], ""),
     ):
         yield Odd(f"png-{name}", png(rows, 8, RGB, more), None if reason else pixels, reason)
@@ -221,6 +223,13 @@ def exif(number, order=">"):
     """Exif with an orientation alone."""
     mark = b"MM\0*" if order == ">" else b"II*\0"
     return mark + struct.pack(f"{order}IHHHIHHI", 8, 1, 0x112, 3, 1, number, 0, 0)
+
+
+def sized(columns, rows, across, down, order=">"):
+    """Exif with a size, and so many pixels an inch: where these make the one of the other, Firefox shows a PNG in that size."""
+    mark = b"MM\0*" if order == ">" else b"II*\0"
+    front = struct.pack(f"{order}IHHHIIHHIIHHIHHHHIII", 8, 4, 0x11A, 5, 1, 92, 0x11B, 5, 1, 100, 0x128, 3, 1, 2, 0, 0x8769, 4, 1, 62, 0)
+    return mark + front + struct.pack(f"{order}HHHIIHHIII4I", 2, 0xA002, 4, 1, columns, 0xA003, 4, 1, rows, 0, across, 1, down, 1)
 
 
 def png_frames():
@@ -273,6 +282,14 @@ def png_broken():
     whole = zlib.compress(b"".join(b"\0" + bytes(row) for row in CELLS))
     for name, packed_rows in (("sum-of-rows", whole[:-1] + bytes([whole[-1] ^ 1])), ("rows-without-end", whole[:-4])):
         yield Odd(f"png-{name}", good[: at - 4] + chunk(b"IDAT", packed_rows) + chunk(b"IEND"), None, BROKEN)
+    # A picture of two rows again and again, whose data goes back further than it says: not all browsers keep so much of it.
+    far = b"".join(b"\0" + bytes(255 * (at * at % 7 < 3) for at in range(120 * row, 120 * row + 120)) for row in (0, 1) * 60)
+    for name, window in (("short", 8), ("long", 15)):
+        coded = zlib.compress(far) if window == 15 else b"\x08\x1d" + zlib.compress(far)[2:]
+        data = good[:8] + chunk(b"IHDR", struct.pack(">IIBBBBB", 120, 120, 8, GREY, 0, 0, 0)) + chunk(b"IDAT", coded) + chunk(b"IEND")
+        greys = [[(sample,) * 3 + (255,) for sample in far[121 * row + 1 : 121 * row + 121]] for row in range(120)]
+        yield Odd(f"png-window-{name}", data, *([greys] if window == 15 else [None, BROKEN]))
+    yield Odd("png-no-data", good[: at - 4] + chunk(b"IDAT") + chunk(b"IEND"), None, BROKEN)
     yield Odd("png-more-rows", png(rgb + rgb, 8, RGB, size=(5, 4)), shown(COLOURS))
     body = good[at + 4 : at + 4 + struct.unpack(">I", good[at - 4 : at])[0]]
     parts = b"".join(chunk(b"IDAT", body[one : one + 3]) for one in range(0, len(body), 3))
@@ -494,7 +511,8 @@ def webps():
         ("profile", riff(canvas(32), (b"ICCP", bytes(128)), (b"VP8L", stream)), PROFILE), ("profile-unsaid", riff(canvas(), (b"ICCP", bytes(128)), (b"VP8L", stream)), PROFILE),
         ("one-frame", riff(canvas(2), (b"ANIM", bytes(6)), one), FRAMES), ("one-frame-unsaid", riff(canvas(), (b"ANIM", bytes(6)), one), FRAMES),
         ("turned", riff(canvas(8), (b"VP8L", stream), turned), TURNED), ("turned-within", riff(canvas(8), (b"VP8L", stream), (b"EXIF", TURNED_WITHIN)), TURNED),
-        ("upright", riff(canvas(8), (b"VP8L", stream), upright), pixels),
+        ("upright", riff(canvas(8), (b"VP8L", stream), upright), pixels), ("sized", riff(canvas(8), (b"VP8L", stream), (b"EXIF", sized(5, 4, 72, 72))), pixels),
+        ("exif-twice", riff(canvas(8), (b"VP8L", stream), upright, upright), BROKEN), ("scaled", riff(canvas(8), (b"VP8L", stream), (b"EXIF", sized(10, 8, 36, 36))), SCALED),
         ("opacity", riff(canvas(16), (b"ALPH", bytes(9)), (b"VP8L", stream)), LOSSY), ("no-size", riff((b"VP8L", stream[:3])), BROKEN), ("cut", plain[:-9], BROKEN), ("sign", plain[:12], BROKEN), ("more", plain + b"more", pixels),
         ("two", riff((b"VP8L", stream), (b"VP8L", clear_stream)), None), ("unknown", riff(canvas(), (b"ABCD", b"xy"), (b"VP8L", stream)), pixels),
         ("reserved", riff((b"VP8X", b"\1" + canvas()[1][1:]), (b"VP8L", stream)), BROKEN), ("first", riff((b"VPxX", canvas()[1]), (b"VP8L", stream)), BROKEN), ("canvas-late", riff((b"VP8L", stream), canvas()), BROKEN),

@@ -28,6 +28,7 @@ import nonobench  # noqa: E402
 from nonobench import check_site  # noqa: E402
 from nonobench.collection import arguments, certificates, judging, readers, running, serving, tally, workers  # noqa: E402
 from nonobench.collection.puzzles import Puzzle, Unreadable  # noqa: E402
+from nonobench.collection.rows import csv_cells, printable  # noqa: E402
 from odd_images import BROKEN, odd_images  # noqa: E402
 
 # One solution, whose certificate says much twice: it is three times as long as one with lemmas.
@@ -57,10 +58,13 @@ POISONED = {
     "givens": ["1,1", [1, 1], [[1]], [[1, "1"]], [[0, 1]], [[1, 1, 1]], [[1, True]], [], 1],
     "palette": ["ffffff", ["ffffff", "000000", "#ff0000"], ["fff", "000", "f00"], [1, 2, 3], {}],
     "picture": [1, None, ["a.", ".b"]],
-    "near": [1, [], "x", ["x"], [["#ffffff and #000000"]], {"a": 1}],
+    "background": ["#ffffff", "fff", 1, None],
+    "fit": ["yes", 1, None],
+    "flaws": [1, [], "blank", ["x"], [["blank"]], ["given 0 1"], ["given 1"], ["alike a"], ["alike a p"], ["unknown given 1 1"], {"a": 1}],
+    "unknown": [1, [], [1], [0, 1], [[1, 1]], "1 1"],
     "lines": ["7", -1, 1.5],
     "grade": ["simple", 1, ["easy"]],
-    "figures": [[], [1, 2, 3, 4, 5], {}, {"rounds": 1}, {"rounds": "1", "evaluations": 1, "wait": 1, "splits": 0, "depth": 0}, None],
+    "figures": [[], [1, 2, 3, 4, 5], {}, {"rounds": 1}, {"rounds": "1", "evaluations": 1, "wait": 1, "splits": 0, "depth": 0}, {"rounds": 1, "evaluations": 1, "wait": 1, "splits": 0}, None],
     "certificate": [1, True, [], {}, {"accepted": 1}, {"accepted": False}, {"accepted": True, "why": "x"}, {"accepted": False, "why": 1}, {"accepted": True, "givens": 1}, {"accepted": True, "unpublished": [[1, 1]]}],
     "error": [1, [], {"a": 1}],
     "note": [1, ["x"]],
@@ -81,8 +85,11 @@ UNLIKE = (
     ({"rows": 3}, "the field 'picture' has another size, or other colours"), ({"picture": "a./.c"}, "the field 'picture' has another size"),
     ({"other": "a."}, "the field 'other' has another size"), ({"verdict": "undecided"}, "the field 'grade' goes with the verdict 'unique'"),
     ({"palette": ["ffffff"]}, "the numbers of colours or open cells differ"), ({"open": 5}, "the numbers of colours or open cells differ"),
-    ({"givens": [[1, 3]]}, "a given lies outside the picture"), ({"fit": True}, "no row has a field 'fit'"), ({"lemmas": {"accepted": True}}, "no row has a field 'lemmas'"),
+    ({"givens": [[1, 3]]}, "a given lies outside the picture"), ({"near": ["#ffffff and #000000"]}, "no row has a field 'near'"), ({"lemmas": {"accepted": True}}, "no row has a field 'lemmas'"),
     ({"certificate": {"accepted": True, "givens": [[3, 1]]}}, "a given lies outside the picture"),
+    ({"unknown": [1, 3]}, "a given lies outside the picture"), ({"flaws": ["spare 1 3"], "fit": False}, "a given lies outside the picture"),
+    ({"flaws": ["alike . c"], "fit": False}, "a flaw names a colour that the picture does not have"), ({"background": "000000"}, "the numbers of colours or open cells differ, or the background"),
+    ({"fit": False}, "the field 'fit' is not what verdict and flaws say"), ({"flaws": ["blank"]}, "the field 'fit' is not what verdict and flaws say"),
 )
 TORN = (
     ('"verdict"', '"verdict":"ambiguous","verdict"', "it has a field twice"), ('"accepted":true', '"accepted":false,"accepted":true', "it has a field twice"),
@@ -99,7 +106,7 @@ def poisons_of(row):
 
     for field, values in POISONED.items():
         yield from ((line({**row, field: value}).encode(), f"the field '{field}' is wrong") for value in values)
-    for field in ("verdict", "rows", "columns", "colours", "open", "palette", "picture", "figures"):
+    for field in ("verdict", "rows", "columns", "colours", "open", "background", "palette", "picture", "figures", "fit"):
         yield line({name: value for name, value in row.items() if name != field}).encode(), f"the field '{field}' is missing"
     yield from ((line({**row, **changes}).encode(), why) for changes, why in UNLIKE)
     yield from ((line(row).replace(old, new).encode("latin-1"), why) for old, new, why in TORN)
@@ -125,20 +132,20 @@ def beside_words(text):
     """The cells of a file of givens of a picture of 3 rows and 4 columns, as tests/cases/beside.txt has them."""
     try:
         puzzles = list(readers.puzzles_of(p3(["...."] * 3), ".ppm", NONE, text))
-        judging.judge(judging.Desk(), puzzles[0], None, print, has_tree=False)
+        judging.Desk().assess(puzzles[0], None)
     except Unreadable as error:
         return "outside" if str(error).startswith("givens Place") else "refused"
     return " ".join("%d,%d" % place for place in puzzles[0].givens) or "none"
 
 
 def ground_words(text):
-    """The background of a file, likewise. An empty one is not looked at."""
+    """The background of a file, likewise."""
     try:
-        ground = readers.ground_of(text.decode("ascii", "replace").strip()) if text else None
+        ground = readers.ground_of(text.decode("ascii", "replace").strip())
     except ValueError:
         return "refused"
-    if ground is None or ground.triple is None:
-        return "none" if ground is None else "corner" if ground.is_corner else "white"
+    if ground.triple is None:
+        return "corner" if ground.is_corner else "white"
     return "%d,%d,%d" % ground.triple
 
 
@@ -160,7 +167,7 @@ class Reading(unittest.TestCase):
         for kind, more in (("PNG", {}), ("BMP", {}), ("WEBP", {"lossless": True})):
             with self.subTest(kind):
                 puzzle = one(image(kind, **more))
-                self.assertEqual((puzzle.text, puzzle.background), (p3(UNIQUE), WHITE))
+                self.assertEqual((puzzle.text, puzzle.background), (p3(UNIQUE), None))
         from PIL import Image
 
         gif = Image.new("P", (2, 2))
@@ -284,7 +291,7 @@ class Reading(unittest.TestCase):
 
     def test_xml(self):
         puzzle = one(webpbn(UNIQUE, "A &lt;b&gt; title").encode())
-        self.assertEqual((puzzle.text, puzzle.background, puzzle.title), (p3(UNIQUE), WHITE, "A <b> title"))
+        self.assertEqual((puzzle.text, puzzle.background, puzzle.title), (p3(UNIQUE), None, "A <b> title"))
 
     def test_xml_with_one_goal_twice(self):
         goal = "<solution><image>|X.||.r|</image></solution>"
@@ -319,7 +326,7 @@ class Reading(unittest.TestCase):
     def test_xml_colours_alike_stay_two(self):
         text = '<puzzle><color name="snow" char="s">fff</color><solution><image>|s.|</image></solution></puzzle>'
         puzzle = one(text.encode())
-        self.assertEqual((puzzle.text, puzzle.background), (b"P3\n2 1\n255\n255 255 254\n255 255 255\n", WHITE))
+        self.assertEqual((puzzle.text, puzzle.background), (b"P3\n2 1\n255\n255 255 254\n255 255 255\n", None))
         # Three alike, and between two others: each is as near as it can be.
         colours = "".join(f'<color name="{name}" char="{name}">{triple}</color>' for name, triple in (("a", "100000"), ("b", "100001"), ("c", "100000"), ("d", "100000")))
         puzzle = one(f"<puzzle>{colours}<solution><image>|abcd|</image></solution></puzzle>".encode())
@@ -441,8 +448,8 @@ class Running(Case):
         self.put("one.ppm", p3(UNIQUE))
         self.put("two.ppm", p3(AMBIGUOUS))
         printed = self.run_audit("site").stdout
-        self.assertRegex(printed, r"(?m)^unique +2x2 +3 +0 +(easy)? +[0-9]+ +[0-9.]+  site/one\.ppm$")
-        self.assertRegex(printed, r"(?m)^ambiguous +2x2 +2 +4 +[0-9.]+  site/two\.ppm$")
+        self.assertRegex(printed, r"(?m)^unique +2x2 +3 +#ffffff +0 +0 +easy +[0-9.]+  site/one\.ppm$")
+        self.assertRegex(printed, r"(?m)^ambiguous +2x2 +2 +#ffffff +0 +4 +[0-9.]+  site/two\.ppm$")
         self.assertRegex(printed, r"\n\n2 puzzles: unique 1, ambiguous 1\n")
         self.assertEqual(self.run_audit("site", "--quiet").stdout, "")
 
@@ -457,6 +464,14 @@ class Running(Case):
         os.chdir(self.site)
         names = self.run_audit("site/=1+1.ppm", "--csv", "-").stdout
         self.assertIn("\nsite/=1+1.ppm,", names)
+
+    def test_formulas(self):
+        """Full-width and small signs begin formulas, too."""
+        for title in ("=1", "+1", "-1", "@A1", "\uff1d1", "\uff0b1", "\uff0d1", "\uff20A1", "\ufe661", "\ufe621", "\ufe631", "\ufe6bA1", " =1"):
+            cells = csv_cells({"file": "one.ppm", "title": title})
+            self.assertEqual(cells[2], "'" + printable(title))
+        for title in ("1", "a=1", "'=1", "\u22121", "\uff11"):
+            self.assertEqual(csv_cells({"file": "one.ppm", "title": title})[2], title)
 
     @pytest.mark.since("0.7.0")
     def test_certificates_are_written(self):
@@ -483,19 +498,23 @@ class Running(Case):
         self.put("given.ppm", p3(LEARNT))
         self.put("given.givens", "given 1 7\n")
         made, firsts = self.folder / "certs", {"given": b"nonocert 2", "learnt": b"nonolemma 2", "lines": b"nonocert 1"}
-        for words in ([], ["--no-grade"], ["--resume"]):
-            if words == ["--resume"]:
+        for words in ([], ["--resume"]):
+            if words:
                 (made / "learnt.cert").unlink()
-            rows = self.rows("site", "--certify", "certs", *words, status=0)
+            self.rows("site", "--certify", "certs", *words, status=1)  # no puzzle needs the given
+            rows = self.rows("site", "--certify", "certs", "--resume", "--allow-flaw", "given", status=0)
             self.assertEqual({place.stem: place.read_bytes().split(b"\n")[0] for place in made.iterdir()}, firsts)
             for name in firsts:
                 self.assertEqual(rows[f"site/{name}.ppm"]["lines"], (made / f"{name}.cert").read_bytes().count(b"\n"))
         self.assertLess(2 * len((made / "learnt.cert").read_bytes()), len(nonobench.certify(p3(LEARNT))))
-        self.assertTrue(all(row["certificate"]["accepted"] for row in self.rows("site", "--certificates", "certs", status=0).values()))
+        again = self.rows("site", "--certificates", "certs", status=0)
+        self.assertTrue(all(row["certificate"]["accepted"] for row in again.values()))
+        # The grade is that of the certificate, made or beside the puzzle.
+        self.assertEqual([again[name]["figures"] for name in rows], [row["figures"] for row in rows.values()])
 
     @pytest.mark.since("0.7.0")
     def test_puzzles_without_a_certificate_are_counted(self):
-        counts = tally.Tally()
+        counts = tally.Tally(())
         for verdict, text in (("unique", '{"lines":7}'), ("unique", '{"note":"\\"lines\\":"}'), ("ambiguous", "{}")):
             counts.put(verdict, text)
         for certify, wanted in (("certs", "nonobench-audit: unique, but no certificate made in time or memory: 1\n"), (None, "")):
@@ -523,21 +542,6 @@ class Running(Case):
         self.assertEqual(sorted(place.name for place in self.site.glob("set*cert")), ["set.2.cert", "set.cert"])
 
     @pytest.mark.since("0.7.0")
-    def test_a_certificate_with_lemmas_is_told_before_a_tree_is_made(self):
-        class Slow(judging.Desk):
-            def say(self, lines):
-                if lines == b"certify\n":
-                    raise TimeoutError
-                return super().say(lines)
-
-        known = []
-        with self.assertRaises(TimeoutError):
-            judging.judge(Slow(), one(p3(LEARNT)), None, known.append, is_kept=True)
-        self.assertEqual([judged.certificate[:12] for judged in known], ["", "nonolemma 2\n"])
-        judged = judging.judge(Slow(), one(p3(LEARNT)), None, known.append, is_kept=True, has_tree=False)
-        self.assertEqual((judged.certificate[:12], judged.tree), ("nonolemma 2\n", ""))
-
-    @pytest.mark.since("0.7.0")
     def test_a_certificate_that_cannot_be_written(self):
         self.put("learnt.ppm", p3(LEARNT))
         place = self.folder / "certs" / "learnt.cert"
@@ -555,29 +559,26 @@ class Running(Case):
     @pytest.mark.since("0.7.0")
     def test_a_verdict_stays_where_memory_is_out(self):
         class Short(judging.Desk):
-            def say(self, lines):
-                if lines == b"certify\n":
-                    raise MemoryError
-                return super().say(lines)
+            def certify(self, *words):
+                raise MemoryError
 
         class Full(Answers):
             def put(self, *words):
-                if words[1] == "known":
+                if words[1] == "known" and '"lines"' in words[3]:
                     raise MemoryError
                 super().put(*words)
 
-        place = self.put("one.ppm", p3(["aa", "a."]))
-        beside = (1, str(self.put("one.cert", "nonocert 1\nline r 1\nline c 1\nline c 2\ndone\n")))
+        place = self.put("one.ppm", p3(LEARNT))
         to = str(self.folder / "made")
-        task = serving.Task(0, "one.ppm", str(place), (beside,), None, None, to, "", 1, serving.FULL)
+        task = serving.Task(0, "one.ppm", str(place), (), None, None, to, "", 1, serving.FULL)
         for desk, missing in ((Short, "certificate"), (judging.Desk, "grade")):
             answers, left = Full(), []
-            judge = serving.Judging(serving.Settings("", "", 1024, None, "white", True, True, False), answers)
+            judge = serving.Judging(serving.Settings("", "", 1024, None, "white", True, False), answers)
             judge._desk, judge._leave = desk(), left.append
             judge.answer(task)
             row = json.loads(answers[-1][3])
             with self.subTest(missing):
-                self.assertEqual((answers[-1][1], row["verdict"], row["certificate"], "lines" in row), ("last", "unique", {"accepted": True}, missing == "grade"))
+                self.assertEqual((answers[-1][1], row["verdict"], "lines" in row), ("last", "unique", missing == "grade"))
                 self.assertEqual(row["note"], f"its {missing}: out of memory: more than 1024 MiB")
                 self.assertEqual((left, os.path.exists(f"{to}.cert")), ([task], missing == "grade"))
 
@@ -585,23 +586,23 @@ class Running(Case):
     def test_a_certificate_goes_back_before_the_grade(self):
         # Over a scheduler, what is known of a puzzle has its certificate, should its grade not come.
         answers = Answers()
-        judge = serving.Judging(serving.Settings("", "", 1024, 9, "white", True, False, True), answers)
-        place = self.put("one.ppm", p3(UNIQUE))
+        judge = serving.Judging(serving.Settings("", "", 1024, 9_999, "white", False, True), answers)
+        place = self.put("one.ppm", p3(LEARNT))
         judge.answer(serving.Task(0, "one.ppm", str(place), (), None, None, "one", "", 1, serving.FULL))
-        known, last = answers
+        *_, known, last = answers
         self.assertEqual((known[1], last[1], known[4]), ("known", "last", f"last {last[4]}"))
-        self.assertEqual(nonobench.check(p3(UNIQUE), certificates.unpacked(last[4]).encode()).givens, ())
+        self.assertEqual(nonobench.check(p3(LEARNT), certificates.unpacked(last[4]).encode()).givens, ())
         self.assertEqual({**json.loads(known[3]), **json.loads(last[3])}, json.loads(last[3]))
 
     @pytest.mark.since("0.7.0")
     def test_a_note_that_a_certificate_was_not_written_goes_before_the_grade(self):
         answers = Answers()
-        judge = serving.Judging(serving.Settings("", "", 1024, 9, "white", True, False, False), answers)
-        place = self.put("one.ppm", p3(UNIQUE))
+        judge = serving.Judging(serving.Settings("", "", 1024, 9_999, "white", False, False), answers)
+        place = self.put("one.ppm", p3(LEARNT))
         (self.folder / "one.cert").mkdir()
         judge.answer(serving.Task(0, "one.ppm", str(place), (), None, None, str(self.folder / "one"), "", 1, serving.FULL))
-        self.assertEqual([words[1] for words in answers], ["known", "last"])
-        self.assertEqual({json.loads(words[3])["note"] for words in answers}, {"its certificate was not written: Is a directory"})
+        self.assertEqual([words[1] for words in answers[-2:]], ["known", "last"])
+        self.assertEqual({json.loads(words[3])["note"] for words in answers[-2:]}, {"its certificate was not written: Is a directory"})
 
     @pytest.mark.since("0.7.0")
     def test_a_certificate_that_came_back_is_written_without_a_grade(self):
@@ -647,6 +648,11 @@ class Running(Case):
         self.rows("site", "--ppm", "out", "--certify", "out", "--resume", status=1)
         self.assertEqual((out / "given.givens").read_bytes(), b"given 1 1\n")
         self.assertEqual(((out / "one.ppm").read_bytes(), (out / "set.ppm").stat().st_mtime_ns), (p3(UNIQUE), before))
+        self.assertEqual((out / "in" / "dark.background").read_bytes(), b"1,1,1\n")
+        self.assertEqual(check_site.main([str(out), "--quiet"]), 0)
+        # A background that nothing names is not written.
+        (self.site / "in" / "dark.background").unlink()
+        self.rows("site", "--ppm", "out", "--certify", "out", "--resume", status=1)
         self.assertFalse((out / "in" / "dark.background").exists())
         self.assertEqual(check_site.main([str(out), "--quiet"]), 0)
 
@@ -684,13 +690,12 @@ class Running(Case):
 
     def test_no_old_picture_stays_beside_a_new_background(self):
         """A run that is killed in between leaves no pair that is accepted as another puzzle."""
-        name, report = str(self.folder / "one"), "size 2 2\ncolours 3 maxval 255\n"
-        desk = types.SimpleNamespace(picture=lambda puzzle: puzzle.text)
+        name = str(self.folder / "one")
         Path(f"{name}.ppm").write_bytes(p3(UNIQUE))
         with unittest.mock.patch.object(certificates, "_put", side_effect=KeyboardInterrupt), self.assertRaises(KeyboardInterrupt):
-            certificates.publish(desk, Puzzle(p3(UNIQUE), background=RED), report, name)
+            certificates.publish(Puzzle(p3(UNIQUE), background=RED), name)
         self.assertFalse(Path(f"{name}.ppm").exists())
-        self.assertEqual(certificates.publish(desk, Puzzle(p3(UNIQUE), background=RED), report, name), "")
+        self.assertEqual(certificates.publish(Puzzle(p3(UNIQUE), background=RED), name), "")
         self.assertEqual((Path(f"{name}.ppm").read_bytes(), Path(f"{name}.background").read_text()), (p3(UNIQUE), "255,0,0\n"))
 
     @pytest.mark.since("0.7.0")
@@ -698,7 +703,7 @@ class Running(Case):
         """What is written of `one.ppm.xml` lies beside the picture of `one.png`, and is not taken for what goes with that."""
         self.put("one.png", p3(UNIQUE))
         given = '<solution type="saved" id="givens"><image>|?X||??|</image></solution>'
-        self.put("one.ppm.xml", webpbn([".a", "a."], more=given).replace("<puzzle ", '<puzzle backgroundcolor="red" '))
+        self.put("one.ppm.xml", webpbn(["ba", "ab"], more=given).replace("<puzzle ", '<puzzle backgroundcolor="red" '))
         self.rows("site", "--untrusted", "--ppm", "out", "--certify", "out", status=0)
         self.assertEqual((self.folder / "out" / "one.ppm.givens").read_bytes(), b"given 1 2\n")
         self.assertEqual(check_site.main([str(self.folder / "out"), "--quiet"]), 0)
@@ -865,7 +870,8 @@ class Running(Case):
         "crlf": (UNIQUE, CERT.replace("\n", "\r\n"), "",
                  "refused: certificate NotCert at line 1 (its lines end with CR LF, and must end with LF alone)", None),
         "unpublished": (AMBIGUOUS, GIVEN_LEMMAS, "", "refused: certificate UnpublishedGiven at line 2", None),
-        "published": (AMBIGUOUS, GIVEN_LEMMAS, "given 2 2\ngiven 1 1", "accepted, givens 1", [[1, 1]]),
+        "published": (AMBIGUOUS, GIVEN_LEMMAS, "given 1 1", "accepted, givens 1", [[1, 1]]),
+        "spare": (AMBIGUOUS, GIVEN_LEMMAS, "given 2 2\ngiven 1 1", "accepted, givens 1", [[1, 1]]),
         "all": (AMBIGUOUS, ALL_LEMMAS, "given 1 1\n", "refused: certificate UnpublishedGiven at line 3", None),
     }
 
@@ -880,16 +886,19 @@ class Running(Case):
         table = self.run_audit("site", status=1).stdout
         sheet = {row["file"]: row for row in csv.DictReader(io.StringIO((self.folder / "rows.csv").read_text()))}
         page = (self.folder / "report.html").read_text()
-        self.assertIn('<p class="flaws">Besides: certificates not accepted 6. Such puzzles', page)
+        besides = "certificates not accepted 6, givens that their certificate does not name 1"
+        self.assertIn(f'<p class="flaws">Besides: {besides}. Such puzzles', page)
         shown = {record[0]: record for record in records_of(page)}
         for name, (_, _, _, words, givens) in self.BESIDE.items():
             file, told = f"site/{name}.ppm", {"accepted": True, "givens": givens} if givens else {"accepted": True}
+            said = f"certificate {words}{'; given 2 2 is not named by its certificate' if name == 'spare' else ''}"
             with self.subTest(name):
                 self.assertEqual(rows[file]["certificate"], told if givens is not None else {"accepted": False, "why": words[9:]})
-                self.assertIn(f"  {file}; certificate {words}\n", table)
+                self.assertIn(f"  {file}; {said}\n", table)
                 self.assertEqual(sheet[file]["certificate"], words)
-                self.assertEqual((shown[file][12], shown[file][15:]), (f"certificate {words}", [1] if givens is None else []))
-        self.assertIn("besides: certificates not accepted 6\n", done.stdout)
+                self.assertEqual((shown[file][12], shown[file][15:]), (said, [1] if givens is None or name == "spare" else []))
+                self.assertEqual(rows[file].get("flaws"), ["spare 2 2"] if name == "spare" else None)
+        self.assertIn(f"besides: {besides}\n", done.stdout)
 
     @pytest.mark.since("0.7.0")
     def test_the_status_counts_certificates(self):
@@ -898,15 +907,17 @@ class Running(Case):
             self.put("one.cert", text)
             self.put("one.givens", givens)
             with self.subTest(name):
-                self.run_audit("site", "--quiet", status=1 if told is None else 0)
+                self.run_audit("site", "--quiet", status=1 if told is None or name == "spare" else 0)
 
     @pytest.mark.since("0.7.0")
     def test_a_certificate_of_a_puzzle_that_is_undecided(self):
-        # Without a split it is open which diagonal is black; with the given it is not. The verdict stays that of the search.
+        # Without a split the search decides nothing. The verdict is that of the certificate, where one is accepted.
         self.put("one.ppm", p3(LEARNT))
-        self.put("one.cert", nonobench.prove(p3(LEARNT)).certificate)
         row = self.rows("site", "--allow", "0", status=1)["site/one.ppm"]
-        self.assertEqual((row["verdict"], row["certificate"]), ("undecided", {"accepted": True}))
+        self.assertEqual((row["verdict"], row["fit"], "certificate" in row), ("undecided", False, False))
+        self.put("one.cert", nonobench.prove(p3(LEARNT)).certificate)
+        row = self.rows("site", "--allow", "0", status=0)["site/one.ppm"]
+        self.assertEqual((row["verdict"], row["fit"], row["certificate"]), ("unique", True, {"accepted": True}))
 
     @pytest.mark.since("0.7.0")
     def test_certificates_are_found(self):
@@ -944,20 +955,18 @@ class Running(Case):
     @pytest.mark.since("0.7.0")
     def test_what_lies_beside_is_checked_before_a_certificate_is_made(self):
         class Slow(judging.Desk):
-            def say(self, lines):
-                if lines == b"certify\n":
-                    raise TimeoutError
-                return super().say(lines)
+            def certify(self, *words):
+                raise TimeoutError
 
         # What is known of a puzzle is its row where its process is ended while it makes a certificate.
         self.addCleanup(setattr, serving, "LONG", serving.LONG)
         serving.LONG = -1.0
         answers = Answers()
-        judge = serving.Judging(serving.Settings("", "", 1024, None, "white", True, True, False), answers)
+        judge = serving.Judging(serving.Settings("", "", 1024, None, "white", True, False), answers)
         judge._desk = Slow()
         place = self.put("one.ppm", p3(UNIQUE))
         beside = (1, str(self.put("one.cert", "x")))
-        task = serving.Task(0, "one.ppm", str(place), (beside,), None, None, None, "", 1, serving.FULL)
+        task = serving.Task(0, "one.ppm", str(place), (beside,), None, None, str(self.folder / "one"), "", 1, serving.FULL)
         with self.assertRaises(TimeoutError):
             judge.answer(task)
         self.assertEqual([words[1] for words in answers], ["known"])
@@ -1048,7 +1057,7 @@ class Running(Case):
             self.put("one.xml", text)
             with self.subTest(colour):
                 row = self.rows("site", status=1)["site/one.xml"]
-                self.assertEqual((row["verdict"], len(row["near"])), ("unique", 1))
+                self.assertEqual((row["verdict"], row["fit"], len(row["flaws"])), ("unique", False, 1))
 
     def test_xml_with_a_puzzle_elsewhere(self):
         self.put("set.xml", f"<puzzleset>{webpbn(UNIQUE)}<more>{webpbn(AMBIGUOUS)}</more></puzzleset>")
@@ -1079,7 +1088,8 @@ class Running(Case):
         row = self.rows("site", status=0)["site/one.ppm"]
         self.assertEqual(row["grade"], "easy")
         self.assertEqual(row["figures"], {"rounds": 2, "evaluations": 8, "wait": 2, "splits": 0, "depth": 0})
-        self.assertNotIn("grade", self.rows("site", "--no-grade", status=0)["site/one.ppm"])
+        # Once this option left grades out.
+        self.assertEqual(self.rows("site", "--no-grade", status=0)["site/one.ppm"]["grade"], "easy")
 
     def test_undecided(self):
         self.put("hard.ppm", p3_of_letters(chequered(60, 4)))
@@ -1180,8 +1190,8 @@ class Again(Case):
     @pytest.mark.since("0.7.0")
     def test_rows_that_are_none(self):
         """Each is named, by merge and by --resume, and its status is not that of puzzles that are not fit."""
-        self.put("one.ppm", p3(UNIQUE))
-        self.put("one.cert", CERT)
+        self.put("one.ppm", p3(AMBIGUOUS))
+        self.put("one.cert", GIVEN_CERT)
         self.put("one.givens", "given 1 1\n")
         self.put("two.ppm", p3(AMBIGUOUS))
         self.rows("site", "--allow", "9", status=1)
@@ -1202,7 +1212,7 @@ class Again(Case):
     def test_a_flaw_of_a_kept_row_is_seen_however_it_is_written(self):
         self.put("one.xml", '<puzzle><color name="snow" char="s">fffffe</color><solution><image>|sX.|</image></solution></puzzle>')
         row = self.rows("site", "--allow", "9", status=1)["site/one.xml"]
-        text = json.dumps(row, separators=(",", ":")).replace('"near":[', '"\\u006eear": [')
+        text = json.dumps(row, separators=(",", ":")).replace('"flaws":[', '"\\u0066laws": [')
         (self.folder / "rows.jsonl").write_text(text + "\n")
         self.rows("site", "--allow", "9", "--resume", status=1)
         self.assertEqual((self.folder / "rows.jsonl").read_text(), text + "\n")
@@ -1273,13 +1283,14 @@ class Again(Case):
         self.assertEqual(in_process(self.folder, *words)[0], 1)
         self.assertEqual(place.read_bytes(), whole)
         one, two, near, given = (f"site/{name}.ppm" for name in ("one", "two", "near", "given"))
-        forged = {**{name: value for name, value in first[two].items() if name != "other"}, "verdict": "unique"}
+        forged = {**{name: value for name, value in first[two].items() if name != "other"}, "verdict": "unique", "fit": True}
         every = "nonocert 2\n" + "".join(f"given {cell}\n" for cell in ("1 1", "1 2", "2 1", "2 2")) + "done\n"
         cases = [(two, {**forged, "lines": (text or "").count("\n")}, text) for text in (None, CERT, GIVEN_CERT, every)]
-        cases += [(near, {name: value for name, value in first[near].items() if name != "near"}, None)]
+        cases += [(near, {name: value for name, value in {**first[near], "fit": True}.items() if name != "flaws"}, None)]
         cases += [(given, {**first[given], "certificate": {"accepted": True, "givens": [[1, 1]]}}, None), (given, {**first[given], "givens": [[2, 2]]}, None)]
         cases += [(one, {**first[one], **changes}, None) for changes in (
-            {"picture": ".b/a."}, {"palette": ["ffffff", "ff0000", "000000"]}, {"open": 3}, {"lines": 99}, {"title": "x"}, {"certificate": {"accepted": True}}, {"error": "x"}, {"sha256": first[two]["sha256"]})]
+            {"picture": ".b/a."}, {"palette": ["ffffff", "ff0000", "000000"]}, {"open": 3}, {"lines": 99}, {"title": "x"}, {"certificate": {"accepted": True}}, {"error": "x"}, {"grade": "hard"},
+            {"unknown": [1, 1]}, {"flaws": ["given 1 1"], "fit": False}, {"sha256": first[two]["sha256"]})]
         cases += [(one, {**first[one], "lines": text.count("\n")}, text) for text in ("", CERT[:-5], GIVEN_CERT)]
         for name, row, certificate in cases:
             rows = {**first, name: row}
@@ -1321,9 +1332,10 @@ class Again(Case):
     def test_shards_and_merge(self):
         self.fill(23)
         self.put("set.xml", "<puzzleset>" + webpbn(UNIQUE) * 3 + "</puzzleset>")
-        self.run_audit("site", "--allow", "1000", "--jsonl", "whole", "--html", "whole.html", "--csv", "whole.csv", status=1)
+        words = ["site", "--allow", "1000", "--certify", "certs"]
+        self.run_audit(*words, "--jsonl", "whole", "--html", "whole.html", "--csv", "whole.csv", status=1)
         for part in (1, 2, 3):
-            self.run_audit("site", "--allow", "1000", "--shard", f"{part}/3", "--jsonl", f"part{part}", "--certify", "certs")
+            self.run_audit(*words, "--shard", f"{part}/3", "--jsonl", f"part{part}")
         self.run_audit("merge", "part3", "part1", "part2", "--jsonl", "merged", "--html", "merged.html", "--csv", "merged.csv", status=1)
         for end in ("", ".html", ".csv"):
             self.assertEqual((self.folder / f"merged{end}").read_bytes(), (self.folder / f"whole{end}").read_bytes())

@@ -86,7 +86,7 @@ class Cluster(Case):
         whole = place.read_text()
         one, two = map(json.loads, whole.splitlines())
         (self.folder / "certs" / "two.cert").write_text(CERT)
-        forged = {**{name: value for name, value in two.items() if name != "other"}, "verdict": "unique", "lines": CERT.count("\n")}
+        forged = {**{name: value for name, value in two.items() if name != "other"}, "verdict": "unique", "fit": True, "lines": CERT.count("\n")}
         for rows in ([one, two], [one, forged]):
             place.write_text("".join(json.dumps(row, separators=(",", ":")) + "\n" for row in rows))
             self.run_audit(*words, status=1)

@@ -167,8 +167,30 @@ class Files(Case):
         wanted = {"iso-8859-1.xml": why, "windows-1252.xml": why}
         self.assertEqual({name: error for name, error in self.errors().items() if error}, wanted)
 
+    def test_what_is_read_in_two_ways(self):
+        """Expat leaves out entities that are not declared, behind a document type; and readers differ in line breaks."""
+        front, two = '<!DOCTYPE a SYSTEM "a.dtd">', '<color name="r" char="r">f00</color>'
+        cross, unique = "<image>|X.||.X|</image></solution>", "<image>|X.||.r|</image></solution>"
+        ground = '<color name="&amp;b;white" char="b">000</color><color name="white" char="w">fff</color>'
+        for name, text in (
+            ("ground", f'<puzzle backgroundcolor="&b;white">{ground}<solution><image>|wb||bw|</image></solution></puzzle>'),
+            ("type", f'<puzzle>{two}<solution type="&b;goal">{unique}<solution type="solution">{cross}</puzzle>'),
+            ("given", f'<puzzle><solution>{cross}<solution type="saved" id="&b;givens"><image>|X?||??|</image></solution></puzzle>'),
+        ):
+            self.put(f"{name}.xml", front + text)
+            self.put(f"{name}-16.xml", (front + text).encode("utf-16"))
+        self.put("known.xml", f'{front}<puzzle><color name="r" char="&#114;">f00</color><solution type="go&#x61;l">{unique}</puzzle>')
+        signs = '<color name="line" char="&#10;">000</color><color name="back" char="&#13;">f00</color>'
+        breaks = {"feed": "\n", "return": "\r", "both": "\r\n", "number": "&#13;", "escaped": "\\\n", "several": "[\n]"}
+        for name, broken in breaks.items():
+            self.put(f"{name}.xml", f"<puzzle>{signs}<solution><image>|{broken}.||.{broken}|</image></solution></puzzle>".encode())
+        entity = "the XML cannot be read: it has a document type, and names an entity that is not declared"
+        wanted = {f"{name}{coding}.xml": entity for name in ("ground", "type", "given") for coding in ("", "-16")}
+        wanted.update({f"{name}.xml": "a row of the solution is not between bars" for name in breaks})
+        self.assertEqual(self.errors("--allow", "9"), {**wanted, "known.xml": None})
+
     def test_clues_that_cannot_be_seen(self):
-        """Clues alone are judged as black ones on white, so they must be seen before their background."""
+        """Clues alone have two colours, and those that look alike are a flaw."""
         side = "".join(f"<line><count>{length}</count></line>" for length in (2, 2))
         clues = "".join(f'<clues type="{axis}">{side}</clues>' for axis in ("rows", "columns"))
         colours = '<color name="ink">{}</color><color name="sky">0000ff</color>'
@@ -178,10 +200,15 @@ class Files(Case):
             ("seen", 'backgroundcolor="sky" defaultcolor="ink"', colours.format("ffff00")), ("white", 'backgroundcolor="black" defaultcolor="white"', ""),
         ):
             self.put(f"{name}.xml", f"<puzzle {words}>{more}{clues}</puzzle>")
-        hidden = "the puzzle has clues in a colour that looks like its background"
         lost = "the puzzle has clues, or a background, in a colour that it does not have"
-        self.assertEqual(self.errors("--allow", "9"), {
-            "same.xml": hidden, "alike.xml": hidden, "lost.xml": lost, "ground.xml": lost, "seen.xml": None, "white.xml": None,
+        rows = self.rows("site", "--allow", "9", status=3)
+        self.assertEqual({name[5:]: row.get("error") for name, row in rows.items()}, {
+            "same.xml": "the puzzle has clues in the colour of its background", "alike.xml": None, "lost.xml": lost, "ground.xml": lost,
+            "seen.xml": None, "white.xml": None,
+        })
+        # Each cell has the colour of the clues, and each background is named.
+        self.assertEqual({name[5:]: row["flaws"] for name, row in rows.items() if "flaws" in row}, {
+            "alike.xml": ["background", "alike . a"], "seen.xml": ["background"], "white.xml": ["background"],
         })
 
     def test_xml_that_takes_long(self):
@@ -253,11 +280,23 @@ class Strangers(Case):
         return {name.removeprefix("site/"): row for name, row in self.rows(*words, "--allow", "9", status=status).items()}
 
     @pytest.mark.since("0.7.0")
+    def test_an_empty_background(self):
+        """A file that names no background is not taken for none: nobody knows what was to stand in it."""
+        self.put("one.ppm", p3(UNIQUE))
+        for words, text, status in (([], None, 0), (["--resume"], "", 3), (["--resume"], "255,255,255", 0), (["--background", "0,0,0"], "", 3)):
+            if text is not None:
+                (self.site / "one.background").write_text(text)
+            with self.subTest(words=words, text=text):
+                (row,) = self.rows_of("site", *words, status=status).values()
+                self.assertEqual(row.get("error", "")[:32], "the file of its background must " if status else "")
+
+    @pytest.mark.since("0.7.0")
     def test_nothing_beside_a_puzzle_is_believed(self):
         for name in ("one", "two"):
             self.put(f"{name}.ppm", p3(AMBIGUOUS))
         self.put_beside(self.site)
-        self.assertEqual([row["verdict"] for row in self.rows_of("site", status=0).values()], ["unique", "unique"])
+        rows = self.rows_of("site", "--allow-flaw", "background", status=0)
+        self.assertEqual([(row["verdict"], row.get("flaws")) for row in rows.values()], [("unique", None), ("unique", ["background"])])
         for row in self.rows_of("site", "--untrusted", status=1).values():
             self.assertEqual((row["verdict"], row.keys() & {"givens", "certificate"}, row["palette"]), ("ambiguous", set(), ["ffffff", "000000"]))
         # What lies in a folder that the operator names is, and it alone, whether or not all else is trusted.
@@ -269,7 +308,7 @@ class Strangers(Case):
             self.assertEqual(rows["one.ppm"]["givens"], [[1, 1]])
             self.assertEqual(rows["one.ppm"]["certificate"], {"accepted": False, "why": "certificate UnpublishedGiven at line 3"})
             self.assertEqual(rows["two.ppm"]["palette"][0], "ff00ff")
-        rows = self.rows_of("site", "--givens", "told", "--untrusted", status=0)
+        rows = self.rows_of("site", "--givens", "told", "--untrusted", "--allow-flaw", "background", status=0)
         self.assertEqual([row.get("certificate") for row in rows.values()], [None, None])
         # Also where it is the collection's own folder.
         self.assertEqual(self.rows_of("site", "--givens", "site", "--untrusted")["one.ppm"]["givens"], [[1, 1], [1, 2], [2, 1], [2, 2]])
@@ -679,15 +718,23 @@ class Processes(Case):
     @pytest.mark.since("0.7.0")
     def test_a_process_that_dies_at_a_grade(self):
         self.put("hard.ppm", (ROOT / "measure" / "pictures" / "hard-20-k3-min.ppm").read_bytes())
-        process = self.start("site", "--jobs", "1", "--seconds", "300", "--jsonl", "rows", "--certify", "certs")
-        made = self.folder / "certs" / "hard.cert"
-        eventually(made.exists)
-        self.hurt(process, signal.SIGKILL, 0)  # its grade takes much longer
-        said = process.communicate(timeout=120)[1]
-        self.assertEqual(process.returncode, 0, said)
+        # A grade is there soon after its certificate, so the process itself ends where it would ask for one by a certificate.
+        (self.folder / "dies").write_text(
+            "import os, signal, sys\n"
+            "exec(sys.argv[1].rpartition('; ')[0])\n"
+            "from nonobench.collection.judging import Desk\n"
+            "ask = Desk.assess\n"
+            "def dies(desk, puzzle, certificate, *more):\n"
+            "    return ask(desk, puzzle, certificate, *more) if certificate is None else os.kill(os.getpid(), signal.SIGKILL)\n"
+            "Desk.assess = dies\n"
+            "serve()\n"
+        )
+        words = ["site", "--jobs", "1", "--seconds", str(PATIENCE), "--jsonl", "rows", "--certify", "certs"]
+        done = self.by_script(['set -- "$1" "$2" "$(cat dies)" "$3"'], *words)
+        self.assertEqual(done.returncode, 0, done.stderr)
         row = self.read("rows")["site/hard.ppm"]
         self.assertEqual((row["verdict"], row["note"]), ("unique", "its grade: its process ended by signal 9"))
-        self.assertEqual(row["lines"], made.read_bytes().count(b"\n"))
+        self.assertEqual(row["lines"], (self.folder / "certs" / "hard.cert").read_bytes().count(b"\n"))
 
     def test_a_process_that_hangs(self):
         for at in range(12):

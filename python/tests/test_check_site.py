@@ -116,6 +116,7 @@ def test_givens_are_those_that_are_published(site, checked):
     pair(site, "wide", CROSS, ONE, givens="given 1 1\ngiven 1 3\n")
     assert checked("site") == (1, [
         "site/all.cert: certificate UnpublishedGiven at line 2",
+        "site/more.cert: flaw spare 2 2",
         "site/none.cert: certificate UnpublishedGiven at line 2",
         "site/other.cert: certificate UnpublishedGiven at line 2",
         "site/three.cert: certificate UnpublishedGiven at line 4",
@@ -160,7 +161,9 @@ def test_givens_and_backgrounds_of_the_site_and_not_of_strangers(site, checked, 
     filled = "nonocert 1\nline r 1\nline r 2\ndone\n"
     pair(site, "filled", CROSS, filled, background="255,0,255\n")
     pair(site, "given", CROSS, ONE, givens="given 1 1\n")
-    assert checked("site") == (0, [])
+    assert checked("site") == (1, ["site/filled.cert: flaw background"])
+    allowed = ("--allow-flaw", "background")
+    assert checked("site", *allowed) == (0, [])
     ours = tmp_path / "ours"
     ours.mkdir()
     refused = ["site/filled.cert: certificate NotDone at line 4", "site/given.cert: certificate UnpublishedGiven at line 2"]
@@ -168,8 +171,8 @@ def test_givens_and_backgrounds_of_the_site_and_not_of_strangers(site, checked, 
     assert checked("site", "--untrusted") == (1, refused)
     (ours / "filled.background").write_text("255,0,255")
     (ours / "given.givens").write_text("given 1 1")
-    assert checked("site", "--givens", "ours") == (0, [])
-    assert checked("site", "--givens", "ours", "--untrusted") == (0, [])
+    assert checked("site", "--givens", "ours", *allowed) == (0, [])
+    assert checked("site", "--givens", "ours", "--untrusted", *allowed) == (0, [])
 
 
 def test_backgrounds(site, checked):
@@ -207,6 +210,14 @@ def test_what_lies_beside_a_picture_is_short(site, checked):
     assert checked("site") == (3, [
         "site/long.cert: its givens: more than 16777216 bytes", "site/word.cert: its background: more than 64 bytes",
     ])
+
+
+def test_numbers_of_a_given_that_are_too_long(site, checked):
+    """Python makes no number of so many digits, and that is no matter of the other puzzles."""
+    pair(site, "long", CROSS, f"nonocert 2\ngiven {'1' * 5000} 1\ndone\n")
+    pair(site, "one")
+    pair(site, "zeros", CROSS, f"nonocert 2\ngiven 1 {'0' * 5000}1\ndone\n")
+    assert checked("site") == (1, [f"site/{name}.cert: certificate BadLine at line 2" for name in ("long", "zeros")])
 
 
 def test_an_editor_that_changed_a_certificate_is_told(site, checked):
@@ -326,11 +337,11 @@ def test_certificates_in_a_folder_of_their_own(site, checked, tmp_path):
 class Slow(nonobench.Worker):
     """A worker whose process is stopped before it is asked, so that it never answers, but of one certificate."""
 
-    def check(self, picture, certificate, *words):
-        super().check(DIAGONAL.encode(), DIAGONAL_CERT.encode())
+    def assess(self, picture, certificate, *words):
+        super().assess(DIAGONAL.encode(), DIAGONAL_CERT.encode())
         if certificate != LEMMAS.encode():
             os.kill(self._process.pid, signal.SIGSTOP)
-        return super().check(picture, certificate, *words)
+        return super().assess(picture, certificate, *words)
 
 
 def test_a_check_that_takes_too_long_is_ended(site, checked, monkeypatch):
@@ -346,10 +357,10 @@ ENDLESS = f"P3 60 60 1 {' '.join(INKS[(at // 60 + at % 60) % 4] for at in range(
 
 
 class Busy(nonobench.Worker):
-    """A worker whose check is a search without an end, but of one certificate."""
+    """A worker whose assessment is a search without an end, but of one certificate."""
 
-    def check(self, picture, certificate, *words):
-        return super().check(picture, certificate, *words) if certificate == LEMMAS.encode() else self.verdict(ENDLESS)
+    def assess(self, picture, certificate, *words):
+        return super().assess(picture, certificate, *words) if certificate == LEMMAS.encode() else self.verdict(ENDLESS)
 
 
 def test_a_check_has_so_much_processor_time(site, checked, monkeypatch):
@@ -378,11 +389,11 @@ def test_other_failures_have_status_3(site, checked, monkeypatch, capsys):
     def fails(*_words):
         raise RuntimeError("the worker's program failed; it says why on standard error")
 
-    monkeypatch.setattr(nonobench.Worker, "check", fails)
+    monkeypatch.setattr(nonobench.Worker, "assess", fails)
     assert checked("site") == (3, ["site/one.cert: the worker's program failed; it says why on standard error"])
     monkeypatch.setattr(check_site, "line_of", fails)
     assert check_site.main(["site"]) == 3
-    monkeypatch.setattr(nonobench.Worker, "check", lambda *words: 1 / 0)
+    monkeypatch.setattr(nonobench.Worker, "assess", lambda *words: 1 / 0)
     assert check_site.main(["site"]) == 3
     assert "ZeroDivisionError" in capsys.readouterr().err
 

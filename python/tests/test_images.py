@@ -1,6 +1,6 @@
 """Tests of the reader of images: cd python && PYTHONPATH=src python3 -m unittest tests/test_images.py
 
-What each odd image shows is known from how it was made (odd_images.py). Where there is Chromium, its canvas says the same. Pillow is needed.
+What each odd image shows is known from how it was made (odd_images.py). Where there are Chromium and Firefox, their canvases say the same. Pillow is needed.
 """
 
 import json
@@ -65,14 +65,15 @@ class Reading(unittest.TestCase):
         section = formats.split("### Images that an audit refuses")[1].split("\n## ")[0]
         self.assertEqual(set(re.findall(r"(?m)^\| `([^`]+)` \|", section)), {*REASONS, "damaged", "of a kind that is not read"})
 
-    def test_as_a_browser_shows_them(self):
-        browser = os.environ.get("CHROMIUM", "chromium")
+    def compare(self, variable, usual, *words):
+        """Compares what is read with what a browser shows."""
+        browser = os.environ.get(variable, usual)
         if not shutil.which(browser) or not shutil.which("node"):
             self.skipTest(f"there is no {browser} or no node")
         with tempfile.TemporaryDirectory() as folder:
             for odd in ODD:
                 (Path(folder) / odd.name).write_bytes(odd.data)
-            shown = json.loads(subprocess.run(["node", HERE / "canvas.mjs", folder], check=True, capture_output=True).stdout)
+            shown = json.loads(subprocess.run(["node", HERE / "canvas.mjs", folder, *words], check=True, capture_output=True).stdout)
         compared = 0
         for odd in ODD:
             pixels, _ = read(odd.data)
@@ -81,6 +82,12 @@ class Reading(unittest.TestCase):
                     self.assertEqual(pixels, [[tuple(dot) if dot[3] else CLEAR for dot in row] for row in shown[odd.name]])
                 compared += 1
         self.assertGreater(compared, 100)
+
+    def test_as_chromium_shows_them(self):
+        self.compare("CHROMIUM", "chromium")
+
+    def test_as_firefox_shows_them(self):
+        self.compare("FIREFOX", "firefox-esr", "firefox")
 
 
 class Pictures(unittest.TestCase):

@@ -5,6 +5,7 @@
     verdict = nonobench.verdict(picture, allowance=1000)
     certificate = nonobench.certify(picture)                             # None if the puzzle has several solutions
     audit = nonobench.audit(picture, allowance=1000)                     # both, of one opened picture
+    assessment = nonobench.assess(picture, allowance=1000)               # whether it is fit to be published: grade and flaws
     certificate = nonobench.prove(picture).certificate                   # with lemmas: where others are too long
 
 A picture is the bytes of a plain PPM text (P3), of at most 120 by 120 cells in 16 colours with the background. The calls are
@@ -18,13 +19,16 @@ child must not call the library; use `Worker` there, which starts a new program.
 """
 
 from ._answers import (
+    Assessment,
     Audit,
     Block,
     CertificateFault,
     Clues,
     Fault,
+    Flaw,
     Given,
     GivensFault,
+    Grade,
     ImageFault,
     LengthFault,
     PictureFault,
@@ -34,10 +38,9 @@ from ._answers import (
     UnpublishedGiven,
     Verdict,
 )
-from ._calls import ANY_GIVEN, audit, certify, check, clues, picture_of, prove, verdict, verify
-from ._colours import colour_shown, colours_too_near
+from ._calls import ANY_GIVEN, assess, audit, certify, check, clues, picture_of, prove, verdict, verify
 from ._hints import hint_of
-from ._images import picture_of_image
+from ._images import colour_shown, picture_of_image
 from ._library import version
 from .worker import Worker
 
@@ -50,13 +53,16 @@ def __getattr__(name: str) -> str:
 
 __all__ = [
     "ANY_GIVEN",
+    "Assessment",
     "Audit",
     "Block",
     "CertificateFault",
     "Clues",
     "Fault",
+    "Flaw",
     "Given",
     "GivensFault",
+    "Grade",
     "ImageFault",
     "LengthFault",
     "PictureFault",
@@ -66,12 +72,12 @@ __all__ = [
     "UnpublishedGiven",
     "Verdict",
     "Worker",
+    "assess",
     "audit",
     "certify",
     "check",
     "clues",
     "colour_shown",
-    "colours_too_near",
     "hint_of",
     "picture_of",
     "picture_of_image",

@@ -5,7 +5,7 @@ from __future__ import annotations
 import enum
 import re
 from dataclasses import dataclass
-from typing import NamedTuple, Optional
+from typing import Iterable, NamedTuple, Optional
 
 
 class Fault(Exception):
@@ -95,8 +95,8 @@ class Result:
 
 
 def givens_of(certificate: bytes) -> tuple[Given, ...]:
-    """The givens that a right certificate names: they stand directly below its first line."""
-    found = re.compile(rb"given (\d+) (\d+)(?:\n|\Z)")
+    """The givens that a right certificate names: they stand directly below its first line. No right one has longer numbers."""
+    found = re.compile(rb"given (\d{1,3}) (\d{1,3})(?:\n|\Z)")
     givens, match = [], found.match(certificate, certificate.find(b"\n") + 1)
     while match:
         givens.append(Given(int(match[1]), int(match[2])))
@@ -161,6 +161,56 @@ class Verdict:
     other: Optional[tuple[str, ...]] = None
 
 
+class Grade(NamedTuple):
+    """How hard a puzzle is: easy, medium, hard, very-hard or expert, and its figures; or `unknown`, without splits and depth."""
+
+    word: str
+    rounds: int
+    evaluations: int
+    wait: int
+    splits: Optional[int] = None
+    depth: Optional[int] = None
+
+
+class Flaw(NamedTuple):
+    """Why a puzzle is not fit to be published: `blank`, `background`, `given` or `spare` with a cell, `alike` with two colours' letters."""
+
+    kind: str
+    place: Optional[Given] = None
+    colours: Optional[tuple[str, str]] = None
+
+    def __str__(self) -> str:
+        """Its words in the text of an assessment."""
+        return " ".join(map(str, (self.kind, *(self.place or self.colours or ()))))
+
+
+@dataclass(frozen=True)
+class Assessment:
+    """Whether a puzzle is fit to be published, as docs/FORMATS.md has it. There is a grade if the ruling is UNIQUE."""
+
+    verdict: Verdict
+    rows: int
+    columns: int
+    colours: int
+    givens: int
+    open: int
+    grade: Optional[Grade]
+    flaws: tuple[Flaw, ...]
+    unknown: Optional[Given]  # a given of which the allowance leaves open whether the puzzle needs it
+    is_fit: bool
+    text: str
+    named: tuple[Given, ...] = ()  # the givens that the certificate names, where one is passed
+
+
+FLAW_KINDS = ("blank", "background", "given", "alike", "any")
+
+
+def refused_flaws(flaws: Iterable[str], kinds: Iterable[str]) -> list[str]:
+    """The flaws, by their words, that somebody refuses who allows some kinds. `given` allows `spare` too."""
+    allowed = {*kinds, *(("spare",) if "given" in kinds else ())}
+    return [] if "any" in allowed else [flaw for flaw in flaws if flaw.split(" ")[0] not in allowed]
+
+
 @dataclass(frozen=True)
 class Audit:
     """Verdict and certificate of a picture. There is a certificate if the ruling is UNIQUE."""
@@ -199,3 +249,26 @@ def verdict_of(text: bytes) -> Verdict:
     first, *rows = text.decode("ascii").splitlines()
     ruling = Ruling(first.split(" ")[0])
     return Verdict(ruling, tuple(rows) if ruling is Ruling.AMBIGUOUS else None)
+
+
+def assessment_of(text: str, named: tuple[Given, ...] = ()) -> Assessment:
+    """The assessment that a text tells, by a certificate that names some givens."""
+    front, back = text.split("size ", 1)
+    size, *lines = (line.split(" ") for line in back.splitlines())
+    told = {words[0]: words[1:] for words in lines if words[0] != "flaw"}
+    grade = told.get("grade")
+    return Assessment(
+        verdict_of(front.encode("ascii")), int(size[0]), int(size[1]), int(told["colours"][0]), int(told["givens"][0]), int(told["open"][0]),
+        None if grade is None else Grade(grade[0], *map(int, grade[1:])), tuple(_flaw(words[1:]) for words in lines if words[0] == "flaw"),
+        _place(told["unknown"][1:]) if "unknown" in told else None, lines[-1] == ["fit"], text, named,
+    )
+
+
+def _place(words: list[str]) -> Given:
+    return Given(int(words[0]), int(words[1]))
+
+
+def _flaw(words: list[str]) -> Flaw:
+    if words[0] == "alike":
+        return Flaw("alike", None, (words[1], words[2]))
+    return Flaw(words[0], _place(words[1:]) if words[1:] else None)

@@ -6,16 +6,19 @@ import operator
 from typing import Iterable, Optional, Union
 
 from ._answers import (
+    Assessment,
     Audit,
     CertificateFault,
     Clues,
     Fault,
+    GivensFault,
     LengthFault,
     Proved,
     Result,
     Ruling,
     UnpublishedGiven,
     Verdict,
+    assessment_of,
     clues_of,
     fault_of,
     givens_of,
@@ -24,7 +27,7 @@ from ._answers import (
     verdict_of,
 )
 from ._library import DONE, MEMORY, OPTIONS
-from ._serve import CHECK, PROVE, PUBLISHED, SESSION, answer
+from ._serve import ASSESS, CHECK, PROVE, PUBLISHED, SESSION, answer
 
 Bytes = Union[bytes, bytearray, memoryview]
 Colour = tuple[int, int, int]
@@ -32,6 +35,7 @@ Colour = tuple[int, int, int]
 # How many bytes a picture, a certificate or a file of givens has at the most, as for the program.
 MOST_BYTES = 16_777_216
 MOST_ALLOWANCE = 99_999
+NO_ALLOWANCE = 2**32 - 1
 NO_TRIPLE = "background must be a triple of numbers from 0 to 65535"
 
 
@@ -81,6 +85,39 @@ class Questions:
         reaches one, the ruling is UNDECIDED. Until then it may take minutes; `Worker` limits the time.
         """
         return proved_of(self._ask(PROVE, bytes_of(picture), background, b"")[0])
+
+    def assess(
+        self,
+        puzzle: Bytes,
+        certificate: Optional[Bytes] = None,
+        background: Optional[Colour] = None,
+        published: Published = (),
+        allowance: Optional[int] = None,
+        non: bool = False,
+    ) -> Assessment:
+        """Whether a puzzle is fit to be published: its verdict, its grade and its flaws. It is a P3 text, or (`non`) a .non text.
+
+        A background that is passed counts as named. The published cells and the certificate are as in `check`; with a certificate the
+        checker says what is unique, and nothing is searched. Otherwise the allowance bounds each search, as in `verdict`.
+        """
+        puzzle, held = bytes_of(puzzle), None if certificate is None else bytes_of(certificate)
+        givens = _file_of(givens_of(held or b"") if published is ANY_GIVEN else published)
+        _allow(allowance)
+        if non and background is not None:
+            raise ValueError("background goes with a P3 text")
+        numbers = non, NO_ALLOWANCE if allowance is None else allowance, held is not None
+        rest = b"%d %d %d\n" % numbers + (held or b"")
+        try:
+            (text,) = self._ask(ASSESS, puzzle, background, rest, givens or b"")
+        except GivensFault:
+            if held is not None and published is ANY_GIVEN:
+                self.check(puzzle, held, background, ANY_GIVEN)  # which says what is wrong with the certificate that names them
+            raise
+        except CertificateFault as fault:
+            if held is None or fault.name != "UnpublishedGiven":
+                raise
+            raise UnpublishedGiven(fault.line, givens_of(held)) from None
+        return assessment_of(text.decode("ascii"), givens_of(held or b""))
 
     def clues(self, picture: Bytes, background: Optional[Colour] = None) -> Clues:
         """The clues of a picture."""
@@ -139,7 +176,7 @@ class Questions:
 
 
 _here = Questions()
-check, clues, verdict, certify, audit = _here.check, _here.clues, _here.verdict, _here.certify, _here.audit
+assess, check, clues, verdict, certify, audit = _here.assess, _here.check, _here.clues, _here.verdict, _here.certify, _here.audit
 verify, prove = _here.verify, _here.prove
 
 

@@ -14,12 +14,12 @@ from typing import Callable, Iterator, NamedTuple, NoReturn, Optional
 
 from ._answers import ImageFault
 from ._calls import Bytes, Colour, bytes_of, picture_of
-from ._colours import colour_shown
 
 MOST_CELLS = 120  # of a side
 WHITE: Colour = (255, 255, 255)
 DEEP, PROFILE, GAMMA, FRAMES = "samples of 16 bits", "a colour profile", "a gamma", "several frames"
 SMALL, HALF, LOSSY, TURNED = "a frame smaller than its screen", "half transparent", "lossy", "turned by its orientation"
+SCALED = "scaled by its Exif"
 DAMAGED, UNKNOWN = "damaged", "of a kind that is not read"
 
 Pixel = tuple[int, ...]  # red, green, blue, and its opacity, 0 or 255
@@ -36,6 +36,12 @@ class Pixels(NamedTuple):
     def triples(self, ground: Colour) -> list[Colour]:
         """The colours of the pixels: of what is transparent, that of the ground."""
         return [(red, green, blue) if opacity else ground for red, green, blue, opacity in self.cells]
+
+
+def colour_shown(colour: Colour, maxval: int) -> Colour:
+    """A colour of samples from 0 to maxval as it is shown: from 0 to 255, rounded, halves up."""
+    red, green, blue = ((510 * sample + maxval) // (2 * maxval) for sample in colour)
+    return red, green, blue
 
 
 def picture_of_image(data: Bytes, background: Colour = WHITE) -> bytes:
@@ -120,13 +126,16 @@ def _table(colours: bytes, entry: int = 3) -> list[Pixel]:
     return [(*colours[at : at + 3], 255) for at in range(0, len(colours), entry)]
 
 
-# How an orientation that turns nothing stands in Exif, and where each one begins, even within another.
-_UPRIGHT = re.compile(rb"\x01\x12\0\x03\0\0\0\x01\0\x01|\x12\x01\x03\0\x01\0\0\0\x01\0")
-_ORIENTED = re.compile(rb"(?=\x01\x12|\x12\x01)")
-
-
-def _need_upright(exif: bytes) -> None:
-    _need(all(_UPRIGHT.match(exif, found.start()) for found in _ORIENTED.finditer(exif)), TURNED)
+def _need_plain_exif(exif: bytes, columns: int, rows: int) -> None:
+    """Refuses Exif with an orientation that turns a picture, or with another size, in which some browsers show it. The entries are
+    looked for at each place, even within another, in the order of bytes that its beginning tells.
+    """
+    orders = [order for sign, order in ((b"II", "<"), (b"MM", ">")) if sign in exif[:8]]
+    for tag, number, reason in ((0x112, 1, TURNED), (0xA002, columns, SCALED), (0xA003, rows, SCALED)):
+        for order in orders or "<>":
+            plain = struct.pack(f"{order}HHIH", tag, 3, 1, number), struct.pack(f"{order}HHII", tag, 4, 1, number)
+            for found in re.finditer(re.escape(plain[0][:2]), exif):
+                _need(exif.startswith(plain, found.start()), reason)
 
 
 # PNG: what chunks are, in their order. `s` may stand where decoders heed sRGB, `a` is what they may leave out.
@@ -157,6 +166,9 @@ def _png(data: bytes) -> Pixels:
     columns, rows, depth, kind, *methods, laced = struct.unpack(">IIBBBBB", held[b"IHDR"])
     _bounded(columns, rows)
     is_converted = _need_plain_colours(chunks)
+    _need([name for name, _ in chunks].count(b"eXIf") < 2)
+    _need_plain_exif(held.get(b"eXIf", b""), columns, rows)
+    _need(b"iDOT" not in held, UNKNOWN)  # a second way to the rows, which some browsers go
     _need(depth in _DEPTHS.get(kind, ()) and not any(methods) and laced < 2)
     _need(depth < 16, DEEP)
     # Pillow takes what is missing for black, and a browser for transparent.
@@ -167,6 +179,7 @@ def _png(data: bytes) -> Pixels:
         if wide > 0
     )
     packed = b"".join(body for name, body in chunks if name == b"IDAT")
+    _need(packed and 1 << (packed[0] >> 4) + 8 >= min(size, 1 << 15), UNKNOWN)  # some keep no more of the rows than it says
     stream = zlib.decompressobj()  # where it goes wrong behind the last row, browsers leave out rows before it, or all
     _need(len(stream.decompress(packed, size + MOST_BEHIND)) >= size and stream.eof)
     # Its data as one chunk: Pillow takes long for many.
@@ -194,8 +207,6 @@ def _need_plain_colours(chunks: list[tuple[bytes, bytes]]) -> bool:
     _need(not is_converted or all(body == _PRIMARIES for name, body in chunks if name == b"cHRM"), PROFILE)
     for name, body in chunks:
         _need(name != b"sRGB" or body in (b"\0", b"\1", b"\2", b"\3"))
-        if name == b"eXIf":
-            _need_upright(body)
     return is_converted
 
 
@@ -306,11 +317,10 @@ def _webp(data: bytes) -> Pixels:
     _need(b"ICCP" not in held and not flags & 32, PROFILE)
     _need(not held.keys() & {b"VP8 ", b"ALPH"}, LOSSY)
     _need(not flags & 0xC1 and len(front) in (0, 10))
-    _need(names.count(b"VP8L") == 1 and names[0] in (b"VP8L", b"VP8X") and b"VP8X" not in names[1:])
-    for name, body in chunks:
-        if name == b"EXIF":
-            _need_upright(body)
-    return _webp_stream(held[b"VP8L"], front[4:10], bool(front) and not flags & 16)
+    _need(names.count(b"VP8L") == 1 and names.count(b"EXIF") < 2 and names[0] in (b"VP8L", b"VP8X") and b"VP8X" not in names[1:])
+    pixels = _webp_stream(held[b"VP8L"], front[4:10], bool(front) and not flags & 16)
+    _need_plain_exif(held.get(b"EXIF", b""), pixels.columns, len(pixels.cells) // pixels.columns)
+    return pixels
 
 
 def _webp_stream(stream: bytes, canvas: bytes, is_opaque: bool) -> Pixels:
@@ -331,7 +341,7 @@ def _webp_stream(stream: bytes, canvas: bytes, is_opaque: bool) -> Pixels:
 # Between the numbers of a header: blanks and comments, some of them at a time, since a pattern takes memory for each.
 _BLANK = re.compile(rb"(?:[ \t\n\v\f\r]+|#[^\r\n]*[\r\n]){1,999}")
 _DIGITS = re.compile(rb"[0-9]+")
-_WORD = re.compile(rb"(?:#[^\r\n]*\s*){1,999}|[^\s#]+")
+_COMMENTS = re.compile(rb"(?:#[^\r\n]*\s*){1,999}")
 
 
 def header_of(data: bytes, count: int) -> Optional[tuple[list[bytes], int]]:
@@ -371,10 +381,14 @@ def _pnm(data: bytes) -> Pixels:
     return Pixels(columns, [(*colour_shown((red, green, blue), most), 255) for red, green, blue in triples])
 
 
+def plain_words(text: bytes, most: int) -> list[bytes]:
+    """The words of a plain text, of which comments are none, and at the most so many."""
+    return (_COMMENTS.sub(b" ", text) if b"#" in text else text).split(None, most)[:most]
+
+
 def _plain_samples(text: bytes, count: int, is_bits: bool) -> list[int]:
     """The samples behind a header: where they are too many, one more than there are to be."""
-    every = (found[0] for found in _WORD.finditer(text))
-    words = list(itertools.islice((word for word in every if word[:1] != b"#"), count + 1))
+    words = plain_words(text, count + 1)
     _need(all(map(bytes.isdigit, words)))
     if is_bits:
         return [digit - 48 for digit in b"".join(words)[: count + 1]]
@@ -393,15 +407,11 @@ def _raw_samples(raster: bytes, rows: int, count: int, is_bits: bool) -> list[in
     return [sample for line in lines for sample in line]
 
 
-def _jpeg(data: bytes) -> Pixels:
-    _refuse(LOSSY)
-
-
 _READERS: tuple[tuple[bytes, Callable[[bytes], Pixels]], ...] = (
     (rb"\x89PNG\r\n\x1a\n", _png),
     (rb"GIF8[79]a", _gif),
     (rb"BM", _bmp),
     (rb"RIFF....WEBP", _webp),
     (rb"P[12456]", _pnm),
-    (rb"\xff\xd8\xff", _jpeg),
+    (rb"\xff\xd8\xff", lambda _data: _refuse(LOSSY)),
 )

@@ -14,7 +14,7 @@ if TYPE_CHECKING:
     from typing import Any, Callable
 
 DONE, REFUSED, MEMORY, CLOSED, OPTIONS = 0, 1, 4, 5, 6
-NAME = "libnonobench.so"
+NAME = "nonobench.dll" if os.name == "nt" else "libnonobench.so"
 
 # The folder of the package.
 FOLDER = os.path.dirname(os.path.abspath(__file__))
@@ -39,10 +39,9 @@ def _path() -> str:
 
 def _load(path: str) -> ctypes.CDLL:
     try:
-        library = ctypes.CDLL(path)
+        return ctypes.CDLL(path)
     except OSError as error:
         raise ImportError(f"cannot load {path}; build it with c/build, or set NONOBENCH_LIBRARY to its path: {error}") from error
-    return library
 
 
 def _kinds() -> dict[str, tuple[Any, list[Any]]]:
@@ -125,18 +124,30 @@ class Desk:
         status: int = _calls.nonobench_prove(self._at, picture, len(picture), background, len(background))
         return status
 
-    def open(self, picture: bytes, background: bytes) -> tuple[int, int]:
-        """Opens a bench on a picture: the status and the handle."""
-        handle = ctypes.c_uint32()
-        status = _calls.nonobench_open(
-            self._at, picture, len(picture), False, background, len(background), 1, ctypes.byref(handle)
+    def assess(
+        self, puzzle: bytes, non: bool, background: bytes, givens: bytes, certificate: bytes | None, allowance: int
+    ) -> int:
+        """Assesses a puzzle, by a certificate where there is one, and answers the status."""
+        held, is_by = certificate or b"", certificate is not None
+        status: int = _calls.nonobench_assess(
+            self._at, puzzle, len(puzzle), non, background, len(background), True, givens, len(givens), is_by, held, len(held), allowance
         )
+        return status
+
+    def open(self, puzzle: bytes, background: bytes, non: bool = False) -> tuple[int, int]:
+        """Opens a bench on a puzzle: the status and the handle."""
+        handle = ctypes.c_uint32()
+        status = _calls.nonobench_open(self._at, puzzle, len(puzzle), non, background, len(background), 1, ctypes.byref(handle))
         return status, handle.value
 
     def say(self, handle: int, lines: bytes) -> int:
         """Says lines of commands to a bench, and answers the status."""
         status: int = _calls.nonobench_say(self._at, handle, lines, len(lines))
         return status
+
+    def close(self, handle: int) -> None:
+        """Closes a bench."""
+        _calls.nonobench_close(self._at, handle)
 
     def text(self) -> bytes:
         """The text of the last call."""

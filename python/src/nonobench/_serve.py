@@ -15,8 +15,8 @@ import struct
 from ._library import DONE, Desk, version
 
 # What is asked: whether a certificate of a picture is accepted, with any givens or with those that are published; what a bench on a
-# picture answers to lines; or for a certificate with lemmas.
-CHECK, PUBLISHED, SESSION, PROVE = 1, 2, 3, 4
+# picture answers to lines; for a certificate with lemmas; or for an assessment, which a certificate may help.
+CHECK, PUBLISHED, SESSION, PROVE, ASSESS = 1, 2, 3, 4, 5
 
 QUESTION = struct.Struct("!QBII4Q")
 ANSWER = struct.Struct("!QB3Q")
@@ -26,24 +26,28 @@ LAST = (b"refused: ", b"ambiguous\n", b"undecided ")
 
 
 def answer(kind: int, picture: bytes, background: bytes, rest: bytes, givens: bytes) -> tuple[int, list[bytes]]:
-    """The status, and the texts that were said. `rest` is the certificate, or the lines."""
+    """The status, and the texts that were said. `rest` is the certificate, or the lines. For an assessment it is a line of numbers
+    (1 for a .non text, the allowance, 1 where there is a certificate), and then the certificate.
+    """
     with Desk() as desk:
         if kind in (CHECK, PUBLISHED):
             status = desk.check(picture, rest, background, givens if kind == PUBLISHED else None)
-            return status, [desk.text()]
-        if kind == PROVE:
+        elif kind == PROVE:
             status = desk.prove(picture, background)
-            return status, [desk.text()]
-        status, handle = desk.open(picture, background)
-        if status != DONE:
-            return status, [desk.text()]
-        texts: list[bytes] = []
-        for line in rest.splitlines(keepends=True):
-            status = desk.say(handle, line)
-            texts.append(desk.text())
-            if status != DONE or texts[-1].startswith(LAST):
-                break
-        return status, texts
+        elif kind == ASSESS:
+            words, _, certificate = rest.partition(b"\n")
+            non, allowance, is_by = map(int, words.split())
+            status = desk.assess(picture, bool(non), background, givens, certificate if is_by else None, allowance)
+        else:
+            status, handle = desk.open(picture, background)
+            texts: list[bytes] = []
+            for line in rest.splitlines(keepends=True) if status == DONE else ():
+                status = desk.say(handle, line)
+                texts.append(desk.text())
+                if status != DONE or texts[-1].startswith(LAST):
+                    break
+            return status, texts or [desk.text()]
+        return status, [desk.text()]
 
 
 def read(stream: int, size: int) -> bytes:

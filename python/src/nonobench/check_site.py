@@ -1,4 +1,4 @@
-"""Checks the certificates below a folder with the pictures beside them: nonobench-check-site FOLDER
+"""Checks the puzzles of a site by the certificates below a folder: nonobench-check-site FOLDER
 
 What is said of each is what the library says, which is proved. A pair costs a bounded time and memory, whatever its files hold, and
 nothing but regular files is read.
@@ -15,11 +15,11 @@ import traceback
 from concurrent.futures import ThreadPoolExecutor
 from typing import Iterator, NamedTuple, Optional
 
-from ._answers import Fault
+from ._answers import Fault, refused_flaws
 from ._hints import hint_of
 from ._library import version
 from .collection import finding
-from .collection.arguments import _above_0, _memory, _seconds, _shard
+from .collection.arguments import _above_0, _memory, _seconds, _shard, add_allowed
 from .collection.outputs import hold_streams
 from .collection.puzzles import MOST_BYTES, Triple, Unreadable, one_line
 from .collection.readers import bytes_of, ground_of
@@ -31,13 +31,13 @@ ENDINGS = tuple(f".{ending}" for ending in finding.ENDINGS)  # of certificates
 MOST_BACKGROUND = 64  # bytes
 PACK = 64  # certificates that wait for a worker, for each one
 
-ABOUT = """Checks each certificate (NAME.cert) below FOLDER with the picture NAME.ppm, a plain PPM text. It prints a line for each that fails. The cells that are published with a puzzle are those of NAME.givens, a line
+ABOUT = """Checks each certificate (NAME.cert) below FOLDER with the picture NAME.ppm, a plain PPM text. It prints a line for each that fails: whose certificate is refused, or which has a flaw for which it is not fit to be published. The cells that are published with a puzzle are those of NAME.givens, a line
 `given R C` for each; without that file there are none. The background is white, or that of NAME.background: R,G,B.
 Links are not followed, but FOLDER itself may be one."""
 
 STATUSES = """status:
-  0  every certificate is accepted, and names published givens alone
-  1  some are refused, or take too much time or memory
+  0  every certificate is accepted, names published givens alone, and its puzzle has no flaw
+  1  some are refused, have flaws, or take too much time or memory
   2  the arguments are wrong
   3  a file is missing or cannot be read, a folder cannot be searched, or there is nothing to check"""
 
@@ -136,6 +136,7 @@ class Checks:
     def __init__(self, site: Site, told: argparse.Namespace) -> None:
         self._site = site
         self._jobs = told.jobs
+        self._allowed = told.allow_flaw
         self._workers: queue.SimpleQueue[Worker] = queue.SimpleQueue()
         for _ in range(told.jobs):
             self._workers.put(Worker(told.seconds, told.memory << 20, told.processor))
@@ -152,7 +153,7 @@ class Checks:
         worker = self._workers.get()
         try:
             certificate = self._site.certificate(name)
-            self._check(worker, name, certificate)
+            flaws = self._flaws(worker, name, certificate)
         except Fault as fault:
             hint = hint_of(fault, certificate)
             return Answer(file, REFUSED, f"{fault} ({hint})" if hint else str(fault))
@@ -162,12 +163,13 @@ class Checks:
             return Answer(file, UNREAD, str(error))
         finally:
             self._workers.put(worker)
-        return Answer(file, ACCEPTED)
+        return Answer(file, REFUSED, "; ".join(f"flaw {flaw}" for flaw in flaws)) if flaws else Answer(file, ACCEPTED)
 
-    def _check(self, worker: Worker, name: str, certificate: bytes) -> None:
-        """Raises what is wrong with a certificate."""
+    def _flaws(self, worker: Worker, name: str, certificate: bytes) -> list[str]:
+        """The flaws of a puzzle that are not allowed. Raises what is wrong with its certificate."""
         stem = os.path.splitext(name)[0]
-        worker.check(self._site.picture(stem), certificate, self._site.background(stem), self._site.givens(stem))
+        said = worker.assess(self._site.picture(stem), certificate, self._site.background(stem), self._site.givens(stem))
+        return refused_flaws(map(str, said.flaws), self._allowed)
 
 
 def line_of(answer: Answer) -> str:
@@ -223,6 +225,7 @@ def _parser() -> argparse.ArgumentParser:
     parser.add_argument("--certificates", metavar="DIR", type=_folder, help="certificates are below this folder, not in FOLDER")
     parser.add_argument("--givens", metavar="DIR", type=_folder, help="NAME.givens and NAME.background are below this folder, not in FOLDER")
     parser.add_argument("--untrusted", action="store_true", help="for files of strangers: there is no NAME.givens nor NAME.background, but in the folder of --givens")
+    add_allowed(parser)
     parser.add_argument("--jobs", metavar="N", type=_above_0, default=len(os.sched_getaffinity(0)), help="checks at a time (by default one per processor)")
     parser.add_argument("--processor", metavar="S", type=_above_0, default=10, help="seconds of processor time for each (by default 10)")
     parser.add_argument("--seconds", metavar="S", type=_seconds, default=60.0, help="seconds by the clock for each (by default 60)")

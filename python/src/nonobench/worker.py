@@ -57,6 +57,8 @@ class Worker(Questions):
         if processor is not None and not 0 < self._processor <= _MOST_ALARM:
             raise ValueError("processor must be above 0, and finite")
         self._number = 0
+        if os.name == "nt":
+            raise OSError("a Worker needs Linux")
         version()  # so that it is told here where there is no library
         self._begin()
 

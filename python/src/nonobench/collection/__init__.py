@@ -9,6 +9,7 @@ tqdm for the bar, and distributed for several machines; each is needed only for 
 
 from __future__ import annotations
 
+import os
 from typing import Optional
 
 __all__ = ["main"]
@@ -16,6 +17,8 @@ __all__ = ["main"]
 
 def main(words: Optional[list[str]] = None) -> int:
     """Runs nonobench-audit, and answers its status."""
-    from .running import main as run  # here, since the processes that judge need little of it
-
+    if os.name == "nt":
+        from .._by_program import main as run
+    else:
+        from .running import main as run  # here, since the processes that judge need little of it
     return run(words)

@@ -8,13 +8,14 @@ import re
 from dataclasses import dataclass
 from typing import Optional
 
+from .._answers import FLAW_KINDS
 from .._library import version
 from .finding import ENDINGS, SUFFIXES, find, front_of, unreached
 from .readers import ground_of
 
 _ENDINGS = frozenset((*SUFFIXES, ".givens", ".background", *(f".{ending}" for ending in ENDINGS)))
 
-ABOUT = """Says which puzzles of a collection have exactly one solution.
+ABOUT = """Says which puzzles of a collection are fit to be published: each has one solution and no flaw.
 
 PATH is a file, or a folder that is searched: pictures (plain and raw PPM, PGM and PBM, PNG, GIF, BMP, WebP, one pixel per cell),
 .non puzzles, and Web Paint-by-Number's XML with every puzzle in it. NAME.cert, a certificate, beside NAME.png is checked; NAME.givens
@@ -30,8 +31,8 @@ EXAMPLES = """examples:
   nonobench-audit site --scheduler tcp://ada.example:8786 --allow 20000 --jsonl rows.jsonl
 
 status:
-  0  every puzzle has one solution, no two of its colours look alike, and each certificate beside it is accepted
-  1  some puzzles are ambiguous or undecided, have colours that look alike, or have a certificate that is not accepted
+  0  every puzzle is fit to be published, and each certificate beside it is accepted
+  1  some puzzles are ambiguous, undecided or flawed, or have a certificate that is not accepted
   2  the arguments are wrong
   3  a file could not be read or written, or a library is missing; what is done is kept
   130, 143  it was stopped; what is done is kept"""
@@ -57,7 +58,7 @@ class Options:
     is_untrusted: bool = False
     certify: Optional[str] = None
     publish: Optional[str] = None
-    has_grades: bool = True
+    allowed: tuple[str, ...] = ()
     is_resumed: bool = False
     shard: tuple[int, int] = (1, 1)
     scheduler: Optional[str] = None
@@ -89,8 +90,8 @@ def options_of(words: list[str]) -> Options:
     seconds = told.seconds if told.seconds is not None else None if told.allow is not None else 10.0
     return Options(
         told.paths, told.jsonl, told.csv, told.html, told.title, told.quiet, told.jobs, seconds, told.allow, told.memory,
-        told.background, told.certificates, told.givens, told.untrusted, told.certify, told.ppm, not told.no_grade, told.resume, told.shard,
-        told.scheduler,
+        told.background, told.certificates, told.givens, told.untrusted, told.certify, told.ppm, tuple(told.allow_flaw), told.resume,
+        told.shard, told.scheduler,
     )
 
 
@@ -120,7 +121,6 @@ def _parser() -> argparse.ArgumentParser:
     bounds.add_argument("--allow", metavar="N", type=_allowance,
                         help="splits of a search, 0 to 99999, instead of seconds: the same files give the same rows, without times")
     bounds.add_argument("--memory", metavar="MIB", type=_memory, default=1024, help="for each process (by default 1024)")
-    bounds.add_argument("--no-grade", action="store_true", help="no grades, which take most of the time")
     parts = parser.add_argument_group("in parts, and on several machines")
     parts.add_argument("--resume", action="store_true", help="keep the rows of --jsonl FILE whose puzzles have not changed")
     parts.add_argument("--shard", metavar="I/N", type=_shard, default=(1, 1), help="only every N-th file, from the I-th; see merge")
@@ -130,12 +130,21 @@ def _parser() -> argparse.ArgumentParser:
 
 def _add_outputs(parser: argparse.ArgumentParser) -> None:
     parser.add_argument("--version", action="version", version=f"nonobench-audit {version()}")
+    parser.add_argument("--no-grade", action="store_true", help=argparse.SUPPRESS)  # an old option: grades took most of the time
+    add_allowed(parser)
     outputs = parser.add_argument_group("output (without any of these files, a table on standard output)")
     outputs.add_argument("--jsonl", metavar="FILE", help="a line of JSON for each puzzle; - is standard output")
     outputs.add_argument("--csv", metavar="FILE", help="for spreadsheets; - is standard output")
     outputs.add_argument("--html", metavar="FILE", help="a report to look at, in one file that needs no network")
     outputs.add_argument("--title", metavar="TEXT", help="of the report")
     outputs.add_argument("--quiet", action="store_true", help="neither table nor progress")
+
+
+def add_allowed(parser: argparse.ArgumentParser) -> None:
+    """Adds the option for flaws that somebody puts up with."""
+    parser.add_argument("--allow-flaw", metavar="KIND", action="append", choices=FLAW_KINDS, default=[],
+                        help="flaws that count for nothing: blank, background (named, and in no cell), given (not needed), alike (colours) or any; "
+                        "may be repeated")
 
 
 def _merge_options(words: list[str]) -> Options:
@@ -150,7 +159,7 @@ def _merge_options(words: list[str]) -> Options:
         if not os.path.exists(path):
             parser.error(f"no such file: {path!r}")
     _refuse_inputs(parser, told)
-    return Options(told.paths, told.jsonl, told.csv, told.html, told.title, told.quiet, is_merge=True)
+    return Options(told.paths, told.jsonl, told.csv, told.html, told.title, told.quiet, allowed=tuple(told.allow_flaw), is_merge=True)
 
 
 def _refuse_inputs(parser: argparse.ArgumentParser, told: argparse.Namespace) -> None:

@@ -8,47 +8,61 @@ import os
 import zlib
 from typing import TYPE_CHECKING, Optional
 
-from .._answers import fault_of, givens_of
+from .._answers import Assessment, fault_of, givens_of
 from .._hints import hint_of
 from .._serve import write as write_all
-from .judging import Desk, Judged, said_of
+from .judging import Desk
 from .puzzles import Puzzle, Unreadable, one_line
 from .readers import bytes_of
-from .rows import Row, judged_row, noted, row_of, text_of, unwritten
+from .rows import Row, graded, judged_row, noted, row_of, text_of, unwritten
 
 if TYPE_CHECKING:
     from .workers import Answer
 
 
 # What a row has that its puzzle and its certificate do not tell. The rest is compared where a row is kept.
-UNBOUND = ("file", "puzzle", "more", "grade", "figures", "seconds", "content", "sha256", "made")
+UNBOUND = ("file", "puzzle", "more", "seconds", "content", "sha256", "made")
 
 
-def told(desk: Desk, puzzle: Puzzle, beside: list[bytes]) -> Row:
-    """What a row says of the certificates that lie beside the puzzle that was opened: of several, of the worst."""
-    return {"certificate": min((_told(desk, puzzle, held) for held in beside), key=lambda row: row["accepted"])} if beside else {}
+def told(desk: Desk, puzzle: Puzzle, beside: list[bytes]) -> tuple[Row, Optional[Assessment]]:
+    """What a row says of the certificates that lie beside a puzzle, of several of the worst; and of the puzzle by one that is accepted."""
+    pairs = [_told(desk, puzzle, held) for held in beside]
+    by = next((said for _, said in pairs if said), None)
+    return {"certificate": min((row for row, _ in pairs), key=lambda row: row["accepted"])} if beside else {}, by
 
 
-def _told(desk: Desk, puzzle: Puzzle, held: bytes) -> Row:
+def _told(desk: Desk, puzzle: Puzzle, held: bytes) -> tuple[Row, Optional[Assessment]]:
     """What is said of one: whether it is accepted, and with which givens."""
-    why = desk.check(puzzle, held)
-    if why:
+    try:
+        said = desk.assess(puzzle, held)
+    except Unreadable as error:
+        why = str(error)
+        if not why.startswith("certificate "):
+            raise
         hint = hint_of(fault_of(why), held)
-        return {"accepted": False, "why": one_line(f"{why} ({hint})" if hint else why)}
+        return {"accepted": False, "why": one_line(f"{why} ({hint})" if hint else why)}, None
     givens = [list(place) for place in givens_of(held)]
-    return {"accepted": True, "givens": givens} if givens else {"accepted": True}
+    return {"accepted": True, "givens": givens} if givens else {"accepted": True}, said
 
 
-def holds(desk: Desk, puzzle: Puzzle, row: Row, held: Optional[bytes], beside: list[bytes], published: Optional[str]) -> bool:
-    """Whether all that a row says of a puzzle with one solution is true, but for its grade. Its picture is written again if it differs."""
-    _, report = said_of(desk, puzzle, 0)
-    if published is not None and publish(desk, puzzle, report, published):
+def holds(
+    desk: Desk, puzzle: Puzzle, row: Row, held: Optional[bytes], beside: list[bytes], published: Optional[str], allowance: Optional[int]
+) -> bool:
+    """Whether all that a row says of a puzzle with one solution is true. Its picture is written again if it differs."""
+    puzzle = desk.painted(puzzle)
+    if published is not None and publish(puzzle, published):
         return False
     if held is None:
         return True
-    if desk.check(puzzle, held):
+    words, by = told(desk, puzzle, beside)
+    try:
+        made = desk.assess(puzzle, held)
+    except Unreadable:
         return False
-    wanted = {**judged_row(puzzle, Judged("unique", report, "", "")), "lines": held.count(b"\n"), **told(desk, puzzle, beside)}
+    # Which given is not needed a certificate does not tell.
+    said = by or (desk.assess(puzzle, None, allowance) if puzzle.givens else made)
+    grade = graded(said if by else made)
+    wanted = {**judged_row(puzzle, said), **grade, "lines": held.count(b"\n"), **words}
     return wanted == {name: value for name, value in row.items() if name not in UNBOUND}
 
 
@@ -66,15 +80,10 @@ def write(name: str, text: str) -> str:
     return _put("certificate", f"{name}.cert", text.encode("ascii"))
 
 
-def publish(desk: Desk, puzzle: Puzzle, report: str, name: str) -> str:
+def publish(puzzle: Puzzle, name: str) -> str:
     """Writes givens and background, and then the picture, which without them would be another puzzle. Answers a note as `write` does."""
-    maxval = int(report.split("\n", 2)[1].split(" ")[3])
-    is_white = puzzle.background in (None, (maxval,) * 3)
-    parts = {
-        "givens": puzzle.published,
-        "background": b"" if is_white else puzzle.word() + b"\n",
-        "ppm": desk.picture(puzzle),
-    }
+    background = b"" if puzzle.background is None else puzzle.word() + b"\n"
+    parts = {"givens": puzzle.published, "background": background, "ppm": puzzle.text}
     if all(_lies(f"{name}.{ending}", data) for ending, data in parts.items()):
         return ""
     for ending in reversed(parts):

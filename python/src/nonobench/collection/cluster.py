@@ -129,7 +129,7 @@ def _packs(tasks: Iterator[Task], settings: Settings) -> Iterator[tuple[list[Tas
             answers.append(Answer(task.number, True, "error", unread(task.name, error, settings.has_times)))
         else:
             pack.append(task._replace(**files._asdict()))
-            size += len(files.file) + len(files.givens or b"") + len(files.background)
+            size += len(files.file) + len(files.givens or b"") + len(files.background or b"")
             size += sum(len(held) for *_, held in (*files.beside, *files.kept))
         if len(pack) + len(answers) >= MOST_FILES or size >= MOST_BYTES:
             yield pack, answers

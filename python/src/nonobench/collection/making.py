@@ -2,90 +2,55 @@
 
 from __future__ import annotations
 
-from typing import Optional
+from typing import Callable, Optional
 
-from .._grade import NoGrade, grade_of
 from . import certificates
-from .judging import Desk, Judged
-from .puzzles import Puzzle, one_line
-from .rows import FIGURES, Row, judged_row, map_of, noted
+from .judging import Desk
+from .puzzles import Puzzle
+from .rows import Row, graded, judged_row, noted
 
 
 class Making:
-    """What is known of a puzzle: first its verdict, then its certificate, at last its grade."""
+    """What is known of a puzzle: first what the library says of it, then its certificate."""
 
-    def __init__(
-        self, desk: Desk, puzzle: Puzzle, beside: list[bytes], name: Optional[str], is_inline: bool, published: Optional[str] = None
-    ) -> None:
+    def __init__(self, desk: Desk, puzzle: Puzzle, beside: list[bytes]) -> None:
         self._desk = desk
         self._puzzle = puzzle
         self._beside = beside
-        self._name = name  # where its certificate is written, without the ending
-        self._is_inline = is_inline  # whether it goes back instead
-        self._published = published  # where its picture is written, without the ending
-        self._judged: Optional[Judged] = None
-        self._base: Optional[Row] = None  # of what was judged, once it was asked for
-        self._graded: Row = {}
-        self._told: Row = {}  # of what lies beside
-        self._notes = {"picture": "", "certificate": "", "grade": ""}  # why it is missing, or not written
+        self.row: Row = {}  # nothing before there is a verdict
         self.back = ""  # the certificate, where it goes back
 
-    @property
-    def judged(self) -> Optional[Judged]:
-        """What the library says of it; none before there is a verdict."""
-        return self._judged
-
-    def hear(self, judged: Judged) -> None:
-        """Takes a verdict, and then a certificate, before all is made.
-
-        What lies beside is checked then: it is wanted most where no certificate comes in time.
+    def assess(self, allowance: Optional[int], published: Optional[str]) -> None:
+        """Takes verdict, grade and flaws: by a certificate that lies beside the puzzle, where one is accepted. Of a puzzle with one
+        solution the picture is written, where that has a name without the ending.
         """
-        if self._beside and not self._told:
-            self._told = certificates.told(self._desk, self._puzzle, self._beside)
-        if self._published is not None and self._judged is None:
-            self._notes["picture"] = certificates.publish(self._desk, self._puzzle, judged.report, self._published)
-        self._take(judged)
+        self._puzzle = self._desk.painted(self._puzzle)
+        told, by = certificates.told(self._desk, self._puzzle, self._beside)
+        self._said = by or self._desk.assess(self._puzzle, None, allowance)
+        self._is_settled = by is not None or not self._said.open
+        self.row = {**judged_row(self._puzzle, self._said), **told}
+        if published is not None and self.is_unique:
+            self.note(certificates.publish(self._puzzle, published))
 
-    def end(self, judged: Judged, missing: str) -> None:
-        """Takes all that the library says; `missing` is why a puzzle with one solution has no certificate."""
-        self._told = self._told or certificates.told(self._desk, self._puzzle, self._beside)
-        self._take(judged)
-        if judged.verdict == "unique" and not judged.certificate:
-            self._notes["certificate"] = missing
+    @property
+    def is_unique(self) -> bool:
+        """Whether there is one solution."""
+        return self.row["verdict"] == "unique"
 
-    def _take(self, judged: Judged) -> None:
-        """Takes what is known, and writes a new certificate, or packs it where it goes back."""
-        is_new = judged.certificate and (self._judged is None or not self._judged.certificate)
-        self._judged, self._base = judged, None
-        if not is_new or self._name is None:
-            return
-        if self._is_inline:
-            self.back = certificates.packed(judged.certificate)
+    def note(self, note: str) -> None:
+        """Takes a note of what went wrong."""
+        self.row = noted(self.row, note)
+
+    def certify(self, name: str, is_inline: bool, tell: Callable[[], None]) -> None:
+        """Makes a certificate. It is written under a name, without the ending, or packed where it goes back. Where the grade is that of
+        a certificate, and none lies beside, it is then that of this one; `tell` is called before.
+        """
+        made = self._desk.certify(self._puzzle, self._said)
+        self.row = {**self.row, "lines": made.count("\n")}
+        if is_inline:
+            self.back = certificates.packed(made)
         else:
-            self._notes["certificate"] = certificates.write(self._name, judged.certificate)
-
-    def grade(self) -> None:
-        """Works out the grade of a puzzle with a tree. Where the plain solver ends elsewhere than the proved map, there is none."""
-        row, judged = self.row(), self._judged
-        if judged is None:
-            return
-        settled = map_of(judged.report, row["rows"], row["columns"])
-        try:
-            grade = grade_of(row["picture"].split("/"), self._puzzle.givens, judged.tree, settled, judged.verdict)
-        except NoGrade as error:
-            self._notes["grade"] = one_line(str(error))
-            return
-        self._graded = {"grade": grade.word, "figures": {name: getattr(grade, name) for name in FIGURES}}
-
-    def row(self) -> Row:
-        """The row so far; nothing before there is a verdict."""
-        if self._judged is None:
-            return {}
-        if self._base is None:
-            self._base = judged_row(self._puzzle, self._judged)
-            if self._judged.certificate:
-                self._base["lines"] = self._judged.certificate.count("\n")
-        row = {**self._base, **self._graded, **self._told}
-        for note in self._notes.values():
-            row = noted(row, note)
-        return row
+            self.note(certificates.write(name, made))
+        if not self._is_settled:
+            tell()
+            self.row = {**self.row, **graded(self._desk.assess(self._puzzle, made.encode("ascii")))}

@@ -14,6 +14,7 @@ MOST_COLOURS = 16
 
 Triple = tuple[int, int, int]
 WHITE: Triple = (255, 255, 255)
+BLACK: Triple = (0, 0, 0)
 
 # What does not belong in a line of text: control characters, and marks that turn the direction of writing.
 _UNSEEN = re.compile("[\x00-\x1f\x7f-\x9f\u061c\u200b-\u200f\u2028-\u202e\u2060-\u2069\ufeff\ud800-\udfff]")
@@ -38,9 +39,10 @@ class Puzzle:
 
     text: bytes  # a P3 text, or a .non text
     is_non: bool = False
-    background: Optional[Triple] = None  # white where there is none
+    background: Optional[Triple] = None  # where one is named, else white
     published: bytes = b""  # the file of the cells that are given: lines `given R C`
     title: str = ""
+    inks: tuple[Triple, Triple] = (WHITE, BLACK)  # the colours of a .non text: its background, and that of its clues
 
     @functools.cached_property
     def givens(self) -> tuple[tuple[int, int], ...]:

@@ -6,12 +6,12 @@ import errno
 import os
 import re
 import stat
+from dataclasses import replace
 from typing import Iterator, NamedTuple, Optional, Union
 
 from .._answers import ImageFault
 from .._calls import picture_of
-from .._colours import colour_shown
-from .._images import header_of, is_image, most_of, pixels_of
+from .._images import colour_shown, header_of, is_image, most_of, pixels_of
 from . import webpbn
 from .puzzles import MOST_BYTES, MOST_COLOURS, WHITE, Missing, Puzzle, Triple, Unreadable, one_line
 
@@ -88,7 +88,7 @@ def puzzles_of(
     else:
         raise Unreadable(f"this does not begin as {NAMED[suffix]} does")
     if givens is not None:
-        puzzle = Puzzle(puzzle.text, puzzle.is_non, puzzle.background, givens, puzzle.title)
+        puzzle = replace(puzzle, published=givens)
     yield puzzle
 
 
@@ -108,7 +108,8 @@ def _puzzle_of_image(data: bytes, ground: Ground) -> Puzzle:
     triples = pixels.triples(under)
     if len({under, *triples}) > MOST_COLOURS:
         raise Unreadable(f"more than {MOST_COLOURS} colours with the background")
-    return Puzzle(picture_of(pixels.columns, len(triples) // pixels.columns, triples), background=under)
+    background = None if ground == Ground() else under
+    return Puzzle(picture_of(pixels.columns, len(triples) // pixels.columns, triples), background=background)
 
 
 def _alone(puzzles: Iterator[Union[Puzzle, Unreadable]]) -> Iterator[Union[Puzzle, Unreadable]]:

@@ -7,10 +7,9 @@ import re
 from typing import Any, Callable
 
 from .puzzles import MOST_CELLS, MOST_COLOURS
-from .rows import FIGURES, GRADES, VERDICTS, Row
+from .rows import FIGURES, GRADES, LETTERS, VERDICTS, Row
 
 MOST_SECONDS = 1e9
-_LETTERS = ".abcdefghijklmno"
 
 
 def checked_row(line: bytes) -> Row:
@@ -52,6 +51,7 @@ def _compare(row: Row) -> None:
     if verdict in ("unique", "ambiguous") or any(name in row for name in (*_SHOWN, "givens")):
         wanted += _SHOWN
     wanted += ["error"] if verdict == "error" else ["other"] if verdict == "ambiguous" else ["figures"] if "grade" in row else []
+    wanted += ["fit"] if "rows" in row else []
     for name in wanted:
         if name not in row:
             raise ValueError(f"the field {name!r} is missing")
@@ -60,17 +60,26 @@ def _compare(row: Row) -> None:
             raise ValueError(f"the field {name!r} goes with the verdict 'unique'")
     if "picture" in row:
         _compare_picture(row)
+    elif "flaws" in row or "unknown" in row:
+        raise ValueError("the field 'picture' is missing")
+    if row.get("fit", False) != (verdict == "unique" and "rows" in row and "flaws" not in row):
+        raise ValueError("the field 'fit' is not what verdict and flaws say")
 
 
 def _compare_picture(row: Row) -> None:
-    rows, columns, letters = row["rows"], row["columns"], {*_LETTERS[: row["colours"]]}
+    rows, columns, letters = row["rows"], row["columns"], {*LETTERS[: row["colours"]]}
     for name in ("picture", "other"):
         lines = row.get(name, row["picture"]).split("/")
         if len(lines) != rows or {*map(len, lines)} != {columns} or not letters.issuperset("".join(lines)):
             raise ValueError(f"the field {name!r} has another size, or other colours")
-    if len(row["palette"]) != row["colours"] or row["open"] > rows * columns:
-        raise ValueError("the numbers of colours or open cells differ")
+    if len(row["palette"]) != row["colours"] or row["palette"][0] != row["background"] or row["open"] > rows * columns:
+        raise ValueError("the numbers of colours or open cells differ, or the background")
+    flaws = [flaw.split(" ") for flaw in row.get("flaws", ())]
+    if not letters.issuperset(letter for kind, *pair in flaws if kind == "alike" for letter in pair):
+        raise ValueError("a flaw names a colour that the picture does not have")
     places = [place for one in (row, row.get("certificate", {})) for place in one.get("givens", ())]
+    places += [[int(word) for word in place] for kind, *place in flaws if kind in ("given", "spare")]
+    places += [row["unknown"]] if "unknown" in row else []
     if any(place[0] > rows or place[1] > columns for place in places):
         raise ValueError("a given lies outside the picture")
 
@@ -95,6 +104,11 @@ def _is_places(value: Any) -> bool:
     return _is_list(value, lambda place: isinstance(place, list) and len(place) == 2 and all(map(_is_number(1, MOST_CELLS), place)))
 
 
+def _is_figures(value: Any) -> bool:
+    names = {*FIGURES} if isinstance(value, dict) and "splits" in value else {*FIGURES[:3]}
+    return isinstance(value, dict) and value.keys() == names and all(map(_count, value.values()))
+
+
 def _is_told(value: Any) -> bool:
     """Whether this is what is said of a certificate that lies beside a puzzle."""
     if not isinstance(value, dict) or type(value.get("accepted")) is not bool:
@@ -105,7 +119,7 @@ def _is_told(value: Any) -> bool:
 
 
 _count = _is_number(0, 1 << 31)
-_SHOWN = ("rows", "columns", "colours", "open", "palette", "picture")
+_SHOWN = ("rows", "columns", "colours", "open", "background", "palette", "picture")
 _FIELDS: dict[str, Callable[[Any], bool]] = {
     **{name: _is_text for name in ("file", "title", "picture", "other", "error", "note", "content", "made", "limit")},
     "certificate": _is_told,
@@ -121,8 +135,11 @@ _FIELDS: dict[str, Callable[[Any], bool]] = {
     "open": _count,
     "givens": _is_places,
     "palette": lambda value: _is_list(value, _is_like("[0-9a-f]{6}")),
-    "near": lambda value: _is_list(value, _is_like("#[0-9a-f]{6} and #[0-9a-f]{6}")),
+    "background": _is_like("[0-9a-f]{6}"),
+    "fit": lambda value: type(value) is bool,
+    "flaws": lambda value: _is_list(value, _is_like("blank|background|(given|spare) [1-9][0-9]{0,2} [1-9][0-9]{0,2}|alike [.a-o] [.a-o]")),
+    "unknown": lambda value: _is_places([value]),
     "grade": lambda value: value in GRADES,
-    "figures": lambda value: isinstance(value, dict) and value.keys() == {*FIGURES} and all(map(_count, value.values())),
+    "figures": _is_figures,
     "seconds": lambda value: type(value) in (int, float) and 0 <= value <= MOST_SECONDS,
 }

@@ -3,71 +3,81 @@
 from __future__ import annotations
 
 import functools
-import itertools
 import json
-import re
-from typing import Any, Optional
+import unicodedata
+from typing import Any, Iterable, Optional, Sequence
 
-from .._colours import colour_shown, colours_too_near
-from .judging import Judged
+from .._answers import Assessment, refused_flaws
+from .._images import colour_shown, plain_words
 from .puzzles import Puzzle, Triple
 
 VERDICTS = ("unique", "ambiguous", "undecided", "error")
-GRADES = ("easy", "medium", "hard", "very hard", "expert")
+GRADES = ("easy", "medium", "hard", "very hard", "expert", "unknown")
 FIGURES = ("rounds", "evaluations", "wait", "splits", "depth")
 COLUMNS = (
-    "file", "puzzle", "title", "rows", "columns", "colours", "verdict", "open", "grade", *(f"grade_{name}" for name in FIGURES),
-    "lines", "certificate", "givens", "near_colours", "error", "seconds",
+    "file", "puzzle", "title", "rows", "columns", "colours", "background", "verdict", "open", "grade",
+    *(f"grade_{name}" for name in FIGURES), "fit", "flaws", "lines", "certificate", "givens", "error", "seconds",
 )
+LETTERS = ".abcdefghijklmno"
 
 Row = dict[str, Any]
 text_of = json.JSONEncoder(separators=(",", ":")).encode
 row_of = json.loads
 
 
-def judged_row(puzzle: Puzzle, judged: Judged) -> Row:
-    """What a row says of a puzzle that was judged."""
-    report = judged.report
+def judged_row(puzzle: Puzzle, said: Assessment) -> Row:
+    """What a row says of a puzzle that was judged, and is a P3 text."""
     row: Row = {"title": puzzle.title} if puzzle.title else {}
-    size, colours, rest = report.split("\n", 2)
-    row["rows"], row["columns"] = (int(word) for word in size.split(" ")[1:])
-    count, maxval = colours.split(" ")[1::2]
-    row["colours"] = int(count)
-    row["verdict"] = judged.verdict
-    row["open"] = int(report[report.rindex("\nopen ") + 6 : report.rindex("\nverdict ")])
+    palette, picture = _shown(puzzle, said.rows * said.columns)
+    row.update(
+        rows=said.rows, columns=said.columns, colours=len(palette), verdict=said.verdict.ruling.value, open=said.open, **graded(said), fit=said.is_fit,
+    )
+    if said.flaws:
+        row["flaws"] = list(map(str, said.flaws))
+    if said.unknown:
+        row["unknown"] = list(said.unknown)
     if puzzle.givens:
         row["givens"] = [list(place) for place in puzzle.givens]
-    palette, rest = rest.split("\npicture\n", 1)
-    shown, near = palette_of(palette, int(maxval))
-    row["palette"] = list(shown)
-    if near:
-        row["near"] = list(near)
-    row["picture"] = rest[: row["rows"] * (row["columns"] + 1) - 1].replace("\n", "/")
-    if judged.other:
-        row["other"] = judged.other
+    lines = [picture[at : at + said.columns] for at in range(0, len(picture), said.columns)]
+    row.update(background=palette[0], palette=palette, picture="/".join(lines))
+    if said.verdict.other:
+        row["other"] = "/".join(said.verdict.other)
     return row
 
 
+def _shown(puzzle: Puzzle, cells: int) -> tuple[list[str], str]:
+    """The colours of a picture of so many cells as they are shown, its background first, and the letter of each cell: the order is
+    that of docs/FORMATS.md.
+    """
+    _, _, most, *samples = plain_words(puzzle.text[2:], 3 + 3 * cells)
+    words = list(zip(*[iter(samples)] * 3))
+    triples = {three: _triple(three) for three in dict.fromkeys(words)}
+    colours = dict.fromkeys([puzzle.background or _triple([most] * 3), *triples.values()])
+    by_colour = dict(zip(colours, LETTERS))
+    letters = {three: by_colour[triple] for three, triple in triples.items()}
+    return _palette_of(tuple(colours), _number(most)), "".join(map(letters.__getitem__, words))
+
+
+def graded(said: Assessment) -> Row:
+    """The grade of a row, where there is one."""
+    if said.grade is None:
+        return {}
+    word, *figures = said.grade
+    return {"grade": word.replace("-", " "), "figures": {name: figure for name, figure in zip(FIGURES, figures) if figure is not None}}
+
+
 @functools.lru_cache(maxsize=1024)
-def palette_of(lines: str, maxval: int) -> tuple[tuple[str, ...], tuple[str, ...]]:
-    """The colours of a report as they are shown, the background first; and which of them look alike."""
-    triples = [colour_shown(_triple(line), maxval) for line in lines.split("\n")]
-    shown = tuple("%02x%02x%02x" % triple for triple in triples)
-    pairs = itertools.combinations(range(len(triples)), 2)
-    near = tuple(f"#{shown[one]} and #{shown[other]}" for one, other in pairs if colours_too_near(triples[one], triples[other]))
-    return shown, near
+def _palette_of(colours: tuple[Triple, ...], maxval: int) -> list[str]:
+    return ["%02x%02x%02x" % colour_shown(triple, maxval) for triple in colours]
 
 
-def _triple(line: str) -> Triple:
-    """The samples of a line of a report's colours, past the colour's letter."""
-    red, green, blue = line.split(" ")[1:]
-    return int(red), int(green), int(blue)
+def _triple(words: Sequence[bytes]) -> Triple:
+    red, green, blue = map(_number, words)
+    return red, green, blue
 
 
-def map_of(report: str, rows: int, columns: int) -> list[str]:
-    """The rows of a report's map."""
-    at = report.rindex("\nmap\n") + 5
-    return report[at : at + rows * (columns + 1) - 1].split("\n")
+def _number(word: bytes) -> int:
+    return int(word.lstrip(b"0") or b"0")  # Python reads no more than some thousands of digits
 
 
 def noted(row: Row, note: str) -> Row:
@@ -105,42 +115,62 @@ def certificate_words(row: Row) -> str:
     return f"accepted, givens {len(told['givens'])}" if told.get("givens") else "accepted"
 
 
-def beside_words(row: Row) -> str:
-    """The same after the word for it."""
-    words = certificate_words(row)
-    return f"certificate {words}" if words else ""
-
-
 # What a row's text has where there may be flaws. No string in it holds these marks: a quote in one follows a backslash.
-FLAW_MARKS = ('"certificate":{', '"near":[')
+FLAW_MARKS = ('"accepted":false', '"flaws":[')
+
+# What is counted of a collection, by the kinds of flaws.
+FLAWS = {
+    "blank": "blank pictures", "background": "backgrounds that no cell has", "given": "givens that are not needed",
+    "spare": "givens that their certificate does not name", "alike": "colours that look alike",
+}
 
 
-def flaws_of(row: Row) -> list[str]:
-    """Why a puzzle cannot be published as it is, apart from its verdict."""
+def flaws_of(row: Row, allowed: Iterable[str]) -> list[str]:
+    """Why a puzzle cannot be published as it is, apart from its verdict, for somebody who allows flaws of some kinds."""
     flaws = [] if row.get("certificate", {"accepted": True})["accepted"] else ["certificates not accepted"]
-    if row.get("near"):
-        flaws.append("colours that look alike")
-    return flaws
+    return flaws + [*dict.fromkeys(FLAWS[flaw.split(" ")[0]] for flaw in refused_flaws(row.get("flaws", ()), allowed))]
 
 
-HEAD = f"{'VERDICT':9}  {'SIZE':>7}  {'COLOURS':>7}  {'OPEN':>5}  {'GRADE':9}  {'LINES':>7}  {'SECONDS':>7}  NAME"
+HEAD = f"{'VERDICT':9}  {'SIZE':>7}  {'COLOURS':>7}  {'GROUND':7}  {'GIVENS':>6}  {'OPEN':>5}  {'GRADE':9}  {'SECONDS':>7}  NAME"
 
 
 def table_line(row: Row) -> str:
     """A line of the table. A name cannot break it: what does not print stands as in Python."""
     size = f"{row['columns']}x{row['rows']}" if "rows" in row else ""
+    ground = f"#{row['background']}" if "background" in row else ""
+    givens = len(row.get("givens", ())) if "rows" in row else ""
     seconds = f"{row['seconds']:.3f}" if "seconds" in row else ""
     line = (
-        f"{row['verdict']:9}  {size:>7}  {row.get('colours', ''):>7}  {row.get('open', ''):>5}  {row.get('grade', ''):9}  "
-        f"{row.get('lines', ''):>7}  {seconds:>7}  {printable(name_of(row))}"
+        f"{row['verdict']:9}  {size:>7}  {row.get('colours', ''):>7}  {ground:7}  {givens:>6}  {row.get('open', ''):>5}  "
+        f"{row.get('grade', ''):9}  {seconds:>7}  {printable(name_of(row))}"
     )
-    told = [row.get("error", ""), row.get("note", ""), beside_words(row), near_words(row)]
-    return "; ".join([line, *(printable(word) for word in told if word)])
+    return "; ".join([line, *words_of(row)])
 
 
-def near_words(row: Row) -> str:
-    """Which colours of a puzzle look alike."""
-    return f"colours look alike: {', '.join(row['near'])}" if row.get("near") else ""
+def words_of(row: Row) -> list[str]:
+    """All that is said of a row in words."""
+    words = certificate_words(row)
+    told = [row.get("error", ""), row.get("note", ""), f"certificate {words}" if words else "", *flaw_words(row)]
+    return [printable(word) for word in told if word]
+
+
+def flaw_words(row: Row) -> list[str]:
+    """The flaws of a puzzle, and what is not known."""
+    words = [_flaw_words(*flaw.split(" ")) for flaw in row.get("flaws", ()) if not flaw.startswith("alike")]
+    pairs = [[f"#{row['palette'][LETTERS.index(letter)]}" for letter in flaw.split(" ")[1:]] for flaw in row.get("flaws", ()) if flaw.startswith("alike")]
+    if pairs:
+        words.append(f"colours look alike: {', '.join(' and '.join(pair) for pair in pairs)}")
+    if "unknown" in row:
+        words.append("it is not known whether given {} {} is needed".format(*row["unknown"]))
+    return words
+
+
+def _flaw_words(kind: str, *place: str) -> str:
+    if kind == "blank":
+        return "the picture is blank"
+    if kind == "background":
+        return "no cell has its background"
+    return f"given {' '.join(place)} is not {'needed' if kind == 'given' else 'named by its certificate'}"
 
 
 def printable(text: str) -> str:
@@ -153,11 +183,14 @@ def _escaped(sign: str) -> str:
 
 
 def csv_cells(row: Row) -> list[Any]:
-    """The cells of a row in the order of COLUMNS. A text that a spreadsheet would take for a formula begins with an apostrophe."""
-    cells: Row = {**row, "near_colours": " ".join(row.get("near", ())), "certificate": certificate_words(row)}
+    """The cells of a row in the order of COLUMNS. A text that a spreadsheet would take for a formula begins with an apostrophe, also
+    where its first sign is a wide or a small one.
+    """
+    cells: Row = {**row, "flaws": "; ".join(flaw_words(row)), "certificate": certificate_words(row)}
     cells.update({f"grade_{name}": figure for name, figure in row.get("figures", {}).items()})
-    cells["rows"], cells["columns"] = row.get("rows", ""), row.get("columns", "")
     cells["givens"] = len(row.get("givens", ()))
+    cells["fit"] = {True: "yes", False: "no"}.get(row.get("fit", ""), "")
+    cells["background"] = f"#{row['background']}" if "background" in row else ""
     cells["error"] = "; ".join(word for word in (row.get("error"), row.get("note")) if word)
     return [_plain(cells.get(name, "")) for name in COLUMNS]
 
@@ -165,5 +198,5 @@ def csv_cells(row: Row) -> list[Any]:
 def _plain(cell: Any) -> Any:
     if isinstance(cell, str):
         cell = printable(cell)
-        return "'" + cell if re.match(r"[=+\-@]", cell) else cell
+        return "'" + cell if unicodedata.normalize("NFKC", cell.lstrip()).startswith(("=", "+", "-", "@")) else cell
     return cell

@@ -78,10 +78,10 @@ def settings_of(options: Options) -> Settings:
     """What holds for all puzzles of a run, as its rows tell it too."""
     bounds = [] if options.allowance is None else [f"{options.allowance} splits"]
     limit = ", ".join(bounds if options.seconds is None else [*bounds, f"{options.seconds:g} s"])
-    made = f"{version()} {options.ground}{'' if options.has_grades else ' no-grade'}{'' if options.allowance is None else ' no-times'}"
+    made = f"{version()} {options.ground}{'' if options.allowance is None else ' no-times'}"
     return Settings(
-        made, limit, options.memory, options.allowance, options.ground, options.has_grades, options.allowance is None,
-        options.scheduler is not None, options.is_untrusted,
+        made, limit, options.memory, options.allowance, options.ground, options.allowance is None, options.scheduler is not None,
+        options.is_untrusted,
     )
 
 
@@ -90,7 +90,7 @@ class Run:
 
     def __init__(self, options: Options) -> None:
         self._options = options
-        self._tally = Tally()
+        self._tally = Tally(options.allowed)
         self._progress = Progress(options.is_quiet or options.is_merge)
         self._lines: Optional[Lines] = None
         self._sinks: list[Any] = []
@@ -175,7 +175,7 @@ class Run:
         if options.html is not None:
             from .report import Report
 
-            self._sinks.append(Report(options.html, options.title))
+            self._sinks.append(Report(options.html, options.title, options.allowed))
         if not self._sinks and not options.is_quiet:
             self._sinks.append(Table(self._progress.aside))
         self._reads_rows = any(sink is not self._lines for sink in self._sinks)

@@ -20,7 +20,7 @@ from typing import Any, Iterator, NamedTuple, Optional, Union
 from .._library import version
 from .._serve import bound, read, write
 from . import certificates, readers
-from .judging import Desk, Judged, judge
+from .judging import Desk
 from .making import Making
 from .puzzles import Missing, Puzzle, Unreadable
 from .rows import Row, row_of, text_of, unfinished
@@ -28,7 +28,7 @@ from .rows import Row, row_of, text_of, unfinished
 STREAM = 0  # questions come there, and answers go
 HEAD = struct.Struct("!I")
 MOMENT = 0.03  # seconds until a line goes out
-LONG = 0.02  # seconds after which a verdict goes out before its certificate is made
+LONG = 0.02  # seconds after which what is known goes out before a certificate is made
 FULL, GLANCE = 0, 1
 FEW_SPLITS = 100  # of a puzzle that took too long, to tell at least its size and what line logic leaves open
 SPARE = 8 << 20  # bytes
@@ -45,7 +45,6 @@ class Settings(NamedTuple):
     memory: int  # MiB
     allowance: Optional[int]
     ground: str
-    has_grades: bool
     has_times: bool
     is_inline: bool  # certificates go back, and are written where the run was begun
     is_untrusted: bool = False  # links are no files
@@ -232,20 +231,22 @@ class Judging:
                     return False
                 published = task.published and certificates.numbered_name(task.published, number)
                 proof = None if task.to is None else held
-                if row and isinstance(puzzle, Puzzle) and not certificates.holds(self._desk, puzzle, row, proof, files.of(number), published):
+                if row and isinstance(puzzle, Puzzle) and not certificates.holds(
+                    self._desk, puzzle, row, proof, files.of(number), published, self._settings.allowance
+                ):
                     return False
             return not kept
         return False
 
     def _puzzles(self, name: str, files: Files) -> Iterator[Union[Puzzle, Unreadable]]:
         ground = self._ground
-        if files.background:
+        if files.background is not None:
             try:
                 ground = readers.ground_of(files.background.decode("ascii", "replace").strip())
             except ValueError as error:
                 raise Unreadable(f"the file of its background {error}") from error
         puzzles = readers.puzzles_of(files.file, os.path.splitext(name)[1].lower(), ground, files.givens)
-        return readers.grounded(puzzles, ground) if files.background else puzzles
+        return puzzles if files.background is None else readers.grounded(puzzles, ground)
 
     def _judge(self, task: Task, about: About, puzzle: Union[Puzzle, Unreadable], beside: list[bytes]) -> None:
         """Puts the row of one puzzle."""
@@ -268,9 +269,9 @@ class Judging:
 
     def _short(self) -> tuple[Row, str]:
         """The row of a puzzle for which memory is out, with its certificate: what is known of it, and what is missing."""
-        if self._making is None or self._making.judged is None:
+        if self._making is None or not self._making.row:
             return {"verdict": "error", "error": self._too_much()}, ""
-        return unfinished(self._making.row(), self._too_much()), self._making.back
+        return unfinished(self._making.row, self._too_much()), self._making.back
 
     def _put(self, task: Task, about: About, row: Row, kind: str, certificate: str = "") -> None:
         if self._settings.has_times:
@@ -285,24 +286,20 @@ class Judging:
         settings = self._settings
         number = about.front.get("puzzle", 1)
         name, published = (None if place is None else certificates.numbered_name(place, number) for place in (task.to, task.published))
-        making = self._making = Making(self._desk, puzzle, beside, name, settings.is_inline, published)
+        making = self._making = Making(self._desk, puzzle, beside)
 
-        def tell(known: Judged) -> None:
-            making.hear(known)
-            if known.certificate or time.perf_counter() - about.begun > LONG:
-                self._put(task, about, making.row(), "known", f"{about.kind} {making.back}")
-                self._answers.flush()
+        def tell() -> None:
+            self._put(task, about, dict(making.row), "known", f"{about.kind} {making.back}")
+            self._answers.flush()
 
-        allowance = FEW_SPLITS if task.mode == GLANCE else settings.allowance
-        is_full = task.mode == FULL
-        has_tree = is_full and (settings.has_grades or task.to is None)
-        judged = judge(self._desk, puzzle, allowance, tell, is_full and task.to is not None, has_tree)
-        making.end(judged, f"no certificate within {settings.limit}")
-        if judged.tree and settings.has_grades:
-            if judged.tree == judged.certificate:  # else it was told before the tree was made
-                self._put(task, about, making.row(), "known", f"{about.kind} {making.back}")
-            making.grade()
-        return making.row(), making.back
+        making.assess(FEW_SPLITS if task.mode == GLANCE else settings.allowance, published)
+        if name is not None and making.is_unique and task.mode == FULL:
+            if time.perf_counter() - about.begun > LONG:
+                tell()
+            making.certify(name, settings.is_inline, tell)
+        elif name is not None and making.is_unique:
+            making.note(f"no certificate within {settings.limit}")
+        return making.row, making.back
 
 
 def unread(name: str, error: Unreadable, has_times: bool) -> str:
@@ -332,7 +329,7 @@ class Files(NamedTuple):
     file: bytes
     beside: tuple[tuple[int, bytes], ...]
     givens: Optional[bytes]
-    background: bytes
+    background: Optional[bytes]
     kept: tuple[tuple[int, str, bytes], ...]
 
     def of(self, number: int) -> list[bytes]:
@@ -365,15 +362,17 @@ def files_of(task: Task, settings: Settings) -> Files:
         return b""  # it is made again
 
     beside = tuple((of, bytes_of(held, "its certificate: ")) for of, held in task.beside)
-    givens = None if task.givens is None else bytes_of(task.givens, "its givens: ")
+    givens, background = (
+        None if file is None else bytes_of(file, f"its {name}: ") for name, file in (("givens", task.givens), ("background", task.background))
+    )
     kept = tuple((number, text, made(held)) for number, text, held in task.kept)
-    return Files(bytes_of(task.file), beside, givens, bytes_of(task.background, "its background: "), kept)
+    return Files(bytes_of(task.file), beside, givens, background, kept)
 
 
 def _content(files: Files) -> str:
     """A digest of a file and of what lies beside it: also of which puzzle each certificate is for."""
-    parts = [("", files.file), ("background", files.background)]
-    parts += [] if files.givens is None else [("givens", files.givens)]
+    told = ("background", files.background), ("givens", files.givens)
+    parts = [("", files.file), *((name, data) for name, data in told if data is not None)]
     parts += [(f"{of}", held) for of, held in files.beside]
     front = ",".join(f"{name} {len(held)}" for name, held in parts).encode("ascii")
     return hashlib.blake2b(b":".join((front, *(held for _, held in parts))), digest_size=16).hexdigest()

@@ -14,9 +14,10 @@ ALL_UNIQUE, SOME_NOT, ERRORS = 0, 1, 3
 
 
 class Tally:
-    """How many puzzles have which verdict, grade and flaw."""
+    """How many puzzles have which verdict, grade and flaw, but for flaws of the kinds that are allowed."""
 
-    def __init__(self) -> None:
+    def __init__(self, allowed: tuple[str, ...]) -> None:
+        self._allowed = allowed
         self._verdicts: Counter[str] = Counter()
         self._grades: Counter[str] = Counter()
         self._flaws: Counter[str] = Counter()
@@ -30,7 +31,7 @@ class Tally:
         if verdict == "error":
             self._missing.update(name for name in [row_of(text).get("missing")] if name)
         elif any(mark in text for mark in FLAW_MARKS):
-            self._flaws.update(flaws_of(row_of(text)))
+            self._flaws.update(flaws_of(row_of(text), self._allowed))
         if '"note":"' in text:
             note = row_of(text)["note"]
             self._unwritten.update(word for word in WRITTEN if unwritten(word) in note)
@@ -55,7 +56,7 @@ class Tally:
         """The lines that end a run."""
         lines = [f"{self.total} {'puzzle' if self.total == 1 else 'puzzles'}{f': {counted(self._verdicts, VERDICTS)}' if self.total else ''}"]
         if self._grades:
-            lines.append(f"grades (not proved): {counted(self._grades, GRADES)}")
+            lines.append(f"grades: {counted(self._grades, GRADES)}")
         if self._flaws:
             lines.append(f"besides: {counted(self._flaws, sorted(self._flaws))}")
         return "\n".join(lines)

@@ -11,8 +11,7 @@ import re
 from typing import Any, Iterator, NamedTuple, Optional
 
 from .._calls import picture_of
-from .._colours import colours_too_near
-from .puzzles import MOST_CELLS, MOST_COLOURS, WHITE, Missing, Puzzle, Triple, Unreadable, one_line
+from .puzzles import BLACK, MOST_CELLS, MOST_COLOURS, WHITE, Missing, Puzzle, Triple, Unreadable, one_line
 
 MOST_ELEMENTS = 200_000  # in one puzzle
 MOST_DEPTH = 32
@@ -21,8 +20,9 @@ MOST_PART = 1 << 20  # bytes of a tag or a comment, about: expat reads it again 
 MOST_SPACE = 200  # characters of a namespace, which each name in it repeats
 NO_MEMORY = 1  # an error of expat
 GIVENS = "givens"
-BLACK: Triple = (0, 0, 0)
 Signs = list[list[str]]
+_CELL = r"\\[^\r\n]|\[[^]\r\n]*\]|[^|\\\[\r\n]"  # of a row: line breaks are none, since not all readers count them alike
+_ENTITY = re.compile(rb"&(?!(?:lt|gt|amp|quot|apos|#[0-9]+|#x[0-9a-fA-F]+);)")
 
 
 class Colour(NamedTuple):
@@ -45,6 +45,7 @@ def puzzles_of_xml(data: bytes) -> Iterator[Puzzle | Unreadable]:
         parser = ElementTree.XMLParser(forbid_entities=True)
         parser.parser.AttlistDeclHandler = _refuse_attributes
         parser.parser.StartNamespaceDeclHandler = _look_at_space
+        parser.parser.EndDoctypeDeclHandler = lambda: _look_at_entities(data)
         parser.parser.XmlDeclHandler = lambda _version, coding, _alone: _look_at_coding(data, coding or "utf-8")
         yield from _puzzles(ElementTree.iterparse(_Pieces(data, parser.parser), events=("start", "end"), parser=parser))
     except DefusedXmlException as error:
@@ -78,6 +79,12 @@ def _look_at_coding(data: bytes, coding: str) -> None:
     """The page takes each file for UTF-8: in another coding, letters could be others there."""
     if coding.lower() not in ("utf-8", "utf-16") and not data.isascii():
         raise Unreadable("the XML cannot be read: it has letters in another coding than UTF-8 or UTF-16")
+
+
+def _look_at_entities(data: bytes) -> None:
+    """Behind a document type expat leaves out an entity in an attribute that it does not know, and the page leaves it as it stands."""
+    if _ENTITY.search(data.replace(b"\0", b"")):
+        raise Unreadable("the XML cannot be read: it has a document type, and names an entity that is not declared")
 
 
 def _look_at_space(_prefix: Optional[str], space: Optional[str]) -> None:
@@ -127,9 +134,10 @@ def puzzle_of(element: Any) -> Puzzle:
         used = {name for lines in clues.values() for line in lines or () for _, name in line}
         if not used | {ground} <= colours.keys():
             raise Unreadable("the puzzle has clues, or a background, in a colour that it does not have")
-        if any(name == ground or colours_too_near(colours[name].triple, colours[ground].triple) for name in used):
-            raise Unreadable("the puzzle has clues in a colour that looks like its background")
-        return Puzzle(text, is_non=True, title=title)
+        if ground in used:
+            raise Unreadable("the puzzle has clues in the colour of its background")
+        under, ink = _apart([colours[ground], *(colours[name] for name in sorted(used) or ["black"])])
+        return Puzzle(text, is_non=True, background=_named(under), title=title, inks=(under, ink))
     signs, *others = map(_image, goals)
     if any(other != signs for other in others):
         raise Unreadable("the puzzle has several goals, and they are different pictures")
@@ -140,7 +148,12 @@ def puzzle_of(element: Any) -> Puzzle:
     published = b"" if saved is None else _givens(_image(saved), signs)
     triples = {colour.name: triple for colour, triple in zip(order, _apart(order))}
     text = picture_of(len(cells[0]), len(cells), [triples[name] for row in cells for name in row])
-    return Puzzle(text, background=order[0].triple, published=published, title=title)
+    return Puzzle(text, background=_named(order[0].triple), published=published, title=title)
+
+
+def _named(ground: Triple) -> Optional[Triple]:
+    """The background as it is named: every puzzle of the format has one, and white where nobody chose it."""
+    return None if ground == WHITE else ground
 
 
 def _text(element: Any) -> str:
@@ -167,7 +180,7 @@ def _colours(element: Any) -> dict[str, Colour]:
             raise Unreadable("a colour of the puzzle is declared twice")
         if one.get("char") == "?":
             raise Unreadable("a colour of the puzzle has the sign '?', which stands for a cell of any colour")
-        sign = one.get("char") or (known[name].sign if name in known else None)
+        sign = one.get("char", known[name].sign if name in known else None)
         colours[name] = Colour(name, sign, _triple(_text(one)), True)
     return {**colours, **{name: colour for name, colour in known.items() if name not in colours}}
 
@@ -213,11 +226,11 @@ def _image(solution: Any) -> Signs:
     """Rows of signs between bars. A backslash takes the next sign as it stands, and `[..]` is a cell that may have several."""
     image = _only(solution.findall("image"), "the image of a solution")
     text = "" if image is None else _text(image)
-    if len(text) > 64 * MOST_CELLS * MOST_CELLS or not re.fullmatch(r"(\s*\|(?:\\.|\[[^]]*\]|[^|\\\[])*\|)+\s*", text, re.DOTALL):
+    if len(text) > 64 * MOST_CELLS * MOST_CELLS or not re.fullmatch(rf"(\s*\|(?:{_CELL})*\|)+\s*", text):
         raise Unreadable("a row of the solution is not between bars")
     rows: Signs = []
-    for row in re.findall(r"\|((?:\\.|\[[^]]*\]|[^|\\\[])*)\|", text, re.DOTALL):
-        rows.append([_sign(cell) for cell in re.findall(r"\\.|\[[^]]*\]|[^|\\\[]", row, re.DOTALL)])
+    for row in re.findall(rf"\|((?:{_CELL})*)\|", text):
+        rows.append([_sign(cell) for cell in re.findall(_CELL, row)])
     if max(len(rows), *map(len, rows)) > MOST_CELLS:
         raise Unreadable(f"the solution is larger than {MOST_CELLS} by {MOST_CELLS}")
     if len(set(map(len, rows))) != 1 or not rows[0]:

@@ -14,7 +14,7 @@ from typing import Any, Optional
 from ..._library import version
 from ..outputs import Failure, Output, failure
 from ..puzzles import Missing
-from ..rows import FIGURES, GRADES, VERDICTS, Row, beside_words, flaws_of, name_of, near_words, printable, text_of
+from ..rows import FIGURES, GRADES, VERDICTS, Row, flaws_of, name_of, printable, text_of, words_of
 
 SIDES = (10, 15, 20, 25, 30, 40, 60, 120)  # the longer sides that puzzles are counted by
 _FOLDER = Path(__file__).resolve().parent
@@ -23,12 +23,13 @@ _FOLDER = Path(__file__).resolve().parent
 class Report:
     """Gathers rows in a file, and makes the report of them in the end."""
 
-    def __init__(self, name: str, title: Optional[str]) -> None:
+    def __init__(self, name: str, title: Optional[str], allowed: tuple[str, ...]) -> None:
         self._environment = _environment()
         if os.path.exists(name) and not os.path.isfile(name):
             raise Failure(f"{name}: this is not a file")  # the report takes its place
         self._name = name
         self._title = title
+        self._allowed = allowed
         self._output = Output(f"{name}.new")
         self._rows = tempfile.TemporaryFile(dir=os.path.dirname(name) or ".")
         self._verdicts: Counter[str] = Counter()
@@ -40,13 +41,14 @@ class Report:
         """Puts a row."""
         verdict = row["verdict"]
         self._verdicts[verdict] += 1
-        self._flaws.update(flaws_of(row))
+        flaws = flaws_of(row, self._allowed)
+        self._flaws.update(flaws)
         if "grade" in row:
             self._grades[row["grade"]] += 1
         if "rows" in row:
             side = max(row["rows"], row["columns"])
             self._sides[next((most for most in SIDES if side <= most), SIDES[-1]), verdict] += 1
-        line = text_of(record_of(row)).replace("<", "\\u003c")
+        line = text_of(record_of(row, len(flaws))).replace("<", "\\u003c")
         try:
             self._rows.write((line + ",\n").encode("ascii"))
         except OSError as error:
@@ -108,17 +110,16 @@ class Report:
         }
 
 
-def record_of(row: Row) -> list[Any]:
-    """A row as the page's script reads it. What is empty at its end is left out."""
+def record_of(row: Row, flaws: int) -> list[Any]:
+    """A row with so many flaws, as the page's script reads it. What is empty at its end is left out."""
     verdict, grade = VERDICTS.index(row["verdict"]), GRADES.index(row["grade"]) if "grade" in row else -1
-    told = (row.get("error"), row.get("note"), near_words(row), beside_words(row))
-    words = "; ".join(printable(word) for word in told if word)
+    words = "; ".join(words_of(row))
     figures = row.get("figures", {})
     givens = [(place[0] - 1) * row["columns"] + place[1] - 1 for place in row.get("givens", ())]
     record: list[Any] = [
         printable(name_of(row)), row.get("title", ""), row.get("rows", 0), row.get("columns", 0), verdict, grade, row.get("open", 0),
         "".join(row.get("palette", ())), runs_of(row.get("picture", "")), runs_of(row.get("other", "")), row.get("lines", 0),
-        row.get("seconds", 0), words, givens, [figures[name] for name in FIGURES if name in figures], len(flaws_of(row)),
+        row.get("seconds", 0), words, givens, [figures[name] for name in FIGURES if name in figures], flaws,
     ]
     while record[-1] in (0, "", []):
         record.pop()

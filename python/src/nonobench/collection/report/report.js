@@ -3,7 +3,7 @@
 
 const VERDICTS = ['unique', 'ambiguous', 'undecided', 'error'];
 const SHOWN = ['one solution', 'ambiguous', 'undecided', 'error'];
-const GRADES = ['easy', 'medium', 'hard', 'very hard', 'expert'];
+const GRADES = ['easy', 'medium', 'hard', 'very hard', 'expert', 'unknown'];
 const FIGURES = ['rounds', 'evaluations', 'longest wait', 'splits', 'depth'];
 const LETTERS = '.abcdefghijklmno';
 const CARD = { width: 208, height: 226, gap: 10, shot: 128, pair: 90 };
@@ -291,11 +291,12 @@ function figuresOf(puzzle) {
     ['Verdict', verdict],
     puzzle.columns && ['Size', `${puzzle.columns} columns, ${puzzle.rows} rows`],
     puzzle.columns && ['Cells to guess', puzzle.open ? `${number.format(puzzle.open)} are left open by line logic` : 'none: line logic solves it'],
-    puzzle.grade >= 0 && ['Grade', `${GRADES[puzzle.grade]} (${puzzle.figures.map((figure, place) => `${FIGURES[place]} ${number.format(figure)}`).join(', ')}); not proved`],
+    puzzle.grade >= 0 && ['Grade', `${GRADES[puzzle.grade]} (${puzzle.figures.map((figure, place) => `${FIGURES[place]} ${number.format(figure)}`).join(', ')})`],
     puzzle.lines && ['Certificate', `${number.format(puzzle.lines)} lines`],
-    puzzle.givens.length && ['Given cells', `${puzzle.givens.length}, with a ring`],
+    puzzle.columns && ['Given cells', puzzle.givens.length ? `${puzzle.givens.length}, with a ring` : 'none'],
+    puzzle.columns && ['Background', ...swatches.slice(0, 2)],
     puzzle.seconds && ['Time', `${puzzle.seconds.toPrecision(3)} s`],
-    puzzle.colours.length && ['Colours', ...swatches],
+    puzzle.colours.length > 1 && ['Colours', ...swatches.slice(2)],
     puzzle.words && ['Besides', puzzle.words],
   ].filter(Boolean);
 }

@@ -1,4 +1,4 @@
-// One line of a nonogram: which colours a cell has in some filling of it. A plain solver beside the proved one, for figures alone.
+// One line of a nonogram: which colours a cell has in some filling of it. For searches alone: what they find, the session judges.
 //
 // Candidates are a mask for each cell: bit 0 is the background, bit k colour k.
 
