@@ -27,8 +27,8 @@ EXAMPLE = 'examples/site/app.py'
 UPLOAD = 'examples/check_upload.mjs'
 IMAGE = ('python/src/nonobench/_images.py', 'MOST_CELLS =')
 FILES = ('python/src/nonobench/collection/puzzles.py', 'MOST_BYTES =')
-REDMEAN = 'python/src/nonobench/_colours.py'
-GRADES = ('page/grade/grade.js', 'python/src/nonobench/_grade.py')
+REDMEAN = 'crates/flaws/src/alike.rt'
+GRADE = 'crates/grade/src/word.rt'
 STATED = [
     ('README.md', 'A puzzle has up to N by', 1, [PICTURE]),
     ('README.md', 'by 120 cells and N colours', 1, [COLOURS]),
@@ -61,9 +61,9 @@ STATED = [
     ('docs/FORMATS.md', 'a regular one of at most N MiB', MIB, [FILES]),
     ('docs/FORMATS.md', 'or is longer than N MiB, the row has an error', MIB, [FILES]),
     ('docs/FORMATS.md', 'An image of more than N by 120 pixels', 1, [IMAGE]),
-    ('docs/FORMATS.md', '(N + s) dr dr', 1, [(REDMEAN, 'return \\(')]),
-    ('docs/FORMATS.md', 'dr dr + N dg dg', 1, [(REDMEAN, r'red \* red \+')]),
-    ('docs/FORMATS.md', 'dg dg + (N - s) db db', 1, [(REDMEAN, r'green \* green \+ \(')]),
+    ('docs/FORMATS.md', '(N + s) dr dr', 1, [(REDMEAN, r'    weighted\(')]),
+    ('docs/FORMATS.md', 'dr dr + N dg dg', 1, [(REDMEAN, r'\+ weighted\((?=2)')]),
+    ('docs/FORMATS.md', 'dg dg + (N - s) db db', 1, [(REDMEAN, r'\+ weighted\((?=1)')]),
     ('docs/FORMATS.md', 'a PPM picture at most N pixels a side', 1, [('page/formats/ppm.js', 'MOST_PIXELS =')]),
     ('docs/FORMATS.md', 'An image has at most N pixels', 1, [('page/import/decoding.js', 'MOST_DECODED =')]),
     ('docs/FORMATS.md', 'If an image has more than N pixels a side', 1, [('page/import/decoding.js', 'MOST_SIDE =')]),
@@ -87,13 +87,13 @@ STATED = [
     ('docs/FORMATS.md', 'is cut into parts of at most N', 1, [('page/export/sheets.js', 'MOST_LINES =')]),
     ('docs/FORMATS.md', 'with every tint is at least N to 1', 1, [('tests/page/page_sheets.mjs', 'least >=')]),
     ('docs/FORMATS.md', 'the page reads at most N files', 1, [('page/import/folders.js', 'MOST_UNITS =')]),
-    ('docs/FORMATS.md', 'db db < N', 1, [('python/src/nonobench/_colours.py', '_BOUND =')]),
-    ('docs/FORMATS.md', '| easy | none | at most N rounds', 1, [(file, r'easy.*rounds"?:') for file in GRADES]),
-    ('docs/FORMATS.md', 'at most 2 rounds, and a longest wait of at most N', 1, [(file, r'easy.*wait"?:') for file in GRADES]),
-    ('docs/FORMATS.md', '| medium | none | at most N rounds', 1, [(file, r'medium.*rounds"?:') for file in GRADES]),
-    ('docs/FORMATS.md', 'at most 4 rounds, and a longest wait of at most N', 1, [(file, r'medium.*wait"?:') for file in GRADES]),
-    ('docs/FORMATS.md', '| very hard | some | at most N splits', 1, [(file, r'very_?hard.*splits"?:') for file in GRADES]),
-    ('docs/FORMATS.md', 'at most 3 splits, and a depth of at most N', 1, [(file, r'very_?hard.*depth"?:') for file in GRADES]),
+    ('docs/FORMATS.md', 'db db < N', 1, [(REDMEAN, r'rgb_shown\(maxval, other\)\) <')]),
+    ('docs/FORMATS.md', '| easy | none | at most N rounds', 1, [(GRADE, r'rounds <= (?=.*\n *Word::Easy)')]),
+    ('docs/FORMATS.md', 'at most 2 rounds, and a longest wait of at most N', 1, [(GRADE, r'wait <= (?=.*\n *Word::Easy)')]),
+    ('docs/FORMATS.md', '| medium | none | at most N rounds', 1, [(GRADE, r'rounds <= (?=.*\n *Word::Medium)')]),
+    ('docs/FORMATS.md', 'at most 4 rounds, and a longest wait of at most N', 1, [(GRADE, r'wait <= (?=.*\n *Word::Medium)')]),
+    ('docs/FORMATS.md', '| very hard | some | at most N splits', 1, [(GRADE, r'splits <= (?=.*\n *Word::VeryHard)')]),
+    ('docs/FORMATS.md', 'at most 3 splits, and a depth of at most N', 1, [(GRADE, r'depth <= (?=.*\n *Word::VeryHard)')]),
     ('docs/ARCHITECTURE.md', 'or up to N splits if none is set', 1, [(BOUNDS, 'fixed_splits:')]),
     ('docs/ARCHITECTURE.md', 'once more, up to N splits', 1, [(BOUNDS, 'again_splits:')]),
     ('docs/ARCHITECTURE.md', 'searches with lemmas, up to N conflicts', 1, [(BOUNDS, r'window_splits: \d+,\n    conflicts:')]),
@@ -116,7 +116,7 @@ STATED = [
     ('packages/npm/README.md', 'The module has at most N GiB', 1024 * MIB, [('web/build', '--max-memory=')]),
     ('packages/npm/README.md', 'takes at most N by 120 cells', 1, [PICTURE]),
     ('packages/npm/README.md', 'by 120 cells in N colours', 1, [COLOURS]),
-    ('packages/npm/README.md', 'the call returns status N', 1, [('web/guard.c', 'OPTIONS ='), ('c/nonobench.h', 'NONOBENCH_OPTIONS =')]),
+    ('packages/npm/README.md', 'the call returns status N', 1, [('web/within.h', 'OPTIONS ='), ('c/nonobench.h', 'NONOBENCH_OPTIONS =')]),
     ('python/README.md', 'a triple of numbers from 0 to N', 1, [('python/src/nonobench/_calls.py', 'NO_TRIPLE =.* to')]),
     ('examples/site/README.md', 'an image at most N by 120 pixels', 1, [IMAGE]),
     ('examples/site/README.md', 'N uploads are checked at once', 1, [(EXAMPLE, ' WORKERS=')]),

@@ -11,6 +11,8 @@ from tried import BUILT, ROOT, ended, version_of_tree
 PLACES = {
     'docs/nonobench.1': r'^This page is of version (.*)\.$',
     'c/nonobench.h': r'^#define NONOBENCH_VERSION "(.*)"$',
+    'c/nonocheck.h': r'^#define NONOCHECK_VERSION "(.*)"$',
+    'crates/check_host/src/calls.rt': r'^const VERSION: &str = "(.*)";$',
     'python/pyproject.toml': r'^version = "(.*)"$',
     'CHANGELOG.md': r'^## ([^ ,]*)',
 }

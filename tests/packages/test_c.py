@@ -14,7 +14,10 @@ GIVEN_LEMMAS = 'nonolemma 1\ngiven 1 1\nline r 1\nline c 1\nline r 2\ndone\n'
 ALL_GIVEN = 'given 1 1\ngiven 1 2\ngiven 2 1\ngiven 2 2\ndone\n'
 MEBIBYTE = 1 << 20
 USAGE = 'usage: example PICTURE CERTIFICATE [ROW,COLUMN ..]'
-ACCEPTED = 'certificate accepted'
+# By hand, as in tests/cases/fit.txt: the first has one solution, the second with its given, and the third has a given too many.
+DIAGONAL = (0, 'unique\nsize 2 2\ncolours 3\ngivens 0\nopen 0\ngrade easy 1 4 3 0 0\nfit')
+GIVEN = (0, 'unique\nsize 2 2\ncolours 2\ngivens 1\nopen 0\ngrade easy 1 4 2 0 0\nfit')
+SPARE = (1, 'unique\nsize 2 2\ncolours 2\ngivens 2\nopen 0\ngrade easy 1 2 1 0 0\nflaw spare 2 2\nunfit')
 
 
 def refused(why):
@@ -46,6 +49,18 @@ def test_c(test_program):
 
 
 @pytest.mark.since('0.7.0')
+@pytest.mark.compiler
+@pytest.mark.parametrize('kind', ['a', 'so'])
+def test_checker(library, kind, tmp_path):
+    needs('cc')
+    checker = needs_file(library.with_name(f'libnonocheck.{kind}'), 'c/build')
+    tried = [f'-DTRIED="{os.environ["TRIED"]}"'] if 'TRIED' in os.environ else []
+    words = [ROOT / 'c' / 'check_test.c', checker, f'-Wl,-rpath,{checker.parent}', '-o', tmp_path / 'check_test']
+    passes([*COMPILE, *tried, *words])
+    passes([tmp_path / 'check_test', CASES])
+
+
+@pytest.mark.since('0.7.0')
 @pytest.mark.all
 @pytest.mark.emulator
 @pytest.mark.parametrize(
@@ -57,9 +72,10 @@ def test_c_under_valgrind(test_program, words):
 
 
 @pytest.mark.compiler
-def test_header_in_cpp():
+@pytest.mark.parametrize('name', ['nonobench.h', 'nonocheck.h'])
+def test_header_in_cpp(name):
     needs('c++')
-    passes(['c++', '-std=c++11', '-Wall', '-Wextra', '-Werror', '-fsyntax-only', '-x', 'c++', ROOT / 'c' / 'nonobench.h'])
+    passes(['c++', '-std=c++11', '-Wall', '-Wextra', '-Werror', '-fsyntax-only', '-x', 'c++', ROOT / 'c' / name])
 
 
 def files():
@@ -88,23 +104,23 @@ def files():
 
 # What the example is called with, its status and what it prints or says. What stands behind a MiB is read too.
 CALLS = {
-    'diagonal.ppm diagonal.cert': (0, ACCEPTED),
-    'given.ppm given.cert 1,1': (0, f'{ACCEPTED}, givens 1'),
+    'diagonal.ppm diagonal.cert': DIAGONAL,
+    'given.ppm given.cert 1,1': GIVEN,
     'given.ppm given.cert': unpublished(2),
     'cross.ppm cross.cert': unpublished(2),
     'cross.ppm cross.cert 1,2 1,1 2,2': unpublished(4),
     'given.ppm diagonal.cert': refused('certificate NotDead at line 5'),
-    'diagonal.ppm diagonal.lemmas': (0, ACCEPTED),
-    'given.ppm given.lemmas 2,2 1,1': (0, f'{ACCEPTED}, givens 1'),
+    'diagonal.ppm diagonal.lemmas': DIAGONAL,
+    'given.ppm given.lemmas 2,2 1,1': SPARE,
     'given.ppm given.lemmas': unpublished(2),
     'given.ppm given.lemmas 1,1 1,3': refused('givens Place at line 2'),
     'cross.ppm lemmas.cert 1,2 1,1 2,2': unpublished(4),
     'given.ppm diagonal.lemmas': refused('certificate NotDead at line 4'),
     'diagonal.ppm cut.cert': refused('certificate NotCert at line 1'),
-    'blank.ppm diagonal.cert': (0, ACCEPTED),
+    'blank.ppm diagonal.cert': DIAGONAL,
     'more.ppm diagonal.cert': refused(f'ppm TrailingToken at byte {len((EXAMPLES / "diagonal.ppm").read_bytes()) + MEBIBYTE}'),
     'diagonal.ppm more.cert': refused('certificate BadLine at line 10'),
-    'most.ppm diagonal.cert': (0, ACCEPTED),
+    'most.ppm diagonal.cert': DIAGONAL,
     'longer.ppm diagonal.cert': refused('input too long'),
     'diagonal.ppm longer.ppm': refused('input too long'),
     'none.ppm diagonal.cert': (3, 'example: none.ppm: No such file or directory'),

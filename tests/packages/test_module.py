@@ -1,11 +1,16 @@
 """The module for browsers: built twice to the same bytes, its functions beside what calls them, and what it answers beside the
 program."""
 
+import functools
+import http.server
+import re
+import shutil
 import sys
+import threading
 from pathlib import Path
 
 import pytest
-from tried import ROOT, ended, needs, needs_file, node_tests, passes
+from tried import EXAMPLES, ROOT, ended, needs, needs_file, node_tests, passes
 
 sys.path.append(str(ROOT / 'measure'))
 
@@ -26,7 +31,7 @@ def bitcode():
 @pytest.mark.toolchain
 def test_built_again_it_has_the_same_bytes(bitcode, module, tmp_path):
     passes([ROOT / 'web' / 'build', tmp_path], env={'MODULE': str(bitcode)})
-    passes(['diff', '-r', '-x', 'module.bc', module.parent, tmp_path])
+    passes(['diff', '-r', '-x', 'module.bc', '-x', 'module.check.bc', module.parent, tmp_path])
 
 
 @pytest.mark.toolchain
@@ -48,6 +53,33 @@ def test_what_makes_it_narrow(request, kit):
 
 def test_in_node(request, module):
     node_tests(request, ROOT / 'web' / 'test.mjs', {'WASM': str(module)})
+
+
+@pytest.mark.since('0.7.0')
+def test_checker_in_node(request, module):
+    node_tests(request, ROOT / 'web' / 'check_test.mjs', {'WASM': str(module), 'CHECK': str(module.parent)})
+
+
+@pytest.mark.all
+@pytest.mark.since('0.7.0')
+def test_badge_in_a_browser(module, tmp_path):
+    """examples/badge.html on a server: of its three puzzles the last names a given that is not published."""
+    found = next((shutil.which(name) for name in ('chromium', 'chromium-browser', 'google-chrome') if shutil.which(name)), None)
+    if not found:
+        pytest.skip('there is no Chromium')
+    for file in (EXAMPLES / 'badge.html', *EXAMPLES.glob('*.ppm'), *EXAMPLES.glob('*.cert'), *EXAMPLES.glob('*.givens')):
+        shutil.copy(file, tmp_path)
+    for kind in ('wasm', 'mjs'):
+        shutil.copy(module.with_name(f'nonobench-check.{kind}'), tmp_path)
+    handler = functools.partial(http.server.SimpleHTTPRequestHandler, directory=tmp_path)
+    with http.server.ThreadingHTTPServer(('127.0.0.1', 0), handler) as server:
+        threading.Thread(target=server.serve_forever, daemon=True).start()
+        words = ['--headless', '--no-sandbox', '--disable-gpu', '--virtual-time-budget=10000', f'--user-data-dir={tmp_path}/home']
+        run = ended(['timeout', '600', found, *words, '--dump-dom', f'http://127.0.0.1:{server.server_port}/badge.html'])
+        server.shutdown()
+    right = 'one solution, checked in your browser'
+    wanted = [right, right, 'not proved: certificate UnpublishedGiven at line 2']
+    assert re.findall(r'<span class="badge \w+"[^>]*>([^<]*)<', run.wrote.decode()) == wanted
 
 
 @pytest.mark.compiler

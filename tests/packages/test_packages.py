@@ -19,6 +19,9 @@ TRIALS = ROOT / 'packages' / 'trials'
 MOST_PACKED = 12 << 20
 MOST_PROGRAM = 3 << 19
 
+# What is said of the picture diagonal (tests/cases/grade.case).
+DIAGONAL = 'unique\nsize 2 2\ncolours 3\ngivens 0\nopen 0\ngrade easy 1 4 3 0 0\nfit'
+
 
 @pytest.fixture(scope='session')
 def version(made):
@@ -46,6 +49,11 @@ def prints(status, wanted, words, **more):
     assert (run.status, (run.wrote + run.said).decode().strip()) == (status, wanted), words
 
 
+# What the example for C prints of the pairs that are right, by hand as in tests/cases/fit.txt.
+FIT = 'unique\nsize 2 2\ncolours 3\ngivens 0\nopen 0\ngrade easy 1 4 3 0 0\nfit'
+ALL_GIVEN = 'unique\nsize 2 2\ncolours 2\ngivens 4\nopen 0\ngrade easy 0 0 0 0 0\nfit'
+
+
 def try_program(words, pairs, version):
     """Tries a program on the pairs. Of the one that is refused the native program says which line is wrong."""
     files, why = pairs
@@ -55,13 +63,13 @@ def try_program(words, pairs, version):
     prints(0, 'certificate accepted, givens 4', [*words, 'check', *files['all']])
 
 
-def try_call(words, pairs, **more):
+def try_call(words, pairs, good='certificate accepted', all_given='certificate accepted, givens 4', **more):
     """Tries a call on the pairs: one whose givens are all cells is refused unless they are published."""
     files, why = pairs
-    prints(0, 'certificate accepted', [*words, *files['good']], **more)
+    prints(0, good, [*words, *files['good']], **more)
     prints(1, f'refused: {why.removeprefix("nonobench: ")}', [*words, *files['bad']], **more)
     prints(1, 'refused: certificate UnpublishedGiven at line 2', [*words, *files['all']], **more)
-    prints(0, 'certificate accepted, givens 4', [*words, *files['all'], '1,1', '1,2', '2,1', '2,2'], **more)
+    prints(0, all_given, [*words, *files['all'], '1,1', '1,2', '2,1', '2,2'], **more)
 
 
 def test_no_toolchain_in_clean_folders():
@@ -143,7 +151,7 @@ def test_npm(npm, pairs, version):
 def test_npm_upload(npm, pairs):
     needs('npx')
     files, _ = pairs
-    prints(0, 'certificate accepted', ['npx', '--offline', 'nonobench-check-upload', *files['good']], cwd=npm)
+    prints(0, DIAGONAL, ['npx', '--offline', 'nonobench-check-upload', *files['good']], cwd=npm)
 
 
 def test_npm_calls(npm, pairs):
@@ -156,7 +164,7 @@ def test_npm_example(npm, pairs):
     """The example of an upload, copied beside the installed package."""
     shutil.copy(EXAMPLES / 'check_upload.mjs', npm)
     files, _ = pairs
-    prints(0, 'certificate accepted', ['node', npm / 'check_upload.mjs', *files['good']])
+    prints(0, DIAGONAL, ['node', npm / 'check_upload.mjs', *files['good']])
     prints(1, 'refused: certificate UnpublishedGiven at line 2', ['node', npm / 'check_upload.mjs', *files['all']])
 
 
@@ -231,7 +239,7 @@ def test_library_for_c(installed, pairs, version, tmp_path):
     ):
         built = clean(['cc', '-std=c11', example, *flags, '-o', tmp_path / name])
         assert built.status == 0, built
-        try_call([tmp_path / name], pairs)
+        try_call([tmp_path / name], pairs, FIT, ALL_GIVEN)
 
 
 @pytest.mark.since('0.7.0')

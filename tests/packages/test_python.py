@@ -12,11 +12,6 @@ ASK = '''import sys, nonobench
 print(nonobench.check(*(open(name, "rb").read() for name in sys.argv[1:]), published=[(1, 1)]).givens)'''
 
 
-def test_grades():
-    """The cases that the page's grade passes too. It needs no library: the grade is plain code."""
-    passes([sys.executable, ROOT / 'tests' / 'packages' / 'grade_cases.py'])
-
-
 @pytest.mark.since('0.7.0')
 @pytest.mark.all
 def test_by_pip(library, tmp_path):

@@ -1,13 +1,17 @@
-// Tests of the search for a grade on small pictures: all repaints of one cell and all given cells, against brute force by the definition
-// of grades. The session they ask is a stand-in that answers by line logic. Run: node --test tests/page/aiming_small.mjs
+// Tests of the search for a grade on small pictures: all repaints of one cell and all given cells, against brute force over what the
+// module says of each. Run: node --test tests/page/aiming_small.mjs
 import assert from 'node:assert/strict';
 import { test } from 'node:test';
-import { LINE_WORDS, farFrom, gradeByLines, gradeOf } from '../../page/grade/grade.js';
-import { Narrowing, Puzzle, cellsOf, mapOf } from '../../page/grade/puzzle.js';
-import { Board } from '../../page/repair/board.js';
+import { engine, hasModule, needsModule } from '../../page/test/worker.mjs';
+import { baseOf } from '../../page/document/cover.js';
+import { fallsOf } from '../../page/engine/serve.js';
+import { LINE_WORDS, farFrom } from '../../page/repair/aiming.js';
+import { Board, LETTERS, cellsOf } from '../../page/repair/board.js';
 import { aim } from '../../page/repair/repair.js';
+import { waits } from '../waits.mjs';
 
-const LETTERS = '.abc';
+const module = hasModule ? await engine() : null;
+const skip = needsModule.skip || waits('0.7.0');
 const [ROWS, COLUMNS] = [6, 8];
 const BOUNDS = { seconds: 60, questions: 1e6, now: () => 0 }; // the clock stands still, so no machine is too slow
 
@@ -18,30 +22,27 @@ function random(seed) {
 
 const cellsBy = (next) => Uint8Array.from({ length: ROWS * COLUMNS }, () => (next(5) < 3 ? 1 : next(8) === 0 ? 2 : 0));
 const pictureOf = (cells) => Array.from({ length: ROWS }, (_, row) => Array.from(cells.subarray(row * COLUMNS, (row + 1) * COLUMNS), (colour) => LETTERS[colour]).join(''));
-const settled = (cells, givens = []) => new Narrowing(new Puzzle(ROWS, COLUMNS, cells, givens)).settle();
-// The word of FORMATS' definition, where line logic solves the puzzle; else null.
-const wordOf = (cells, givens = []) => (settled(cells, givens).open ? null : gradeOf({ picture: pictureOf(cells), givens, verdict: 'unique' }).word);
-
-// A session that is told of paints and pins, and answers `map` and `verdict` by line logic.
-function sessionOf(cells) {
-    const shown = cells.slice();
-    const pins = new Set();
-    const index = ([, row, column]) => (Number(row) - 1) * COLUMNS + Number(column) - 1;
-    const calls = {
-        paint: (words) => { shown[index(words)] = LETTERS.indexOf(words[3]); return 'ok'; },
-        pin: (words) => { pins.add(index(words)); return 'ok'; },
-        unpin: (words) => { pins.delete(index(words)); return 'ok'; },
-        allow: () => 'ok',
-        map: () => mapOf(settled(shown, [...pins])).join('\n'),
-        verdict: () => (settled(shown, [...pins]).open ? 'undecided' : 'unique'),
-    };
-    return (lines) => lines.map((line) => `${calls[line.split(' ')[0]](line.split(' '))}\n`).join('');
+const textOf = (cells) => `P3 ${COLUMNS} ${ROWS} 15\n${[...cells].map((colour) => `${colour} 0 0`).join('\n')}\n`;
+const BACKGROUND = '0,0,0';
+const placeOf = (index) => [Math.floor(index / COLUMNS) + 1, (index % COLUMNS) + 1];
+// What the module says of a picture: the cells that line logic leaves open, and the figures where it leaves none.
+function said(cells, givens = []) {
+    const { open, grade } = module.assess(textOf(cells), { background: BACKGROUND, givens: givens.map(placeOf), allowance: 0 });
+    return { ...grade, open, word: open ? null : grade.word };
 }
+const wordOf = (cells, givens) => said(cells, givens).word;
 
 async function aimed(cells, word, more = {}, others = {}) {
     const [repaints, givens] = [[], []];
     const board = new Board({ rows: ROWS, columns: COLUMNS, cells, ...more });
-    const result = await aim({ board, word, say: sessionOf(cells), ...BOUNDS, ...others }, { found: (one) => (one.given ? givens.push(one.given) : repaints.push(one.cells)) });
+    const colours = [0, 1, 2].map((red) => [red, 0, 0]);
+    const base = baseOf({ rows: ROWS, columns: COLUMNS, maxval: 15, colours, picture: pictureOf(cells), givens: new Set() });
+    const bench = module.open(base.text, { background: base.background });
+    const say = (lines) => bench.say(lines.map((line) => `${line}\n`).join(''));
+    say(base.lines);
+    const path = () => fallsOf(say, board);
+    const result = await aim({ board, word, say, path, grade: said, ...BOUNDS, ...others }, { found: (one) => (one.given ? givens.push(one.given) : repaints.push(one.cells)) });
+    bench.close();
     return { board, repaints, givens, result };
 }
 
@@ -52,15 +53,6 @@ const painted = (cells, changes) => {
 };
 const besides = (index) => [index - COLUMNS, index + COLUMNS, ...(index % COLUMNS ? [index - 1] : []), ...((index + 1) % COLUMNS ? [index + 1] : [])].filter((one) => one >= 0 && one < ROWS * COLUMNS);
 
-test('a word is none where cells are open, and that of the definition else', () => {
-    const next = random(5);
-    for (let turn = 0; turn < 200; turn++) {
-        const cells = cellsBy(next);
-        assert.equal(gradeByLines(new Puzzle(ROWS, COLUMNS, cells)).word, wordOf(cells));
-    }
-});
-
-// By hand, from the bounds of FORMATS: easy has at most 2 rounds and a wait of 8, medium at most 4 and 15.
 test('figures are no distance from their own word, and farther from one the more they miss it', () => {
     const figures = (rounds, wait, word, open = 0) => ({ rounds, wait, word, open });
     for (const [rounds, wait, word] of [[2, 8, 'easy'], [3, 8, 'medium'], [4, 15, 'medium'], [5, 1, 'hard'], [1, 16, 'hard']]) {
@@ -75,7 +67,7 @@ test('figures are no distance from their own word, and farther from one the more
     isNearer(figures(9, 60, 'hard'), figures(2, 2, null, 1), 'easy');
 });
 
-test('repaints of one cell and given cells are those of brute force; each of more cells has the word', async () => {
+test('repaints of one cell and given cells are those of brute force; each of more cells has the word', { skip }, async () => {
     const next = random(11);
     const met = { single: 0, more: 0, given: 0, none: 0 };
     for (let turn = 0; turn < 20;) {
@@ -114,7 +106,7 @@ test('repaints of one cell and given cells are those of brute force; each of mor
     assert.ok(Object.values(met).every((count) => count > 0), JSON.stringify(met));
 });
 
-test('from a picture with open cells, too; a picture that has the word is told', async () => {
+test('from a picture with open cells, too; a picture that has the word is told', { skip }, async () => {
     const next = random(23);
     let met = 0;
     for (let turn = 0; turn < 12;) {
@@ -133,7 +125,7 @@ test('from a picture with open cells, too; a picture that has the word is told',
     assert.ok(met > 1, `${met}`);
 });
 
-test('locks and symmetry are heeded', async () => {
+test('locks and symmetry are heeded', { skip }, async () => {
     const next = random(31);
     let met = 0;
     for (let turn = 0; turn < 300 && met < 12; turn++) {
@@ -152,12 +144,12 @@ test('locks and symmetry are heeded', async () => {
     assert.ok(met >= 12);
 });
 
-test('who grades is asked alone: another one that answers later takes its place', async () => {
+test('who grades is asked alone: another one that answers later takes its place', { skip }, async () => {
     const cells = cellsOf(['aaaaaaaa', ...Array(5).fill('a.......')]);
     const asked = [];
-    const grade = async (puzzle) => {
-        asked.push(puzzle.cells.slice());
-        return { rounds: 1, wait: 1, open: 0, word: puzzle.cells[COLUMNS + 1] === 1 ? 'hard' : 'easy' };
+    const grade = async (candidate) => {
+        asked.push(candidate.slice());
+        return { rounds: 1, wait: 1, open: 0, word: candidate[COLUMNS + 1] === 1 ? 'hard' : 'easy' };
     };
     const { repaints } = await aimed(cells, 'hard', {}, { grade });
     assert.deepEqual(repaints, [[{ index: COLUMNS + 1, colour: 1 }]]);

@@ -100,6 +100,9 @@ test('XML: elements, attributes, texts and signs', () => {
 });
 
 test('XML that is not read', () => {
+    // Line ends are line feeds, and within an attribute blanks; what numbers name stays.
+    const lines = readXml("<a b='1\r\n2\t3&#10;4\r'>x\r\ny\rz&#13;\t</a>\r\n");
+    assert.deepEqual([lines.attributes.get('b'), lines.text], ['1 2 3\n4 ', 'x\ny\nz\r\t']);
     refused(() => readXml('<a>'), /not closed/);
     refused(() => readXml('<a></b>'), /closes nothing/);
     refused(() => readXml('<a/><b/>'), /not exactly one outermost/);

@@ -77,15 +77,22 @@ export async function walkingPoint(hands) {
     assert.equal(await trial.judged(), 'unique');
     await moreOf(hands);
     await hands.press('#verdict-do [data-action="walk"]');
-    await said(page, '^Step 0 of \\d+');
+    await said(page, '^Step 0 of [1-9]');
     if (hands.byKeys) await page.press('ArrowRight');
     else await hands.press('#walk-on');
-    await said(page, '^Step 1 of \\d+: Row 3 settles columns 1–3 by its clue alone');
-    await hands.press('#walk-hardest');
-    await said(page, '^Step [2-9]');
+    await said(page, '^Step 1 of 6: Row 2 settles column 2\\.$');
+    for (let step = 2; step <= 6; step++) await hands.press('#walk-on');
+    await said(page, '^Step 6 of 6: Row 2 settles column 1, since columns 2–3 are known\\.$');
+    await hands.press('#walk-hardest'); // one cell by one block
+    await said(page, '^Step 1 of 6');
     await hands.press('#walk-end');
     assert.equal(await page.run(() => play.marks.flat().every((mark) => mark === '?')), true, 'the own marks stand again');
-    for (const wanted of ['^Row 3 tells more\\.$', '^Row 3 settles columns 1–3\\.$', 'by its clue alone']) {
+    for (const wanted of ['^Row 2 tells more\\.$', '^Row 2 settles column 2\\.$']) {
+        await hands.press('#play-hint');
+        await said(page, wanted);
+    }
+    await page.run(() => { play.marks = ['?a.', 'aa.', '???'].map((row) => [...row]); });
+    for (const wanted of ['^Row 1 tells more\\.$', '^Row 1 settles column 1\\.$', '^Row 1 settles column 1, since columns 2–3 are known\\.$']) {
         await hands.press('#play-hint');
         await said(page, wanted);
     }
@@ -185,39 +192,70 @@ export async function gradeBeside({ trial, page }) {
     await trial.open(ppmOf(['.a.', 'aa.', '...']), 'small');
     await trial.judged();
     await graded('easy (2 rounds, 8 lines looked at, longest wait 2)');
+    assert.equal(await trial.text('#publish'), 'yes');
+    await trial.open(ppmOf(['.a.', 'aa.', '...'], { '.': '255 255 255', a: '250 250 250' }), 'whites');
+    await trial.judged();
+    await page.until(() => document.getElementById('publish').textContent === 'the background and “white” (a) look alike', 20000 * SLACK);
     await trial.open(ppmOf(GUESS), 'guess');
     await trial.judged();
     await graded('very hard (8 cells to guess, 1 split, depth 1;');
     await trial.open(ppmOf(PAIR), 'pair');
     assert.equal(await trial.judged(), 'ambiguous');
-    assert.equal(await trial.text('#grade'), '–', 'no grade without one solution');
+    assert.deepEqual([await trial.text('#grade'), await trial.text('#publish')], ['–', '–'], 'no grade without one solution');
+    for (const [rows, background, flaw] of [[['..', '..'], '255,255,255', 'no cell has a colour'], [['aa', 'aa'], '255,255,0', 'no cell has the background']]) {
+        await page.run((text, ground) => bench.open({ text, format: 'ppm', background: ground, lines: [] }, { name: 'flat' }).then(() => true), ppmOf(rows), background);
+        await page.until((text) => document.getElementById('publish').textContent === text, 20000 * SLACK, flaw);
+    }
+}
+
+/** A title changes no grade: the card of the library keeps it. What is entered about one picture never goes to another. */
+export async function titlesKeepGrades({ trial, page }) {
+    const card = (wanted) => page.until(async (text) => (await keep.keeper.cards()).some(({ name, grade }) => `${name} ${grade}` === text), 20000 * SLACK, wanted);
+    const opened = (name) => page.run((one, file) => bench.open({ text: one, format: 'ppm', background: '255,255,255', lines: [] }, { name: file }).then(() => keep.begin()).then(() => true), ppmOf(['.a.', 'aa.', '...']), name);
+    const titled = async (text) => {
+        await page.press(...text);
+        await page.click('dialog .main');
+        await page.until(() => !document.querySelector('dialog[open]'), 5000 * SLACK);
+    };
+    await opened('one');
+    await card('one easy');
+    await page.run(() => runAction('about'));
+    await titled('T');
+    await page.until(() => bench.state.about.title === 'T', 5000 * SLACK);
+    await page.run(() => keep.keeper.hurry());
+    await card('one easy');
+    await page.run(() => { runAction('about'); });
+    await opened('two');
+    await titled('U');
+    await page.until(() => document.getElementById('said').textContent.startsWith('Another picture was opened'), 5000 * SLACK);
+    assert.deepEqual(await page.run(() => [bench.name, bench.state.about, bench.past.length]), ['two', {}, 0]);
+}
+
+/** A field that a dialog opens with is selected: what is typed replaces it. */
+export async function fieldsAreReplaced({ trial, page }) {
+    await trial.open(ppmOf(['.a.', 'aa.', '...']), 'three');
+    await trial.judged();
+    await page.run(() => { runAction('resize'); });
+    await page.press('1', '2', 'Tab', '1', '7', 'Enter');
+    await page.until(() => bench.state.rows === 17 && bench.state.columns === 12, 5000 * SLACK);
 }
 
 export async function walkOfAGuess({ trial, page }) {
     await trial.open(ppmOf(GUESS), 'guess');
     await trial.judged();
     await page.run(() => { runAction('walk'); });
-    await said(page, '^Step 0 of [0-9]+: '); // with what the certificate supposes
+    await said(page, '^Step 0 of [0-9]+: ');
     const texts = [];
     for (let step = 0; step < 40; step++) {
         await page.press('ArrowRight');
         texts.push(await trial.text('#play-said'));
     }
-    assert.ok(texts.some((text) => /Suppose row \d, column \d is (black|background)/.test(text)), texts.join('\n'));
-    assert.ok(texts.some((text) => /then (row|column) \d cannot be filled/.test(text)));
-    assert.ok(texts.some((text) => /this is the picture/.test(text)));
-    assert.match(texts.at(-1), /no other picture fits/);
+    assert.equal(texts.filter((text) => /A guess: row \d, column \d is (black|background)\. Any other colour there leads nowhere\./.test(text)).length, 1, texts.join('\n'));
     assert.deepEqual(await page.run(() => play.marks.map((row) => row.join(''))), GUESS, 'the path ends at the picture');
     await page.click('#walk-hardest');
-    await said(page, ': Suppose row');
+    await said(page, ': A guess: row');
     await page.click('#walk-heat');
     assert.deepEqual(await page.run(() => [...play.heat].filter((round) => round < 0).length), 8, 'what needs a guess is told apart');
-    await page.run(() => {
-        const order = document.getElementById('walk-order');
-        order.value = 'book';
-        order.dispatchEvent(new Event('change'));
-    });
-    await said(page, '^Step 0 of');
     await page.press('Escape');
 }
 

@@ -8,7 +8,7 @@ import { fileURLToPath } from 'node:url';
 import '../../page/test/limits.mjs';
 
 const page = fileURLToPath(new URL('../../page/', import.meta.url));
-const ROOMS = ['texts', 'base', 'document', 'formats', 'grade', 'repair', 'walk', 'engine', 'draw', 'view', 'play', 'library', 'import', 'export', 'start']; // from below
+const ROOMS = ['texts', 'base', 'document', 'formats', 'repair', 'engine', 'draw', 'view', 'play', 'library', 'import', 'export', 'start']; // from below
 const modules = readdirSync(page, { recursive: true }).filter((file) => file.endsWith('.js') && !file.startsWith('test/')).sort();
 const read = (file) => readFileSync(join(page, file), 'utf8');
 const importsOf = (file) => [...read(file).matchAll(/^(?:import|export)\b[^;]*?from '([^']+)';$|^import '([^']+)';$/gm)].map((found) => found[1] ?? found[2]);
@@ -30,7 +30,7 @@ test('each module says what it is, and is short', () => {
 test('a room asks only rooms below it, and only modules that are there', () => {
     for (const file of modules.filter((one) => one !== 'main.js')) {
         for (const other of importsOf(file).map((one) => fileOf(file, one))) {
-            if (['../web/nonobench.mjs', '../web/colours.mjs'].includes(other)) continue; // what sites have of it too
+            if (other === '../web/nonobench.mjs') continue; // what sites have of it too
             assert.ok(modules.includes(other), `${file} imports ${other}`);
             assert.ok(ROOMS.indexOf(dirname(other)) <= ROOMS.indexOf(dirname(file)), `${file} asks ${other}, which is above it`);
         }
@@ -38,7 +38,7 @@ test('a room asks only rooms below it, and only modules that are there', () => {
 });
 
 test('no room that writes files or sheets works out clues: those are the engine\'s', () => {
-    const working = ['grade/lines.js', 'grade/puzzle.js', 'play/crossing.js'];
+    const working = ['repair/lines.js', 'repair/narrowing.js', 'play/crossing.js'];
     for (const file of modules.filter((one) => ['formats', 'draw', 'library', 'import', 'export'].includes(dirname(one)))) {
         for (const other of importsOf(file)) assert.ok(!working.includes(fileOf(file, other)), `${file} imports ${other}`);
     }
@@ -54,11 +54,11 @@ test('each module is reached from main or the worker', () => {
         for (const other of importsOf(file)) go(fileOf(file, other));
     };
     for (const first of ['main.js', 'engine/worker.js']) go(first);
-    assert.deepEqual(modules.filter((file) => !reached.has(file) && !['grade', 'repair', 'walk'].includes(dirname(file))), []);
+    assert.deepEqual(modules.filter((file) => !reached.has(file) && dirname(file) !== 'repair'), []);
 });
 
 test('what is worked out without a document is imported without one', async () => {
-    for (const file of modules.filter((one) => ['texts', 'base', 'document', 'formats', 'engine', 'grade', 'repair', 'walk', 'library', 'import'].includes(dirname(one)) && one !== 'engine/worker.js')) {
+    for (const file of modules.filter((one) => ['texts', 'base', 'document', 'formats', 'engine', 'repair', 'library', 'import'].includes(dirname(one)) && one !== 'engine/worker.js')) {
         await import(join(page, file));
     }
 });

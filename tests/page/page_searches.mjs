@@ -125,28 +125,43 @@ test('a long call tells what it finds, and the copy is opened anew after it', as
 
 test('a job without a name is not told, neither its end nor its failure', async () => {
     const { searches, seen } = searchesOf(['refused: Memory\n']);
-    assert.equal(await searches.grade({ map: ['?'] }, 60), null);
+    const name = '';
+    assert.equal(await searches.job(name, 60, (copy) => copy.say('path')), null);
     assert.deepEqual([seen.told, seen.ended, seen.failed], [[], [], []]);
     const stopped = searchesOf([]);
-    const job = stopped.searches.grade({ map: ['?'] }, 60);
+    const job = stopped.searches.job(name, 60, (copy) => copy.say('path'));
     await pause(20);
     stopped.searches.strokeBegun();
     assert.equal(await job, null);
     assert.deepEqual([stopped.seen.told, stopped.seen.ended], [[], []]);
 });
 
-test('a grade asks for a certificate only where a cell is open', async () => {
-    const { searches, log } = searchesOf([{ ok: { word: 'easy' } }]);
-    assert.deepEqual(await searches.grade({ map: ['a.'] }, 60), { word: 'easy' });
-    assert.deepEqual(log, ['start', 'grade {"puzzle":{"map":["a."]}}'], 'nothing is opened for it');
-    const guess = searchesOf(['nonocert 1\ndone\n', { ok: { word: 'expert' } }]);
-    assert.deepEqual(await guess.searches.grade({ map: ['?'] }, 60), { word: 'expert' });
-    assert.equal(guess.log.at(-1), 'grade {"puzzle":{"map":["?"],"certificate":"nonocert 1\\ndone\\n"}}');
+// What the engine says of the picture of these tests, whose letters are a, b and c by first appearance.
+const SAID = { verdict: 'unique', other: null, open: 0, grade: { word: 'easy' }, flaws: ['spare 1 2', 'alike a b'], fit: false };
+const ASKED = 'assess {"puzzle":"P3\\n2 2\\n255\\n0 0 0\\n255 0 0\\n0 0 255\\n0 0 0\\n","options":{"background":null,"givens":[],"format":"ppm"}}';
+
+test('what is said of a picture without a guess and without givens is a moment of the worker', async () => {
+    const { searches, log } = searchesOf([{ ok: SAID }]);
+    searches.state = { ...stateOf(['ab', 'ca']), open: 0 };
+    const { flaws, grade } = await searches.assess(60);
+    assert.deepEqual([grade.word, flaws], ['easy', [{ kind: 'spare', place: [1, 2] }, { kind: 'alike', letters: ['a', 'b'] }]]);
+    assert.deepEqual(log, ['start', ASKED], 'nothing is opened for it');
 });
 
-test('a grade of line logic goes on below a stroke', async () => {
+test('else it is a job; colours are those of the document, wherever they appear', async () => {
+    const { searches, log } = searchesOf(['ok\nok\nok\n', { ok: { ...SAID, verdict: 'ambiguous', other: ['ba', 'b.'], flaws: ['alike . a', 'alike a b'] } }]);
+    searches.state = { ...stateOf(['cb', 'b.'], [3]), open: 2, colours: [[9, 9, 9], ...COLOURS.slice(1)] };
+    const { flaws, other } = await searches.assess(60);
+    assert.deepEqual(flaws, [{ kind: 'alike', letters: ['.', 'c'] }, { kind: 'alike', letters: ['b', 'c'] }]);
+    assert.deepEqual(other, ['bc', 'b.']);
+    assert.equal(log.includes('open'), true);
+    assert.ok(log.at(-1).endsWith('"options":{"background":"9,9,9","givens":[[2,2]],"format":"ppm"}}'), log.at(-1));
+});
+
+test('what is said without a guess goes on below a stroke', async () => {
     const { searches, log } = searchesOf([]);
-    searches.grade({ map: ['a.'] }, 60);
+    searches.state = { ...stateOf(['ab', 'ca']), open: 0 };
+    searches.assess(60);
     searches.strokeBegun();
     assert.equal(log.includes('end'), false);
 });

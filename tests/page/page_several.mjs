@@ -4,6 +4,7 @@ import assert from 'node:assert/strict';
 import { readFileSync } from 'node:fs';
 import { test } from 'node:test';
 import { needsModule, workers } from '../../page/test/worker.mjs';
+import { valueText } from '../../page/base/words.js';
 import { FileFault } from '../../page/document/limits.js';
 import { Client } from '../../page/engine/client.js';
 import { Judge } from '../../page/engine/judging.js';
@@ -17,6 +18,7 @@ import { docsOfUnit, grouped, hasCertificate } from '../../page/import/beside.js
 import { unitsIn } from '../../page/import/folders.js';
 import { docOfNon } from '../../page/import/reading.js';
 import { docByItself, proposalFor } from '../../page/import/proposing.js';
+import { waits } from '../waits.mjs';
 
 const bytesFrom = (base64) => new Uint8Array(Buffer.from(base64, 'base64'));
 const read = (path) => readFileSync(new URL(`../../${path}`, import.meta.url));
@@ -54,9 +56,9 @@ const givensText = (text) => [...readGivens(text, { rows: 3, columns: 4 })].sort
 function groundText(text, wanted) {
     const ground = readGround(text);
     const names = { '9,8,7': 'corner', '255,255,255': 'white' };
-    const triple = ground?.({ data: Uint8ClampedArray.of(9, 8, 7, 255) }, 65535).join();
+    const triple = ground({ data: Uint8ClampedArray.of(9, 8, 7, 255) }, 65535).join();
     if (wanted.includes(',')) return triple === wanted.split(',').map((sample) => Math.round((sample * 255) / 65535)).join() ? wanted : triple;
-    return triple ? names[triple] : 'none';
+    return names[triple];
 }
 
 test('lines of givens end with LF, and the line that is wrong is named', () => {
@@ -118,11 +120,12 @@ test('givens and a background beside a picture', async () => {
     // A background that no cell has.
     const other = await docOf({ 'a.ppm': TWO_WAYS, 'a.background': '1,2,3' });
     assert.deepEqual([other.colours, other.picture], [[[1, 2, 3], [0, 0, 0], [255, 255, 255]], ['ab', 'ba']]);
-    const empty = await docOf({ 'a.ppm': TWO_WAYS, 'a.givens': '', 'a.background': '' });
+    const empty = await docOf({ 'a.ppm': TWO_WAYS, 'a.givens': '' });
     assert.deepEqual([empty.picture, givensOf(empty)], [['a.', '.a'], []]);
     await refused({ 'a.ppm': TWO_WAYS, 'a.givens': 'given 1 1\ngiven 1\n' }, /“a\.givens” could not be read: line 2 is not/);
     await refused({ 'a.ppm': TWO_WAYS, 'a.givens': 'given 3 1\n' }, /“a\.givens” could not be read: row 3, column 1 is outside/);
     await refused({ 'a.ppm': TWO_WAYS, 'a.background': 'blue' }, /“a\.background” could not be read: it is neither/);
+    await refused({ 'a.ppm': TWO_WAYS, 'a.background': '' }, /“a\.background” could not be read: it is neither/);
     await refused({ 'a.ppm': TWO_WAYS, 'a.background': '0,0,256' }, /“a\.background” could not be read: a number is above 255/);
     const unit = { file: fileOf('a.ppm', TWO_WAYS), givens: { name: 'a.givens', size: 16777217 } };
     await assert.rejects(docsOfUnit(unit), /“a\.givens” could not be read: it has more than 16 MiB/);
@@ -184,9 +187,9 @@ test('a search for the picture of clues ends after its time, and its engine with
     await assert.rejects(docOfNon('width 1', {}, engine, 1), { text: 'stopped' });
 });
 
-test('the examples, as they are published', needsModule, async () => {
+test('the examples, as they are published', { skip: needsModule.skip || waits('0.7.0') }, async () => {
     const judge = new Judge({ seconds: 20, start: () => new Client(workers()()) });
-    const verdict = async (...names) => (await judge.judge(await docOf(Object.fromEntries(names.map((name) => [name, read(`examples/${name}`)]))))).word;
+    const verdict = async (...names) => (await judge.judge(await docOf(Object.fromEntries(names.map((name) => [name, read(`examples/${name}`)]))))).verdict;
     assert.equal(await verdict('given.ppm'), 'ambiguous');
     assert.equal(await verdict('given.ppm', 'given.givens', 'given.cert'), 'unique');
     judge.end();
@@ -310,4 +313,12 @@ test('enlarged pixel art of many colours has as many as the dialog proposes, and
     assert.equal(docByItself(image, [255, 255, 255]), null); // 18 colours with that background
     const few = imageOf(rows.map((row) => row.replace('Q', 'A')), 30);
     assert.deepEqual([docByItself(few).all, docByItself(few).colours.length], [16, 16]);
+});
+
+test('no text of a table is a formula of a spreadsheet', () => {
+    for (const text of ['=1', '+1', '-1', '@A1', '\uff1d1', '\uff0b1', '\uff0d1', '\uff20A1', '\ufe661', '\ufe621', ' =1', '\t=1', '\r=1', '\u3000\uff1d1']) {
+        assert.equal(valueText(text), `"'${text}"`);
+    }
+    for (const text of ['', '1', 'a=1', "'=1", '\u22121']) assert.equal(valueText(text), `"${text}"`);
+    assert.equal(valueText('="'), `"'="""`);
 });

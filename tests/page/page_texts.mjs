@@ -73,7 +73,7 @@ test('each language has the texts of English, in its order, with the same places
 });
 
 // Words that are the same in another language.
-const SAME_FRENCH = ['document.orange', 'document.cyan', 'grade.expert', 'grade.unique', 'view.commit', 'view.guide', 'view.keyCtrl', 'view.rectangle', 'view.unique', 'play.pause', 'import.gimpGpl',
+const SAME_FRENCH = ['document.orange', 'document.cyan', 'base.expert', 'base.unique', 'view.commit', 'view.guide', 'view.keyCtrl', 'view.rectangle', 'view.unique', 'play.pause', 'import.gimpGpl',
     'import.jascPal', 'import.verdict', 'export.usLetter'];
 const SAME = ['formats.maxval', 'view.name', 'play.pause', 'library.form', 'import.dithering', 'import.palette', 'import.gimpGpl', 'import.jascPal',
     'import.1Gib', 'import.256Mib', 'import.16Mib', 'export.copyright', 'export.usLetter', 'export.linkField', 'main.start'];
@@ -127,7 +127,7 @@ test('places are filled: texts as they are, numbers as the language writes them,
 
 // Modules whose texts no user reads, or that are the same in all languages: commands of a session, what goes into files, the line of a
 // grade (docs/FORMATS.md), faults inside the page.
-const INSIDE = ['document/cover.js', 'document/named.js', 'draw/surface.js', 'engine/answers.js', 'engine/bench.js', 'engine/client.js', 'engine/opening.js', 'engine/serve.js', 'formats/palettes.js', 'formats/ppm_notes.js', 'formats/webpbn.js', 'grade/grade.js', 'grade/tree.js', 'library/keeper.js', 'library/shelf.js', 'repair/asker.js'];
+const INSIDE = ['base/names.js', 'document/cover.js', 'document/named.js', 'draw/surface.js', 'engine/answers.js', 'engine/bench.js', 'engine/client.js', 'engine/opening.js', 'engine/serve.js', 'formats/palettes.js', 'formats/ppm_notes.js', 'formats/webpbn.js', 'library/keeper.js', 'library/shelf.js', 'repair/asker.js'];
 const KEYS = /^report\.csv$|^(Escape|Enter|Tab|Home|End|Page(Up|Down)|Arrow(Up|Down|Left|Right)|Backspace|Delete|Shift|Control|Ctrl|Alt|Meta|Space)(\+|$)|^(Ctrl|Alt)\+|^(Abort|QuotaExceeded)Error$|^(Undo|Redo)Empty$|^(Memory|NoChange|TwoColoursOnly|Files)$|^NS_|\.js$|\.zip$/;
 const COMMAND = /^(paint|fill|pin|unpin|colour (add|set)|insert|delete|swap|recolour|write|why|allow) ?(\{|\d|off|row|column|non|ppm|$)/;
 const STYLE = /px\b|%|rgb\(|hsl\(|sans-serif|prefers-|translate\(|^@page|:not\(|^<iframe |^nonobench|^(work|card|data|https?):|[a-z], [a-z]+, [a-z]+$|^width \{\}\n|– nonobench$|^row-clue|^(palette|spots|tone) \{\}|^\.\.aa/;

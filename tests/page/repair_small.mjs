@@ -2,9 +2,9 @@
 // answers by brute force, too. Run: node --test tests/page/repair_small.mjs
 import assert from 'node:assert/strict';
 import { test } from 'node:test';
-import { clueOf } from '../../page/grade/lines.js';
-import { Narrowing, Puzzle, cellsOf, mapOf } from '../../page/grade/puzzle.js';
-import { Board } from '../../page/repair/board.js';
+import { Board, cellsOf } from '../../page/repair/board.js';
+import { clueOf } from '../../page/repair/lines.js';
+import { Narrowing } from '../../page/repair/narrowing.js';
 import { elsewhere, placesOf } from '../../page/repair/places.js';
 import { give, mix, repair } from '../../page/repair/repair.js';
 import { haveSameClue } from '../../page/repair/witness.js';
@@ -14,6 +14,10 @@ function random(seed) {
     let state = seed;
     return (below) => (state = (state * 48271) % 2147483647) % below;
 }
+
+// Where line logic ends on a picture's cells, some of them given; and its map.
+const settled = ({ rows, columns }, cells, givens = []) => new Narrowing(new Board({ rows, columns, cells, rule: false }), { givens }).settle();
+const mapOf = ({ masks, board: { rows, columns } }) => Array.from({ length: rows }, (_, row) => Array.from(masks.subarray(row * columns, (row + 1) * columns), (mask) => (mask & (mask - 1) ? '?' : LETTERS[31 - Math.clz32(mask)])).join('')).join('\n');
 
 /** All pictures of a size over so many colours, by the text of their clues. */
 class AllPictures {
@@ -48,7 +52,7 @@ class AllPictures {
     }
 
     isByLines(cells, givens = []) {
-        return new Narrowing(new Puzzle(this.rows, this.columns, cells, givens)).settle().open === 0;
+        return settled(this, cells, givens).openCells().length === 0;
     }
 }
 
@@ -64,7 +68,7 @@ function sessionOf(all, cells) {
         pin: (words) => { pins.add(index(words)); return 'ok'; },
         unpin: (words) => { pins.delete(index(words)); return 'ok'; },
         allow: () => 'ok',
-        map: () => mapOf(new Narrowing(new Puzzle(all.rows, all.columns, shown, pins)).settle()).join('\n'),
+        map: () => mapOf(settled(all, shown, pins)),
         verdict: () => {
             const far = (one) => one.reduce((count, colour, at) => count + (colour === shown[at] ? 0 : 1), 0);
             const [other] = all.others(shown, [...pins]).sort((one, two) => far(two) - far(one));
@@ -329,14 +333,14 @@ function sessionOfCorners(cells) {
     const shown = cells.slice();
     const pins = new Set();
     const index = (words) => (Number(words[1]) - 1) * 6 + Number(words[2]) - 1;
-    const narrowing = () => new Narrowing(new Puzzle(6, 6, shown, pins)).settle();
+    const narrowing = () => settled({ rows: 6, columns: 6 }, shown, pins);
     const calls = {
         paint: (words) => { assert.ok(!pins.has(index(words)), 'no given cell is painted'); shown[index(words)] = '.ab'.indexOf(words[3]); return 'ok'; },
         pin: (words) => { pins.add(index(words)); return 'ok'; },
         unpin: (words) => { pins.delete(index(words)); return 'ok'; },
         allow: () => 'ok',
-        map: () => mapOf(narrowing()).join('\n'),
-        verdict: () => (narrowing().open ? 'undecided 300' : 'unique'),
+        map: () => mapOf(narrowing()),
+        verdict: () => (narrowing().openCells().length ? 'undecided 300' : 'unique'),
     };
     return (lines) => lines.map((line) => `${calls[line.split(' ')[0]](line.split(' '))}\n`).join('');
 }
@@ -353,7 +357,7 @@ test('each place is mended by itself, and the best of all together mend the whol
     const after = (changes, at) => {
         const painted = cells.slice();
         for (const { index: place, colour } of changes) painted[place] = colour;
-        const { masks } = new Narrowing(new Puzzle(6, 6, painted)).settle();
+        const { masks } = settled({ rows: 6, columns: 6 }, painted);
         return told[at].filter((place) => masks[place] & (masks[place] - 1));
     };
     for (const at of [0, 1]) {

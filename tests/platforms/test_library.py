@@ -33,11 +33,17 @@ def test_its_tests(system, tmp_path):
     assert (run.status, run.wrote.split()[-2:]) == (0, [b'0', b'failed']), run
 
 
-# What the example is called with, and how it ends: certificates that are accepted, refused, and that name a given which is not
-# published.
+@ON_EACH
+def test_of_the_checker_alone(system, tmp_path):
+    run = system.run(linked(system, tmp_path, ROOT / 'c' / 'check_test.c', '-static', system.made / 'libnonocheck.a'), CASES)
+    assert (run.status, run.wrote.split()[-2:]) == (0, [b'0', b'failed']), run
+
+
+# What the example is called with, and how it ends: certificates that are accepted, by hand as in tests/cases/fit.txt, refused, and
+# that name a given which is not published.
 EXAMPLE = {
-    'diagonal.ppm diagonal.cert': (0, b'certificate accepted\n'),
-    'given.ppm given.cert 1,1': (0, b'certificate accepted, givens 1\n'),
+    'diagonal.ppm diagonal.cert': (0, b'unique\nsize 2 2\ncolours 3\ngivens 0\nopen 0\ngrade easy 1 4 3 0 0\nfit\n'),
+    'given.ppm given.cert 1,1': (0, b'unique\nsize 2 2\ncolours 2\ngivens 1\nopen 0\ngrade easy 1 4 2 0 0\nfit\n'),
     'given.ppm given.cert': (1, b'refused: certificate UnpublishedGiven at line 2\n'),
     'given.ppm diagonal.cert': (1, b'refused: certificate NotDead at line 5\n'),
     'cross.ppm cross.cert 1,2 1,1 2,2': (1, b'refused: certificate UnpublishedGiven at line 4\n'),
@@ -58,7 +64,7 @@ def test_shared_library(system, tmp_path):
     (tmp_path / 'cross.cert').write_text(ALL_GIVEN)
     for words, (status, wrote) in EXAMPLE.items():
         run = system.run(program, *words.split(), cwd=tmp_path)
-        assert (run.status, run.wrote.rstrip()) == (status, wrote.rstrip()), (words, run)
+        assert (run.status, run.wrote.replace(b'\r\n', b'\n').rstrip()) == (status, wrote.rstrip()), (words, run)
 
 
 @ON_EACH
@@ -120,17 +126,18 @@ def symbols(archive):
 
 # What the C library of macOS has.
 FROM_C = set(
-    'malloc realloc free memcpy memmove memset memcmp bcmp bzero __bzero memset_pattern16 strlen strcmp strncmp sprintf snprintf '
+    'malloc realloc free memcpy memmove memset memcmp bcmp bzero __bzero memset_pattern16 strlen strcmp strncmp strchr sprintf snprintf sscanf '
     '__stack_chk_fail __stack_chk_guard'.split()
 )
 
 
+@pytest.mark.parametrize('library', ['nonobench', 'nonocheck'])
 @pytest.mark.parametrize('name', ['macos-arm64', 'macos-x86_64'])
-def test_symbols_for_macos(others, name):
+def test_symbols_for_macos(others, name, library):
     """The functions of the header, and nothing is wanted but of the C library."""
-    header = (ROOT / 'c' / 'nonobench.h').read_text()
-    functions = set(re.findall(r'^(?:\w+ )+\*?(nonobench_\w+)\(', header, re.MULTILINE))
-    defined, wanted = symbols((others / name / 'libnonobench.a').read_bytes())
+    header = (ROOT / 'c' / f'{library}.h').read_text()
+    functions = set(re.findall(rf'^(?:\w+ )+\*?({library}_\w+)\(', header, re.MULTILINE))
+    defined, wanted = symbols((others / name / f'lib{library}.a').read_bytes())
     assert functions
     assert {f'_{function}' for function in functions} <= defined
     assert wanted - defined <= {f'_{function}' for function in FROM_C}

@@ -11,6 +11,8 @@ from tried import EXAMPLES, ROOT, Ended, clean, ended, needs, passes
 
 pytestmark = [pytest.mark.all, pytest.mark.toolchain, pytest.mark.compiler, pytest.mark.emulator]
 YES = Ended(0, b'certificate accepted\n', b'')
+# What the example for C prints of diagonal.ppm, by hand as in tests/cases/fit.txt.
+FIT = Ended(0, b'unique\nsize 2 2\ncolours 3\ngivens 0\nopen 0\ngrade easy 1 4 3 0 0\nfit\n', b'')
 
 
 def named(made, pattern):
@@ -32,7 +34,9 @@ def test_archive(system, made, tmp_path):
     package = named(made, 'nonobench-*-linux-aarch64.tar.gz')
     passes(['tar', 'xzf', package, '-C', tmp_path])
     folder = tmp_path / package.name[: -len('.tar.gz')]
-    places = ('bin/nonobench', 'lib/libnonobench.a', 'lib/libnonobench.so', 'include/nonobench.h', 'lib/nonobench/nonobench/libnonobench.so')
+    places = ['bin/nonobench', 'lib/nonobench/nonobench/libnonobench.so']
+    places += [f'lib/lib{name}' for name in ('nonobench.a', 'nonobench.so', 'nonocheck.a', 'nonocheck.so')]
+    places += ['include/nonobench.h', 'include/nonocheck.h']
     are_those(folder, {place: place.split('/')[-1] for place in places}, system.made)
     pair = [folder / 'share/doc/nonobench/examples' / f'diagonal.{kind}' for kind in ('ppm', 'cert')]
     assert system.run(folder / 'bin/nonobench', 'check', *pair) == YES
@@ -69,7 +73,7 @@ def test_wheel(system, made, tmp_path):
     [about] = tmp_path.glob('nonobench-*.dist-info/WHEEL')
     assert 'Tag: py3-none-manylinux_2_17_aarch64\n' in about.read_text()
     program = linked(system, tmp_path / 'nonobench', ROOT / 'c' / 'example.c', tmp_path / 'nonobench' / 'libnonobench.so')
-    assert system.run(program, *(EXAMPLES / f'diagonal.{kind}' for kind in ('ppm', 'cert'))) == YES
+    assert system.run(program, *(EXAMPLES / f'diagonal.{kind}' for kind in ('ppm', 'cert'))) == FIT
 
 
 @ON_LINUX
@@ -88,17 +92,36 @@ def test_wheel_in_python(system, made, tmp_path):
 
 
 @ON_WINDOWS
+def test_wheel_for_windows(system, made, tmp_path):
+    """Its program is run, and its library called from C; its Python is not run by us, since Debian has none for Windows."""
+    package = named(made, 'nonobench-*-py3-none-win_amd64.whl')
+    passes([sys.executable, '-m', 'zipfile', '-e', package, tmp_path])
+    folder = tmp_path / 'nonobench'
+    are_those(folder, {'nonobench.dll': 'nonobench.dll', 'nonobench.exe': 'nonobench.exe'}, system.made)
+    [about] = tmp_path.glob('nonobench-*.dist-info/WHEEL')
+    assert 'Tag: py3-none-win_amd64\n' in about.read_text()
+    assert 'We have not run it on Windows' in (folder / '_by_program.py').read_text()
+    pair = [EXAMPLES / f'diagonal.{kind}' for kind in ('ppm', 'cert')]
+    program = linked(system, folder, ROOT / 'c' / 'example.c', system.made / 'libnonobench.dll.a')
+    for run, told in ((system.run(folder / 'nonobench.exe', 'check', *pair), YES), (system.run(program, *pair), FIT)):
+        assert (run.status, run.wrote.replace(b'\r\n', b'\n').strip()) == (0, told.wrote.strip()), run
+
+
+@ON_WINDOWS
 def test_archive_for_windows(system, made, tmp_path):
     """The commands of its README, in the Command Prompt of its folder; MinGW's compiler is that of this machine."""
     package = named(made, 'nonobench-*-windows-x86_64.zip')
     passes([sys.executable, '-m', 'zipfile', '-e', package, tmp_path])
     folder = tmp_path / package.stem
-    places = ('nonobench.exe', 'c/nonobench.dll', 'c/libnonobench.a', 'c/libnonobench.dll.a', 'c/nonobench.h')
+    places = ['nonobench.exe']
+    for name in ('nonobench', 'nonocheck'):
+        places += [f'c/{name}.dll', f'c/lib{name}.a', f'c/lib{name}.dll.a', f'c/{name}.h']
     are_those(folder, {place: place.split('/')[-1] for place in places}, system.made)
     commands = [line.strip() for line in (folder / 'README.txt').read_text().splitlines() if line.startswith('    ')]
     [build] = [command for command in commands if command.startswith('gcc ')]
     passes([system.compiler, *build.replace('\\', '/').split()[1:]], cwd=folder)
     runs = system.launch([(f'cmd /d /c {command}', '-', '', '') for command in commands if command != build], folder)
     assert [(run.status, run.said) for run in runs] == [(0, b'')] * 4, runs
-    assert [run.wrote.split(b'.')[0].strip() for run in runs] == [YES.wrote.strip(), b'', b'Multicolour nonograms', YES.wrote.strip()]
+    first = [run.wrote.split(b'.')[0].replace(b'\r\n', b'\n').strip() for run in runs]
+    assert first == [YES.wrote.strip(), b'', b'Multicolour nonograms', FIT.wrote.strip()]
     assert (folder / 'heart.cert').read_bytes().startswith(b'nono')

@@ -36,7 +36,7 @@ def words_of(program, *words):
         if part == 'Commands' and parts[0] != 'help':
             found.add(f'word {parts[0]}')
         elif part == 'Arguments':
-            found.add(f'{word} {parts[0].strip("<>")}')
+            found.add(f'{word} {parts[0].rstrip(".").strip("<>")}')
         elif part == 'Options' and re.match(r' +-', line):
             option, *rest = parts if parts[0].startswith('--') else parts[1:]
             value = f' {rest[0].strip("<>")}' if rest and re.fullmatch(r'<.*>', rest[0]) else ''
@@ -49,5 +49,5 @@ def options_of(program, *words):
 
 
 def formats_of(program, command):
-    """The formats of pictures that `work` takes, or those of certificates that `prove` makes."""
+    """The formats of puzzles that `work` and `assess` take, or those of certificates that `prove` makes."""
     return set(re.search(r'--format.*possible values: ([^]]*)\]', help_of(program, command))[1].split(', '))

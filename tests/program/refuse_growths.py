@@ -1,6 +1,6 @@
 #!/usr/bin/env python3
 """Makes each allocation of the built program fail in turn: the clues of each picture in examples/, arguments that are refused or
-ask for help, checks of certificates, certificates with lemmas and checks of them, and sessions on pictures and puzzles.
+ask for help, checks of certificates, certificates with lemmas and checks of them, assessments, and sessions on pictures and puzzles.
 
 A run that answers once must end with status 1, the line `nonobench: memory` and nothing of an answer; so must a session whose file
 is not open yet. A command of a session must be answered by `refused: Memory` alone, after which clues, map and picture are as
@@ -308,13 +308,23 @@ def lemmas(program, folder):
             yield f'check {path.stem} by lemmas', ['check', str(path), str(kept), *background_of(path)]
 
 
+def assessments(folder):
+    """Assessments: names and words. Lines settle the first picture with its given alone, and not the last."""
+    givens = folder / 'givens'
+    givens.write_bytes(b'given 1 1\n')
+    given = ['assess', str(EXAMPLES / 'given.ppm'), '--givens', str(givens)]
+    yield 'assess given', given
+    yield 'assess given by its certificate', [*given, '--certificate', str(EXAMPLES / 'given.cert')]
+    yield 'assess with guesses', ['assess', str(TESTS / f'{UNSETTLED[0]}.ppm')]
+
+
 def runs(program, folder):
     """All runs: names, and what refuses a growth of each."""
     for path in sorted(EXAMPLES.glob('*.ppm')):
         yield f'clues {path.stem}', Run(program, [], path.read_bytes())
     for words in ('--help', 'work --help', '--version', 'check', 'work F --history 0', 'work F --background 1', 'jump'):
         yield f'words {words}', Run(program, words.split())
-    for name, words in (*checks(program, folder), *lemmas(program, folder)):
+    for name, words in (*checks(program, folder), *lemmas(program, folder), *assessments(folder)):
         yield name, Run(program, words)
     for name, words, lines in sessions(folder):
         yield name, Session(program, words, lines)

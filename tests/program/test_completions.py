@@ -69,11 +69,11 @@ def test_words_in_bash(nonobench, bash):
 
 @pytest.mark.since('0.7.0')
 def test_values_in_bash(nonobench, bash):
-    for command in ('work', 'prove'):
+    for command in ('work', 'prove', 'assess'):
         assert bash(command, 'duck.ppm', '--format', '') == formats_of(nonobench, command)
     assert bash('check', 'duck.ppm', 'duck.c') == {'duck.cert'}
-    assert bash('check', '--givens', '') == FILES
-    for option in ('--background', '--history'):
+    assert bash('check', '--givens', '') == bash('assess', '--certificate', '') == FILES
+    for option in ('--background', '--history', '--allow'):
         assert bash('work', option, '') == set()
 
 
@@ -99,6 +99,6 @@ def test_options_and_files_in_zsh(nonobench, zsh):
 
 @pytest.mark.since('0.7.0')
 def test_formats_in_zsh(nonobench, zsh):
-    for command in ('work', 'prove'):
+    for command in ('work', 'prove', 'assess'):
         offered = {word for words in matches(r'^--format.*:\((.*)\)$', zsh(command, '')) for word in words.split(' ')}
         assert offered == formats_of(nonobench, command)

@@ -89,20 +89,39 @@ def non_case(chance):
 
 
 def assess_case(chance):
-    """A picture to be assessed, with published givens, a certificate, or an allowance."""
+    """A picture to be assessed, with published givens, a certificate, or an allowance; or several puzzles."""
+    if chance.random() < 0.3:
+        return several_case(chance)
     (text, cert, published), background = chance.choice(plain_forms.seeded(chance, 8)), (0, 0, 0)
     if chance.random() < 0.5:
         rows, (background, *_), text = made.some_ppm(chance, *sizes(chance))
         text = made.mutated(chance, text, made.faults_wanted(chance))
         places = [(row + 1, col + 1) for row in range(len(rows)) for col in range(len(rows[0]))]
         cert, published = None, plain_forms.published_text(chance, places[:40], []) if chance.random() < 0.5 else None
-    files = {name: file for name, file in (('picture', text), ('givens', published), ('cert', cert)) if file is not None}
-    background, allowance = chance.choice((None, background)), chance.choice((None, None, None, 0, 1, 5))
-    options = {'--background': background and '%d,%d,%d' % background, '--allow': None if allowance is None else str(allowance),
-               '--givens': 'givens' if 'givens' in files else None, '--certificate': 'cert' if 'cert' in files else None}
+    return assessing(chance, [runs.Puzzle(text, chance.choice((None, background)), published=published, cert=cert)])
+
+
+def several_case(chance):
+    """Puzzles of one format, of which some may be refused or lack a file."""
+    is_non = chance.random() < 0.5
+    background = None if is_non else chance.choice((None, (255, 255, 255)))
+    texts = [made.some_non(chance, 5) if is_non else made.some_ppm(chance, 5, 3)[2] for _ in range(chance.randint(1, 4))]
+    texts = [made.mutated(chance, text, made.faults_wanted(chance)) if chance.random() < 0.9 else None for text in texts]
+    return assessing(chance, [runs.Puzzle(text, background, is_non) for text in texts])
+
+
+def assessing(chance, puzzles):
+    """The assessment of puzzles, all of one format and with one background. A file is there only where it has a text."""
+    first, allowance = puzzles[0], chance.choice((None, None, None, 0, 1, 5))
+    names = ['absent' if puzzle.text is None else f'puzzle{number}' for number, puzzle in enumerate(puzzles)]
+    files = {name: puzzle.text for name, puzzle in zip(names, puzzles) if puzzle.text is not None}
+    options = {'--format': 'non' if first.is_non else None, '--background': first.background and '%d,%d,%d' % first.background,
+               '--allow': None if allowance is None else str(allowance)}
+    for option, name, text in (('--givens', 'givens', first.published), ('--certificate', 'cert', first.cert)):
+        if text is not None:
+            options[option], files[name] = name, text
     words = [word for name, value in options.items() if value is not None for word in (name, value)]
-    return Case(['assess', 'picture', *words], files,
-                lambda run: runs.assess_run(run, text, background, allowance, published, cert))
+    return Case(['assess', *names, *words], files, lambda run: runs.assess_run(run, puzzles, allowance))
 
 
 KINDS = {'clues': clues_case, 'check': check_case, 'work': work_case, 'non': non_case, 'assess': assess_case}

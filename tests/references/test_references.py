@@ -39,9 +39,9 @@ def test_plain_forms(kept, kind):
 
 @pytest.mark.since('0.7.0')
 @pytest.mark.parametrize('part', ('givens', 'lot', 'documents'))
-def test_paths(library, part):
-    """Paths of line logic, in one process of the library. Assessments are compared by the fuzzer as soon as the program has them."""
-    compares('assessments.py', library, 'path', part)
+def test_assessments(library, part):
+    """Assessments and paths of line logic, in one process of the library."""
+    compares('assessments.py', library, part)
 
 
 @pytest.mark.since('0.7.0')

@@ -257,7 +257,7 @@ def some_command(chance, height, width, triples, heed):
         (3, 0, lambda: ('clues',)), (4, 0, lambda: ('map',)), (6, 12, lambda: ('verdict',)), (3, 1, lambda: ('report',)),
         (8, 0, lambda: ('why', row(), col(), '.abcdefghijklmno'[chance.randrange(16)] if chance.random() < 0.3 else colour())),
         (3, 1, lambda: ('certify',)), (1, 0, lambda: ('write ppm',)), (1, 0, lambda: ('write non',)),
-        (2, 0, lambda: ('path',)),
+        (3, 4, lambda: ('assess', *chance.choice(((), (), ('named',), ('name',))))), (2, 0, lambda: ('path',)),
         (3, 8, lambda: ('allow', small if heed else chance.choice(('off', 'off', 0, 1, 2, 3, 5, 99999, 100000)))),
         (0, 2, lambda: ('allow off',)),
     )

@@ -98,28 +98,59 @@ def found_picture(run, height, width, clues):
     return goal
 
 
-def assess_run(run, text, background, allowance, published, cert):
-    """The assessment of a picture, with the texts of its published givens and of its certificate, if there are any."""
-    kind, unit = 'ppm', 'byte'
-    try:
-        document = read_ppm(text, background)
-        kind, unit = 'givens', 'line'
-        if published is not None:
-            places = plain_forms.read_published(plain_forms.Puzzle(document.rows), published)
-            document.givens = {(row - 1, col - 1) for row, col in places}
-        session = Session(document, 1, most_splits(document))
-        session.allowance = allowance
-        kind = 'certificate'
-        assessment = Assessment(document, background is not None, session.verdict_on, cert)
-    except (Fault, plain_forms.Fault) as fault:
-        run.must(1, f'refused {kind} {fault.name} at {unit} {fault.place}\n'.encode(), b'')
-        return f'{kind} {fault.name}'
-    output = Output(run.wrote)
-    must_assess(output, assessment, session.must_be_other)
+class Puzzle:
+    """A puzzle to be assessed: its text, or None where there is no such file, its format, and what lies beside it."""
+
+    def __init__(self, text, background=None, is_non=False, published=None, cert=None):
+        self.text, self.background, self.is_non, self.published, self.cert = text, background, is_non, published, cert
+
+    def document(self):
+        """The picture, or the goal."""
+        if not self.is_non:
+            return read_ppm(self.text, self.background)
+        goal = read_non(self.text)[3]
+        if goal is None:
+            raise Fault('NoGoal')
+        return Document(255, [(255, 255, 255), (0, 0, 0)], goal)
+
+    def must_be_told(self, output, allowance):
+        """The next lines must be its assessment, or the line why it is refused. Answers how it ends."""
+        if self.text is None:
+            output.must_lines('refused read')
+            return 'unread'
+        kind, unit = 'non' if self.is_non else 'ppm', 'byte'
+        try:
+            document = self.document()
+            kind, unit = 'givens', 'line'
+            if self.published is not None:
+                places = plain_forms.read_published(plain_forms.Puzzle(document.rows), self.published)
+                document.givens = {(row - 1, col - 1) for row, col in places}
+            session = Session(document, 1, most_splits(document))
+            session.allowance = allowance
+            kind = 'certificate'
+            assessment = Assessment(document, self.background is not None, session.verdict_on, self.cert)
+        except (Fault, plain_forms.Fault) as fault:
+            output.must_lines(f'refused {kind} {fault.name}' + ('' if fault.place is None else f' at {unit} {fault.place}'))
+            return f'{kind} {fault.name}'
+        must_assess(output, assessment, session.must_be_other)
+        return output.text[:output.at].split()[-1].decode()
+
+
+def assess_run(run, puzzles, allowance):
+    """The assessment of one puzzle or of several."""
+    output, ends = Output(run.wrote), []
+    for number, puzzle in enumerate(puzzles, 1):
+        if len(puzzles) > 1:
+            output.must_lines(f'puzzle {number}')
+        ends.append(puzzle.must_be_told(output, allowance))
     output.end()
-    word = run.wrote.split()[-1].decode()
-    run.must(0 if word == 'fit' else 1, run.wrote, b'')
-    return f'{word}, with a certificate' if cert is not None else word
+    if 'unread' in ends:
+        run.must(3, run.wrote, b'nonobench: read failed\n')
+    else:
+        run.must(0 if set(ends) == {'fit'} else 1, run.wrote, b'')
+    if len(puzzles) > 1:
+        return 'several'
+    return f'{ends[0]}, with a certificate' if puzzles[0].cert is not None and ends[0] in ('fit', 'unfit') else ends[0]
 
 
 def most_splits(document):

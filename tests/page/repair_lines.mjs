@@ -1,9 +1,10 @@
-// Tests of the plain line solver that grades puzzles: against brute force over all fillings of short lines, and of its clues.
-// Run: node --test tests/page/grade_lines.mjs
+// Tests of the line logic by which repairs are searched for: against brute force over all fillings of short lines, and of its clues.
+// Run: node --test tests/page/repair_lines.mjs
 import assert from 'node:assert/strict';
 import { test } from 'node:test';
-import { clueOf, narrow } from '../../page/grade/lines.js';
-import { Narrowing, Puzzle, mapOf } from '../../page/grade/puzzle.js';
+import { Board, LETTERS, cellsOf } from '../../page/repair/board.js';
+import { clueOf, narrow } from '../../page/repair/lines.js';
+import { Narrowing } from '../../page/repair/narrowing.js';
 
 // Numbers below a bound, the same each time.
 function random(seed) {
@@ -59,11 +60,17 @@ test('a clue that is longer than the line has no filling', () => {
     assert.equal(narrow(new Uint16Array(3).fill(7), 3, { lengths: [2, 1], colours: [1, 2] }, new Uint16Array(3)), true);
 });
 
-test('a look says which cells lost a candidate and which are settled, and which lines are due', () => {
-    const narrowing = new Narrowing(Puzzle.of(['aa.', '..a']));
-    narrowing.isDue.fill(0);
-    narrowing.look(0);
-    assert.deepEqual([narrowing.changed, narrowing.settled, narrowing.open], [[1], [1], 5]);
-    assert.deepEqual([...narrowing.isDue], [0, 0, 0, 1, 0]);
-    assert.deepEqual(mapOf(narrowing), ['?a?', '???']);
+test('line logic ends where the cases of grades say, and given cells are their colours', () => {
+    const boardOf = (rows, givens = []) => new Board({ rows: rows.length, columns: rows[0].length, cells: cellsOf(rows), givens });
+    const left = (board, more = {}) => {
+        const { masks } = new Narrowing(board, more).settle();
+        return Array.from({ length: board.rows }, (_, row) => Array.from(masks.subarray(row * board.columns, (row + 1) * board.columns), (mask) => (mask & (mask - 1) ? '?' : LETTERS[31 - Math.clz32(mask)])).join(''));
+    };
+    assert.deepEqual(left(boardOf(['.a.', 'aa.', '...'])), ['.a.', 'aa.', '...']);
+    const guess = boardOf(['.aa.', 'a..a', 'a..a']);
+    assert.deepEqual(left(guess), ['????', 'a..a', '????']);
+    assert.deepEqual(new Narrowing(guess).settle().openCells(), [0, 1, 2, 3, 8, 9, 10, 11]);
+    assert.deepEqual(left(guess, { givens: [0] }), ['.aa.', 'a..a', 'a..a'], 'with the corner given');
+    assert.deepEqual(left(boardOf(['.aa.', 'a..a', 'a..a'], [0])), ['.aa.', 'a..a', 'a..a'], 'as the board gives it');
+    assert.deepEqual(new Narrowing(guess).openCells().length, 12, 'before a look');
 });
