@@ -7,9 +7,10 @@ import { readFileSync, readdirSync } from 'node:fs';
 import { join } from 'node:path';
 import { parseArgs } from 'node:util';
 import { load } from '../web/nonobench.mjs';
-import { LINE_WORDS, gradeOf } from '../page/grade/grade.js';
-import { cellsOf } from '../page/grade/puzzle.js';
-import { Board } from '../page/repair/board.js';
+import '../page/test/limits.mjs';
+import { fallsOf, grading } from '../page/engine/serve.js';
+import { LINE_WORDS } from '../page/repair/aiming.js';
+import { Board, cellsOf } from '../page/repair/board.js';
 import { aim } from '../page/repair/repair.js';
 
 const { positionals: [wasm, folder], values } = parseArgs({ allowPositionals: true, options: { most: { type: 'string', default: '200' }, seconds: { type: 'string', default: '4' } } });
@@ -26,23 +27,16 @@ function reportOf(bench) {
     const lines = bench.say('allow 20000\nreport\n').split('\n').slice(1);
     const rows = Number(lines[0].split(' ')[1]);
     const at = lines.indexOf('picture');
-    const [picture, map] = ['picture', 'map'].map((word) => lines.slice(lines.indexOf(word) + 1, lines.indexOf(word) + 1 + rows));
-    const verdict = lines.find((line) => line.startsWith('verdict ')).split(' ')[1];
-    const givens = lines.filter((line) => /^given \d/.test(line)).map((line) => line.split(' ').slice(1).map(Number)).map(([row, column]) => (row - 1) * picture[0].length + column - 1);
-    const colours = lines.slice(2, at).filter((line) => /^[.a-o] /.test(line)).map((line) => line.slice(2));
-    return { picture, colours, word: verdict === 'unique' && !map.join('').includes('?') ? gradeOf({ picture, givens, verdict, map }).word : null };
+    const picture = lines.slice(at + 1, at + 1 + rows);
+    const board = new Board({ rows, columns: picture[0].length, cells: cellsOf(picture) });
+    return { board, word: grading(engine, board)(board.cells, []).word };
 }
 
-// The word of a proposal, in a session of its own.
-function wordAnew({ picture, colours }, { cells = [], given = [] }) {
-    const numbers = cellsOf(picture);
-    const columns = picture[0].length;
+// The word of a proposal, anew.
+function wordAnew({ board }, { cells = [], given = [] }) {
+    const numbers = board.cells.slice();
     for (const { index, colour } of cells) numbers[index] = colour;
-    const bench = engine.open(`P3\n${columns} ${picture.length}\n255\n${[...numbers].map((colour) => colours[colour]).join('\n')}\n`, { background: colours[0].replaceAll(' ', ',') });
-    for (const index of given) bench.say(`pin ${Math.floor(index / columns) + 1} ${(index % columns) + 1}\n`);
-    const { word } = reportOf(bench);
-    bench.close();
-    return word;
+    return grading(engine, board)(numbers, given).word;
 }
 
 const rows = [];
@@ -53,11 +47,12 @@ for (const name of readdirSync(folder).filter((one) => one.endsWith('.ppm')).sor
     const report = reportOf(bench);
     if (report.word) {
         pictures++;
-        const board = new Board({ rows: report.picture.length, columns: report.picture[0].length, cells: cellsOf(report.picture) });
+        const { board } = report;
         const own = LINE_WORDS.indexOf(report.word);
         for (const word of [LINE_WORDS[own - 1], LINE_WORDS[own + 1]].filter(Boolean)) {
             const [from, found] = [now(), []];
-            await aim({ board, word, seconds: Number(values.seconds), now, say: (lines) => bench.say(`${lines.join('\n')}\n`) }, { found: (one) => found.push({ ...one, ms: now() - from }) });
+            const say = (lines) => bench.say(`${lines.join('\n')}\n`);
+            await aim({ board, word, seconds: Number(values.seconds), now, say, path: () => fallsOf(say, board), grade: grading(engine, board) }, { found: (one) => found.push({ ...one, ms: now() - from }) });
             wrong += found.filter((one) => wordAnew(report, one) !== word || (one.cells ?? one.given).length > 4).length;
             rows.push({ name, way: `${report.word} to ${word}`, first: found[0]?.ms, least: Math.min(...found.filter(({ cells }) => cells).map(({ cells }) => cells.length)), given: found.some(({ given }) => given) });
         }

@@ -2,7 +2,9 @@
 """Draws collections, and measures nonobench-audit on them. It needs nonobench's library (NONOBENCH_LIBRARY, or c/build).
 
 measure/audit.py draw FOLDER [COUNT [SEED]]   pictures of blobs, 20 by 20 in 2 to 5 colours: of four, three have one solution
-measure/audit.py run FOLDER                   wall time, processor time and the parent's memory of an audit with certificates
+measure/audit.py run FOLDER                   wall time, processor time and the parent's memory of an audit, also with certificates
+measure/audit.py beside FOLDER OTHER          processor time of an audit, beside that of 0.6.0 without grades, in turn; OTHER is the folder
+                                              in which the wheel of 0.6.0 is unpacked
 measure/audit.py first FOLDER                 seconds until the first row is in its file
 measure/audit.py cost FOLDER                  processor time of a run in one process, and of a C program with the same answers
 measure/audit.py resume FOLDER                seconds until `--resume` of 50,000 rows has begun, and until it has ended
@@ -64,14 +66,14 @@ def draw(folder, count=20_000, seed=1):
         place.write_bytes(text)
 
 
-def environment():
-    return {**os.environ, "PYTHONPATH": str(ROOT / "python" / "src"), "PYTHONDONTWRITEBYTECODE": "1"}
+def environment(**more):
+    return {**os.environ, "PYTHONPATH": str(ROOT / "python" / "src"), "PYTHONDONTWRITEBYTECODE": "1", **more}
 
 
-def spent(words):
+def spent(words, **more):
     """The seconds by the clock and of processors that a command takes, and the most memory of its own process in MiB."""
     begun, before = time.monotonic(), resource.getrusage(resource.RUSAGE_CHILDREN)
-    process = subprocess.Popen(words, env=environment(), stdout=subprocess.DEVNULL)
+    process = subprocess.Popen(words, env=environment(**more), stdout=subprocess.DEVNULL)
     most = 0
     while process.poll() is None:
         try:
@@ -90,13 +92,29 @@ def load():
 
 
 def run(folder):
-    """An audit with certificates and all outputs."""
+    """An audit with all outputs."""
     with tempfile.TemporaryDirectory() as work:
-        outputs = ["--jsonl", f"{work}/rows", "--csv", f"{work}/rows.csv", "--html", f"{work}/report.html", "--certify", f"{work}/certs"]
-        for name, words in (("with grades", []), ("without grades", ["--no-grade"])):
+        outputs = ["--jsonl", f"{work}/rows", "--csv", f"{work}/rows.csv", "--html", f"{work}/report.html"]
+        for name, words in (("without certificates", []), ("with certificates", ["--certify", f"{work}/certs"])):
             wall, work_seconds, memory = spent([*PROGRAM, folder, "--quiet", *outputs, *words])
             rows = Path(work, "rows").read_text().count("\n")
             print(f"{rows} puzzles, {name}: {wall:.1f} s by the clock, {work_seconds:.1f} s of processors, parent {memory:.0f} MiB, {load()}")
+
+
+def beside(folder, other):
+    """Three turns of both. Their verdicts are the same."""
+    old = next(Path(other).rglob("libnonobench.so"))
+    package = next(Path(other).rglob("nonobench/collection")).parent.parent
+    with tempfile.TemporaryDirectory() as work:
+        words = [*PROGRAM, folder, "--quiet", "--jobs", "1", "--jsonl"]
+        ours, theirs = [], []
+        for _ in range(3):
+            theirs.append(spent([*words, f"{work}/old", "--no-grade"], PYTHONPATH=str(package), NONOBENCH_LIBRARY=str(old))[1])
+            ours.append(spent([*words, f"{work}/new"])[1])
+        verdicts = [[json.loads(line)["verdict"] for line in Path(work, name).read_text().splitlines()] for name in ("old", "new")]
+        assert verdicts[0] == verdicts[1], "the verdicts differ"
+    each = [1000 * min(times) / len(verdicts[0]) for times in (ours, theirs)]
+    print(f"{len(verdicts[0])} puzzles: {each[0]:.3f} ms of processors each, 0.6.0 without grades {each[1]:.3f}: {each[0] / each[1]:.2f} times, {load()}")
 
 
 def first(folder):
@@ -123,7 +141,7 @@ def cost(folder):
         Path(work, "names").write_text("\n".join(names) + "\n")
         Path(work, "certs").mkdir()
         theirs = [spent(["sh", "-c", f"{native} {work}/certs <{work}/names >{work}/verdicts"])[1] for _ in range(3)]
-        words = [folder, "--quiet", "--no-grade", "--jobs", "1", "--jsonl", f"{work}/rows", "--certify", f"{work}/more"]
+        words = [folder, "--quiet", "--jobs", "1", "--jsonl", f"{work}/rows", "--certify", f"{work}/more"]
         ours = [spent([*PROGRAM, *words])[1] for _ in range(3)]
         verdicts = [json.loads(line)["verdict"] for line in Path(work, "rows").read_text().splitlines()]
         assert verdicts == Path(work, "verdicts").read_text().split(), "the verdicts differ"
@@ -140,7 +158,7 @@ def resume(folder):
             place = Path(work, "site", f"{at // 500:03}", f"{at:05}.ppm")
             place.parent.mkdir(parents=True, exist_ok=True)
             place.write_bytes(texts[at % len(texts)])
-        words = [*PROGRAM, "site", "--no-grade", "--quiet", "--jsonl", "rows"]
+        words = [*PROGRAM, "site", "--quiet", "--jsonl", "rows"]
         subprocess.run(words, cwd=work, env=environment(), check=False)
         lines = Path(work, "rows").read_bytes().splitlines(keepends=True)
         # The first row is missing: it is begun with, and stands at the end of the file as soon as it is there.
@@ -158,7 +176,7 @@ def resume(folder):
 
 def main():
     words = sys.argv[1:]
-    works = {"draw": draw, "run": run, "first": first, "cost": cost, "resume": resume}
+    works = {"draw": draw, "run": run, "first": first, "cost": cost, "resume": resume, "beside": beside}
     if len(words) < 2 or words[0] not in works:
         sys.exit(__doc__)
     if words[0] == "draw" and Path(words[1]).exists():

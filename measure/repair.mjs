@@ -7,8 +7,7 @@ import { readFileSync, readdirSync } from 'node:fs';
 import { join } from 'node:path';
 import { parseArgs } from 'node:util';
 import { load } from '../web/nonobench.mjs';
-import { cellsOf } from '../page/grade/puzzle.js';
-import { Board } from '../page/repair/board.js';
+import { Board, cellsOf } from '../page/repair/board.js';
 import { repair } from '../page/repair/repair.js';
 
 const { positionals: [wasm, folder], values } = parseArgs({
