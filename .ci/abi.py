@@ -1,12 +1,14 @@
 #!/usr/bin/env python3
-"""Compares what calls the proved crate web with the functions that it exports, and says where they differ.
+"""Compares what calls the proved crates web and check_host with the functions that they export, and says where they differ.
 
-The exported functions are those of crates/web/src/calls.rt. Compared with them, by name, number, width and sign of
+The exported functions are those of each crate's src/calls.rt. Compared with them, by name, number, width and sign of
 arguments and result: the prototypes of c/nonobench.h and of web/guard.c, the table of python/src/nonobench/_library.py, and
-LLVM's module of the crate where one is named, as text. Of the calls in web/nonobench.mjs the number of arguments is compared with what web/guard.c exports.
+LLVM's module of the crate web where one is named, as text; and those of c/nonocheck.h and of web/check_guard.c. Of the calls in
+web/nonobench.mjs the number of arguments is compared with what web/guard.c exports.
 
 The statuses are those of crates/web/src/status.rt, and what is refused has the one of crates/program_options/src/fault.rt.
-They are repeated in c/nonobench.h, web/guard.c, web/nonobench.mjs and python/src/nonobench/_library.py.
+They are repeated in c/nonobench.h, web/within.h, web/nonobench.mjs and python/src/nonobench/_library.py, and, as far as there are such,
+in crates/check_host/src/status.rt, c/nonocheck.h and web/check.mjs.
 
 Then it plants differences, and fails if one is not found.
 
@@ -24,20 +26,23 @@ HEADER = "c/nonobench.h"
 GUARD = "web/guard.c"
 SCRIPT = "web/nonobench.mjs"
 PYTHON = "python/src/nonobench/_library.py"
+CHECK_CALLS, CHECK_STATUS = "crates/check_host/src/calls.rt", "crates/check_host/src/status.rt"
+CHECK_HEADER, CHECK_GUARD, CHECK_SCRIPT, WITHIN = "c/nonocheck.h", "web/check_guard.c", "web/check.mjs", "web/within.h"
 # What stands after it in the header is C, and not the crate's.
 OWN_C = "/* ---- one question each"
 # A pointer to bytes and a length are two arguments, what takes no bytes is none. `pointer TO` names what lies there.
 RUST = {
-    "Global": [], "": ["nothing"], "bool": ["bool"], "u32": ["u32"], "usize": ["u64"], "&mut u32": ["pointer u32"],
-    "&[u8]": ["pointer const u8", "u64"], "&mut [u8]": ["pointer u8", "u64"],
+    "Global": [], "": ["nothing"], "bool": ["bool"], "u32": ["u32"], "usize": ["u64"], "&mut u32": ["pointer u32"], "&mut bool": ["pointer bool"],
+    "&[u8]": ["pointer const u8", "u64"], "&mut [u8]": ["pointer u8", "u64"], "&[u16]": ["pointer const u16", "u64"],
     "&mut Held": ["pointer desk"], "&mut DeskCell": ["pointer desk"], "DeskCell": ["desk"],
 }
 C = {
-    "void": "nothing", "bool": "bool", "_Bool": "bool",
+    "void": "nothing", "bool": "bool", "_Bool": "bool", "bool *": "pointer bool", "_Bool *": "pointer bool",
     "uint32_t": "u32", "unsigned": "u32", "uint32_t *": "pointer u32", "unsigned *": "pointer u32",
     "size_t": "u64", "u64": "u64", "u64 *": "pointer u64",
     "uint8_t *": "pointer u8", "byte *": "pointer u8",
     "const uint8_t *": "pointer const u8", "const byte *": "pointer const u8",
+    "const uint16_t *": "pointer const u16", "const sample *": "pointer const u16",
     "nonobench_desk *": "desk", "nonobench_desk **": "pointer desk", "void *": "pointer desk",
 }
 CTYPES = {
@@ -78,7 +83,7 @@ def c_type(words):
 def prototypes(text):
     """The functions that C declares and does not define, in the same form."""
     found = {}
-    pattern = r"(?<![\w*] )\b(\w+(?: \*+)?) (nonobench_\w+)\(([^()]*)\);"
+    pattern = r"(?<![\w*] )\b(\w+(?: \*+)?) (nono(?:bench|check)_\w+)\(([^()]*)\);"
     for result, name, inside in re.findall(pattern, without_comments(text)):
         if result not in ("return", "else"):
             found[name] = [c_type(result)] + [c_type(part) for part in inside.split(",")]
@@ -111,9 +116,10 @@ def defined(text):
 
 
 def guarded(text):
-    """How many arguments each function has that web/guard.c exports."""
+    """How many arguments each function has that a guard exports."""
     pattern = r"CALL\((\w+)\) \w+ \w+\(([^()]*)\)"
-    return {"nonobench_" + name: inside.count(",") + 1 for name, inside in re.findall(pattern, without_comments(text))}
+    prefix = re.search(r'export_name\("(\w+_)"', text)[1]
+    return {prefix + name: inside.count(",") + 1 for name, inside in re.findall(pattern, without_comments(text))}
 
 
 def script_calls(text):
@@ -139,7 +145,10 @@ def statuses(files):
     line = re.search(r"^([A-Z, ]+) = ([\d, ]+)$", files[PYTHON], flags=re.M)
     again = [
         (HEADER, numbers(files[HEADER], r"NONOBENCH_([A-Z]+) = (\d+)\b")),
-        (GUARD, numbers(files[GUARD], r"\b([A-Z]+) = (\d+)\b")),
+        (WITHIN, numbers(files[WITHIN], r"\b([A-Z]+) = (\d+)\b")),
+        (CHECK_STATUS, numbers(files[CHECK_STATUS], r"pub const (\w+): u32 = (\d+);")),
+        (CHECK_HEADER, numbers(files[CHECK_HEADER], r"NONOCHECK_([A-Z]+) = (\d+)\b")),
+        (CHECK_SCRIPT, numbers(files[CHECK_SCRIPT], r"const (DONE|REFUSED|MEMORY|CLOSED|OPTIONS) = (\d+);")),
         (SCRIPT, numbers(files[SCRIPT], r"const (DONE|REFUSED|MEMORY|CLOSED|OPTIONS) = (\d+);")),
         (PYTHON, dict(zip(line[1].split(", "), map(int, line[2].split(", ")))) if line else {}),
     ]
@@ -173,6 +182,10 @@ def differences(files, module=None):
     for name, count in script_calls(files[SCRIPT]):
         if name in own and guard.get(name) != count:
             yield f"{SCRIPT}: {name} is called with {count} arguments, of {guard.get(name)}"
+    checks = exported(files[CHECK_CALLS])
+    yield from differing(CHECK_HEADER, checks, prototypes(files[CHECK_HEADER]))
+    yield from differing(CHECK_GUARD, checks, prototypes(files[CHECK_GUARD]))
+    yield from differing(f"{CHECK_GUARD}, what it exports", {name: len(kinds) - 1 for name, kinds in checks.items()}, guarded(files[CHECK_GUARD]))
     told, again = statuses(files)
     for file, found in again:
         yield from differing(file, {name: told.get(name) for name in found} or {"a status": "there"}, found)
@@ -197,6 +210,12 @@ PLANTED = [
     (PYTHON, "= 0, 1, 4, 5, 6", "= 0, 1, 4, 6, 5"),
     (PYTHON, '"close": (number, [cell, number]),', '"close": (number, [cell, ctypes.c_size_t]),'),
     (STATUS, "OPTIONS: u32 = 6", "OPTIONS: u32 = 7"),
+    (WITHIN, "OPTIONS = 6", "OPTIONS = 5"),
+    (CHECK_CALLS, "givens: &[u8],", ""),
+    (CHECK_HEADER, "const uint16_t *background, size_t samples, uint8_t *out, size_t room);", "const uint16_t *background, uint8_t *out, size_t room);"),
+    (CHECK_GUARD, "const byte *, u64, const sample *", "const byte *, u64, const byte *"),
+    (CHECK_GUARD, "u64 givens, u64 givens_size, ", "u64 givens, "),
+    (CHECK_STATUS, "MEMORY: u32 = 4", "MEMORY: u32 = 5"),
     (CALLS, "handle: u32, lines: &[u8]) -> u32", "handle: u32, lines: &[u8], more: u32) -> u32"),
 ]
 
@@ -214,6 +233,7 @@ def unseen(files, module):
 
 def main():
     names = [CALLS, STATUS, FAULT, HEADER, GUARD, SCRIPT, PYTHON]
+    names += [CHECK_CALLS, CHECK_STATUS, CHECK_HEADER, CHECK_GUARD, CHECK_SCRIPT, WITHIN]
     files = {name: (ROOT / name).read_text(encoding="utf-8") for name in names}
     module = pathlib.Path(sys.argv[1]).read_text(encoding="utf-8") if len(sys.argv) > 1 else None
     found = list(differences(files, module)) or list(unseen(files, module))
@@ -221,7 +241,7 @@ def main():
         print(line)
     told, again = statuses(files)
     beside = "the module too" if module is not None else "no module was named"
-    print(f"abi: {len(exported(files[CALLS]))} functions, {beside}; {len(told)} statuses in {len(again)} files; "
+    print(f"abi: {len(exported(files[CALLS]) | exported(files[CHECK_CALLS]))} functions, {beside}; {len(told)} statuses in {len(again)} files; "
           f"{len(PLANTED) + (module is not None)} planted; {len(found)} differences")
     return 1 if found else 0
 

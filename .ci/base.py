@@ -27,6 +27,7 @@ CLAIMS = {
     'A certificate proves uniqueness': [('answers/src/check.rt', 'run_check_published', 'unique')],
     'So it does in its own givens': [('answers/src/check.rt', 'run_check', 'unique')],
     'A check answers exactly': [('cert_check/src/checking.rt', 'check_cert', name) for name in ('first', 'proof', 'only', 'unique')],
+    'The checker alone does so, too': [('check_host/src/calls.rt', call, 'checks') for call in ('nonocheck_check', 'nonocheck_check_published')],
     'A refused edit changes nothing': [('live_audit/src/bench.rt', call, 'refused') for call in ('apply', 'undo', 'redo')],
     'It stays true': [('live_audit/src/laws.rt', 'lists_stay_audited', '')],
     "A session's answers are right": [('session/src/session.rt', 'run_session', 'truth')],
@@ -36,6 +37,7 @@ CLAIMS = {
     ],
     'What prove prints is accepted': [('published/src/laws.rt', 'proofs_are_verified', '')],
     'A complete search decides': [('published/src/laws.rt', 'complete_searches_decide', '')],
+    'A puzzle that is fit has one solution': [('published/src/laws.rt', 'fit_puzzles_are_fit', '')],
     'The program does what its arguments ask for': [('program/src/running.rt', 'run', '')],
 }
 # The most lines that a claim may need, by its clauses and with the views: a larger number needs its reason in docs/DECISIONS.md.
@@ -44,23 +46,27 @@ MOST = {
     'A certificate proves uniqueness': (238, 238),
     'So it does in its own givens': (371, 371),
     'A check answers exactly': (316, 321),
+    'The checker alone does so, too': (732, 732),
     'A refused edit changes nothing': (143, 231),
     'It stays true': (1203, 1203),
-    "A session's answers are right": (1004, 1090),
-    'Published pairs are accepted': (1933, 1933),
-    'What prove prints is accepted': (735, 735),
+    "A session's answers are right": (1686, 1772),
+    'Published pairs are accepted': (2245, 2245),
+    'What prove prints is accepted': (744, 744),
     'A complete search decides': (735, 735),
-    'The program does what its arguments ask for': (2915, 2915),
+    'A puzzle that is fit has one solution': (1787, 1787),
+    'The program does what its arguments ask for': (3480, 3480),
 }
 # The claims in whose base a name may mean two things: they span formats, each with words and lines of its own.
 SHARED = {
     'So it does in its own givens',
     'A check answers exactly',
+    'The checker alone does so, too',
     'It stays true',
     "A session's answers are right",
     'Published pairs are accepted',
     'What prove prints is accepted',
     'A complete search decides',
+    'A puzzle that is fit has one solution',
     'The program does what its arguments ask for',
 }
 # From this many words on, a comment's first sentence is shortened in docs/BASE.md.

@@ -1,9 +1,9 @@
 #!/usr/bin/env python3
 """Keeps the list of crates in one order: .ci/crates.py [--write]
 
-Each crate has a room, by ROOMS. crates.txt must name the crates room by room, each after those that it depends on. The first list of
+Each crate has a room, by ROOMS. crates.txt must name the crates room by room, each after those that it depends on. The list of
 crates/README.md, between two marks, must be what this script makes of crates.txt and the first sentence of each crate's root file. What
-follows it, from ENTRIES on, is kept, and begins with a list that must have the same order. With --write all three are put into order.
+follows it is kept. With --write both are put into order.
 """
 import re
 import sys
@@ -12,7 +12,6 @@ from pathlib import Path
 ROOT = Path(__file__).resolve().parent.parent
 README = ROOT / 'crates' / 'README.md'
 LIST = ROOT / 'crates.txt'
-ENTRIES = '## Where to enter them\n'
 # The rooms, in reading order: what stands there, and its crates.
 ROOMS = {
     'Ground': ('pictures and their clues', 'picture flaws clues clue_laws'),
@@ -23,13 +22,13 @@ ROOMS = {
                'split_choice lemma_search lemma_proof second_search certificate assess'),
     'Bench': ('a picture kept up to date while it is edited', 'edits kept_audit live_audit'),
     'Outside': ('texts, sessions, the program and its hosts',
-                'ppm_text non_text command_text report_text grade_text assess_text session program_options command_line answers published program '
-                'claims web nonobench'),
+                'ppm_text text_check non_text command_text report_text grade_text assess_text session program_options command_line answers published program '
+                'claims check_host web nonobench'),
     'Tests': ('programs that only tests run', 'table_words tables search_tables lemma_tables cert_tables refused'),
 }
 HEAD = '''# Crates
 
-The crates in reading order, each after those that it depends on (`crates.txt`); [where to enter them](#where-to-enter-them), what [a change costs](#what-a-change-costs), and [what no must-fail edit guards](#what-no-must-fail-edit-guards). [ARCHITECTURE.md](../docs/ARCHITECTURE.md) says how they work together.
+The crates in reading order, each after those that it depends on (`crates.txt`); what [a change costs](#what-a-change-costs), and [what no must-fail edit guards](#what-no-must-fail-edit-guards). [ARCHITECTURE.md](../docs/ARCHITECTURE.md) says how they work together, and [PROMISES.md](../docs/PROMISES.md) lists their public calls.
 
 <!-- .ci/crates.py makes this part -->
 '''
@@ -70,18 +69,6 @@ def told(crate):
     return ''
 
 
-def items_of(text):
-    """The second list of crates/README.md: what is before it, its items, and what follows."""
-    found = re.search(ENTRIES + r'.*?(?=^- )', text, re.M | re.S)
-    items = re.match(r'(- .*\n)+', text[found.end():])[0]
-    return text[:found.end()], items.splitlines(), text[found.end() + len(items):]
-
-
-def crates_of(item):
-    """The crates of an item: those before its colon."""
-    return re.findall(r'`(\w+)`', item.partition(':')[0])
-
-
 def page(crates, rest):
     """The text of crates/README.md, whose list is followed by the rest."""
     text = HEAD
@@ -92,13 +79,10 @@ def page(crates, rest):
 
 
 def put_in_order():
-    """Writes crates.txt and the second list of crates/README.md in the order of rooms."""
+    """Writes crates.txt in the order of rooms."""
     lines = [line for line in LIST.read_text(encoding='utf-8').splitlines() if line.strip()]
     lines.sort(key=lambda line: place_of(line.partition(':')[0].split()[0]))
     LIST.write_text(''.join(f'{line}\n' for line in lines), encoding='utf-8')
-    front, items, end = items_of(README.read_text(encoding='utf-8'))
-    items.sort(key=lambda item: min(place_of(name) for name in crates_of(item)))
-    README.write_text(front + ''.join(f'{item}\n' for item in items) + end, encoding='utf-8')
 
 
 def faults(crates, text):
@@ -115,11 +99,6 @@ def faults(crates, text):
             yield f'crates/{name}: its root file does not begin with what it holds'
     if list(crates) != sorted(crates, key=place_of):
         yield 'crates.txt is not in the order of rooms: run .ci/crates.py --write'
-    order = [name for item in items_of(README.read_text(encoding='utf-8'))[1] for name in crates_of(item)]
-    if order != list(crates):
-        at = next((i for i, pair in enumerate(zip(order, crates)) if pair[0] != pair[1]), min(len(order), len(crates)))
-        yield (f'crates/README.md: its second list goes on with {" ".join(order[at:at + 1]) or "nothing"}, and crates.txt with '
-               f'{" ".join(list(crates)[at:at + 1]) or "nothing"}')
     if not README.exists() or README.read_text(encoding='utf-8') != text:
         yield 'crates/README.md is stale: run .ci/crates.py --write'
     for name in re.findall(r'^\| `(\w+)` \|', text, re.M):
@@ -134,7 +113,7 @@ def main(words):
     if words:
         put_in_order()
     crates = listed()
-    text = page(crates, ENTRIES + README.read_text(encoding='utf-8').partition(ENTRIES)[2])
+    text = page(crates, README.read_text(encoding='utf-8').partition(FOOT)[2])
     if words:
         README.write_text(text, encoding='utf-8')
     found = list(faults(crates, text))

@@ -246,22 +246,24 @@ COUNTS = (
     # the second is `nonobench_assess`, for hosts in C: two of its texts may be left out
     ('functions above 6 parameters', long_heads, 2),
     ('functions that carry a counter by &mut', carried_counters, 18),
-    ('pairs of source files that share six lines of one shape', lambda: shared_places(sources('src', '.rt'), shape), 121),
+    # the text of a flaw stands in `assess_text` and, below the search, in `check_host`; conversions of errors of a check have one shape
+    ('pairs of source files that share six lines of one shape', lambda: shared_places(sources('src', '.rt'), shape), 130),
     ('pairs of specs or proofs that share six lines', lambda: shared_places(proof_sources(), str), 24),
     ('source files without a first line', headless_files, 0),
     ('definitions and lemmas that nothing names', unnamed_definitions, 12),
     ('rows worked out beside a definition', worked_rows, 45),
     # `assess`, `assess_text` and the call `nonobench_assess` replace what hosts compute in scripts; `prove` takes givens, and searches
     # without bounds
-    ('code lines', code_lines, 17900),
-    # the same, and `cert_figures` and `grade_text`
-    ('lines of specs, lemmas and answers', proof_lines, 53000),
+    # `nonobench assess`, the checker alone (`text_check`, `check_host`), and a search that explains several exclusions at once
+    ('code lines', code_lines, 18700),
+    # the same, `cert_figures` and `grade_text`; a checker that has all its memory before it begins
+    ('lines of specs, lemmas and answers', proof_lines, 54850),
     # French has 880 lines of texts; the page reads SVG, BMP, AVIF and sheets of sprites, and cuts pictures into places; the example
     # site bounds connections, and headers are read in bounded memory. Modules are made those of other systems, too. The page aims for
     # a grade, and a script measures how often that is reached. Outputs and names of an audit withstand more.
-    ('lines of JavaScript and Python without tests', lambda: tracked('*.js', '*.mjs', '*.py'), 31950),
+    ('lines of JavaScript and Python without tests', lambda: tracked('*.js', '*.mjs', '*.py'), 31500),
     # platforms/build makes library and program for other systems, and release their packages.
-    ('lines of bash', bash_lines, 1600),
+    ('lines of bash', bash_lines, 1310),
 )
 
 

@@ -12,7 +12,11 @@ from pathlib import Path
 
 PAGE = Path(__file__).resolve().parent.parent / 'docs' / 'TRUST.md'
 START = '<!-- .ci/trusted.py makes this part -->\n'
-SHIPPED = {'nonobench': 'the program', 'web': 'the library, which is also compiled to the module'}
+SHIPPED = {
+    'nonobench': 'the program',
+    'web': 'the library, which is also compiled to the module',
+    'check_host': 'the checker alone, library and module',
+}
 # What says how large a crate is, or how its check was run: a check by hand keeps what earlier ones found, and CI does not. The other words
 # say what a proof rests on.
 OTHER = re.compile(r'functions=|incremental=|batches=')
