@@ -12,22 +12,19 @@ import hashlib
 import marshal
 import os
 import signal
-import struct
 import threading
 import time
+from collections import deque
 from typing import Any, Iterator, NamedTuple, Optional, Union
 
-from .._library import version
-from .._serve import bound, read, write
+from .._serve import STREAM, begin, framed, receive, write
 from . import certificates, readers
 from .judging import Desk
 from .making import Making
 from .puzzles import Missing, Puzzle, Unreadable
 from .rows import Row, row_of, text_of, unfinished
 
-STREAM = 0  # questions come there, and answers go
-HEAD = struct.Struct("!I")
-MOMENT = 0.03  # seconds until a line goes out
+MOMENT = 0.03  # seconds until an answer goes out
 LONG = 0.02  # seconds after which what is known goes out before a certificate is made
 FULL, GLANCE = 0, 1
 FEW_SPLITS = 100  # of a puzzle that took too long, to tell at least its size and what line logic leaves open
@@ -69,37 +66,32 @@ class Task(NamedTuple):
     used: float = 0.0  # the seconds that the puzzles before took
 
 
-def serve() -> None:
+def serve(memory: int) -> None:
     """Answers packs of tasks until there are no more."""
     signal.signal(signal.SIGINT, signal.SIG_IGN)
     ctypes.CDLL(None).prctl(DIES_WITH_PARENT, signal.SIGKILL)
     os.dup2(2, 1)  # what prints is seen, and not beside the answers
-    answers = Answers(STREAM)
-    told = _receive()
-    if told is None:  # the run was stopped before it said so much
-        return
-    settings = Settings(*told)
-    version()  # what loads the library is not bounded
-    bound(settings.memory << 20)
+    answers = Answers()
+    begin(memory)
     gc.set_threshold(20_000)
-    judging = Judging(settings, answers)
+    asked = _asked()
+    settings = next(asked, None)
+    if settings is None:  # the run was stopped before it said so much
+        return
+    judging = Judging(Settings(*settings), answers)
     answers.put(0, "ready", "")
-    while True:
-        pack = _receive()
-        if pack is None:
-            break
+    for pack in asked:
         for task in pack:
             judging.answer(Task(*task))
         answers.flush()
     answers.flush()
 
 
-def _receive() -> Any:
-    """What comes next; nothing where nobody asks any more."""
-    try:
-        return marshal.loads(read(STREAM, HEAD.unpack(read(STREAM, HEAD.size))[0]))
-    except (EOFError, ConnectionError):
-        return None
+def _asked() -> Iterator[Any]:
+    """What comes, until nobody asks any more."""
+    with contextlib.suppress(EOFError, ConnectionError):
+        while True:
+            yield marshal.loads(receive()[1][0])
 
 
 class About(NamedTuple):
@@ -113,33 +105,31 @@ class About(NamedTuple):
 
 
 class Answers:
-    """Lines that go out together: within a moment, and at the latest with the last one of a pack."""
+    """Answers that go out together: within a moment, and at the latest with the last one of a pack."""
 
-    def __init__(self, handle: int) -> None:
-        self._handle = handle
-        self._lines: list[str] = []
+    def __init__(self) -> None:
+        self._waiting: deque[bytes] = deque()
         self._lock = threading.Lock()
         self._some = threading.Event()
         threading.Thread(target=self._run, daemon=True).start()
 
     def put(self, number: int, kind: str, verdict: str, text: str = "", certificate: str = "") -> None:
-        """Puts a line of a kind.
+        """Puts an answer of a kind.
 
         `more` and `last` are rows of a file; `same` and `none` say that its rows are as they were, or that there are no more.
         `known` is a row before its certificate or its grade is made: instead of a certificate it has the kind of the row to come, and
         what follows is the certificate that goes back. `at` is the puzzle that is begun where a file has several, `bye` says that
         the process ends and has begun no other task, `ready` that it begins.
         """
-        self._lines.append(f"{number}\t{kind}\t{verdict}\t{text}\t{certificate}\n")
+        self._waiting.append(framed(number, *(word.encode("ascii") for word in (kind, verdict, text, certificate))))
         if not self._some.is_set():
             self._some.set()
 
     def flush(self) -> None:
         """Sends what there is."""
         with self._lock:
-            lines, self._lines = self._lines, []
             try:
-                write(self._handle, "".join(lines).encode("ascii"))
+                write(STREAM, b"".join(self._waiting.popleft() for _ in range(len(self._waiting))))
             except ConnectionError:  # nobody asks any more
                 os._exit(1)
 
