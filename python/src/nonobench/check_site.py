@@ -136,7 +136,7 @@ class Checks:
     def __init__(self, site: Site, told: argparse.Namespace) -> None:
         self._site = site
         self._jobs = told.jobs
-        self._allowed = told.allow_flaw
+        self._allowed = told.allowed
         self._workers: queue.SimpleQueue[Worker] = queue.SimpleQueue()
         for _ in range(told.jobs):
             self._workers.put(Worker(told.seconds, told.memory << 20, told.processor))

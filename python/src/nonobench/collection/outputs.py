@@ -5,13 +5,12 @@ from __future__ import annotations
 import csv
 import errno
 import fcntl
-import io
 import os
 import stat
 import sys
 import time
 from array import array
-from typing import BinaryIO, Callable, ContextManager, Iterator, Sequence, Union
+from typing import BinaryIO, Callable, ContextManager, Iterator, Union
 
 from .rows import COLUMNS, HEAD, Row, csv_cells, table_line
 
@@ -138,11 +137,26 @@ class Output:
             self.file.close()
 
 
-class Lines:
+class Sink:
+    """Rows on their way into an output."""
+
+    def __init__(self, name: str, keeps: bool = False) -> None:
+        self._output = Output(name, keeps)
+
+    def flush(self) -> None:
+        """Writes what has waited for a moment."""
+        self._output.flush(False)
+
+    def close(self, is_whole: bool) -> None:
+        """Ends the file."""
+        self._output.close()
+
+
+class Lines(Sink):
     """Rows as lines of JSON. Rows of an earlier run stay where they are, until all are put in order in the end."""
 
     def __init__(self, name: str, is_resumed: bool) -> None:
-        self._output = Output(name, is_resumed)
+        super().__init__(name, is_resumed)
         self._name = name
         self._end = 0
         self._order = array("Q")
@@ -166,10 +180,6 @@ class Lines:
     def keep(self, place: int) -> None:
         """Takes the row at a place as the next one."""
         self._order.append(place)
-
-    def flush(self) -> None:
-        """Writes what has waited for a moment."""
-        self._output.flush(False)
 
     def close(self, is_whole: bool) -> None:
         """Ends the file. Where all puzzles were answered, it has their rows alone, in order."""
@@ -223,39 +233,28 @@ def _cut_torn_line(file: BinaryIO, name: str) -> int:
     return place
 
 
-class Sheet:
+class Sheet(Sink):
     """Rows for spreadsheets: CSV in UTF-8."""
 
     def __init__(self, name: str) -> None:
-        self._output = Output(name)
-        self._text = io.StringIO()
-        self._writer = csv.writer(self._text, lineterminator="\r\n")
-        self._write(COLUMNS)
+        super().__init__(name)
+        self._writer = csv.writer(self, lineterminator="\r\n")
+        self._writer.writerow(COLUMNS)
 
-    def _write(self, cells: Sequence[object]) -> None:
-        self._text.seek(0)
-        self._text.truncate()
-        self._writer.writerow(cells)
-        self._output.put(self._text.getvalue().encode("utf-8"))
+    def write(self, line: str) -> None:
+        """Takes a line of the writer."""
+        self._output.put(line.encode("utf-8"))
 
     def put(self, text: str, row: Row) -> None:
         """Puts a row."""
-        self._write(csv_cells(row))
-
-    def flush(self) -> None:
-        """Writes what has waited for a moment."""
-        self._output.flush(False)
-
-    def close(self, is_whole: bool) -> None:
-        """Ends the file."""
-        self._output.close()
+        self._writer.writerow(csv_cells(row))
 
 
-class Table:
+class Table(Sink):
     """Rows as a table on standard output. Where nobody reads it any more, it ends."""
 
     def __init__(self, clear: Callable[[], ContextManager[None]]) -> None:
-        self._output = Output("-")
+        super().__init__("-")
         self._clear = clear  # takes a bar away before lines are printed
         self.is_closed = False
         self._put(HEAD)
@@ -266,25 +265,23 @@ class Table:
 
     def put(self, text: str, row: Row) -> None:
         """Puts a row."""
-        if not self.is_closed:
-            self._guard(lambda: self._put(table_line(row)))
+        self._guard(lambda: self._put(table_line(row)))
 
     def say(self, lines: str) -> None:
         """Puts lines that are no rows."""
-        if not self.is_closed:
-            self._guard(lambda: self._put(lines))
+        self._guard(lambda: self._put(lines))
 
     def flush(self) -> None:
         """Prints what has waited for a moment."""
-        if not self.is_closed:
-            self._guard(lambda: self._output.flush(False))
+        self._guard(super().flush)
 
     def close(self, is_whole: bool) -> None:
         """Prints what waits."""
-        if not self.is_closed:
-            self._guard(self._output.close)
+        self._guard(self._output.close)
 
     def _guard(self, write: Callable[[], None]) -> None:
+        if self.is_closed:
+            return
         try:
             with self._clear():
                 write()
