@@ -20,9 +20,8 @@ from typing import Any, Iterator, NamedTuple, Optional, Union
 from .._serve import STREAM, begin, framed, receive, write
 from . import certificates, readers
 from .judging import Desk
-from .making import Making
 from .puzzles import Missing, Puzzle, Unreadable
-from .rows import Row, row_of, text_of, unfinished
+from .rows import Row, graded, judged_row, noted, row_of, text_of, unfinished
 
 MOMENT = 0.03  # seconds until an answer goes out
 LONG = 0.02  # seconds after which what is known goes out before a certificate is made
@@ -149,7 +148,8 @@ class Judging:
         self._answers = answers
         self._ground = readers.ground_of(settings.ground)
         self._desk = Desk()
-        self._making: Optional[Making] = None  # what is known of the puzzle at hand
+        self._row: Row = {}  # what is known of the puzzle at hand: nothing before there is a verdict
+        self._back = ""  # its certificate, where that goes back
         self._front: Row = {}  # how its row begins, if its file is not read further
         self._spare = bytes(SPARE)  # let go where memory is out, so that this can be told
 
@@ -192,10 +192,9 @@ class Judging:
         for number, has_more, puzzle in puzzles:
             if number < task.start:
                 continue
+            front: Row = {"file": task.name}
             if has_more or number > 1:
                 self._answers.put(task.number, "at", str(number))
-            front: Row = {"file": task.name}
-            if number > 1 or has_more:
                 front["puzzle"] = number
             if has_more:
                 front["more"] = True
@@ -239,58 +238,65 @@ class Judging:
         return puzzles if files.background is None else readers.grounded(puzzles, ground)
 
     def _judge(self, task: Task, about: About, puzzle: Union[Puzzle, Unreadable], beside: list[bytes]) -> None:
-        """Puts the row of one puzzle."""
-        made = ""
-        self._making = None
+        """Puts the row of one puzzle. Where memory ends, it has what is known by then, and what is missing."""
+        self._row, self._back = {}, ""
         try:
             if isinstance(puzzle, Unreadable):
                 raise puzzle
-            row, made = self._row(task, about, puzzle, beside)
+            self._make(task, about, self._desk.painted(puzzle), beside)
         except Unreadable as error:
-            row = {"verdict": "error", "error": str(error)}
+            self._row, self._back = {"verdict": "error", "error": str(error)}, ""
             if isinstance(error, Missing):
-                row["missing"] = error.library
+                self._row["missing"] = error.library
         except MemoryError:
             self._spare = b""
-            row, made = self._short()
-        self._put(task, about, row, about.kind, made)
+            why = self._too_much()
+            self._row = unfinished(self._row, why) if self._row else {"verdict": "error", "error": why}
+        self._put(task, about, about.kind, self._back)
         if not self._spare:
             self._leave(task)
 
-    def _short(self) -> tuple[Row, str]:
-        """The row of a puzzle for which memory is out, with its certificate: what is known of it, and what is missing."""
-        if self._making is None or not self._making.row:
-            return {"verdict": "error", "error": self._too_much()}, ""
-        return unfinished(self._making.row, self._too_much()), self._making.back
-
-    def _put(self, task: Task, about: About, row: Row, kind: str, certificate: str = "") -> None:
+    def _put(self, task: Task, about: About, kind: str, certificate: str) -> None:
+        row = {**about.front, **self._row}
         if self._settings.has_times:
             row["seconds"] = round(task.spent + time.perf_counter() - about.begun, 6)
-        row["content"], row["sha256"], row["made"] = about.content, about.sha256, self._settings.made
+        row.update(content=about.content, sha256=about.sha256, made=self._settings.made)
         if row["verdict"] == "undecided":
             row["limit"] = self._settings.limit
-        self._answers.put(task.number, kind, row["verdict"], text_of({**about.front, **row}), certificate)
+        self._answers.put(task.number, kind, row["verdict"], text_of(row), certificate)
 
-    def _row(self, task: Task, about: About, puzzle: Puzzle, beside: list[bytes]) -> tuple[Row, str]:
-        """The row of a puzzle, and its certificate where that goes back."""
-        settings = self._settings
-        number = about.front.get("puzzle", 1)
+    def _tell(self, task: Task, about: About) -> None:
+        """Tells what is known by now."""
+        self._put(task, about, "known", f"{about.kind} {self._back}")
+        self._answers.flush()
+
+    def _make(self, task: Task, about: About, puzzle: Puzzle, beside: list[bytes]) -> None:
+        """Makes the row of a P3 text: verdict, grade and flaws, by a certificate that lies beside it where one is accepted. Where it has
+        one solution its picture and its certificate are written, if they have names.
+        """
+        settings, number, is_glance = self._settings, about.front.get("puzzle", 1), task.mode == GLANCE
         name, published = (None if place is None else certificates.numbered_name(place, number) for place in (task.to, task.published))
-        making = self._making = Making(self._desk, puzzle, beside)
-
-        def tell() -> None:
-            self._put(task, about, dict(making.row), "known", f"{about.kind} {making.back}")
-            self._answers.flush()
-
-        making.assess(FEW_SPLITS if task.mode == GLANCE else settings.allowance, published)
-        if name is not None and making.is_unique and task.mode == FULL:
+        told, by = certificates.told(self._desk, puzzle, beside)
+        said = by or self._desk.assess(puzzle, None, FEW_SPLITS if is_glance else settings.allowance)
+        self._row = {**judged_row(puzzle, said), **told}
+        if self._row["verdict"] != "unique":
+            return
+        if published is not None:
+            self._row = noted(self._row, certificates.publish(puzzle, published))
+        if name is not None and is_glance:
+            self._row = noted(self._row, f"no certificate within {settings.limit}")
+        elif name is not None:
             if time.perf_counter() - about.begun > LONG:
-                tell()
-            making.certify(name, settings.is_inline, tell)
-        elif name is not None and making.is_unique:
-            making.note(f"no certificate within {settings.limit}")
-        return making.row, making.back
-
+                self._tell(task, about)
+            made = self._desk.certify(puzzle, said)
+            self._row = {**self._row, "lines": made.count("\n")}
+            if settings.is_inline:
+                self._back = certificates.packed(made)
+            else:
+                self._row = noted(self._row, certificates.write(name, made))
+            if by is None and said.open:  # the grade is that of a certificate, and none lies beside: of this one
+                self._tell(task, about)
+                self._row = {**self._row, **graded(self._desk.assess(puzzle, made.encode("ascii")))}
 
 def unread(name: str, error: Unreadable, has_times: bool) -> str:
     """The row of a file that cannot be read."""

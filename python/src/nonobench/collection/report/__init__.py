@@ -9,7 +9,7 @@ import secrets
 import tempfile
 from collections import Counter
 from pathlib import Path
-from typing import Any, Optional
+from typing import Any, Optional, Sequence
 
 from ..._library import version
 from ..outputs import Failure, Output, failure
@@ -23,7 +23,7 @@ _FOLDER = Path(__file__).resolve().parent
 class Report:
     """Gathers rows in a file, and makes the report of them in the end."""
 
-    def __init__(self, name: str, title: Optional[str], allowed: tuple[str, ...]) -> None:
+    def __init__(self, name: str, title: Optional[str], allowed: Sequence[str]) -> None:
         self._environment = _environment()
         if os.path.exists(name) and not os.path.isfile(name):
             raise Failure(f"{name}: this is not a file")  # the report takes its place
