@@ -214,16 +214,13 @@ def _count(file: BinaryIO) -> int:
 
 def _cut_torn_line(file: BinaryIO, name: str) -> int:
     """Cuts off a last line that was not finished, and answers where the file ends."""
-    end = file.seek(0, os.SEEK_END)
-    place = end
-    while place > 0:
-        begin = max(0, place - SOME)
+    begin = end = file.seek(0, os.SEEK_END)
+    at = -1
+    while begin > 0 and at < 0:
+        begin = max(0, begin - SOME)
         file.seek(begin)
-        at = file.read(place - begin).rfind(b"\n")
-        if at >= 0:
-            place = begin + at + 1
-            break
-        place = begin
+        at = file.read(SOME).rfind(b"\n")
+    place = begin + at + 1
     if place < end:
         try:
             file.truncate(place)
