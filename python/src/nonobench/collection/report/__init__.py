@@ -63,10 +63,8 @@ class Report:
             self._make(is_whole)
             os.replace(self._output.name, self._name)
         except (OSError, Failure) as error:
-            try:
+            with contextlib.suppress(OSError):
                 os.unlink(self._output.name)
-            except OSError:
-                pass
             raise error if isinstance(error, Failure) else failure(self._name, error) from error
         finally:
             with contextlib.suppress(OSError):
