@@ -2,6 +2,7 @@
 
 from __future__ import annotations
 
+import contextlib
 import csv
 import errno
 import fcntl
@@ -31,6 +32,15 @@ def failure(name: str, error: Exception) -> Failure:
     return Failure(f"{'standard output' if name == '-' else name}: {getattr(error, 'strerror', None) or error}")
 
 
+@contextlib.contextmanager
+def telling(name: str) -> Iterator[None]:
+    """Tells an error of the system as the failure of a file."""
+    try:
+        yield
+    except OSError as error:
+        raise failure(name, error) from error
+
+
 def locked(name: str, file: Union[BinaryIO, int], is_shared: bool = False) -> None:
     """Keeps other runs from a file until it is closed; where it is shared, those that do not share it."""
     try:
@@ -43,13 +53,11 @@ def locked(name: str, file: Union[BinaryIO, int], is_shared: bool = False) -> No
 
 def kept_folder(name: str, is_shared: bool) -> int:
     """Makes a folder where there is none, and keeps other runs from writing to it, as long as the handle is open."""
-    try:
+    with telling(name):
         os.makedirs(name, exist_ok=True)
         if not os.access(name, os.W_OK | os.X_OK):
             raise PermissionError(errno.EACCES, os.strerror(errno.EACCES))
         handle = os.open(name, os.O_RDONLY | os.O_DIRECTORY | os.O_CLOEXEC)
-    except OSError as error:
-        raise failure(name, error) from error
     locked(name, handle, is_shared)
     return handle
 
@@ -87,7 +95,7 @@ class Output:
         self._size = 0
         self._since = 0.0
         self._is_old = False  # whether the file still has what it had
-        try:
+        with telling(name):
             if name == "-":
                 self.file: BinaryIO = os.fdopen(os.dup(1), "wb", buffering=0)
                 return
@@ -95,18 +103,13 @@ class Output:
             if is_regular(self.file):  # a device such as /dev/null may have several runs
                 locked(name, self.file)
                 self._is_old = not keeps
-        except OSError as error:
-            raise failure(name, error) from error
 
     def _empty(self) -> None:
         """Takes away what the file had."""
-        if not self._is_old:
-            return
-        self._is_old = False
-        try:
-            self.file.truncate(0)
-        except OSError as error:
-            raise failure(self.name, error) from error
+        if self._is_old:
+            self._is_old = False
+            with telling(self.name):
+                self.file.truncate(0)
 
     def put(self, data: bytes) -> None:
         """Puts bytes, which go out within a moment where `flush` is called now and then."""
@@ -122,11 +125,9 @@ class Output:
         data, self._parts, self._size = memoryview(b"".join(self._parts)), [], 0
         self._since = time.monotonic()
         self._empty()
-        try:
+        with telling(self.name):
             while data:
                 data = data[self.file.write(data) :]
-        except OSError as error:
-            raise failure(self.name, error) from error
 
     def close(self) -> None:
         """Writes what waits, and lets others write."""
@@ -193,17 +194,13 @@ class Lines(Sink):
         if all(before < after for before, after in zip(self._order, self._order[1:])) and len(self._order) == _count(file):
             return
         new = Output(f"{self._name}.new")
-        try:
+        with contextlib.closing(new), telling(self._name):
             with open(self._name, "rb") as lines:
                 for place in self._order:
                     lines.seek(place)
                     new.put(lines.readline())
             new.flush()
             os.replace(new.name, self._name)
-        except OSError as error:
-            raise failure(self._name, error) from error
-        finally:
-            new.close()
 
 
 def _count(file: BinaryIO) -> int:
@@ -222,10 +219,8 @@ def _cut_torn_line(file: BinaryIO, name: str) -> int:
         at = file.read(SOME).rfind(b"\n")
     place = begin + at + 1
     if place < end:
-        try:
+        with telling(name):
             file.truncate(place)
-        except OSError as error:
-            raise failure(name, error) from error
     file.seek(place)
     return place
 

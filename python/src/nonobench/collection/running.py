@@ -122,7 +122,8 @@ class Run:
                 self._earlier = Earlier(options.jsonl)
             self._count_files()
             tasks = self._tasks(settings)
-            return self._guarded(lambda: self._take_all(source.answers(tasks, lambda: self._size > MOST_WAITING)))
+            status = self._guarded(lambda: self._take_all(source.answers(tasks, lambda: self._size > MOST_WAITING)))
+        return status
 
     def merge(self) -> int:
         """Joins the rows of several runs."""

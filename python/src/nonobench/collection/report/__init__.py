@@ -12,7 +12,7 @@ from pathlib import Path
 from typing import Any, Optional, Sequence
 
 from ..._library import version
-from ..outputs import Failure, Output, failure
+from ..outputs import Failure, Output, telling
 from ..puzzles import Missing
 from ..rows import FIGURES, GRADES, VERDICTS, Row, flaws_of, name_of, printable, text_of, words_of
 
@@ -49,10 +49,8 @@ class Report:
             side = max(row["rows"], row["columns"])
             self._sides[next((most for most in SIDES if side <= most), SIDES[-1]), verdict] += 1
         line = text_of(record_of(row, len(flaws))).replace("<", "\\u003c")
-        try:
+        with telling(self._name):
             self._rows.write((line + ",\n").encode("ascii"))
-        except OSError as error:
-            raise failure(self._name, error) from error
 
     def flush(self) -> None:
         """Nothing waits for a moment here."""
@@ -60,12 +58,13 @@ class Report:
     def close(self, is_whole: bool) -> None:
         """Makes the report of the rows that were put."""
         try:
-            self._make(is_whole)
-            os.replace(self._output.name, self._name)
-        except (OSError, Failure) as error:
+            with telling(self._name):
+                self._make(is_whole)
+                os.replace(self._output.name, self._name)
+        except Failure:
             with contextlib.suppress(OSError):
                 os.unlink(self._output.name)
-            raise error if isinstance(error, Failure) else failure(self._name, error) from error
+            raise
         finally:
             with contextlib.suppress(OSError):
                 self._rows.close()
