@@ -26,7 +26,7 @@ serve(int(sys.argv[3]))"""
 
 # A write to a process that has ended is an error, and no signal.
 NO_SIGNAL = getattr(socket, "MSG_NOSIGNAL", 0)
-ROOM = 1 << 18  # bytes that are sent or taken together
+ROOM = 1 << 18  # bytes that are taken together
 
 Made = TypeVar("Made")
 
@@ -68,7 +68,8 @@ class Child:
 
     def __init__(self, module: str, memory: int, flags: Iterable[str] = (), folders: Iterable[str] = (), **more: Any) -> None:
         self._memory = memory
-        self._out, self._come = bytearray(), bytearray()
+        self._out: list[memoryview] = []
+        self._come = bytearray()
         self._stream, theirs = socket.socketpair()
         self._stream.setblocking(False)
         words = [sys.executable, "-I", *flags, "-c", _START, FOLDER, f"nonobench.{module}", str(memory), *folders]
@@ -103,14 +104,15 @@ class Child:
 
     def send(self, number: int, *parts: bytes) -> None:
         """Puts a question on its way."""
-        self._out += framed(number, *parts)
+        self._out.append(memoryview(framed(number, *parts)))
         self.write()
 
     def write(self) -> None:
         """Sends as much as there is room for."""
         try:
             while self._out:
-                del self._out[: self._stream.send(self._out[:ROOM], NO_SIGNAL)]
+                left = self._out[0][self._stream.send(self._out[0], NO_SIGNAL) :]
+                self._out[:1] = [left] if left else []
         except BlockingIOError:
             pass
         except ConnectionError:
