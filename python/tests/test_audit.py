@@ -778,10 +778,10 @@ class Running(Case):
 
     def test_what_is_known_of_a_puzzle_gives_it_no_more_time(self):
         task = serving.Task(0, "one.ppm", "one.ppm", (), None, None, None, "", 1, serving.FULL)
-        hand = types.SimpleNamespace(torn=b"", tasks=deque([task]), cost=1.0, since=5.0, is_left=False, known=None, reached=0)
+        hand = types.SimpleNamespace(tasks=deque([task]), cost=1.0, since=5.0, is_left=False, known=None, reached=0)
         pool = workers.Pool(None, 0, 10.0)
-        for line, is_further in ((b"0\tknown\tunique\t{}\tlast\n", False), (b"0\tlast\tunique\t{}\t\n", True)):
-            hand.read = lambda line=line: line
+        for parts, is_further in (([b"known", b"unique", b"{}", b"last", b""], False), ([b"last", b"unique", b"{}", b"", b""], True)):
+            hand.answers = lambda parts=parts: [(0, parts)]
             self.assertEqual(len(list(pool._read(hand))), is_further)
             self.assertEqual(hand.since > 5.0, is_further)
 
@@ -790,7 +790,7 @@ class Running(Case):
         said = '{"file":"one.ppm","verdict":"unique","lines":7,"note":"its certificate was not written: x","seconds":1.5}'
         task = serving.Task(0, "one.ppm", "one.ppm", (), None, None, None, "", 1, serving.FULL)
         for why, is_late, seconds in (("no answer within 9 seconds", True, 9.0), ("its process ended by signal 9", False, 1.5)):
-            hand = types.SimpleNamespace(known=["0", "known", "unique", said, "last CERT"], quiet=0.0)
+            hand = types.SimpleNamespace(known=(said, "last CERT"), quiet=0.0)
             pool = workers.Pool(None, 0, 9.0)
             (answer,) = pool._blame(hand, task, why, is_late)
             row = json.loads(answer.text)

@@ -721,16 +721,16 @@ class Processes(Case):
         # A grade is there soon after its certificate, so the process itself ends where it would ask for one by a certificate.
         (self.folder / "dies").write_text(
             "import os, signal, sys\n"
-            "exec(sys.argv[1].rpartition('; ')[0])\n"
+            "exec(sys.argv.pop(1).rpartition('\\n')[0])\n"
             "from nonobench.collection.judging import Desk\n"
             "ask = Desk.assess\n"
             "def dies(desk, puzzle, certificate, *more):\n"
             "    return ask(desk, puzzle, certificate, *more) if certificate is None else os.kill(os.getpid(), signal.SIGKILL)\n"
             "Desk.assess = dies\n"
-            "serve()\n"
+            "serve(int(sys.argv[3]))\n"
         )
         words = ["site", "--jobs", "1", "--seconds", str(PATIENCE), "--jsonl", "rows", "--certify", "certs"]
-        done = self.by_script(['set -- "$1" "$2" "$(cat dies)" "$3"'], *words)
+        done = self.by_script(['shift 2', 'set -- -I -c "$(cat dies)" "$@"'], *words)
         self.assertEqual(done.returncode, 0, done.stderr)
         row = self.read("rows")["site/hard.ppm"]
         self.assertEqual((row["verdict"], row["note"]), ("unique", "its grade: its process ended by signal 9"))

@@ -88,9 +88,9 @@ class Workers(unittest.TestCase):
             self.assertEqual(worker.clues(DIAGONAL), nonobench.clues(DIAGONAL))
 
     def test_a_program_that_fails(self):
-        kept = nonobench.worker.PATH
-        self.addCleanup(setattr, nonobench.worker, "PATH", kept)
-        nonobench.worker.PATH = "/nowhere/libnonobench.so"
+        kept = nonobench._process.PATH
+        self.addCleanup(setattr, nonobench._process, "PATH", kept)
+        nonobench._process.PATH = "/nowhere/libnonobench.so"
         with nonobench.Worker(seconds=300) as worker, self.assertRaisesRegex(RuntimeError, "the worker's program failed"):
             worker.clues(DIAGONAL)
 
@@ -227,8 +227,7 @@ class Interrupts(unittest.TestCase):
             with self.subTest(number), nonobench.Worker(seconds=300) as worker:
                 worker.clues(DIAGONAL)
                 # A question whose answer nobody takes, and is not there yet when the next one is asked.
-                head = nonobench.worker.QUESTION.pack(number, 1, 300, 0, len(DIAGONAL), 0, len(GIVEN), 0)
-                worker._process._stream.sendall(head + DIAGONAL + GIVEN)
+                worker._process.send(number, b"1 300 0", DIAGONAL, b"", GIVEN)
                 worker._process.is_waiting = lambda: True
                 with self.assertRaisesRegex(RuntimeError, f"^the worker answered question {number} instead of 2$"):
                     worker.check(TILE, b"junk", published=nonobench.ANY_GIVEN)
@@ -254,7 +253,7 @@ class Interrupts(unittest.TestCase):
         with nonobench.Worker(seconds=300) as worker:
             worker.clues(DIAGONAL)
             # As where the signal comes just then.
-            worker._process._stream = types.SimpleNamespace(settimeout=lambda _: None, recv=late)
+            worker._process._stream = types.SimpleNamespace(recv=late)
             with self.assertRaisesRegex(TimeoutError, "^the handler's own$"):
                 worker.clues(DIAGONAL)
             self.assertEqual(worker.clues(DIAGONAL), nonobench.clues(DIAGONAL))
@@ -263,7 +262,7 @@ class Interrupts(unittest.TestCase):
         with nonobench.Worker(seconds=300) as worker:
             worker.clues(DIAGONAL)
             process = worker._process
-            process._stream.sendall(nonobench.worker.QUESTION.pack(2, 1, 300, 0, len(DIAGONAL), 0, len(GIVEN), 0) + DIAGONAL + GIVEN)
+            process.send(2, b"1 300 0", DIAGONAL, b"", GIVEN)
             while process.is_waiting():
                 time.sleep(0.01)
             # It even has the number of the next question.

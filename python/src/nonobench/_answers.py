@@ -71,9 +71,11 @@ class LengthFault(Fault):
 _KINDS = {"ppm": PictureFault, "givens": GivensFault, "certificate": CertificateFault}
 
 
-def fault_of(text: str) -> Fault:
-    """The fault that a text tells."""
+def fault_of(text: str, certificate: bytes = b"") -> Fault:
+    """The fault that a text tells, of a certificate where one was asked about."""
     found = re.fullmatch(r"(ppm|givens|certificate) (\w+) at (?:byte|line) (\d+)", text)
+    if found and found[2] == "UnpublishedGiven":
+        return UnpublishedGiven(int(found[3]), givens_of(certificate))
     return Fault(text, 0, text) if found is None else _KINDS[found[1]](found[2], int(found[3]), text)
 
 

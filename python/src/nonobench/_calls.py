@@ -8,7 +8,6 @@ from typing import Iterable, Optional, Union
 from ._answers import (
     Assessment,
     Audit,
-    CertificateFault,
     Clues,
     Fault,
     GivensFault,
@@ -16,7 +15,6 @@ from ._answers import (
     Proved,
     Result,
     Ruling,
-    UnpublishedGiven,
     Verdict,
     assessment_of,
     clues_of,
@@ -68,12 +66,7 @@ class Questions:
         occurs twice raises GivensFault. `published=ANY_GIVEN` accepts all givens, for a site that then publishes exactly these.
         """
         picture, certificate, givens = bytes_of(picture), bytes_of(certificate), _file_of(published)
-        try:
-            (text,) = self._ask(CHECK if givens is None else PUBLISHED, picture, background, certificate, givens or b"")
-        except CertificateFault as fault:
-            if fault.name != "UnpublishedGiven":
-                raise
-            raise UnpublishedGiven(fault.line, givens_of(certificate)) from None
+        (text,) = self._ask(CHECK if givens is None else PUBLISHED, picture, background, certificate, givens or b"")
         return result_of(text.decode("ascii"), certificate)
 
     verify = check  # its old name, for one release
@@ -113,10 +106,6 @@ class Questions:
             if held is not None and published is ANY_GIVEN:
                 self.check(puzzle, held, background, ANY_GIVEN)  # which says what is wrong with the certificate that names them
             raise
-        except CertificateFault as fault:
-            if held is None or fault.name != "UnpublishedGiven":
-                raise
-            raise UnpublishedGiven(fault.line, givens_of(held)) from None
         return assessment_of(text.decode("ascii"), givens_of(held or b""))
 
     def clues(self, picture: Bytes, background: Optional[Colour] = None) -> Clues:
@@ -167,7 +156,7 @@ class Questions:
         if status == OPTIONS:
             raise ValueError(NO_TRIPLE)
         if status != DONE:
-            raise fault_of(texts[-1].decode("ascii"))
+            raise fault_of(texts[-1].decode("ascii"), rest.partition(b"\n")[2] if kind == ASSESS else rest)
         return texts
 
     def _answer(self, kind: int, *files: bytes) -> tuple[int, list[bytes]]:

@@ -3,15 +3,30 @@
 from __future__ import annotations
 
 import _thread
+import itertools
 import os
+import selectors
 import socket
 import subprocess
 import sys
 import weakref
-from typing import Any, Callable, TypeVar
+from typing import Any, Callable, Iterable, TypeVar
+
+from ._library import FOLDER, PATH
+from ._serve import FRAME, framed
+
+# A process loads the modules that it needs from the package's folder, under the package's name: `-I` leaves out the current folder,
+# whose files are not trusted, and PYTHONPATH.
+_START = """import importlib, sys
+package = sys.modules["nonobench"] = type(sys)("nonobench")
+package.__path__ = [sys.argv[1]]
+sys.path += sys.argv[4:]
+serve = importlib.import_module(sys.argv[2]).serve
+serve(int(sys.argv[3]))"""
 
 # A write to a process that has ended is an error, and no signal.
 NO_SIGNAL = getattr(socket, "MSG_NOSIGNAL", 0)
+ROOM = 1 << 18  # bytes that are taken together
 
 Made = TypeVar("Made")
 
@@ -46,14 +61,21 @@ def uninterrupted(call: Callable[[], Made]) -> Made:
 
 
 class Child:
-    """A process, and the stream to it, which is its standard input. It is ended with this object."""
+    """A process that answers, and the stream to it, which is its standard input. It is ended with this object.
 
-    def __init__(self, flags: tuple[str, ...], program: str, *words: str, **more: Any) -> None:
+    It runs `serve` of a module with a bound of its memory. More folders with libraries are looked into last.
+    """
+
+    def __init__(self, module: str, memory: int, flags: Iterable[str] = (), folders: Iterable[str] = (), **more: Any) -> None:
+        self._memory = memory
+        self._out: list[memoryview] = []
+        self._come = bytearray()
         self._stream, theirs = socket.socketpair()
+        self._stream.setblocking(False)
+        words = [sys.executable, "-I", *flags, "-c", _START, FOLDER, f"nonobench.{module}", str(memory), *folders]
+        env = {**os.environ, "NONOBENCH_LIBRARY": PATH}
         with theirs:
-            self._process = subprocess.Popen(
-                [sys.executable, *flags, "-c", program, *words], stdin=theirs.fileno(), stdout=subprocess.DEVNULL, **more
-            )
+            self._process = subprocess.Popen(words, stdin=theirs.fileno(), stdout=subprocess.DEVNULL, env=env, **more)
         self.end = weakref.finalize(self, _end, self._process, self._stream, os.getpid())
 
     @property
@@ -61,9 +83,80 @@ class Child:
         """The process's number."""
         return self._process.pid
 
+    @property
+    def is_sending(self) -> bool:
+        """Whether something is on its way to the process."""
+        return bool(self._out)
+
     def fileno(self) -> int:
         """The number of the stream, by which it is waited for."""
         return self._stream.fileno()
+
+    def is_waiting(self) -> bool:
+        """Whether it waits for a question: it has not ended, and nothing of another answer is there."""
+        try:
+            self._stream.recv(1, socket.MSG_PEEK)
+        except BlockingIOError:
+            return not self._come
+        except ConnectionError:  # and no other error of the system: a signal's handler may raise one of its own here
+            pass
+        return False
+
+    def send(self, number: int, *parts: bytes) -> None:
+        """Puts a question on its way."""
+        self._out.append(memoryview(framed(number, *parts)))
+        self.write()
+
+    def write(self) -> None:
+        """Sends as much as there is room for."""
+        try:
+            while self._out:
+                left = self._out[0][self._stream.send(self._out[0], NO_SIGNAL) :]
+                self._out[:1] = [left] if left else []
+        except BlockingIOError:
+            pass
+        except ConnectionError:
+            self._out.clear()
+
+    def answers(self) -> list[tuple[int, list[bytes]]]:
+        """The answers that have come whole, each a number and its parts. Raises EOFError where the process has ended."""
+        try:
+            data = self._stream.recv(ROOM)
+        except BlockingIOError:
+            return []
+        except ConnectionError:
+            data = b""
+        if not data:
+            raise EOFError
+        self._come += data
+        found = []
+        while len(self._come) >= FRAME.size:
+            number, *sizes = FRAME.unpack_from(self._come)
+            *places, end = itertools.accumulate(sizes, initial=FRAME.size)
+            if end > FRAME.size + self._memory:
+                raise RuntimeError("the worker's answer is larger than its memory")
+            if len(self._come) < end:
+                break
+            found.append((number, [bytes(self._come[at : at + size]) for at, size in zip(places, sizes)]))
+            del self._come[:end]
+        return found
+
+    def status(self) -> int:
+        """Ends the process, and answers its status."""
+        self.end()
+        return self._process.wait()
+
+
+def waited(children: Iterable[Child], seconds: float) -> list[Any]:
+    """The processes that have said something, or have ended, within so many seconds. What is on its way goes on."""
+    with selectors.PollSelector() as selector:
+        for child in children:
+            selector.register(child, selectors.EVENT_READ | (selectors.EVENT_WRITE if child.is_sending else 0), child)
+        ready = selector.select(seconds)
+    for key, mask in ready:
+        if mask & selectors.EVENT_WRITE:
+            key.data.write()
+    return [key.data for key, mask in ready if mask & selectors.EVENT_READ]
 
 
 def _end(process: subprocess.Popen[bytes], stream: socket.socket, owner: int) -> None:

@@ -1,8 +1,8 @@
 """What the library is asked and answers, as bytes: in this process, or in that of `Worker`, whose program this is.
 
-The process imports this and _library alone. A question there is its number, a kind, its bounds (seconds by the clock, and of the
-processor, 0 for none), and four files; an answer the number of its question, a status and at most three texts. Nothing else goes
-either way: no names and no objects.
+The process imports this and _library alone. What goes either way is a number and up to five parts, which are bytes. A question has
+numbers (a kind, and its bounds: seconds by the clock, and of the processor, 0 for none), and four files; an answer has the number of
+its question, a status and at most three texts. Nothing else comes back: no names and no objects.
 """
 
 from __future__ import annotations
@@ -18,8 +18,8 @@ from ._library import DONE, Desk, version
 # picture answers to lines; for a certificate with lemmas; or for an assessment, which a certificate may help.
 CHECK, PUBLISHED, SESSION, PROVE, ASSESS = 1, 2, 3, 4, 5
 
-QUESTION = struct.Struct("!QBII4Q")
-ANSWER = struct.Struct("!QB3Q")
+STREAM = 0  # of a process that answers: questions come there, and answers go
+FRAME = struct.Struct("!6Q")  # a number, and the sizes of its parts
 
 # After such an answer no further line is said.
 LAST = (b"refused: ", b"ambiguous\n", b"undecided ")
@@ -50,11 +50,21 @@ def answer(kind: int, picture: bytes, background: bytes, rest: bytes, givens: by
         return status, [desk.text()]
 
 
-def read(stream: int, size: int) -> bytes:
-    """So many bytes of a stream."""
+def framed(number: int, *parts: bytes) -> bytes:
+    """A number with its parts, as they go over a stream. Parts that are left out are empty."""
+    return FRAME.pack(number, *map(len, parts), *[0] * (5 - len(parts))) + b"".join(parts)
+
+
+def receive() -> tuple[int, list[bytes]]:
+    """The number and the parts that come next to this process."""
+    number, *sizes = FRAME.unpack(_read(FRAME.size))
+    return number, [_read(size) for size in sizes]
+
+
+def _read(size: int) -> bytes:
     parts = []
     while size > 0:
-        parts.append(os.read(stream, min(size, 1 << 20)))
+        parts.append(os.read(STREAM, min(size, 1 << 20)))
         if not parts[-1]:
             raise EOFError
         size -= len(parts[-1])
@@ -68,10 +78,11 @@ def write(stream: int, held: bytes) -> None:
         view = view[os.write(stream, view) :]
 
 
-def bound(memory: int) -> None:
-    """Bounds the memory of this process, where it is not bounded by less."""
+def begin(memory: int) -> None:
+    """Bounds the memory of this process, where it is not bounded by less. What loads the library is not bounded."""
     import resource
 
+    version()
     hard = resource.getrlimit(resource.RLIMIT_AS)[1]
     most = memory if hard == resource.RLIM_INFINITY else min(memory, hard)
     resource.setrlimit(resource.RLIMIT_AS, (most, most))
@@ -89,20 +100,18 @@ def _allow(processor: int) -> None:
         resource.setrlimit(resource.RLIMIT_CPU, (most if hard == resource.RLIM_INFINITY else min(most, hard), hard))
 
 
-def serve(stream: int, memory: int) -> None:
-    """Answers the questions of a stream until it ends. A question that takes too long ends the process, whoever still waits."""
+def serve(memory: int) -> None:
+    """Answers questions until nobody asks any more. One that takes too long ends the process, whoever still waits."""
     alarm = ctypes.CDLL(None).alarm
-    version()  # what loads the library is not bounded
-    bound(memory)
+    begin(memory)
     while True:
         try:
-            number, kind, seconds, processor, *sizes = QUESTION.unpack(read(stream, QUESTION.size))
-            files = [read(stream, size) for size in sizes]
+            number, (bounds, *files) = receive()
+            kind, seconds, processor = map(int, bounds.split())
             alarm(seconds)
             _allow(processor)
             status, texts = answer(kind, *files)
             alarm(0)
-            texts += [b""] * (3 - len(texts))
-            write(stream, ANSWER.pack(number, status, *map(len, texts)) + b"".join(texts))
+            write(STREAM, framed(number, b"%d" % status, *texts))
         except (EOFError, OSError, MemoryError):
             return

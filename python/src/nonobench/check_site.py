@@ -136,7 +136,7 @@ class Checks:
     def __init__(self, site: Site, told: argparse.Namespace) -> None:
         self._site = site
         self._jobs = told.jobs
-        self._allowed = told.allow_flaw
+        self._allowed = told.allowed
         self._workers: queue.SimpleQueue[Worker] = queue.SimpleQueue()
         for _ in range(told.jobs):
             self._workers.put(Worker(told.seconds, told.memory << 20, told.processor))
@@ -152,8 +152,9 @@ class Checks:
         file, certificate = self._site.path(name), b""
         worker = self._workers.get()
         try:
-            certificate = self._site.certificate(name)
-            flaws = self._flaws(worker, name, certificate)
+            certificate, stem = self._site.certificate(name), os.path.splitext(name)[0]
+            said = worker.assess(self._site.picture(stem), certificate, self._site.background(stem), self._site.givens(stem))
+            flaws = refused_flaws(map(str, said.flaws), self._allowed)
         except Fault as fault:
             hint = hint_of(fault, certificate)
             return Answer(file, REFUSED, f"{fault} ({hint})" if hint else str(fault))
@@ -164,12 +165,6 @@ class Checks:
         finally:
             self._workers.put(worker)
         return Answer(file, REFUSED, "; ".join(f"flaw {flaw}" for flaw in flaws)) if flaws else Answer(file, ACCEPTED)
-
-    def _flaws(self, worker: Worker, name: str, certificate: bytes) -> list[str]:
-        """The flaws of a puzzle that are not allowed. Raises what is wrong with its certificate."""
-        stem = os.path.splitext(name)[0]
-        said = worker.assess(self._site.picture(stem), certificate, self._site.background(stem), self._site.givens(stem))
-        return refused_flaws(map(str, said.flaws), self._allowed)
 
 
 def line_of(answer: Answer) -> str:

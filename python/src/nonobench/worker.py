@@ -6,29 +6,19 @@ import math
 import operator
 import os
 import signal
-import socket
 import threading
 import time
 from types import TracebackType
 from typing import Optional
 
 from ._calls import Questions
-from ._library import FOLDER, PATH, version
-from ._process import NO_SIGNAL, Child, uninterrupted
-from ._serve import ANSWER, QUESTION
-
-# The process loads the modules that it needs from the package's folder, under the package's name, and looks nowhere else but in
-# Python's own library: `-I` leaves out the current folder and PYTHONPATH, and `-S` what is installed.
-_FLAGS = ("-I", "-S", "-B")
-_START = """import sys
-package = sys.modules["nonobench"] = type(sys)("nonobench")
-package.__path__ = [sys.argv[1]]
-from nonobench._serve import serve
-serve(0, int(sys.argv[2]))"""
+from ._library import version
+from ._process import Child, uninterrupted, waited
 
 # After so many seconds more than it may take, a question ends the process by itself, should nobody be there to end it.
 _GRACE = 2
 _MOST_ALARM = 2**31 - 1
+_LONGEST = 3600.0  # seconds that the system is asked to wait
 
 
 class Worker(Questions):
@@ -98,77 +88,37 @@ class Worker(Questions):
                 if not process:
                     raise
                 process.end()
-                if isinstance(error, _Late):
-                    raise TimeoutError(f"no answer within {self._seconds:g} seconds") from None
-                if isinstance(error, (EOFError, ConnectionError)):
+                if isinstance(error, EOFError):
                     raise process.why() from error
                 raise
             self._process = process
             return answer
 
 
-class _Late(Exception):
-    """There is no answer in time."""
-
-
 class _Process(Child):
-    """A process that answers questions one after the other."""
+    """A process that answers questions one after the other, with Python's own library alone."""
 
     def __init__(self, memory: int) -> None:
-        self._memory = memory
-        env = {**os.environ, "NONOBENCH_LIBRARY": PATH}
-        super().__init__(_FLAGS, _START, FOLDER, str(memory), cwd="/", env=env, start_new_session=True)
-
-    def is_waiting(self) -> bool:
-        """Whether it waits for a question: it has not ended, and nothing of another answer is there."""
-        self._stream.settimeout(0)
-        try:
-            self._stream.recv(1, socket.MSG_PEEK)
-        except BlockingIOError:
-            return True
-        except ConnectionError:  # and no other error of the system: a signal's handler may raise one of its own here
-            pass
-        return False
+        super().__init__("_serve", memory, ("-S", "-B"), cwd="/", start_new_session=True)
 
     def why(self) -> Exception:
         """What is told of a process that ended in the middle of a question: by status 1 Python tells what its program raised."""
-        if self._process.returncode == 1:
+        if self.status() == 1:
             return RuntimeError("the worker's program failed; it says why on standard error")
-        if self._process.returncode == -signal.SIGXCPU:
+        if self.status() == -signal.SIGXCPU:
             return TimeoutError("no answer within its processor time")
         return MemoryError("the worker ended")
 
     def ask(self, number: int, kind: int, files: tuple[bytes, ...], seconds: float, processor: int) -> tuple[int, list[bytes]]:
-        """The status and the texts that come for a question. Raises _Late, EOFError or ConnectionError where none come."""
+        """The status and the texts that come for a question. Raises TimeoutError where they come too late, and EOFError where none do."""
         deadline = time.monotonic() + seconds
-        limit = min(math.ceil(seconds) + _GRACE, _MOST_ALARM)
-        try:
-            self._wait(deadline)
-            self._stream.sendall(b"".join((QUESTION.pack(number, kind, limit, processor, *map(len, files)), *files)), NO_SIGNAL)
-            answered, status, *sizes = ANSWER.unpack(self._read(ANSWER.size, deadline))
-            if answered != number:
-                raise RuntimeError(f"the worker answered question {answered} instead of {number}")
-            if sum(sizes) > self._memory:
-                raise RuntimeError("the worker's answer is larger than its memory")
-            return status, [self._read(size, deadline) for size in sizes if size]
-        except socket.timeout:
-            if time.monotonic() < deadline:
-                raise  # by a handler of somebody else's signal
-            raise _Late from None
-
-    def _read(self, size: int, deadline: float) -> bytes:
-        parts = []
-        while size > 0:
-            self._wait(deadline)
-            parts.append(self._stream.recv(min(size, 1 << 20)))
-            if not parts[-1]:
-                raise EOFError
-            size -= len(parts[-1])
-        return b"".join(parts)
-
-    def _wait(self, deadline: float) -> None:
-        """Lets the next call on the stream wait until a time."""
-        left = deadline - time.monotonic()
-        if left <= 0:
-            raise _Late
-        self._stream.settimeout(left)
+        self.send(number, b"%d %d %d" % (kind, min(math.ceil(seconds) + _GRACE, _MOST_ALARM), processor), *files)
+        while not (answers := self.answers()):
+            left = deadline - time.monotonic()
+            if left <= 0:
+                raise TimeoutError(f"no answer within {seconds:g} seconds")
+            waited([self], min(left, _LONGEST))
+        answered, (status, *texts) = answers[0]
+        if answered != number:
+            raise RuntimeError(f"the worker answered question {answered} instead of {number}")
+        return int(status), [text for text in texts if text]

@@ -3,10 +3,12 @@
 from __future__ import annotations
 
 import argparse
+import contextlib
+import functools
 import os
 import re
 from dataclasses import dataclass
-from typing import Optional
+from typing import Optional, Sequence
 
 from .._answers import FLAW_KINDS
 from .._library import version
@@ -58,7 +60,7 @@ class Options:
     is_untrusted: bool = False
     certify: Optional[str] = None
     publish: Optional[str] = None
-    allowed: tuple[str, ...] = ()
+    allowed: Sequence[str] = ()
     is_resumed: bool = False
     shard: tuple[int, int] = (1, 1)
     scheduler: Optional[str] = None
@@ -71,7 +73,8 @@ def options_of(words: list[str]) -> Options:
         return _merge_options(words[1:])
     parser = _parser()
     told = parser.parse_args(words)
-    if told.resume and told.jsonl in (None, "-"):
+    del told.no_grade
+    if told.is_resumed and told.jsonl in (None, "-"):
         parser.error("--resume goes with --jsonl FILE")
     for path in told.paths:
         if not os.path.lexists(path):
@@ -83,16 +86,13 @@ def options_of(words: list[str]) -> Options:
     for folder in (told.certificates, told.givens):
         if folder is not None and not os.path.isdir(folder):
             parser.error(f"no such folder: {folder!r}")
-    if told.ppm is not None:
+    if told.publish is not None:
         _refuse_publishing(parser, told)
-    if told.certify is not None or told.ppm is not None:
+    if told.certify is not None or told.publish is not None:
         _refuse_twins(parser, told.paths)
-    seconds = told.seconds if told.seconds is not None else None if told.allow is not None else 10.0
-    return Options(
-        told.paths, told.jsonl, told.csv, told.html, told.title, told.quiet, told.jobs, seconds, told.allow, told.memory,
-        told.background, told.certificates, told.givens, told.untrusted, told.certify, told.ppm, tuple(told.allow_flaw), told.resume,
-        told.shard, told.scheduler,
-    )
+    if told.seconds is None and told.allowance is None:
+        told.seconds = Options.seconds
+    return Options(**vars(told))
 
 
 def _parser() -> argparse.ArgumentParser:
@@ -104,25 +104,25 @@ def _parser() -> argparse.ArgumentParser:
     _add_outputs(parser)
     write = parser.add_argument_group("what else is written")
     write.add_argument("--certify", metavar="DIR", help="write NAME.cert for each puzzle with one solution below this folder")
-    write.add_argument("--ppm", metavar="DIR",
+    write.add_argument("--ppm", metavar="DIR", dest="publish",
                        help="write the picture that was judged, with its givens and background, as NAME.ppm below this folder, such as "
                        "that of --certify")
     read = parser.add_argument_group("what is read")
     read.add_argument("--certificates", metavar="DIR", help="certificates are below this folder, not beside the puzzles")
     read.add_argument("--givens", metavar="DIR", help="NAME.givens and NAME.background are below this folder, not beside the puzzles")
-    read.add_argument("--untrusted", action="store_true",
+    read.add_argument("--untrusted", action="store_true", dest="is_untrusted",
                       help="for files of strangers: nothing beside the puzzles is read, but only what is in the folders of --certificates "
                       "and --givens, and no links")
-    read.add_argument("--background", metavar="COLOUR", type=_ground, default="white",
+    read.add_argument("--background", metavar="COLOUR", dest="ground", type=_ground, default="white",
                       help="of pictures: white (the default), corner (the first pixel), or R,G,B")
     bounds = parser.add_argument_group("bounds")
     bounds.add_argument("--jobs", metavar="N", type=_above_0, default=len(os.sched_getaffinity(0)), help="processes (by default one per processor)")
     bounds.add_argument("--seconds", metavar="S", type=_seconds, help="for each puzzle (by default 10)")
-    bounds.add_argument("--allow", metavar="N", type=_allowance,
+    bounds.add_argument("--allow", metavar="N", dest="allowance", type=_allowance,
                         help="splits of a search, 0 to 99999, instead of seconds: the same files give the same rows, without times")
     bounds.add_argument("--memory", metavar="MIB", type=_memory, default=1024, help="for each process (by default 1024)")
     parts = parser.add_argument_group("in parts, and on several machines")
-    parts.add_argument("--resume", action="store_true", help="keep the rows of --jsonl FILE whose puzzles have not changed")
+    parts.add_argument("--resume", action="store_true", dest="is_resumed", help="keep the rows of --jsonl FILE whose puzzles have not changed")
     parts.add_argument("--shard", metavar="I/N", type=_shard, default=(1, 1), help="only every N-th file, from the I-th; see merge")
     parts.add_argument("--scheduler", metavar="ADDRESS", help="use the workers of this Dask scheduler")
     return parser
@@ -137,12 +137,12 @@ def _add_outputs(parser: argparse.ArgumentParser) -> None:
     outputs.add_argument("--csv", metavar="FILE", help="for spreadsheets; - is standard output")
     outputs.add_argument("--html", metavar="FILE", help="a report to look at, in one file that needs no network")
     outputs.add_argument("--title", metavar="TEXT", help="of the report")
-    outputs.add_argument("--quiet", action="store_true", help="neither table nor progress")
+    outputs.add_argument("--quiet", action="store_true", dest="is_quiet", help="neither table nor progress")
 
 
 def add_allowed(parser: argparse.ArgumentParser) -> None:
     """Adds the option for flaws that somebody puts up with."""
-    parser.add_argument("--allow-flaw", metavar="KIND", action="append", choices=FLAW_KINDS, default=[],
+    parser.add_argument("--allow-flaw", metavar="KIND", dest="allowed", action="append", choices=FLAW_KINDS, default=[],
                         help="flaws that count for nothing: blank, background (named, and in no cell), given (not needed), alike (colours) or any; "
                         "may be repeated")
 
@@ -155,11 +155,12 @@ def _merge_options(words: list[str]) -> Options:
     parser.add_argument("paths", metavar="FILE", nargs="+", help="as --jsonl wrote it")
     _add_outputs(parser)
     told = parser.parse_args(words)
+    del told.no_grade
     for path in told.paths:
         if not os.path.exists(path):
             parser.error(f"no such file: {path!r}")
     _refuse_inputs(parser, told)
-    return Options(told.paths, told.jsonl, told.csv, told.html, told.title, told.quiet, allowed=tuple(told.allow_flaw), is_merge=True)
+    return Options(**vars(told), is_merge=True)
 
 
 def _refuse_inputs(parser: argparse.ArgumentParser, told: argparse.Namespace) -> None:
@@ -195,9 +196,9 @@ def _refuse_publishing(parser: argparse.ArgumentParser, told: argparse.Namespace
     if told.scheduler is not None:
         parser.error("--ppm does not go with --scheduler")
     for path in (*told.paths, *([told.givens] if told.givens is not None else [])):
-        one, other = os.path.realpath(path), os.path.realpath(told.ppm)
+        one, other = os.path.realpath(path), os.path.realpath(told.publish)
         if os.path.commonpath([one, other]) in (one, other):
-            parser.error(f"--ppm {told.ppm!r} and {path!r} lie in each other")
+            parser.error(f"--ppm {told.publish!r} and {path!r} lie in each other")
 
 
 def _ground(word: str) -> str:
@@ -208,37 +209,20 @@ def _ground(word: str) -> str:
     return word
 
 
-def _number(word: str, least: float, most: float, what: str) -> float:
-    try:
-        number = float(word)
-    except ValueError:
-        number = float("nan")
-    if not least <= number <= most:
-        raise argparse.ArgumentTypeError(f"must be {what}")
-    return number
+def _whole(least: int, most: int, word: str) -> int:
+    if not re.fullmatch("[0-9]{1,9}", word) or not least <= int(word) <= most:
+        raise argparse.ArgumentTypeError(f"must be a whole number from {least} to {most}")
+    return int(word)
 
 
-def _whole(word: str, least: int, most: int) -> int:
-    what = f"a whole number from {least} to {most}"
-    if not re.fullmatch("[0-9]{1,9}", word):
-        raise argparse.ArgumentTypeError(f"must be {what}")
-    return int(_number(word, least, most, what))
-
-
-def _above_0(word: str) -> int:
-    return _whole(word, 1, 1024)
-
-
-def _allowance(word: str) -> int:
-    return _whole(word, 0, 99_999)
-
-
-def _memory(word: str) -> int:
-    return _whole(word, 128, 1 << 20)
+_above_0, _allowance, _memory = (functools.partial(_whole, *bounds) for bounds in ((1, 1024), (0, 99_999), (128, 1 << 20)))
 
 
 def _seconds(word: str) -> float:
-    return _number(word, 0.01, 1e6, "a number of seconds from 0.01 on")
+    with contextlib.suppress(ValueError):
+        if 0.01 <= float(word) <= 1e6:
+            return float(word)
+    raise argparse.ArgumentTypeError("must be a number of seconds from 0.01 on")
 
 
 def _shard(word: str) -> tuple[int, int]:

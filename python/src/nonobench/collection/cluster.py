@@ -6,6 +6,7 @@ Each worker needs this package in the same version, and no file of the collectio
 from __future__ import annotations
 
 import asyncio
+import marshal
 import zlib
 from collections import deque
 from typing import Any, Callable, Iterator, NamedTuple, Optional
@@ -33,8 +34,6 @@ class Flying(NamedTuple):
 
 def judge_pack(wanted: str, settings: Plain, seconds: Optional[float], pack: bytes) -> list[Plain]:
     """What a worker of the scheduler does: it judges a pack in a process that can be ended, and answers plain tuples."""
-    import marshal
-
     if version() != wanted:
         raise RuntimeError(f"this worker has version {version()} of nonobench, and not {wanted}")
     pool = Pool(Settings(*settings), 1, seconds)
@@ -96,8 +95,6 @@ class Cluster:
         return 4 + 2 * sum(threads.values())
 
     def _submit(self, tasks: list[Task], answers: list[Answer]) -> Flying:
-        import marshal
-
         pack = zlib.compress(marshal.dumps([tuple(task) for task in tasks]), 1)
         future = self._client.submit(
             judge_pack, version(), tuple(self._settings), self._seconds, pack, retries=RETRIES, pure=False

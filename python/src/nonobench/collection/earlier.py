@@ -8,7 +8,7 @@ import re
 from typing import BinaryIO, Optional
 
 from .certificates import numbered_name
-from .outputs import Failure, failure, lines_of
+from .outputs import Failure, lines_of, telling
 from .reading_rows import checked_row
 from .rows import Row, row_of, text_of
 from .serving import File
@@ -25,10 +25,8 @@ class Earlier:
     def __init__(self, name: str) -> None:
         self._name = name
         self._places: dict[int, tuple[int, int]] = {}  # where a row begins, and the number of its line
-        try:
+        with telling(name):
             self._lines: BinaryIO = open(name, "rb")
-        except OSError as error:
-            raise failure(name, error) from error
         for number, (place, line) in enumerate(lines_of(self._lines), 1):
             front = _FRONT.match(line, 0, MOST_FRONT)
             if front is None or not line.endswith(b"}\n"):

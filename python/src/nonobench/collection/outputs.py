@@ -2,16 +2,16 @@
 
 from __future__ import annotations
 
+import contextlib
 import csv
 import errno
 import fcntl
-import io
 import os
 import stat
 import sys
 import time
 from array import array
-from typing import BinaryIO, Callable, ContextManager, Iterator, Sequence, Union
+from typing import BinaryIO, Callable, ContextManager, Iterator, Union
 
 from .rows import COLUMNS, HEAD, Row, csv_cells, table_line
 
@@ -32,6 +32,15 @@ def failure(name: str, error: Exception) -> Failure:
     return Failure(f"{'standard output' if name == '-' else name}: {getattr(error, 'strerror', None) or error}")
 
 
+@contextlib.contextmanager
+def telling(name: str) -> Iterator[None]:
+    """Tells an error of the system as the failure of a file."""
+    try:
+        yield
+    except OSError as error:
+        raise failure(name, error) from error
+
+
 def locked(name: str, file: Union[BinaryIO, int], is_shared: bool = False) -> None:
     """Keeps other runs from a file until it is closed; where it is shared, those that do not share it."""
     try:
@@ -44,13 +53,11 @@ def locked(name: str, file: Union[BinaryIO, int], is_shared: bool = False) -> No
 
 def kept_folder(name: str, is_shared: bool) -> int:
     """Makes a folder where there is none, and keeps other runs from writing to it, as long as the handle is open."""
-    try:
+    with telling(name):
         os.makedirs(name, exist_ok=True)
         if not os.access(name, os.W_OK | os.X_OK):
             raise PermissionError(errno.EACCES, os.strerror(errno.EACCES))
         handle = os.open(name, os.O_RDONLY | os.O_DIRECTORY | os.O_CLOEXEC)
-    except OSError as error:
-        raise failure(name, error) from error
     locked(name, handle, is_shared)
     return handle
 
@@ -88,7 +95,7 @@ class Output:
         self._size = 0
         self._since = 0.0
         self._is_old = False  # whether the file still has what it had
-        try:
+        with telling(name):
             if name == "-":
                 self.file: BinaryIO = os.fdopen(os.dup(1), "wb", buffering=0)
                 return
@@ -96,18 +103,13 @@ class Output:
             if is_regular(self.file):  # a device such as /dev/null may have several runs
                 locked(name, self.file)
                 self._is_old = not keeps
-        except OSError as error:
-            raise failure(name, error) from error
 
     def _empty(self) -> None:
         """Takes away what the file had."""
-        if not self._is_old:
-            return
-        self._is_old = False
-        try:
-            self.file.truncate(0)
-        except OSError as error:
-            raise failure(self.name, error) from error
+        if self._is_old:
+            self._is_old = False
+            with telling(self.name):
+                self.file.truncate(0)
 
     def put(self, data: bytes) -> None:
         """Puts bytes, which go out within a moment where `flush` is called now and then."""
@@ -123,11 +125,9 @@ class Output:
         data, self._parts, self._size = memoryview(b"".join(self._parts)), [], 0
         self._since = time.monotonic()
         self._empty()
-        try:
+        with telling(self.name):
             while data:
                 data = data[self.file.write(data) :]
-        except OSError as error:
-            raise failure(self.name, error) from error
 
     def close(self) -> None:
         """Writes what waits, and lets others write."""
@@ -138,11 +138,26 @@ class Output:
             self.file.close()
 
 
-class Lines:
+class Sink:
+    """Rows on their way into an output."""
+
+    def __init__(self, name: str, keeps: bool = False) -> None:
+        self._output = Output(name, keeps)
+
+    def flush(self) -> None:
+        """Writes what has waited for a moment."""
+        self._output.flush(False)
+
+    def close(self, is_whole: bool) -> None:
+        """Ends the file."""
+        self._output.close()
+
+
+class Lines(Sink):
     """Rows as lines of JSON. Rows of an earlier run stay where they are, until all are put in order in the end."""
 
     def __init__(self, name: str, is_resumed: bool) -> None:
-        self._output = Output(name, is_resumed)
+        super().__init__(name, is_resumed)
         self._name = name
         self._end = 0
         self._order = array("Q")
@@ -167,10 +182,6 @@ class Lines:
         """Takes the row at a place as the next one."""
         self._order.append(place)
 
-    def flush(self) -> None:
-        """Writes what has waited for a moment."""
-        self._output.flush(False)
-
     def close(self, is_whole: bool) -> None:
         """Ends the file. Where all puzzles were answered, it has their rows alone, in order."""
         self._output.flush()
@@ -183,17 +194,13 @@ class Lines:
         if all(before < after for before, after in zip(self._order, self._order[1:])) and len(self._order) == _count(file):
             return
         new = Output(f"{self._name}.new")
-        try:
+        with contextlib.closing(new), telling(self._name):
             with open(self._name, "rb") as lines:
                 for place in self._order:
                     lines.seek(place)
                     new.put(lines.readline())
             new.flush()
             os.replace(new.name, self._name)
-        except OSError as error:
-            raise failure(self._name, error) from error
-        finally:
-            new.close()
 
 
 def _count(file: BinaryIO) -> int:
@@ -204,58 +211,42 @@ def _count(file: BinaryIO) -> int:
 
 def _cut_torn_line(file: BinaryIO, name: str) -> int:
     """Cuts off a last line that was not finished, and answers where the file ends."""
-    end = file.seek(0, os.SEEK_END)
-    place = end
-    while place > 0:
-        begin = max(0, place - SOME)
+    begin = end = file.seek(0, os.SEEK_END)
+    at = -1
+    while begin > 0 and at < 0:
+        begin = max(0, begin - SOME)
         file.seek(begin)
-        at = file.read(place - begin).rfind(b"\n")
-        if at >= 0:
-            place = begin + at + 1
-            break
-        place = begin
+        at = file.read(SOME).rfind(b"\n")
+    place = begin + at + 1
     if place < end:
-        try:
+        with telling(name):
             file.truncate(place)
-        except OSError as error:
-            raise failure(name, error) from error
     file.seek(place)
     return place
 
 
-class Sheet:
+class Sheet(Sink):
     """Rows for spreadsheets: CSV in UTF-8."""
 
     def __init__(self, name: str) -> None:
-        self._output = Output(name)
-        self._text = io.StringIO()
-        self._writer = csv.writer(self._text, lineterminator="\r\n")
-        self._write(COLUMNS)
+        super().__init__(name)
+        self._writer = csv.writer(self, lineterminator="\r\n")
+        self._writer.writerow(COLUMNS)
 
-    def _write(self, cells: Sequence[object]) -> None:
-        self._text.seek(0)
-        self._text.truncate()
-        self._writer.writerow(cells)
-        self._output.put(self._text.getvalue().encode("utf-8"))
+    def write(self, line: str) -> None:
+        """Takes a line of the writer."""
+        self._output.put(line.encode("utf-8"))
 
     def put(self, text: str, row: Row) -> None:
         """Puts a row."""
-        self._write(csv_cells(row))
-
-    def flush(self) -> None:
-        """Writes what has waited for a moment."""
-        self._output.flush(False)
-
-    def close(self, is_whole: bool) -> None:
-        """Ends the file."""
-        self._output.close()
+        self._writer.writerow(csv_cells(row))
 
 
-class Table:
+class Table(Sink):
     """Rows as a table on standard output. Where nobody reads it any more, it ends."""
 
     def __init__(self, clear: Callable[[], ContextManager[None]]) -> None:
-        self._output = Output("-")
+        super().__init__("-")
         self._clear = clear  # takes a bar away before lines are printed
         self.is_closed = False
         self._put(HEAD)
@@ -266,25 +257,23 @@ class Table:
 
     def put(self, text: str, row: Row) -> None:
         """Puts a row."""
-        if not self.is_closed:
-            self._guard(lambda: self._put(table_line(row)))
+        self._guard(lambda: self._put(table_line(row)))
 
     def say(self, lines: str) -> None:
         """Puts lines that are no rows."""
-        if not self.is_closed:
-            self._guard(lambda: self._put(lines))
+        self._guard(lambda: self._put(lines))
 
     def flush(self) -> None:
         """Prints what has waited for a moment."""
-        if not self.is_closed:
-            self._guard(lambda: self._output.flush(False))
+        self._guard(super().flush)
 
     def close(self, is_whole: bool) -> None:
         """Prints what waits."""
-        if not self.is_closed:
-            self._guard(self._output.close)
+        self._guard(self._output.close)
 
     def _guard(self, write: Callable[[], None]) -> None:
+        if self.is_closed:
+            return
         try:
             with self._clear():
                 write()

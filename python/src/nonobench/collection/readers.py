@@ -49,12 +49,8 @@ def bytes_of(path: Union[str, bytes], most: int = MOST_BYTES, follows: bool = Tr
                 raise Unreadable(f"more than {most} bytes")
             if is_real and os.readlink(f"/proc/self/fd/{handle}") != path:
                 raise Unreadable("a part of its path is a link" if os.fstat(handle).st_nlink else "it was replaced while it was read")
-            data = os.read(handle, found.st_size)
-            while len(data) < found.st_size:
-                more = os.read(handle, found.st_size - len(data))
-                if not more:
-                    break
-                data += more
+            with os.fdopen(handle, "rb", closefd=False) as file:
+                data = file.read(found.st_size)
         finally:
             os.close(handle)
     except (OSError, ValueError) as error:

@@ -2,6 +2,7 @@
 
 from __future__ import annotations
 
+import contextlib
 import os
 import signal
 import sys
@@ -110,20 +111,19 @@ class Run:
         """Audits a collection."""
         options = self._options
         settings = settings_of(options)
-        folders = [kept_folder(name, options.shard != (1, 1)) for name in {options.certify, options.publish} if name is not None]
-        source = self._source(settings)
-        try:
+        with contextlib.ExitStack() as stack:
+            for name in {options.certify, options.publish}:
+                if name is not None:
+                    stack.callback(os.close, kept_folder(name, options.shard != (1, 1)))
+            source = stack.enter_context(contextlib.closing(self._source(settings)))
             source.start()
             self._open()
             if options.is_resumed and options.jsonl is not None:
                 self._earlier = Earlier(options.jsonl)
             self._count_files()
             tasks = self._tasks(settings)
-            return self._guarded(lambda: self._take_all(source.answers(tasks, lambda: self._size > MOST_WAITING)))
-        finally:
-            source.close()
-            for folder in folders:
-                os.close(folder)
+            status = self._guarded(lambda: self._take_all(source.answers(tasks, lambda: self._size > MOST_WAITING)))
+        return status
 
     def merge(self) -> int:
         """Joins the rows of several runs."""
@@ -225,10 +225,9 @@ class Run:
             is_whole = True
         except Stopped as stopped:
             status = stopped.status
-        except (Failure, Broken) as error:
-            failures.append(error)
         except Exception as error:  # what is done is kept then too
-            traceback.print_exc()
+            if not isinstance(error, (Failure, Broken)):
+                traceback.print_exc()
             failures.append(error)
         if status:
             for number in sorted(self._complete):

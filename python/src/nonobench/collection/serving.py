@@ -12,22 +12,18 @@ import hashlib
 import marshal
 import os
 import signal
-import struct
 import threading
 import time
+from collections import deque
 from typing import Any, Iterator, NamedTuple, Optional, Union
 
-from .._library import version
-from .._serve import bound, read, write
+from .._serve import STREAM, begin, framed, receive, write
 from . import certificates, readers
 from .judging import Desk
-from .making import Making
 from .puzzles import Missing, Puzzle, Unreadable
-from .rows import Row, row_of, text_of, unfinished
+from .rows import Row, graded, judged_row, noted, row_of, text_of, unfinished
 
-STREAM = 0  # questions come there, and answers go
-HEAD = struct.Struct("!I")
-MOMENT = 0.03  # seconds until a line goes out
+MOMENT = 0.03  # seconds until an answer goes out
 LONG = 0.02  # seconds after which what is known goes out before a certificate is made
 FULL, GLANCE = 0, 1
 FEW_SPLITS = 100  # of a puzzle that took too long, to tell at least its size and what line logic leaves open
@@ -69,37 +65,32 @@ class Task(NamedTuple):
     used: float = 0.0  # the seconds that the puzzles before took
 
 
-def serve() -> None:
+def serve(memory: int) -> None:
     """Answers packs of tasks until there are no more."""
     signal.signal(signal.SIGINT, signal.SIG_IGN)
     ctypes.CDLL(None).prctl(DIES_WITH_PARENT, signal.SIGKILL)
     os.dup2(2, 1)  # what prints is seen, and not beside the answers
-    answers = Answers(STREAM)
-    told = _receive()
-    if told is None:  # the run was stopped before it said so much
-        return
-    settings = Settings(*told)
-    version()  # what loads the library is not bounded
-    bound(settings.memory << 20)
+    answers = Answers()
+    begin(memory)
     gc.set_threshold(20_000)
-    judging = Judging(settings, answers)
+    asked = _asked()
+    settings = next(asked, None)
+    if settings is None:  # the run was stopped before it said so much
+        return
+    judging = Judging(Settings(*settings), answers)
     answers.put(0, "ready", "")
-    while True:
-        pack = _receive()
-        if pack is None:
-            break
+    for pack in asked:
         for task in pack:
             judging.answer(Task(*task))
         answers.flush()
     answers.flush()
 
 
-def _receive() -> Any:
-    """What comes next; nothing where nobody asks any more."""
-    try:
-        return marshal.loads(read(STREAM, HEAD.unpack(read(STREAM, HEAD.size))[0]))
-    except (EOFError, ConnectionError):
-        return None
+def _asked() -> Iterator[Any]:
+    """What comes, until nobody asks any more."""
+    with contextlib.suppress(EOFError, ConnectionError):
+        while True:
+            yield marshal.loads(receive()[1][0])
 
 
 class About(NamedTuple):
@@ -113,33 +104,31 @@ class About(NamedTuple):
 
 
 class Answers:
-    """Lines that go out together: within a moment, and at the latest with the last one of a pack."""
+    """Answers that go out together: within a moment, and at the latest with the last one of a pack."""
 
-    def __init__(self, handle: int) -> None:
-        self._handle = handle
-        self._lines: list[str] = []
+    def __init__(self) -> None:
+        self._waiting: deque[bytes] = deque()
         self._lock = threading.Lock()
         self._some = threading.Event()
         threading.Thread(target=self._run, daemon=True).start()
 
     def put(self, number: int, kind: str, verdict: str, text: str = "", certificate: str = "") -> None:
-        """Puts a line of a kind.
+        """Puts an answer of a kind.
 
         `more` and `last` are rows of a file; `same` and `none` say that its rows are as they were, or that there are no more.
         `known` is a row before its certificate or its grade is made: instead of a certificate it has the kind of the row to come, and
         what follows is the certificate that goes back. `at` is the puzzle that is begun where a file has several, `bye` says that
         the process ends and has begun no other task, `ready` that it begins.
         """
-        self._lines.append(f"{number}\t{kind}\t{verdict}\t{text}\t{certificate}\n")
+        self._waiting.append(framed(number, *(word.encode("ascii") for word in (kind, verdict, text, certificate))))
         if not self._some.is_set():
             self._some.set()
 
     def flush(self) -> None:
         """Sends what there is."""
         with self._lock:
-            lines, self._lines = self._lines, []
             try:
-                write(self._handle, "".join(lines).encode("ascii"))
+                write(STREAM, b"".join(self._waiting.popleft() for _ in range(len(self._waiting))))
             except ConnectionError:  # nobody asks any more
                 os._exit(1)
 
@@ -159,7 +148,8 @@ class Judging:
         self._answers = answers
         self._ground = readers.ground_of(settings.ground)
         self._desk = Desk()
-        self._making: Optional[Making] = None  # what is known of the puzzle at hand
+        self._row: Row = {}  # what is known of the puzzle at hand: nothing before there is a verdict
+        self._back = ""  # its certificate, where that goes back
         self._front: Row = {}  # how its row begins, if its file is not read further
         self._spare = bytes(SPARE)  # let go where memory is out, so that this can be told
 
@@ -202,10 +192,9 @@ class Judging:
         for number, has_more, puzzle in puzzles:
             if number < task.start:
                 continue
+            front: Row = {"file": task.name}
             if has_more or number > 1:
                 self._answers.put(task.number, "at", str(number))
-            front: Row = {"file": task.name}
-            if number > 1 or has_more:
                 front["puzzle"] = number
             if has_more:
                 front["more"] = True
@@ -249,58 +238,65 @@ class Judging:
         return puzzles if files.background is None else readers.grounded(puzzles, ground)
 
     def _judge(self, task: Task, about: About, puzzle: Union[Puzzle, Unreadable], beside: list[bytes]) -> None:
-        """Puts the row of one puzzle."""
-        made = ""
-        self._making = None
+        """Puts the row of one puzzle. Where memory ends, it has what is known by then, and what is missing."""
+        self._row, self._back = {}, ""
         try:
             if isinstance(puzzle, Unreadable):
                 raise puzzle
-            row, made = self._row(task, about, puzzle, beside)
+            self._make(task, about, self._desk.painted(puzzle), beside)
         except Unreadable as error:
-            row = {"verdict": "error", "error": str(error)}
+            self._row, self._back = {"verdict": "error", "error": str(error)}, ""
             if isinstance(error, Missing):
-                row["missing"] = error.library
+                self._row["missing"] = error.library
         except MemoryError:
             self._spare = b""
-            row, made = self._short()
-        self._put(task, about, row, about.kind, made)
+            why = self._too_much()
+            self._row = unfinished(self._row, why) if self._row else {"verdict": "error", "error": why}
+        self._put(task, about, about.kind, self._back)
         if not self._spare:
             self._leave(task)
 
-    def _short(self) -> tuple[Row, str]:
-        """The row of a puzzle for which memory is out, with its certificate: what is known of it, and what is missing."""
-        if self._making is None or not self._making.row:
-            return {"verdict": "error", "error": self._too_much()}, ""
-        return unfinished(self._making.row, self._too_much()), self._making.back
-
-    def _put(self, task: Task, about: About, row: Row, kind: str, certificate: str = "") -> None:
+    def _put(self, task: Task, about: About, kind: str, certificate: str) -> None:
+        row = {**about.front, **self._row}
         if self._settings.has_times:
             row["seconds"] = round(task.spent + time.perf_counter() - about.begun, 6)
-        row["content"], row["sha256"], row["made"] = about.content, about.sha256, self._settings.made
+        row.update(content=about.content, sha256=about.sha256, made=self._settings.made)
         if row["verdict"] == "undecided":
             row["limit"] = self._settings.limit
-        self._answers.put(task.number, kind, row["verdict"], text_of({**about.front, **row}), certificate)
+        self._answers.put(task.number, kind, row["verdict"], text_of(row), certificate)
 
-    def _row(self, task: Task, about: About, puzzle: Puzzle, beside: list[bytes]) -> tuple[Row, str]:
-        """The row of a puzzle, and its certificate where that goes back."""
-        settings = self._settings
-        number = about.front.get("puzzle", 1)
+    def _tell(self, task: Task, about: About) -> None:
+        """Tells what is known by now."""
+        self._put(task, about, "known", f"{about.kind} {self._back}")
+        self._answers.flush()
+
+    def _make(self, task: Task, about: About, puzzle: Puzzle, beside: list[bytes]) -> None:
+        """Makes the row of a P3 text: verdict, grade and flaws, by a certificate that lies beside it where one is accepted. Where it has
+        one solution its picture and its certificate are written, if they have names.
+        """
+        settings, number, is_glance = self._settings, about.front.get("puzzle", 1), task.mode == GLANCE
         name, published = (None if place is None else certificates.numbered_name(place, number) for place in (task.to, task.published))
-        making = self._making = Making(self._desk, puzzle, beside)
-
-        def tell() -> None:
-            self._put(task, about, dict(making.row), "known", f"{about.kind} {making.back}")
-            self._answers.flush()
-
-        making.assess(FEW_SPLITS if task.mode == GLANCE else settings.allowance, published)
-        if name is not None and making.is_unique and task.mode == FULL:
+        told, by = certificates.told(self._desk, puzzle, beside)
+        said = by or self._desk.assess(puzzle, None, FEW_SPLITS if is_glance else settings.allowance)
+        self._row = {**judged_row(puzzle, said), **told}
+        if self._row["verdict"] != "unique":
+            return
+        if published is not None:
+            self._row = noted(self._row, certificates.publish(puzzle, published))
+        if name is not None and is_glance:
+            self._row = noted(self._row, f"no certificate within {settings.limit}")
+        elif name is not None:
             if time.perf_counter() - about.begun > LONG:
-                tell()
-            making.certify(name, settings.is_inline, tell)
-        elif name is not None and making.is_unique:
-            making.note(f"no certificate within {settings.limit}")
-        return making.row, making.back
-
+                self._tell(task, about)
+            made = self._desk.certify(puzzle, said)
+            self._row = {**self._row, "lines": made.count("\n")}
+            if settings.is_inline:
+                self._back = certificates.packed(made)
+            else:
+                self._row = noted(self._row, certificates.write(name, made))
+            if by is None and said.open:  # the grade is that of a certificate, and none lies beside: of this one
+                self._tell(task, about)
+                self._row = {**self._row, **graded(self._desk.assess(puzzle, made.encode("ascii")))}
 
 def unread(name: str, error: Unreadable, has_times: bool) -> str:
     """The row of a file that cannot be read."""

@@ -4,7 +4,7 @@ from __future__ import annotations
 
 import sys
 from collections import Counter
-from typing import Iterable
+from typing import Iterable, Sequence
 
 from .arguments import Options
 from .finding import shown
@@ -16,7 +16,7 @@ ALL_UNIQUE, SOME_NOT, ERRORS = 0, 1, 3
 class Tally:
     """How many puzzles have which verdict, grade and flaw, but for flaws of the kinds that are allowed."""
 
-    def __init__(self, allowed: tuple[str, ...]) -> None:
+    def __init__(self, allowed: Sequence[str]) -> None:
         self._allowed = allowed
         self._verdicts: Counter[str] = Counter()
         self._grades: Counter[str] = Counter()

@@ -7,6 +7,7 @@ all other cells. defusedxml reads the XML: entities and what lies outside the fi
 from __future__ import annotations
 
 import io
+import itertools
 import re
 from typing import Any, Iterator, NamedTuple, Optional
 
@@ -191,7 +192,8 @@ def _triple(text: str) -> Triple:
         digits = "".join(digit * 2 for digit in digits)
     if not re.fullmatch("[0-9a-fA-F]{6}", digits):
         raise Unreadable("a colour of the puzzle is not three or six hexadecimal digits")
-    return int(digits[:2], 16), int(digits[2:4], 16), int(digits[4:], 16)
+    red, green, blue = bytes.fromhex(digits)
+    return red, green, blue
 
 
 def _order(colours: dict[str, Colour], ground: str, used: set[str]) -> tuple[list[Colour], dict[str, Colour]]:
@@ -228,9 +230,7 @@ def _image(solution: Any) -> Signs:
     text = "" if image is None else _text(image)
     if len(text) > 64 * MOST_CELLS * MOST_CELLS or not re.fullmatch(rf"(\s*\|(?:{_CELL})*\|)+\s*", text):
         raise Unreadable("a row of the solution is not between bars")
-    rows: Signs = []
-    for row in re.findall(rf"\|((?:{_CELL})*)\|", text):
-        rows.append([_sign(cell) for cell in re.findall(_CELL, row)])
+    rows = [[_sign(cell) for cell in re.findall(_CELL, row)] for row in re.findall(rf"\|((?:{_CELL})*)\|", text)]
     if max(len(rows), *map(len, rows)) > MOST_CELLS:
         raise Unreadable(f"the solution is larger than {MOST_CELLS} by {MOST_CELLS}")
     if len(set(map(len, rows))) != 1 or not rows[0]:
@@ -249,17 +249,15 @@ def _clues(element: Any, axis: str, usual: str) -> Optional[list[list[tuple[int,
     clues = _only([one for one in element.findall("clues") if one.get("type") == axis], f"the clues of the {axis}")
     if clues is None:
         return None
-    found = []
-    for line in clues.findall("line"):
-        blocks = []
-        for count in line.findall("count"):
-            text = _text(count)
-            if not re.fullmatch(r"\s*[0-9]{1,6}\s*", text):
-                raise Unreadable("a clue of the puzzle is not a number")
-            if int(text):
-                blocks.append((int(text), count.get("color", usual)))
-        found.append(blocks)
-    return found
+    lines = [[(_length(count), count.get("color", usual)) for count in line.findall("count")] for line in clues.findall("line")]
+    return [[block for block in line if block[0]] for line in lines]
+
+
+def _length(count: Any) -> int:
+    text = _text(count)
+    if not re.fullmatch(r"\s*[0-9]{1,6}\s*", text):
+        raise Unreadable("a clue of the puzzle is not a number")
+    return int(text)
 
 
 def _compare(cells: list[list[str]], ground: str, clues: dict[str, Any]) -> None:
@@ -271,26 +269,16 @@ def _compare(cells: list[list[str]], ground: str, clues: dict[str, Any]) -> None
 
 
 def _blocks(line: Any, ground: str) -> list[tuple[int, str]]:
-    blocks: list[tuple[int, str]] = []
-    before = ground
-    for name in line:
-        if name != ground:
-            blocks = [*blocks[:-1], (blocks[-1][0] + 1, name)] if name == before else [*blocks, (1, name)]
-        before = name
-    return blocks
+    return [(sum(1 for _ in cells), name) for name, cells in itertools.groupby(line) if name != ground]
 
 
 def _givens(saved: Signs, signs: Signs) -> bytes:
     if (len(saved), len(saved[0])) != (len(signs), len(signs[0])):
         raise Unreadable("the givens have another size than the solution")
-    givens = []
-    for row, (cells, goal) in enumerate(zip(saved, signs), 1):
-        for column, (sign, wanted) in enumerate(zip(cells, goal), 1):
-            if sign not in ("?", wanted):
-                raise Unreadable("a given has another colour than the solution")
-            if sign != "?":
-                givens.append(b"given %d %d\n" % (row, column))
-    return b"".join(givens)
+    places = [(row, column) for row, cells in enumerate(saved) for column, sign in enumerate(cells) if sign != "?"]
+    if any(saved[row][column] != signs[row][column] for row, column in places):
+        raise Unreadable("a given has another colour than the solution")
+    return b"".join(b"given %d %d\n" % (row + 1, column + 1) for row, column in places)
 
 
 def _non_text(clues: dict[str, Any]) -> bytes:

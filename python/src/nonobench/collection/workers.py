@@ -4,19 +4,15 @@ from __future__ import annotations
 
 import json
 import marshal
-import selectors
 import site
 import time
 from collections import deque
-from pathlib import Path
-from typing import Any, Callable, Iterator, NamedTuple, Optional
+from typing import Callable, Iterator, NamedTuple, Optional
 
-from .._process import NO_SIGNAL, Child
+from .._process import Child, waited
 from .rows import Row, text_of, unfinished
-from .serving import FULL, GLANCE, HEAD, Settings, Task
+from .serving import FULL, GLANCE, Settings, Task
 
-# Run apart from the current folder, whose files are not trusted.
-_START = "import sys; sys.path[:0] = [{!r}]; sys.path += {!r}; from nonobench.collection.serving import serve; serve()"
 SLACK = 0.25  # seconds that a line may be late
 STUCK = 0.5  # seconds after which others take over what waits for one puzzle
 MOST_TIMES = 100  # a file of several puzzles has so many times the seconds of one
@@ -24,7 +20,6 @@ STARTING = 60.0  # seconds for a process to begin
 MOST_PACKED = 64  # files in a pack
 PACK_SECONDS = 0.1  # what a pack shall take
 TICK = 0.25  # seconds between looks at the clock
-ROOM = 1 << 18
 
 
 class Answer(NamedTuple):
@@ -46,51 +41,16 @@ class Hand(Child):
     """One process, and what it was handed."""
 
     def __init__(self, settings: Settings) -> None:
-        package = str(Path(__file__).resolve().parent.parent.parent)
-        more = [site.getusersitepackages()] if site.ENABLE_USER_SITE else []
-        super().__init__(("-I",), _START.format(package, more))
-        self._stream.setblocking(False)
+        super().__init__("collection.serving", settings.memory << 20, folders=[site.getusersitepackages()] if site.ENABLE_USER_SITE else [])
         self.tasks: deque[Task] = deque()
-        self.out = bytearray()
-        self.torn = b""
         self.is_ready = False
         self.is_left = False  # what waited here was handed to others
         self.since = time.monotonic()  # the last sign of life
         self.quiet = 0.0  # seconds before this one that no puzzle was charged for
         self.cost = PACK_SECONDS  # seconds of a file, about
         self.reached = 0  # the puzzle of the first task's file that is being judged, where the file has several
-        self.known: Optional[list[str]] = None  # the row of the puzzle whose certificate or grade is being made
-        self.send(tuple(settings))
-
-    def send(self, value: Any) -> None:
-        """Puts a value on its way."""
-        packed = marshal.dumps(value)
-        self.out += HEAD.pack(len(packed)) + packed
-        self.write()
-
-    def write(self) -> None:
-        """Sends as much as there is room for."""
-        try:
-            while self.out:
-                del self.out[: self._stream.send(self.out[:ROOM], NO_SIGNAL)]
-        except BlockingIOError:
-            pass
-        except ConnectionError:
-            self.out.clear()
-
-    def read(self) -> Optional[bytes]:
-        """What has come: empty where the process has ended, and nothing where nothing has come."""
-        try:
-            return self._stream.recv(ROOM)
-        except BlockingIOError:
-            return None
-        except ConnectionError:
-            return b""
-
-    def status(self) -> int:
-        """Ends the process, and answers its status."""
-        self.end()
-        return self._process.wait()
+        self.known: Optional[tuple[str, str]] = None  # the row of the puzzle whose certificate or grade is being made, and what goes with it
+        self.send(0, marshal.dumps(tuple(settings)))
 
 
 class Pool:
@@ -121,7 +81,7 @@ class Pool:
             if not (self._has_more or self._again or any(hand.tasks for hand in self._hands)):
                 return
             begun = time.monotonic()
-            for hand in self._wait():
+            for hand in waited(self._hands, TICK):
                 yield from self._read(hand)
             lost = time.monotonic() - begun - 4 * TICK
             for hand in self._hands if lost > 0 else ():
@@ -135,21 +95,10 @@ class Pool:
             hand.end()
         self._hands.clear()
 
-    def _wait(self) -> list[Hand]:
-        """The processes that said something, within a moment."""
-        with selectors.PollSelector() as selector:
-            for hand in self._hands:
-                selector.register(hand, selectors.EVENT_READ | (selectors.EVENT_WRITE if hand.out else 0), hand)
-            ready = selector.select(TICK)
-        for key, mask in ready:
-            if mask & selectors.EVENT_WRITE:
-                key.data.write()
-        return [key.data for key, mask in ready if mask & selectors.EVENT_READ]
-
     def _feed(self) -> None:
         for hand in self._hands:
             size = max(1, min(MOST_PACKED, int(PACK_SECONDS / hand.cost)))
-            if hand.is_left or hand.out or len(hand.tasks) > size // 2:
+            if hand.is_left or hand.is_sending or len(hand.tasks) > size // 2:
                 continue
             pack: list[Task] = []
             while len(pack) < size and (task := self._next()) is not None:
@@ -158,7 +107,7 @@ class Pool:
                 if not hand.tasks:
                     hand.since = time.monotonic()
                 hand.tasks.extend(pack)
-                hand.send([tuple(task) for task in pack])
+                hand.send(0, marshal.dumps([tuple(task) for task in pack]))
 
     def _next(self) -> Optional[Task]:
         if self._again:
@@ -170,47 +119,39 @@ class Pool:
         return task
 
     def _read(self, hand: Hand) -> Iterator[Answer]:
-        data = hand.read()
-        if data is None:
-            return
-        if not data:
+        try:
+            answers = [(number, [part.decode("ascii") for part in parts]) for number, parts in hand.answers()]
+        except (EOFError, RuntimeError):
             yield from self._end(hand, "")
             return
         now = time.monotonic()
         hand.quiet = now - hand.since
-        *lines, hand.torn = (hand.torn + data).split(b"\n")
         before = len(hand.tasks)
-        is_further = False
-        for line in lines:
-            words = line.decode("ascii").split("\t")
-            # What is known of a puzzle before all is made gives it no more time.
-            is_further = is_further or words[1] != "known"
-            yield from self._hear(hand, words)
-        if lines and before > len(hand.tasks):
+        for number, (kind, verdict, text, certificate, _) in answers:
+            yield from self._hear(hand, number, kind, verdict, text, certificate)
+        if before > len(hand.tasks):
             hand.cost = 0.5 * hand.cost + 0.5 * (now - hand.since) / (before - len(hand.tasks))
-        if is_further:
+        # What is known of a puzzle before all is made gives it no more time.
+        if any(parts[0] != "known" for _, parts in answers):
             hand.since = now
         if hand.is_left and not hand.tasks:
             self._replace(hand)
 
-    def _hear(self, hand: Hand, line: list[str]) -> Iterator[Answer]:
-        number, kind, verdict, text, certificate = line
+    def _hear(self, hand: Hand, number: int, kind: str, verdict: str, text: str, certificate: str) -> Iterator[Answer]:
         if kind == "ready":
             hand.is_ready, self._failures = True, 0
             return
-        if not hand.tasks or int(number) != hand.tasks[0].number:
+        if not hand.tasks or number != hand.tasks[0].number:
             return
-        task = hand.tasks[0]
         if kind == "at":
             hand.reached = int(verdict)
         elif kind == "known":
-            hand.known = line
+            hand.known = text, certificate
         elif kind == "bye":
             hand.reached = -1
         else:
-            if kind in ("same", "none"):
-                verdict = kind
-            yield from self._take(hand, task, Answer(task.number, kind != "more", verdict, text, certificate))
+            verdict = kind if kind in ("same", "none") else verdict
+            yield from self._take(hand, hand.tasks[0], Answer(number, kind != "more", verdict, text, certificate))
 
     def _take(self, hand: Hand, task: Task, answer: Answer) -> Iterator[Answer]:
         """Takes the answer to the first task of a process."""
@@ -271,7 +212,7 @@ class Pool:
             over = f"the puzzles before it have taken more than {MOST_TIMES * (self._seconds or 0):g} seconds: neither it nor those behind it are judged"
             yield from self._give_up(task, {"file": task.name, "puzzle": task.start, "verdict": "error", "error": over}, False)
         elif hand.known is not None:
-            _, _, _, text, rest = hand.known
+            text, rest = hand.known
             kind, _, certificate = rest.partition(" ")
             row: Row = unfinished(json.loads(text), why)
             if is_late and "seconds" in row:

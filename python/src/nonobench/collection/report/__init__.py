@@ -9,10 +9,10 @@ import secrets
 import tempfile
 from collections import Counter
 from pathlib import Path
-from typing import Any, Optional
+from typing import Any, Optional, Sequence
 
 from ..._library import version
-from ..outputs import Failure, Output, failure
+from ..outputs import Failure, Output, telling
 from ..puzzles import Missing
 from ..rows import FIGURES, GRADES, VERDICTS, Row, flaws_of, name_of, printable, text_of, words_of
 
@@ -23,7 +23,7 @@ _FOLDER = Path(__file__).resolve().parent
 class Report:
     """Gathers rows in a file, and makes the report of them in the end."""
 
-    def __init__(self, name: str, title: Optional[str], allowed: tuple[str, ...]) -> None:
+    def __init__(self, name: str, title: Optional[str], allowed: Sequence[str]) -> None:
         self._environment = _environment()
         if os.path.exists(name) and not os.path.isfile(name):
             raise Failure(f"{name}: this is not a file")  # the report takes its place
@@ -49,10 +49,8 @@ class Report:
             side = max(row["rows"], row["columns"])
             self._sides[next((most for most in SIDES if side <= most), SIDES[-1]), verdict] += 1
         line = text_of(record_of(row, len(flaws))).replace("<", "\\u003c")
-        try:
+        with telling(self._name):
             self._rows.write((line + ",\n").encode("ascii"))
-        except OSError as error:
-            raise failure(self._name, error) from error
 
     def flush(self) -> None:
         """Nothing waits for a moment here."""
@@ -60,14 +58,13 @@ class Report:
     def close(self, is_whole: bool) -> None:
         """Makes the report of the rows that were put."""
         try:
-            self._make(is_whole)
-            os.replace(self._output.name, self._name)
-        except (OSError, Failure) as error:
-            try:
+            with telling(self._name):
+                self._make(is_whole)
+                os.replace(self._output.name, self._name)
+        except Failure:
+            with contextlib.suppress(OSError):
                 os.unlink(self._output.name)
-            except OSError:
-                pass
-            raise error if isinstance(error, Failure) else failure(self._name, error) from error
+            raise
         finally:
             with contextlib.suppress(OSError):
                 self._rows.close()
