@@ -24,6 +24,13 @@ export const make = (name, attributes = {}, ...children) => {
 /** Makes a choice of some values, pairs of a value and its text; one may be chosen at first. */
 export const choiceOf = (attributes, options, chosen = null) => make('select', attributes, ...options.map(([value, text]) => make('option', { value, selected: value === chosen }, text)));
 
+/** Lets the user choose files of some kinds; `take` hears them. */
+export function chooseFiles(accept, take, multiple = false) {
+  const input = make('input', { type: 'file', accept, multiple });
+  input.addEventListener('change', () => input.files.length && take([...input.files]));
+  input.click();
+}
+
 /** Makes a part of an SVG drawing. */
 export function svgPart(name, attributes, ...children) {
   const element = document.createElementNS('http://www.w3.org/2000/svg', name);

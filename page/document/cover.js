@@ -72,6 +72,9 @@ export function withCells(picture, cells) {
   return rows;
 }
 
+/** A picture with the cells of a repaint, `{ index, colour }`, painted. */
+export const painted = (picture, cells) => withCells(picture, cells.map(({ index, colour }) => [index, LETTERS[colour]]));
+
 /** The cells in which a picture differs from another of its size, with their letters. */
 export function cellsBetween(from, to) {
   const cells = new Map();

@@ -92,6 +92,17 @@ export function resized(doc, rows, columns, anchor) {
 /** A rectangle of a document as a small document. */
 export const cutOut = (doc, { top, left, bottom, right }) => remade(doc, bottom - top + 1, right - left + 1, (row, col) => [row + top, col + left]);
 
+/** The box of a picture without the rows and columns at its edges that are background alone; null where it has none, or nothing else. */
+export function boxInMargin(picture) {
+  const isDrawn = (row) => /[^.]/.test(row);
+  const [top, bottom] = [picture.findIndex(isDrawn), picture.findLastIndex(isDrawn)];
+  if (top < 0) return null;
+  const left = Math.min(...picture.filter(isDrawn).map((row) => row.search(/[^.]/)));
+  const right = Math.max(...picture.map((row) => row.replace(/\.+$/, '').length)) - 1;
+  const isWhole = top === 0 && left === 0 && bottom === picture.length - 1 && right === picture[0].length - 1;
+  return isWhole ? null : { top, left, bottom, right };
+}
+
 /** Rows of letters put over a picture at a place; what lies outside is left out, and below a blank the picture stays. */
 export function stamped(picture, rows, top, left) {
   return picture.map((row, at) => {

@@ -29,8 +29,8 @@ export class Strips {
       pen.fillRect(0, 0, this.canvases[axis].width, this.canvases[axis].height);
     }
     const { top, left, bottom, right } = at.seen();
-    for (let row = top; row <= bottom; row++) this.row(sheet, row, false);
-    for (let col = left; col <= right; col++) this.column(sheet, col, false);
+    for (let row = top; row <= bottom; row++) this.line(sheet, 'r', row, false);
+    for (let col = left; col <= right; col++) this.line(sheet, 'c', col, false);
     if (at.isFolded) this.numbers(sheet);
   }
 
@@ -58,8 +58,8 @@ export class Strips {
   some(sheet, rows, columns) {
     if (!this.key) return;
     const { top, left, bottom, right } = sheet.geometry.seen();
-    for (const row of rows) if (row >= top && row <= bottom) this.row(sheet, row, true);
-    for (const col of columns) if (col >= left && col <= right) this.column(sheet, col, true);
+    for (const row of rows) if (row >= top && row <= bottom) this.line(sheet, 'r', row, true);
+    for (const col of columns) if (col >= left && col <= right) this.line(sheet, 'c', col, true);
   }
 
   // The band of a line: its ground, tinted where its clue has changed, it is dragged, or a reason names it.
@@ -90,22 +90,20 @@ export class Strips {
     else this.band(sheet, 'c', line, at.x(line), at.originY - gap - wide, at.cell, wide, anew);
   }
 
-  row(sheet, row, anew) {
+  // A row or a column: its band and its clue.
+  line(sheet, axis, line, anew) {
     const { geometry: at } = sheet;
-    if (at.isFolded) return this.edge(sheet, 'r', row, anew);
-    const [y, gap] = [at.y(row), Math.round(3 * at.scale)];
-    const pen = this.pens.r;
+    if (at.isFolded) return this.edge(sheet, axis, line, anew);
+    const [x, y, gap, pen] = [at.x(line), at.y(line), Math.round(3 * at.scale), this.pens[axis]];
     pen.save();
     pen.beginPath();
-    pen.rect(0, Math.max(at.originY, y), at.originX, at.cell);
+    if (axis === 'r') pen.rect(0, Math.max(at.originY, y), at.originX, at.cell);
+    else pen.rect(Math.max(at.originX, x), 0, at.cell, at.originY);
     pen.clip();
-    this.band(sheet, 'r', row, at.slackX(), y, at.left - gap / 2, at.cell, anew);
-    this.clue(sheet, 'r', row);
-    pen.restore();
-  }
-
-  clue(sheet, axis, line) {
+    if (axis === 'r') this.band(sheet, 'r', line, at.slackX(), y, at.left - gap / 2, at.cell, anew);
+    else this.band(sheet, 'c', line, x, at.slackY(), at.cell, at.top - gap / 2, anew);
     drawClue(this.surfaces[axis], sheet.look, axis, sheet.clues[axis === 'r' ? 'rows' : 'columns'][line], this.placeOf(sheet, axis, line), this.copy);
+    pen.restore();
   }
 
   // Where the clue of a line lies, as `drawClue` takes it.
@@ -121,20 +119,6 @@ export class Strips {
 
   rowWidth(at, block) {
     return at.cell < 7 * at.scale ? Math.round(4 * at.scale) : at.chipWidth(String(block.length).length, at.font);
-  }
-
-  column(sheet, col, anew) {
-    const { geometry: at } = sheet;
-    if (at.isFolded) return this.edge(sheet, 'c', col, anew);
-    const [x, gap] = [at.x(col), Math.round(3 * at.scale)];
-    const pen = this.pens.c;
-    pen.save();
-    pen.beginPath();
-    pen.rect(Math.max(at.originX, x), 0, at.cell, at.originY);
-    pen.clip();
-    this.band(sheet, 'c', col, x, at.slackY(), at.cell, at.top - gap / 2, anew);
-    this.clue(sheet, 'c', col);
-    pen.restore();
   }
 
   /** Whether cells are large enough for numbers. */

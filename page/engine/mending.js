@@ -1,21 +1,13 @@
 // Repairs of documents that are not open, one after the other, in a worker of their own: the fewest cells to repaint until no guessing is
 // needed, else until there is one solution.
 
-import { baseOf } from '../document/cover.js';
+import { baseOf, painted } from '../document/cover.js';
 import { docOf, pageOf } from '../document/document.js';
-import { LETTERS } from '../document/limits.js';
 import { boardFields } from '../repair/board.js';
 import { startEngine } from './client.js';
 import { openedIn } from './opening.js';
 
 const isBetter = (one, other) => !other || one.cells.length < other.cells.length || (one.cells.length === other.cells.length && one.pain < other.pain);
-
-/** A picture with some cells in other colours. */
-function repainted({ picture, columns }, cells) {
-  const rows = picture.map((row) => [...row]);
-  for (const { index, colour } of cells) rows[Math.floor(index / columns)][index % columns] = LETTERS[colour];
-  return rows.map((row) => row.join(''));
-}
 
 /** Repairs documents, each search within some seconds. */
 export class Mender {
@@ -33,7 +25,7 @@ export class Mender {
       await this.engine.call('repair', { board: boardFields(state), goal, seconds: this.seconds }, ({ found }) => {
         if (found && isBetter(found, best)) best = found;
       });
-      if (best) return { doc: { ...docOf(state), picture: repainted(state, best.cells) }, cells: best.cells.length };
+      if (best) return { doc: { ...docOf(state), picture: painted(state.picture, best.cells) }, cells: best.cells.length };
     }
     return null;
   }

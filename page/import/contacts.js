@@ -24,15 +24,18 @@ export function sizesFor({ width, height }, own) {
   return all.filter((size, at) => all.findIndex((one) => one.join() === size.join()) === at);
 }
 
-/** For a size the documents with some numbers of colours, of which no two look alike; each picture once. `docOf(size, colours)` makes one. */
+/** For a size the documents with some numbers of colours, of which no two look alike; each number and each picture once. `docOf(size, colours)` makes one. */
 export function docsFor(size, docOf) {
-  const docs = new Map();
+  const [docs, shown] = [[], new Set()];
   for (const count of COUNTS) {
     const { colours, doc } = docApart(count, (number) => docOf(size, number));
-    const key = [...doc.picture, ...doc.colours].join();
-    if (!docs.has(key)) docs.set(key, { size, colours, doc });
+    const letters = [...new Set(`.${doc.picture.join('')}`)]; // as they appear: another palette makes no other picture
+    const keys = [doc.colours.length, doc.picture.map((row) => Array.from(row, (letter) => letters.indexOf(letter))).join()];
+    if (keys.some((key) => shown.has(key))) continue;
+    docs.push({ size, colours, doc });
+    for (const key of keys) shown.add(key);
   }
-  return [...docs.values()];
+  return docs;
 }
 
 function tileOf({ doc }, take) {

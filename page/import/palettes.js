@@ -1,7 +1,7 @@
 // Palette files beside a picture that is open: their colours are added, or the picture's become the nearest of them; and the picture's
 // colours as such a file.
 
-import { choiceOf, make, say } from '../base/elements.js';
+import { choiceOf, chooseFiles, make, say } from '../base/elements.js';
 import { cleanName } from '../base/words.js';
 import { hexOf, isAmong, nameOf } from '../document/colours.js';
 import { eightBitDoc } from '../document/document.js';
@@ -101,22 +101,16 @@ async function savePalette() {
   say(TEXT.saved(name));
 }
 
-function openPalette() {
-  const input = make('input', { type: 'file', accept: '.gpl,.pal,.hex,.txt' });
-  input.addEventListener('change', async () => {
-    const [file] = input.files;
-    if (!file) return;
-    try {
-      await takePalette(await file.text(), file.name);
-    } catch (fault) {
-      say(TEXT.wrong(file.name, fault.message), 'alarm');
-    }
-  });
-  input.click();
+async function openPalette([file]) {
+  try {
+    await takePalette(await file.text(), file.name);
+  } catch (fault) {
+    say(TEXT.wrong(file.name, fault.message), 'alarm');
+  }
 }
 
 /** Adds what there is to palettes to the menus. */
 export function startPalettes() {
-  addAction({ id: 'palette-open', name: TEXT.open, place: 'picture', group: 'colours', run: openPalette });
+  addAction({ id: 'palette-open', name: TEXT.open, place: 'picture', group: 'colours', run: () => chooseFiles('.gpl,.pal,.hex,.txt', openPalette) });
   addAction({ id: 'palette-save', name: TEXT.save, place: 'picture', group: 'colours', run: savePalette });
 }

@@ -1,7 +1,7 @@
 // Files that come in by choice, drop or paste: read by the browser alone, bounded, and opened as documents. A picture with too
 // many cells or colours goes through the dialog of importing.js.
 
-import { make, say } from '../base/elements.js';
+import { chooseFiles, say } from '../base/elements.js';
 import { tell } from '../base/events.js';
 import { bareName, number } from '../base/words.js';
 import { FileFault } from '../document/limits.js';
@@ -113,9 +113,7 @@ export async function chooseFile() {
       if (fault.name === 'AbortError') return false;
     }
   }
-  const input = make('input', { type: 'file', accept: TAKEN_KINDS, multiple: true });
-  input.addEventListener('change', () => takeAll([...input.files]));
-  input.click();
+  chooseFiles(TAKEN_KINDS, takeAll, true);
   return true;
 }
 

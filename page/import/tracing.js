@@ -1,6 +1,6 @@
 // Tracing: an image that is chosen lies under the picture, with a panel for its opacity, size and place.
 
-import { $, make, say, withoutGestures } from '../base/elements.js';
+import { $, chooseFiles, make, say, withoutGestures } from '../base/elements.js';
 import { on } from '../base/events.js';
 import { clamp } from '../base/words.js';
 import { FileFault } from '../document/limits.js';
@@ -120,11 +120,7 @@ async function traceFile(file) {
   }
 }
 
-function chooseImage() {
-  const input = make('input', { type: 'file', accept: 'image/png,image/jpeg,image/gif,image/webp' });
-  input.addEventListener('change', () => input.files[0] && traceFile(input.files[0]));
-  input.click();
-}
+const chooseImage = () => chooseFiles('image/png,image/jpeg,image/gif,image/webp', ([file]) => traceFile(file));
 
 /** Adds tracing to the menu View. */
 export function startTracing() {

@@ -178,8 +178,7 @@ export function startSaving() {
   });
   on('judged', () => { if (!keep.isPaused) keep.now({ mayRest: true }); });
   on('graded', (grade) => { if (grade && !keep.isPaused) keep.graded(grade.word); });
-  on('kept', showFileName);
-  on('closed', showFileName);
+  for (const name of ['opened', 'kept', 'closed']) on(name, showFileName); // of another picture at once
   addEventListener('beforeunload', (event) => {
     if (!bench.state || bench.isSaved || !saving.asks) return;
     event.preventDefault();

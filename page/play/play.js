@@ -3,11 +3,12 @@
 import { $, make, withoutGestures } from '../base/elements.js';
 import { tell } from '../base/events.js';
 import { clamp } from '../base/words.js';
-import { cssOf, inkOn, nameOf } from '../document/colours.js';
+import { nameOf } from '../document/colours.js';
 import { LETTERS, MOST_CELLS } from '../document/limits.js';
 import { bench } from '../engine/bench.js';
 import { phrase } from '../texts/phrase.js';
 import { addAction, runAction } from '../view/actions.js';
+import { dress } from '../view/dress.js';
 import { selection } from '../view/select.js';
 import { asSeen } from '../view/tools.js';
 import { searches } from '../view/verdict.js';
@@ -87,11 +88,7 @@ function playPalette() {
     const name = letter === '.' ? phrase('view.background') : letter === '?' ? phrase('play.wipe') : nameOf(colours[LETTERS.indexOf(letter)], maxval);
     const sign = { '.': '×', '?': '⌫' }[letter] ?? letter;
     const button = playButton(null, sign, () => choosePlay(letter), { role: 'radio', 'data-letter': letter, 'aria-label': name, title: name });
-    if (letter !== '?') {
-      const triple = colours[LETTERS.indexOf(letter)];
-      button.style.background = cssOf(triple, maxval);
-      button.style.color = inkOn(triple, maxval);
-    }
+    if (letter !== '?') dress(button, letter, play.state);
     return button;
   }));
   choosePlay(play.letter);

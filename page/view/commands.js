@@ -3,7 +3,7 @@
 import { make, say } from '../base/elements.js';
 import { LETTERS, MOST_CELLS, MOST_COLOURS } from '../document/limits.js';
 import { outlineOf, placesOfBox, placesOfLetter, shadowOf } from '../document/regions.js';
-import { resized, rowsOfText, shifted, turned } from '../document/shapes.js';
+import { boxInMargin, cutOut, resized, rowsOfText, shifted, turned } from '../document/shapes.js';
 import { sheet } from '../draw/sheet.js';
 import { MOST_STROKES, bench } from '../engine/bench.js';
 import { phrase } from '../texts/phrase.js';
@@ -93,7 +93,7 @@ async function pasteByDialog() {
 }
 
 export function addPictureActions() {
-  const add = (id, name, key, run, group) => addAction({ id, name, key, run, group, place: 'picture' });
+  const add = (id, name, key, run, group, can = undefined) => addAction({ id, name, key, run, group, can, place: 'picture' });
   add('mirror-across', phrase('view.mirrorLeftRight'), 'Ctrl+Alt+M', () => transform((doc) => turned(doc, 'across')), 'turn');
   add('mirror-down', phrase('view.mirrorTopBottom'), 'Ctrl+Alt+Shift+M', () => transform((doc) => turned(doc, 'down')), 'turn');
   add('turn-right', phrase('view.turnRight'), 'Ctrl+Alt+R', () => transform((doc) => turned(doc, 'right')), 'turn');
@@ -108,6 +108,7 @@ export function addPictureActions() {
   far('shift-left-far', phrase('view.shiftLeftFar', { cells: FAR }), 'Alt+Shift+ArrowLeft', 0, -1);
   far('shift-right-far', phrase('view.shiftRightFar', { cells: FAR }), 'Alt+Shift+ArrowRight', 0, 1);
   add('resize', phrase('view.resize'), 'Ctrl+Alt+S', resizeByDialog, 'size');
+  add('trim', phrase('import.trimMargin'), null, trim, 'size', () => boxInMargin(bench.state.picture) !== null);
   for (const word of ['row', 'column']) {
     const at = () => (word === 'row' ? cursor.row : cursor.col) + 1;
     const edit = (id, name, line) => add(`${id}-${word}`, name, null, () => { setDown(); sendStroke([line()]); }, 'lines');
@@ -123,6 +124,14 @@ function shiftBy(down, across) {
   lift();
   moveFloat(down, across);
   return showSelection();
+}
+
+function trim() {
+  setDown();
+  heard(bench.become((doc) => {
+    const box = boxInMargin(doc.picture);
+    return box && cutOut(doc, box);
+  }));
 }
 
 async function resizeByDialog() {

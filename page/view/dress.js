@@ -47,9 +47,8 @@ export function swatchChip(doc, letter) {
   return chip;
 }
 
-/** Gives an element the colour of a letter. */
-export function dress(element, letter) {
-  const { colours, maxval } = bench.state;
+/** Gives an element the colour of a letter, in the open document or another. */
+export function dress(element, letter, { colours, maxval } = bench.state) {
   const triple = colours[LETTERS.indexOf(letter)];
   element.style.backgroundColor = cssOf(triple, maxval);
   element.style.color = inkOn(triple, maxval);

@@ -37,7 +37,8 @@ function figuresText({ open, grade: { rounds, evaluations, wait, splits, depth }
 function showGrade() {
   const [said, grade] = [saidAtHand(), gradeAtHand()];
   $('grade').textContent = grade ? `${gradeName(grade.word)} (${figuresText(said)})` : '–';
-  $('publish').textContent = $('publish').title = said ? fitText(bench.state, said) : '–';
+  $('publish').textContent = said ? fitText(bench.state, said) : '–';
+  $('publish-do').hidden = !said?.fit;
 }
 
 // Waits for rest. Any other search comes first.

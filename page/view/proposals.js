@@ -3,6 +3,7 @@
 import { make } from '../base/elements.js';
 import { gradeName } from '../base/names.js';
 import { cssOf } from '../document/colours.js';
+import { painted } from '../document/cover.js';
 import { LETTERS } from '../document/limits.js';
 import { boxAround } from '../document/regions.js';
 import { cutOut } from '../document/shapes.js';
@@ -20,14 +21,6 @@ const APART = 8; // rows or columns from which on two changes are seen in pictur
 const MOST_PARTS = 4; // such pictures, in the room of one
 
 const letterAt = ({ picture, columns }, index) => picture[Math.floor(index / columns)][index % columns];
-
-/** A picture's rows with some cells painted. */
-export function painted(picture, cells) {
-  const rows = picture.map((row) => [...row]);
-  const columns = picture[0].length;
-  for (const { index, colour } of cells) rows[Math.floor(index / columns)][index % columns] = LETTERS[colour];
-  return rows.map((row) => row.join(''));
-}
 
 // From and to along one side of a picture: what changes with some cells around it, as far as the picture goes.
 function span(from, to, length) {

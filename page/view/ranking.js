@@ -1,8 +1,8 @@
 // Which proposals come first: what keeps a symmetry, what leaves nothing to guess, what is small, and what is seen least.
 
 import { eightBits, oklabOf } from '../document/colours.js';
+import { painted } from '../document/cover.js';
 import { LETTERS } from '../document/limits.js';
-import { painted } from './proposals.js';
 
 /** The axis about which both halves of a picture are alike: 'x', 'y' or null. */
 export function mirrorOf(picture) {

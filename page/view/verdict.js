@@ -58,7 +58,7 @@ function makeVerdictPanel() {
     make('div', { id: 'verdict-more' },
       make('p', { id: 'verdict-why' }),
       make('div', { id: 'verdict-do', class: 'group' }),
-      make('dl', {}, make('dt', { id: 'grade-name' }, phrase('import.grade')), make('dd', { id: 'grade' }), make('dt', {}, phrase('view.fitToPublish')), make('dd', { id: 'publish' }), make('dt', { id: 'open-name' }, phrase('view.needGuessing')), make('dd', { id: 'open' }), make('dt', {}, phrase('view.cluesChanged')), make('dd', { id: 'changed' })),
+      make('dl', {}, make('dt', { id: 'grade-name' }, phrase('import.grade')), make('dd', { id: 'grade' }), make('dt', {}, phrase('view.fitToPublish')), make('dd', { id: 'fit-row' }, make('span', { id: 'publish' }), make('span', { id: 'publish-do', hidden: true })), make('dt', { id: 'open-name' }, phrase('view.needGuessing')), make('dd', { id: 'open' }), make('dt', {}, phrase('view.cluesChanged')), make('dd', { id: 'changed' })),
       make('p', {}, make('label', {}, phrase('view.show'), choiceOf({ id: 'hatching', onchange: (event) => setHatching(event.target.value) }, HATCHINGS))),
       make('p', { id: 'legend', class: 'faint' }),
       make('p', {}, make('label', {}, phrase('view.searchTime'), choiceOf({ id: 'seconds', onchange: (event) => setSeconds(event.target.value) }, TIMES)))),
@@ -265,4 +265,5 @@ export function startVerdict() {
 export function showVerdictPanel() {
   makeVerdictPanel();
   for (const id of ['other', 'fix', 'aim', 'search', 'play', 'walk']) $('verdict-do').append(actionButton(actions.get(id)));
+  for (const id of ['export-site', 'share']) $('publish-do').append(actionButton(actions.get(id)));
 }

@@ -115,6 +115,14 @@ test('a contact sheet has each picture once, with no two colours that look alike
     assert.deepEqual(sizesFor({ width: 200, height: 100 }, [40, 20]), [[15, 8], [20, 10], [25, 13], [30, 15], [40, 20]]);
 });
 
+test('a contact sheet has each number of colours and each picture of a size once', () => {
+    const [white, red, blue, black] = [[255, 255, 255], [200, 0, 0], [0, 0, 200], [0, 0, 0]];
+    const plain = (picture, ...colours) => ({ rows: 1, columns: 4, maxval: 255, picture: [picture], colours: [white, ...colours] });
+    // With 3 colours and with 4 there are 3; with 6 the cells of the first again, and a colour that none has; with 12 all.
+    const made = { 2: plain('.aa.', red), 3: plain('.ab.', red, blue), 4: plain('.aab', red, blue), 6: plain('.bb.', black, blue, red), 8: plain('.aa.', blue), 12: plain('abc.', red, blue, black) };
+    assert.deepEqual(docsFor([4, 1], (size, colours) => made[colours]).map(({ colours }) => colours), [2, 3, 12]);
+});
+
 test('of colours that look alike that one stays which most cells have', () => {
     const doc = { rows: 2, columns: 6, maxval: 255, colours: [[250, 250, 250], [0, 0, 0], [12, 12, 12], [200, 0, 0], [255, 255, 255]], picture: ['.bba..', 'bbcdc.'] };
     assert.deepEqual(mergedNumbers(doc), [0, 2, 2, 3, 0]);

@@ -131,6 +131,7 @@ export async function keysAfterChoice({ trial, page }) {
 export async function panelsStay({ trial, page }) {
     await trial.open(ppmOf(MIXED), 'panels');
     await trial.judged();
+    await page.middle('[data-action="colour-add"]'); // it is scrolled into view
     const places = () => page.run(() => ['colours', 'out', 'cell'].map((id) => document.getElementById(id).getBoundingClientRect().top).concat([...document.querySelectorAll('#colour-more button')].map((one) => one.getBoundingClientRect().top)).join());
     const before = await places();
     for (const lines of [['fill 1 1 5 10 a'], ['paint 3 3 .'], ['fill 1 1 5 10 .'], ['paint 1 1 a', 'paint 2 2 a'], ['pin 1 1'], ['fill 1 1 2 10 b', 'fill 4 1 5 10 c']]) {

@@ -1,6 +1,7 @@
 // Trials of the ways from a picture to a puzzle: repairs of several cells, the grade beside the verdict, the solving path, hints.
 import assert from 'node:assert/strict';
-import { SLACK, ppmOf } from './page_trial.mjs';
+import { fresh } from './page_hands.mjs';
+import { SIZES, SLACK, ppmOf } from './page_trial.mjs';
 
 const PAIR = ['a.....', '.a....', '......', '...aaa', '...aaa', '...aaa'];
 const GUESS = ['.aa.', 'a..a', 'a..a']; // one solution, eight cells to guess
@@ -205,6 +206,36 @@ export async function gradeBeside({ trial, page }) {
     for (const [rows, background, flaw] of [[['..', '..'], '255,255,255', 'no cell has a colour'], [['aa', 'aa'], '255,255,0', 'no cell has the background']]) {
         await page.run((text, ground) => bench.open({ text, format: 'ppm', background: ground, lines: [] }, { name: 'flat' }).then(() => true), ppmOf(rows), background);
         await page.until((text) => document.getElementById('publish').textContent === text, 20000 * SLACK, flaw);
+    }
+}
+
+/** What is wrong with a puzzle is read whole beside the verdict, and moves nothing; what is fit may leave the page from there. */
+export async function flawsAreWhole({ browser, url, folder }) {
+    for (const [name, size] of Object.entries(SIZES)) {
+        const { page, trial } = await fresh(browser, url, folder, `flaws-${name}`, { size });
+        const publish = (wanted) => page.until((text) => new RegExp(text).test(document.getElementById('publish').textContent), 20000 * SLACK, wanted);
+        const places = () => page.run(() => [...document.querySelectorAll('#stage, #audit select')].map((one) => one.getBoundingClientRect()).map(({ left, top }) => `${left} ${top}`));
+        await trial.open(ppmOf(['.ab', 'ab.', '...'], { '.': '255 255 255', a: '120 40 40', b: '0 90 0' }), 'fit');
+        await trial.judged();
+        await publish('^yes$');
+        if (await isNarrow(page)) await page.click('#verdict-open');
+        const before = await places();
+        assert.deepEqual(await page.run(() => [...document.querySelectorAll('#publish-do button')].filter((one) => one.checkVisibility()).map((one) => one.dataset.action)), ['export-site', 'share']);
+        await page.shot(`${folder}/fit-${name}.png`);
+        await page.click('#publish-do [data-action="share"]');
+        await page.until(() => document.querySelector('dialog[open] #share-link')?.value, 5000 * SLACK);
+        await page.press('Escape');
+        await page.until(() => !document.querySelector('dialog[open]'), 3000 * SLACK);
+        await page.run(() => bench.stroke(['colour set b 128 45 45', 'pin 1 2']).then(() => true));
+        await publish('^row 1, column 2 need not be given; .* look alike$');
+        assert.equal(await page.run(() => document.getElementById('publish-do').checkVisibility()), false);
+        await page.run(() => document.getElementById('publish').scrollIntoView({ block: 'nearest' }));
+        const cut = await page.run(() => [document.getElementById('fit-row')].map((one) => [one.scrollHeight - one.clientHeight, one.scrollWidth - one.clientWidth]));
+        assert.ok(cut.flat().every((by) => by <= 0), `${name}: ${cut}`);
+        await page.shot(`${folder}/flaws-${name}.png`);
+        await page.run(() => document.getElementById('verdict-more').scrollTo(0, 0));
+        assert.deepEqual(await places(), before, name);
+        await page.close();
     }
 }
 

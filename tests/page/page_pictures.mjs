@@ -76,6 +76,8 @@ export async function contactsPoint(hands, { page, trial }) {
     await hands.press('#import-contacts');
     await page.until(() => document.querySelectorAll('.contact').length >= 12, 20000 * SLACK);
     await page.until(() => document.querySelector('.contact-row:nth-child(2) .contact:nth-child(3)[data-word]'), 20000 * SLACK);
+    const labels = await page.run(() => [...document.querySelectorAll('.contact span:not(.verdict)')].map((one) => one.textContent));
+    assert.equal(new Set(labels).size, labels.length, labels.join('; '));
     const text = await page.run(() => document.querySelector('.contact-row:nth-child(2) .contact:nth-child(3)').textContent);
     assert.match(text, /^20 by 20, 4 colours(ambiguous|undecided|unique, (easy|medium|hard|very hard|expert))$/);
     await hands.press('.contact-row:nth-child(2) .contact:nth-child(3)');
@@ -183,6 +185,32 @@ export async function tablePoint(hands, { page, own }) {
     const text = (await downloaded(page, own, '.csv')).content.toString();
     assert.match(text, /"c","4 by 4","2","unique, \d+ cells? repainted"/);
     await page.press('Escape');
+}
+
+/** The header has the name of what the dialog made as soon as that is shown. Its margin is trimmed by one press, and comes back by one undo. */
+export async function trimsMargin({ browser, url, folder }) {
+    const { page, trial } = await fresh(browser, url, folder, 'trim');
+    await trial.open(ppmOf(['.a', 'a.']), 'old');
+    assert.equal(await page.run(() => actions.get('trim').can()), false);
+    await openDrawn(page, 401, 401, [['#fff', 0, 0, 401, 401], ['rgb(200 0 0)', 101, 201, 150, 100]]);
+    await page.run(() => { const { show } = bench; bench.show = () => { show.call(bench); window.headed = `${document.getElementById('title').textContent}|${document.title}`; bench.show = show; }; });
+    await page.click('dialog button.main');
+    await page.until(() => bench.name === 'drawn' && window.headed, 8000 * SLACK);
+    assert.match(await page.run(() => window.headed), /^drawn.*\|• drawn – nonobench$/);
+    await page.until(() => document.querySelector('#said button'), 5000 * SLACK);
+    const size = async () => { const { rows, columns } = await trial.state(); return [rows, columns]; };
+    assert.deepEqual(await size(), [40, 40]);
+    await page.click('#said button');
+    await page.until(() => bench.state.rows < 40, 5000 * SLACK);
+    assert.deepEqual(await size(), [10, 15]);
+    await page.until(() => !document.querySelector('#said button'), 3000 * SLACK);
+    assert.equal(await page.run(() => actions.get('trim').can()), false);
+    await trial.press('Control+z');
+    assert.deepEqual(await size(), [40, 40]);
+    await page.click('[popovertarget="menu-picture"]');
+    await page.click('#menu-picture [data-action="trim"]');
+    await page.until(() => bench.state.rows === 10, 5000 * SLACK);
+    await page.close();
 }
 
 /** A zip of many pictures asks first, tells how far it is, and can be stopped. */

@@ -3,7 +3,7 @@
 import assert from 'node:assert/strict';
 import { test } from 'node:test';
 import '../../page/test/limits.mjs';
-import { bucketCells, boxCells, boxOf, cutOut, lineCells, reordered, resized, rowsOfText, shifted, stamped, turned } from '../../page/document/shapes.js';
+import { boxInMargin, bucketCells, boxCells, boxOf, cutOut, lineCells, reordered, resized, rowsOfText, shifted, stamped, turned } from '../../page/document/shapes.js';
 import { Geometry } from '../../page/draw/geometry.js';
 import { lengthsIn } from '../../page/draw/board.js';
 
@@ -43,6 +43,15 @@ test('another size, with what stays where', () => {
 test('pieces are cut out and put down', () => {
   assert.deepEqual(cutOut(docOf(['ab.', '..b']), { top: 0, left: 1, bottom: 1, right: 2 }).picture, ['b.', '.b']);
   assert.deepEqual(stamped(['...', '...'], ['ab', 'ba'], 1, -1), ['...', 'b..']);
+});
+
+test('the margin of a picture', () => {
+  assert.deepEqual(boxInMargin(['.....', '...b.', '.....', '..a..', '.....']), { top: 1, left: 2, bottom: 3, right: 3 });
+  assert.deepEqual(boxInMargin(['a..', '...']), { top: 0, left: 0, bottom: 0, right: 0 });
+  assert.equal(boxInMargin(['a..', '..a']), null, 'each edge has a cell');
+  assert.equal(boxInMargin(['..', '..']), null, 'nothing is drawn');
+  const doc = docOf(['....', '.ab.', '....'], [0, 6]);
+  shows(cutOut(doc, boxInMargin(doc.picture)), ['ab'], [1]);
 });
 
 test('text that is pasted', () => {
