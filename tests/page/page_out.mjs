@@ -107,7 +107,7 @@ export async function exportsAndPrint({ browser, url, folder }) {
     await menu(page, 'export-site');
     await downloaded(page, own, '-site.zip');
     const site = execFileSync('unzip', ['-Z1', join(own, 'key-site.zip')], { encoding: 'utf8' }).trim().split('\n');
-    assert.deepEqual(site, ['key.ppm', 'key.cert', 'key.givens']);
+    assert.deepEqual(site, ['key.ppm', 'key.cert', 'key.txt', 'key.givens']);
     assert.equal(execFileSync('unzip', ['-p', join(own, 'key-site.zip'), 'key.givens'], { encoding: 'utf8' }), 'given 1 3\ngiven 1 5\n');
     await menu(page, 'export-cells');
     const { content } = await downloaded(page, own, '-cells.png');
