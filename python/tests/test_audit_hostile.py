@@ -211,6 +211,17 @@ class Files(Case):
             "alike.xml": ["background", "alike . a"], "seen.xml": ["background"], "white.xml": ["background"],
         })
 
+    def test_xml_whose_elements_are_in_a_namespace(self):
+        """The page, and others that do not heed namespaces, take them for elements of the format, and this reader would leave them out."""
+        goal, other = ("<solution{}><image>{}</image></solution>".format(*words) for words in ((" xmlns='x'", "|X.||.X|"), ("", "|XX||.X|")))
+        self.put("goal.xml", f"<puzzle>{goal}{other}</puzzle>")
+        count = "<count xmlns='x'>1</count>"
+        self.put("clue.xml", webpbn(UNIQUE).replace("</puzzle>", f"<clues type='rows'>{f'<line>{count}</line>' * 2}</clues></puzzle>"))
+        self.put("none.xml", f"<puzzle>{other.replace('<image>', '<image xmlns=%r>' % '')}</puzzle>")
+        self.put("prefix.xml", f"<puzzle xmlns:a='x'><a:solution/>{other}</puzzle>")
+        told = "the XML cannot be read: it has a namespace without a prefix"
+        self.assertEqual(self.errors("--allow", "9"), {"goal.xml": told, "clue.xml": told, "none.xml": None, "prefix.xml": None})
+
     def test_xml_that_takes_long(self):
         """What makes expat take much longer than the file is long is refused, and files of too many puzzles are."""
         for name, text in (
