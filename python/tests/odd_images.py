@@ -349,7 +349,7 @@ def gifs():
         ("table", gif(frame(table=swapped)), shown(swapped)), ("table-alone", gif(frame(table=swapped), table=None), shown(swapped)),
         ("comment", gif(b"\x21\xfe\x03abc\0", frame()), pixels), ("loop", gif(loop, frame()), pixels), ("loop-buffered", gif(loop[:-1] + b"\5\2\0\0\1\0\0", frame()), pixels),
         ("loop-odd", gif(loop.replace(b"\3\1", b"\3\5"), frame()), BROKEN), ("loop-odd-last", gif(frame(), loop[:-1] + b"\3\0\0\0\0"), BROKEN),
-        ("loop-none", gif(loop[:14] + b"\0", frame()), pixels),
+        ("loop-none", gif(loop[:14] + b"\0", frame()), BROKEN), ("loop-short", gif(loop[:-1] + b"\1\1\0", frame()), BROKEN),
         ("ground", gif(frame(), ground=2), pixels),
         ("wide-codes", gif(frame(least=8)), pixels), ("wide-codes-hole", gif(frame([[4] * 5] * 4, least=8)), BROKEN),
         ("more", gif(frame()) + b"more", pixels), ("no-end", gif(frame(), end=b""), BROKEN), ("no-stop", gif(frame(has_end=False)), pixels),

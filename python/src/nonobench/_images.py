@@ -245,7 +245,7 @@ def _gif(data: bytes) -> Pixels:
         if sign == 0x21:
             at, body = _blocks(data, at + 2)
             _need(not body.startswith(b"ICCRGBG1"), PROFILE)
-            _need(body not in _LOOPS or all(number & 7 in (1, 2) for number in _firsts(data, begun + 14)))  # else Firefox shows none
+            _need(body not in _LOOPS or _is_loop(data, begun + 14))
             if data[begun + 1] == 0xF9:
                 _need(len(body) == 4 and at == begun + 8 and not told)
                 told.append(body[3] if body[0] & 1 else None)
@@ -271,11 +271,13 @@ def _behind_table(at: int, flags: int) -> int:
     return at + (3 << (flags % 8 + 1)) if flags & 0x80 else at
 
 
-def _firsts(data: bytes, at: int) -> Iterator[int]:
-    """The first bytes of the blocks of a GIF that begin at a place."""
+def _is_loop(data: bytes, at: int) -> bool:
+    """Whether the blocks of a GIF that begin at a place say how often frames come. Where one does not, browsers show no image."""
+    is_loop = data[at] > 0
     while data[at]:
-        yield data[at + 1]
+        is_loop = is_loop and data[at] > 2 and data[at + 1] & 7 in (1, 2)
         at += 1 + data[at]
+    return is_loop
 
 
 def _blocks(data: bytes, at: int) -> tuple[int, bytes]:
