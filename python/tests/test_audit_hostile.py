@@ -517,6 +517,20 @@ class Names(Case):
                 done = self.run_audit(*paths, "--certify", "out", status=status)
                 self.assertEqual("the same names" in done.stderr, status == 2)
 
+    @pytest.mark.since("0.7.0")
+    def test_givens_are_not_those_of_another_path_that_is_called_alike(self):
+        for name in ("bob/in/one.ppm", "eve/in/one.ppm", "eve/in/two.ppm"):
+            self.put(name, p3(AMBIGUOUS))
+        self.put("mine/in/one.givens", b"given 1 1\n")
+        self.put("mine/one.givens", b"given 1 1\n")
+        for option, (one, other), status in (
+            ("--givens", ("bob/in", "eve/in"), 2), ("--certificates", ("bob/in", "eve/in"), 2), ("--givens", ("bob/in/one.ppm", "eve/in/one.ppm"), 2),
+            ("--givens", ("bob/in/one.ppm", "eve/in/two.ppm"), 1), ("--givens", ("bob", "eve"), 1),
+        ):
+            with self.subTest(option, one=one, other=other):
+                done = self.run_audit(f"site/{one}", f"site/{other}", "--untrusted", option, "site/mine", status=status)
+                self.assertEqual(f"{option} would give " in done.stderr, status == 2)
+
     def test_the_current_folder_is_not_run(self):
         for name in ("resource", "PIL", "defusedxml", "hashlib", "zlib", "struct", "tqdm", "jinja2"):
             self.put(f"{name}.py", f"open({str(self.folder / 'owned')!r}, 'a').write('{name} ')\n")

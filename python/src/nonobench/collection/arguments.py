@@ -85,8 +85,9 @@ def options_of(words: list[str]) -> Options:
             parser.error(f"no such folder: {folder!r}")
     if told.ppm is not None:
         _refuse_publishing(parser, told)
-    if told.certify is not None or told.ppm is not None:
-        _refuse_twins(parser, told.paths)
+    for option, told_in in (("certify", told.certify), ("ppm", told.ppm), ("certificates", told.certificates), ("givens", told.givens)):
+        if told_in is not None:
+            _refuse_twins(parser, told.paths, option)
     seconds = told.seconds if told.seconds is not None else None if told.allow is not None else 10.0
     return Options(
         told.paths, told.jsonl, told.csv, told.html, told.title, told.quiet, told.jobs, seconds, told.allow, told.memory,
@@ -178,8 +179,8 @@ def _are_same(one: str, other: str) -> bool:
     return os.path.exists(one) and os.path.exists(other) and os.path.samefile(one, other)
 
 
-def _refuse_twins(parser: argparse.ArgumentParser, paths: list[str]) -> None:
-    """Two paths must not give one certificate its name, as `SET.3` of the third puzzle in SET.xml."""
+def _refuse_twins(parser: argparse.ArgumentParser, paths: list[str], option: str) -> None:
+    """Two paths must not give one certificate its name, as `SET.3` of the third puzzle in SET.xml; nor have the givens of one puzzle."""
     named = [(front_of(path) if os.path.isdir(path) else next(find([path])).stem, os.path.normpath(path)) for path in paths]
     seen = dict(named)
     for name, path in named:
@@ -187,7 +188,7 @@ def _refuse_twins(parser: argparse.ArgumentParser, paths: list[str]) -> None:
         of = seen.get(numbered[1], path) if numbered else path
         other = of if of.lower().endswith(".xml") and of != path else seen[name]
         if other != path:
-            parser.error(f"--certify or --ppm would give {other!r} and {path!r} the same names")
+            parser.error(f"--{option} would give {other!r} and {path!r} the same names")
 
 
 def _refuse_publishing(parser: argparse.ArgumentParser, told: argparse.Namespace) -> None:
