@@ -25,8 +25,8 @@ const NONE = new Uint16Array(0);
 // The samples of a background; none for white.
 function samplesOf(options) {
   const word = backgroundOf(options);
-  const samples = word === '' ? [] : word.split(',').map(Number);
-  if (samples.some((sample) => sample > 65535)) throw new Fault('open', 'background must be R,G,B');
+  const words = word === '' ? [] : word.split(','), samples = words.map(Number);
+  if (words.some((digits) => digits.length > 5) || samples.some((sample) => sample > 65535)) throw new Fault('open', 'background must be R,G,B');
   return Uint16Array.from(samples);
 }
 

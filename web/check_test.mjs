@@ -88,7 +88,7 @@ test('givens as places and as a file, and what is refused', async () => {
     assert.deepEqual(answerOf(checker, PICTURE, CERTIFICATE, { givens }).text, `givens ${name}`);
   }
   assert.deepEqual(answerOf(checker, 'P4\n', CERTIFICATE).text, 'ppm NotP3 at byte 0');
-  for (const wrong of ['', '1,2', '1,2,3,4', 'red', '1,2,65536', '1,2,-3']) {
+  for (const wrong of ['', '1,2', '1,2,3,4', 'red', '1,2,65536', '1,2,-3', '000255,0,0']) {
     assert.deepEqual(faultOf(() => checker.check(PICTURE, CERTIFICATE, { background: wrong })), ['open', 'background must be R,G,B']);
   }
   assert.deepEqual(faultOf(() => checker.check(PICTURE, ' '.repeat(16777217))), ['open', 'input too long']);

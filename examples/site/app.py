@@ -202,7 +202,7 @@ def look_at_form():
     if boundary is None:  # of `boundary` without `=`
         abort(400)
     mark = b"--" + boundary.encode()
-    heads = [part.partition(b"\r\n\r\n")[0] for part in request.get_data(parse_form_data=False).split(mark)]
+    heads = [part.partition(b"\r\n\r\n")[0] for part in request.get_data(parse_form_data=False).split(mark, MOST_PARTS)]
     if len(heads) > MOST_PARTS or any(len(head) > MOST_HEAD or ODD_CODING.search(head) for head in heads):
         abort(400)
 

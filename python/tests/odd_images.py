@@ -212,6 +212,10 @@ def png_colours():
     grey = [[(90,), (255,)], [(255,), (160,)]]
     yield Odd("png-grey-gamma", png(grey, 8, GREY, [chunk(b"gAMA", struct.pack(">I", 1000))]), None, GAMMA)
     yield Odd("png-bits-palette", png(*png_samples(8, INDEXED)[:1], 8, INDEXED, [chunk(b"sBIT", b"\1\1\1"), PALETTE]), shown(COLOURS))
+    ground = chunk(b"bKGD", b"\1")
+    for name, more, reason in (("", [PALETTE, ground], ""), ("-first", [ground, PALETTE], BROKEN)):
+        yield Odd(f"png-background-palette{name}", png(*png_samples(8, INDEXED)[:1], 8, INDEXED, more), None if reason else shown(COLOURS), reason)
+    yield Odd("png-background-rgb-palette", png(rows, 8, RGB, [chunk(b"bKGD", bytes(6)), PALETTE]), pixels)
     yield Odd("png-bits-grey-2", png(*png_samples(2, GREY)[:1], 2, GREY, [chunk(b"sBIT", b"\1")]), png_samples(2, GREY)[2])
 
 
@@ -343,7 +347,10 @@ def gifs():
         ("plain", gif(frame()), pixels), ("87a", gif(frame(), version=b"87a"), pixels), ("laced", gif(frame(is_laced=True)), pixels),
         ("laced-tall", gif(frame(tall, size=(5, 20), is_laced=True), size=(5, 20)), shown(COLOURS, tall)),
         ("table", gif(frame(table=swapped)), shown(swapped)), ("table-alone", gif(frame(table=swapped), table=None), shown(swapped)),
-        ("comment", gif(b"\x21\xfe\x03abc\0", frame()), pixels), ("loop", gif(loop, frame()), pixels), ("ground", gif(frame(), ground=2), pixels),
+        ("comment", gif(b"\x21\xfe\x03abc\0", frame()), pixels), ("loop", gif(loop, frame()), pixels), ("loop-buffered", gif(loop[:-1] + b"\5\2\0\0\1\0\0", frame()), pixels),
+        ("loop-odd", gif(loop.replace(b"\3\1", b"\3\5"), frame()), BROKEN), ("loop-odd-last", gif(frame(), loop[:-1] + b"\3\0\0\0\0"), BROKEN),
+        ("loop-none", gif(loop[:14] + b"\0", frame()), BROKEN), ("loop-short", gif(loop[:-1] + b"\1\1\0", frame()), BROKEN),
+        ("ground", gif(frame(), ground=2), pixels),
         ("wide-codes", gif(frame(least=8)), pixels), ("wide-codes-hole", gif(frame([[4] * 5] * 4, least=8)), BROKEN),
         ("more", gif(frame()) + b"more", pixels), ("no-end", gif(frame(), end=b""), BROKEN), ("no-stop", gif(frame(has_end=False)), pixels),
         ("profile", gif(profile, frame()), PROFILE), ("control-last", gif(frame(), control(0)), pixels),

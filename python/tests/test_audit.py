@@ -470,7 +470,10 @@ class Running(Case):
         for title in ("=1", "+1", "-1", "@A1", "\uff1d1", "\uff0b1", "\uff0d1", "\uff20A1", "\ufe661", "\ufe621", "\ufe631", "\ufe6bA1", " =1"):
             cells = csv_cells({"file": "one.ppm", "title": title})
             self.assertEqual(cells[2], "'" + printable(title))
-        for title in ("1", "a=1", "'=1", "\u22121", "\uff11"):
+        # Some spreadsheets take a semicolon for the end of a cell.
+        for title, plain in (("a;=1", "a;'=1"), ("a; +1;;-1", "a;' +1;;'-1"), ("=1;\uff1d1", "'=1;'\uff1d1")):
+            self.assertEqual(csv_cells({"file": "one.ppm", "title": title})[2], plain)
+        for title in ("1", "a=1", "a;1", "'=1", "\u22121", "\uff11"):
             self.assertEqual(csv_cells({"file": "one.ppm", "title": title})[2], title)
 
     @pytest.mark.since("0.7.0")

@@ -211,6 +211,17 @@ class Files(Case):
             "alike.xml": ["background", "alike . a"], "seen.xml": ["background"], "white.xml": ["background"],
         })
 
+    def test_xml_whose_elements_are_in_a_namespace(self):
+        """The page, and others that do not heed namespaces, take them for elements of the format, and this reader would leave them out."""
+        goal, other = ("<solution{}><image>{}</image></solution>".format(*words) for words in ((" xmlns='x'", "|X.||.X|"), ("", "|XX||.X|")))
+        self.put("goal.xml", f"<puzzle>{goal}{other}</puzzle>")
+        count = "<count xmlns='x'>1</count>"
+        self.put("clue.xml", webpbn(UNIQUE).replace("</puzzle>", f"<clues type='rows'>{f'<line>{count}</line>' * 2}</clues></puzzle>"))
+        self.put("none.xml", f"<puzzle>{other.replace('<image>', '<image xmlns=%r>' % '')}</puzzle>")
+        self.put("prefix.xml", f"<puzzle xmlns:a='x'><a:solution/>{other}</puzzle>")
+        told = "the XML cannot be read: it has a namespace without a prefix"
+        self.assertEqual(self.errors("--allow", "9"), {"goal.xml": told, "clue.xml": told, "none.xml": None, "prefix.xml": None})
+
     def test_xml_that_takes_long(self):
         """What makes expat take much longer than the file is long is refused, and files of too many puzzles are."""
         for name, text in (
@@ -505,6 +516,20 @@ class Names(Case):
                 paths = [name if name.startswith("site") else f"site/{name}" for name in names.split()]
                 done = self.run_audit(*paths, "--certify", "out", status=status)
                 self.assertEqual("the same names" in done.stderr, status == 2)
+
+    @pytest.mark.since("0.7.0")
+    def test_givens_are_not_those_of_another_path_that_is_called_alike(self):
+        for name in ("bob/in/one.ppm", "eve/in/one.ppm", "eve/in/two.ppm"):
+            self.put(name, p3(AMBIGUOUS))
+        self.put("mine/in/one.givens", b"given 1 1\n")
+        self.put("mine/one.givens", b"given 1 1\n")
+        for option, (one, other), status in (
+            ("--givens", ("bob/in", "eve/in"), 2), ("--certificates", ("bob/in", "eve/in"), 2), ("--givens", ("bob/in/one.ppm", "eve/in/one.ppm"), 2),
+            ("--givens", ("bob/in/one.ppm", "eve/in/two.ppm"), 1), ("--givens", ("bob", "eve"), 1),
+        ):
+            with self.subTest(option, one=one, other=other):
+                done = self.run_audit(f"site/{one}", f"site/{other}", "--untrusted", option, "site/mine", status=status)
+                self.assertEqual(f"{option} would give " in done.stderr, status == 2)
 
     def test_the_current_folder_is_not_run(self):
         for name in ("resource", "PIL", "defusedxml", "hashlib", "zlib", "struct", "tqdm", "jinja2"):

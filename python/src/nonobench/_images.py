@@ -169,6 +169,7 @@ def _png(data: bytes) -> Pixels:
     _need_plain_exif(held.get(b"eXIf", b""), columns, rows)
     _need(b"iDOT" not in held, UNKNOWN)  # a second way to the rows, which some browsers go
     _need(depth in _DEPTHS.get(kind, ()) and not any(methods) and laced < 2)
+    _need(kind != 3 or b"bKGD" not in itertools.takewhile(lambda name: name != b"PLTE", held))  # Chromium shows no such image
     _need(depth < 16, DEEP)
     # Pillow takes what is missing for black, and a browser for transparent.
     size = sum(
@@ -228,6 +229,9 @@ def _png_pixel(kind: int, depth: int, colours: Optional[bytes], clear: Optional[
     return lambda value: (*(value * 3 if kind == 0 else value), 0 if value == key else 255)
 
 
+_LOOPS = (b"NETSCAPE2.0", b"ANIMEXTS1.0")  # how often frames come, of which there is one here
+
+
 def _gif(data: bytes) -> Pixels:
     columns, rows, flags = struct.unpack_from("<HHB", data, 6)
     _bounded(columns, rows)
@@ -240,6 +244,7 @@ def _gif(data: bytes) -> Pixels:
         if sign == 0x21:
             at, body = _blocks(data, at + 2)
             _need(not body.startswith(b"ICCRGBG1"), PROFILE)
+            _need(body not in _LOOPS or _is_loop(data, begun + 14))
             if data[begun + 1] == 0xF9:
                 _need(len(body) == 4 and at == begun + 8 and not told)
                 told.append(body[3] if body[0] & 1 else None)
@@ -263,6 +268,15 @@ def _gif(data: bytes) -> Pixels:
 def _behind_table(at: int, flags: int) -> int:
     """Where the table of colours of a GIF ends that its flags tell of."""
     return at + (3 << (flags % 8 + 1)) if flags & 0x80 else at
+
+
+def _is_loop(data: bytes, at: int) -> bool:
+    """Whether the blocks of a GIF that begin at a place say how often frames come. Where one does not, browsers show no image."""
+    is_loop = data[at] > 0
+    while data[at]:
+        is_loop = is_loop and data[at] > 2 and data[at + 1] & 7 in (1, 2)
+        at += 1 + data[at]
+    return is_loop
 
 
 def _blocks(data: bytes, at: int) -> tuple[int, bytes]:

@@ -88,8 +88,9 @@ def options_of(words: list[str]) -> Options:
             parser.error(f"no such folder: {folder!r}")
     if told.publish is not None:
         _refuse_publishing(parser, told)
-    if told.certify is not None or told.publish is not None:
-        _refuse_twins(parser, told.paths)
+    for option, wanted in (("certify", told.certify), ("ppm", told.publish), ("certificates", told.certificates), ("givens", told.givens)):
+        if wanted is not None:
+            _refuse_twins(parser, told.paths, option)
     if told.seconds is None and told.allowance is None:
         told.seconds = Options.seconds
     return Options(**vars(told))
@@ -179,8 +180,8 @@ def _are_same(one: str, other: str) -> bool:
     return os.path.exists(one) and os.path.exists(other) and os.path.samefile(one, other)
 
 
-def _refuse_twins(parser: argparse.ArgumentParser, paths: list[str]) -> None:
-    """Two paths must not give one certificate its name, as `SET.3` of the third puzzle in SET.xml."""
+def _refuse_twins(parser: argparse.ArgumentParser, paths: list[str], option: str) -> None:
+    """Two paths must not give one certificate its name, as `SET.3` of the third puzzle in SET.xml; nor have the givens of one puzzle."""
     named = [(front_of(path) if os.path.isdir(path) else next(find([path])).stem, os.path.normpath(path)) for path in paths]
     seen = dict(named)
     for name, path in named:
@@ -188,7 +189,7 @@ def _refuse_twins(parser: argparse.ArgumentParser, paths: list[str]) -> None:
         of = seen.get(numbered[1], path) if numbered else path
         other = of if of.lower().endswith(".xml") and of != path else seen[name]
         if other != path:
-            parser.error(f"--certify or --ppm would give {other!r} and {path!r} the same names")
+            parser.error(f"--{option} would give {other!r} and {path!r} the same names")
 
 
 def _refuse_publishing(parser: argparse.ArgumentParser, told: argparse.Namespace) -> None:

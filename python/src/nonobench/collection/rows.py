@@ -184,7 +184,7 @@ def _escaped(sign: str) -> str:
 
 def csv_cells(row: Row) -> list[Any]:
     """The cells of a row in the order of COLUMNS. A text that a spreadsheet would take for a formula begins with an apostrophe, also
-    where its first sign is a wide or a small one.
+    where its first sign is a wide or a small one, and behind a semicolon, which ends a cell where decimals have commas.
     """
     cells: Row = {**row, "flaws": "; ".join(flaw_words(row)), "certificate": certificate_words(row)}
     cells.update({f"grade_{name}": figure for name, figure in row.get("figures", {}).items()})
@@ -196,7 +196,8 @@ def csv_cells(row: Row) -> list[Any]:
 
 
 def _plain(cell: Any) -> Any:
-    if isinstance(cell, str):
-        cell = printable(cell)
-        return "'" + cell if unicodedata.normalize("NFKC", cell.lstrip()).startswith(("=", "+", "-", "@")) else cell
-    return cell
+    return ";".join(map(_no_formula, printable(cell).split(";"))) if isinstance(cell, str) else cell
+
+
+def _no_formula(text: str) -> str:
+    return "'" + text if unicodedata.normalize("NFKC", text.lstrip()).startswith(("=", "+", "-", "@")) else text

@@ -88,9 +88,12 @@ def _look_at_entities(data: bytes) -> None:
         raise Unreadable("the XML cannot be read: it has a document type, and names an entity that is not declared")
 
 
-def _look_at_space(_prefix: Optional[str], space: Optional[str]) -> None:
+def _look_at_space(prefix: Optional[str], space: Optional[str]) -> None:
+    """The page heeds no namespaces: what is in one without a prefix is an element of the format there, and would be none here."""
     if len(space or "") > MOST_SPACE:
         raise Unreadable(f"the XML cannot be read: a namespace of it has more than {MOST_SPACE} characters")
+    if space and prefix is None:
+        raise Unreadable("the XML cannot be read: it has a namespace without a prefix")
 
 
 def _puzzles(events: Any) -> Iterator[Puzzle | Unreadable]:
