@@ -153,6 +153,9 @@ test('a puzzle of webpbn.com', () => {
     refused(() => readWebpbn(PUZZLE.replace('<count color="green">3', '<count color="green">2')), /clues of the rows/);
     refused(() => readWebpbn(PUZZLE.replace('<line><count>1</count></line>\n</clues>', '</clues>')), /clues of the rows/);
     refused(() => readWebpbn(PUZZLE.replace('<count color="green">1</count><count>', '<count>1</count><count color="green">')), /clues of the columns/);
+    // A second colour that is declared as white is the nearest one that is another.
+    const white = readWebpbn('<puzzle><color name="white" char=".">fff</color><color name="snow" char="s">fff</color><solution><image>|.s|</image></solution></puzzle>');
+    assert.deepEqual(white.doc.colours.slice(0, 2), [[255, 255, 255], [255, 255, 254]]);
     refused(() => readWebpbn('<puzzle><clues type="rows"></clues><solution><image>|..|</image></solution></puzzle>'), /clues of the rows/);
     refused(() => readWebpbn(PUZZLE.replace('|.X.|', '|.Y.|')), /'Y'/);
     refused(() => readWebpbn(PUZZLE.replace('|.X.|', '|.X|')), /rows of the puzzle/);
