@@ -161,7 +161,7 @@ def test_links_lead_to_files_of_the_package(made, ending, tmp_path):
         top.mkdir()
         passes([word.format(package) for word in UNPACK[ending]] + [top])
         pages = [*top.rglob('*.md'), *top.rglob('METADATA')]
-        links = [(page, link) for page in pages for link in re.findall(r'\]\(([^)\s]+)\)', page.read_text()) if not re.match('[a-z]+:', link)]
+        links = [(page, link) for page in pages for link in re.findall(r'\]\((?![a-z]+:)([^)\s]+)\)', page.read_text())]
         assert links
         for page, link in links:
             file = (page.parent / link.split('#')[0]).resolve() if link[0] != '#' else page
