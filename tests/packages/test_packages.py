@@ -72,6 +72,11 @@ def try_call(words, pairs, good='certificate accepted', all_given='certificate a
     prints(0, all_given, [*words, *files['all'], '1,1', '1,2', '2,1', '2,2'], **more)
 
 
+def blocks_of(page):
+    """The blocks of code of a page, which a package's copy has too; links may differ."""
+    return re.findall(r'(?ms)^ *```.*?^ *```$', page.read_text())
+
+
 def test_no_toolchain_in_clean_folders():
     assert clean(['sh', '-c', 'command -v rt']).status != 0, 'the toolchain is on the PATH in clean folders too'
 
@@ -134,6 +139,33 @@ def test_dist_is_what_was_made(made, kept):
         said = passes([ROOT / 'packages' / 'compare', made, ROOT / 'dist'])
         if 'left out, since' in said:
             pytest.skip(said.strip().splitlines()[0])
+
+
+UNPACK = {
+    '.tgz': ['tar', 'xzf', '{}', '-C'],
+    '.tar.gz': ['tar', 'xzf', '{}', '-C'],
+    '.deb': ['dpkg-deb', '-x', '{}'],
+    '.whl': [sys.executable, '-m', 'zipfile', '-e', '{}'],
+}
+
+
+@pytest.mark.since('0.7.0')
+@pytest.mark.parametrize('ending', UNPACK)
+def test_links_lead_to_files_of_the_package(made, ending, tmp_path):
+    """Those of its Markdown files, and of the page that a wheel's METADATA has."""
+    needs(UNPACK[ending][0])
+    packages = sorted(made.glob(f'*{ending}'))
+    assert packages
+    for package in packages:
+        top = tmp_path / package.name
+        top.mkdir()
+        passes([word.format(package) for word in UNPACK[ending]] + [top])
+        pages = [*top.rglob('*.md'), *top.rglob('METADATA')]
+        links = [(page, link) for page in pages for link in re.findall(r'\]\((?![a-z]+:)([^)\s]+)\)', page.read_text())]
+        assert links
+        for page, link in links:
+            file = (page.parent / link.split('#')[0]).resolve() if link[0] != '#' else page
+            assert file.is_file() and top.resolve() in file.parents, f'{page}: {link}'
 
 
 # ---- npm
@@ -299,7 +331,7 @@ def test_deb_scripts(made, tmp_path):
     shown = tmp_path / 'usr/share/doc/nonobench'
     run = clean([tmp_path / 'usr/bin/nonobench-check-site', shown / 'examples'])
     assert run.status == 0, run
-    assert (shown / 'docs/RECIPES.md').read_bytes() == (ROOT / 'docs' / 'RECIPES.md').read_bytes()
+    assert blocks_of(shown / 'docs' / 'RECIPES.md') == blocks_of(ROOT / 'docs' / 'RECIPES.md')
 
 
 def test_deb_by_lintian(made):
@@ -336,7 +368,7 @@ def test_wheel_scripts(environment):
     shown = environment / 'share' / 'doc' / 'nonobench'
     run = clean([environment / 'bin' / 'nonobench-check-site', shown / 'examples'])
     assert run.status == 0, run
-    assert (shown / 'docs' / 'RECIPES.md').read_bytes() == (ROOT / 'docs' / 'RECIPES.md').read_bytes()
+    assert blocks_of(shown / 'docs' / 'RECIPES.md') == blocks_of(ROOT / 'docs' / 'RECIPES.md')
 
 
 def test_wheel_types(made, tmp_path):

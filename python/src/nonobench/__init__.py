@@ -1,6 +1,6 @@
 """Checks certificates of nonograms, and judges pictures.
 
-    result = nonobench.check(picture, certificate, published=[(1, 1)])   # raises CertificateFault or PictureFault
+    result = nonobench.check(picture, certificate, published=[(1, 1)])   # raises a Fault if a file is refused
     clues = nonobench.clues(picture)
     verdict = nonobench.verdict(picture, allowance=1000)
     certificate = nonobench.certify(picture)                             # None if the puzzle has several solutions
