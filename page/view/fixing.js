@@ -246,6 +246,7 @@ function showFound() {
     fixSays('');
     return;
   }
+  if (![null, fixing.near, ...fixing.found].includes(fixing.shown)) preview(null);
   const hears = { take, keep, preview, isKept: (one) => fixing.kept.has(one) };
   $('fix-list').replaceChildren(...groups().map(({ title, items }) => make('section', {}, title && make('h3', {}, title), make('ul', {}, ...items.map((one) => proposalItem(one, hears))))));
 }

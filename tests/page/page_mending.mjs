@@ -171,6 +171,33 @@ export async function repairsHeedLocks({ trial, page }) {
 // pictures in turn.
 const GUESSED = ['a.a...', 'a.a.aa', 'a....a', 'a..aa.', '.aa..a'];
 
+/** A proposal that comes to lie under a resting pointer is not shown until that moves; what is said of one that was taken goes with its undo. */
+export async function noPreviewAtRest({ trial, page }) {
+    const seen = () => page.run(() => [sheet.overlay.size, sheet.framed.length]);
+    const isListed = () => page.until(() => document.querySelector('#fix-list button') && !searches.running, 30000 * SLACK);
+    await trial.open(ppmOf(PAIR), 'pair');
+    await trial.judged();
+    await trial.action('fix');
+    await isListed();
+    const [x, y] = await page.run(() => { const box = document.querySelector('#fix-list button').getBoundingClientRect(); return [box.left + box.width / 2, box.top + 30]; });
+    await page.mouse('mouseMoved', x, y);
+    assert.deepEqual(await seen(), [1, 1]);
+    await page.run(() => document.getElementById('fix-paint').click());
+    await isListed();
+    assert.equal(await page.run((left, top) => document.elementFromPoint(left, top).closest('#fix-list button') !== null, x, y), true);
+    assert.deepEqual(await seen(), [0, 0], 'the pointer rests');
+    await page.mouse('mouseMoved', x + 1, y);
+    assert.deepEqual(await seen(), [1, 1]);
+    const said = await page.run(async () => {
+        document.querySelector('#fix-list button').click();
+        while (!/^1 cell repainted/.test(document.getElementById('said').textContent)) await new Promise((done) => { setTimeout(done, 5); });
+        const texts = [document.getElementById('said').textContent];
+        await bench.undo();
+        return [...texts, document.getElementById('said').textContent];
+    });
+    assert.deepEqual(said, ['1 cell repainted. One undo takes it back.', '']);
+}
+
 /** Where no few cells leave nothing to guess, repairs that leave one solution are listed instead, and that is said. */
 export async function oneSolutionInstead({ trial, page }) {
     await trial.open(ppmOf(GUESSED), 'guessed');
@@ -203,7 +230,7 @@ export async function gradeBeside({ trial, page }) {
     await trial.open(ppmOf(PAIR), 'pair');
     assert.equal(await trial.judged(), 'ambiguous');
     assert.deepEqual([await trial.text('#grade'), await trial.text('#publish')], ['–', '–'], 'no grade without one solution');
-    for (const [rows, background, flaw] of [[['..', '..'], '255,255,255', 'no cell has a colour'], [['aa', 'aa'], '255,255,0', 'no cell has the background']]) {
+    for (const [rows, background, flaw] of [[['..', '..'], '255,255,255', 'no: no cell has a colour'], [['aa', 'aa'], '255,255,0', 'no: no cell has the background']]) {
         await page.run((text, ground) => bench.open({ text, format: 'ppm', background: ground, lines: [] }, { name: 'flat' }).then(() => true), ppmOf(rows), background);
         await page.until((text) => document.getElementById('publish').textContent === text, 20000 * SLACK, flaw);
     }

@@ -248,10 +248,11 @@ export async function tutorialSteps({ browser, url, folder }) {
     const tail = (await proposals(page)).findIndex((text) => /^1 cell: row 5, column 6:/.test(text));
     assert.ok(tail >= 0 && tail < 3, (await proposals(page)).join('\n'));
     await page.run((at) => document.querySelectorAll('#fix-list button')[at].focus(), tail);
-    assert.equal(await page.run(() => sheet.overlay.size), 1, 'it is seen first');
+    assert.deepEqual(await page.run(() => [sheet.overlay.size, sheet.framed]), [1, [45]], 'it is seen first, in a frame');
     await page.run((at) => document.querySelectorAll('#fix-list button')[at].click(), tail);
     await page.until(() => bench.state.picture[4][5] !== '.', 5000 * SLACK);
     assert.equal(await trial.judged(), 'unique');
+    assert.deepEqual(await page.run(() => [sheet.overlay.size, sheet.framed]), [0, []]);
     await trial.press('Control+z');
     assert.deepEqual(await trial.picture(), duck);
     assert.equal(await trial.judged(), 'ambiguous');
