@@ -258,7 +258,7 @@ export async function tutorialSteps({ browser, url, folder }) {
     assert.equal(await trial.judged(), 'ambiguous');
     assert.ok((await proposals(page)).length > tail, 'the list is there again');
     await page.click('#fix-give');
-    await page.until(() => bench.state.givens.size > 0, 10000 * SLACK);
+    await page.until(() => bench.state.givens.size > 0, 10000 * SLACK).catch(async (fault) => { throw new Error(`${fault.message}: ${await trial.text('#fix-said')}; ${await trial.text('#task')}`); });
     assert.equal(await trial.judged(), 'unique');
     assert.deepEqual(await trial.picture(), duck, 'the picture is as it was');
 
