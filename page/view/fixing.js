@@ -287,9 +287,7 @@ function preview(one) {
 }
 
 // Says what was taken, until an undo brings the picture back from before.
-function sayTaken(before, text) {
-  fixing.taken = { before, unsay: say(text) };
-}
+const sayTaken = (before, text) => { fixing.taken = { before, unsay: say(text) }; };
 
 async function take(one) {
   preview(null);
