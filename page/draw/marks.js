@@ -123,6 +123,7 @@ export function drawMarks(pen, sheet) {
   pen.clip();
   if (sheet.symmetry !== 'none' && isPossible(sheet.symmetry, sheet.state)) drawAxes(pen, sheet);
   drawPlaces(pen, sheet);
+  for (const index of sheet.framed) ringAround(pen, sheet, Math.floor(index / sheet.state.columns), index % sheet.state.columns, sheet.inks.alarm, [], 1);
   if (sheet.reason) drawReason(pen, sheet);
   for (const box of sheet.boxes) drawBox(pen, sheet, box);
   pen.restore();

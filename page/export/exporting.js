@@ -16,7 +16,7 @@ import { exportAs, saveDownload, saving, showFileName } from '../library/saving.
 import { phrase } from '../texts/phrase.js';
 import { addAction, runAction } from '../view/actions.js';
 import { openDialog } from '../view/dialogs.js';
-import { nearText } from '../view/dress.js';
+import { nearText, unfitText } from '../view/dress.js';
 import { gradeAtHand, gradeLine } from '../view/grading.js';
 import { asSeen, heard } from '../view/tools.js';
 import { certificateText, secondsChosen } from '../view/verdict.js';
@@ -68,12 +68,12 @@ async function exportCertificate() {
   if (found) exportAs('cert', found.text);
 }
 
-// The engine's text of a document, '' where there is none in the time.
+// What the engine says of a document; its text is '' where there is none in the time.
 async function saidByEngine(doc) {
   const judge = new Judge({ seconds: Math.min(MOST_SECONDS, secondsChosen()) });
-  const { text } = await judge.judge(doc);
+  const said = await judge.judge(doc);
   judge.end();
-  return text;
+  return said;
 }
 
 // What a site checks a puzzle by, as nonobench-audit calls it: the picture, its certificate, what lies beside it, and what the engine says of it.
@@ -83,9 +83,9 @@ async function exportForSite() {
   const { doc, text } = found;
   const ground = doc.colours[0].join(',');
   const said = await saidByEngine(doc);
-  const parts = { ppm: ppmTextOf(doc), cert: text, txt: said, givens: (text.match(/^given .*\n/gm) ?? []).join(''), background: ground === '255,255,255' ? '' : `${ground}\n` };
+  const parts = { ppm: ppmTextOf(doc), cert: text, txt: said.text, givens: (text.match(/^given .*\n/gm) ?? []).join(''), background: ground === '255,255,255' ? '' : `${ground}\n` };
   const files = Object.entries(parts).filter(([, part]) => part).map(([ending, part]) => ({ name: `${bench.name}.${ending}`, bytes: new TextEncoder().encode(part) }));
-  exportAs('zip', writeZip(files), '-site');
+  exportAs('zip', writeZip(files), '-site', said.text && !said.fit ? phrase('export.savedUnfit', { why: unfitText(doc, said) }) : '');
 }
 
 const ABOUT_FIELDS = { title: phrase('export.title'), author: phrase('export.author'), copyright: phrase('export.copyright'), description: phrase('export.description'), note: phrase('export.note') };

@@ -96,8 +96,8 @@ function printFields(near, graded) {
   if (near) fields.show.querySelector('[value="colours"]').disabled = true;
   const [answers, answersText] = check('print-answers', chosen.answers, phrase('export.solutionsEnd'));
   const [grade, gradeText] = check('print-grade', chosen.hasGrade, graded ? phrase('export.gradeField', { word: gradeName(graded.word) }) : phrase('export.gradeWhereOneKnown'));
-  const rows = [make('label', {}, phrase('export.title'), fields.title), make('div', { class: 'group' }, make('label', {}, phrase('export.paper'), fields.paper), make('label', {}, fields.wide, phrase('export.landscape')), make('label', {}, phrase('export.marginMm'), fields.margin)),
-    make('div', { class: 'group' }, make('label', {}, phrase('export.puzzlesSheet'), fields.perSheet), make('label', {}, phrase('export.coloursShown'), fields.show)), make('label', {}, answers, answersText), make('label', {}, grade, gradeText)];
+  const rows = [make('label', {}, phrase('export.title'), fields.title), make('div', { class: 'group apart' }, make('label', {}, phrase('export.paper'), fields.paper), make('label', {}, fields.wide, phrase('export.landscape')), make('label', {}, phrase('export.marginMm'), fields.margin)),
+    make('div', { class: 'group apart' }, make('label', {}, phrase('export.puzzlesSheet'), fields.perSheet), make('label', {}, phrase('export.coloursShown'), fields.show)), make('label', {}, answers, answersText), make('label', {}, grade, gradeText)];
   return { fields: { ...fields, answers, grade }, rows };
 }
 

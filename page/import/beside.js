@@ -1,5 +1,5 @@
 // What lies beside a picture and goes with it, by the names that nonobench-audit knows: NAME.givens and NAME.background. NAME.cert, or
-// NAME.proof as it was called before, goes with it too, and is not checked here.
+// NAME.proof as it was called before, goes with it too, and is not checked here; nor is NAME.txt, which says what the engine said of it.
 
 import { FileFault } from '../document/limits.js';
 import { MOST_BYTES_READ } from '../formats/ppm.js';
@@ -23,8 +23,8 @@ function filesFor(named, name, ending) {
 
 // A picture with what goes with it. Where several files have one name, it is not known which of them go together.
 function unitOf(file, named) {
-  const [givens, background, ...certificates] = ['givens', 'background', 'cert', 'proof'].map((ending) => filesFor(named, file.name, ending));
-  const beside = [...givens.slice(0, 1), ...background.slice(0, 1), ...certificates.flat()];
+  const [givens, background, ...others] = ['givens', 'background', 'cert', 'proof', 'txt'].map((ending) => filesFor(named, file.name, ending));
+  const beside = [...givens.slice(0, 1), ...background.slice(0, 1), ...others.flat()];
   const isClear = !beside.length || [file, ...beside].every(({ name }) => named.get(name).length === 1);
   return { file, givens: givens[0], background: background[0], beside, fault: isClear ? '' : phrase('import.severalOfName') };
 }
@@ -37,8 +37,9 @@ export function grouped(files) {
   const named = new Map();
   for (const file of files) if (!file.isDirectory) named.set(file.name, [...(named.get(file.name) ?? []), file]);
   const isOfSet = ({ name }) => NUMBERED.test(name) && ['', '.xml', '.XML'].some((ending) => named.has(name.replace(NUMBERED, ending)));
-  const units = files.filter((file) => !isBeside(file)).map((file) => (isPicture(file) ? unitOf(file, named) : { file, beside: [] }));
-  const used = new Set(units.flatMap(({ beside }) => beside));
+  const all = files.filter((file) => !isBeside(file)).map((file) => (isPicture(file) ? unitOf(file, named) : { file, beside: [] }));
+  const used = new Set(all.flatMap(({ beside }) => beside));
+  const units = all.filter(({ file }) => !used.has(file));
   const alone = files.filter((file) => isBeside(file) && !used.has(file) && !isOfSet(file));
   return [...units, ...alone.map((file) => ({ file, beside: [], fault: phrase('import.noPictureGoes') }))];
 }

@@ -31,7 +31,8 @@ export function knownIn(line, letters) {
 
 /** What a step says, as far as it is told: 'line', 'cells' or 'why', that is, with the cells of its line that were known. */
 export function stepText({ line, cells, premises }, how = 'why') {
-  if (how === 'line' || !cells.length) return phrase('play.tellsMore', { lineName: lineName(line) });
+  if (!cells.length) return phrase('play.excludesColours', { lineName: lineName(line) });
+  if (how === 'line') return phrase('play.tellsMore', { lineName: lineName(line) });
   const first = phrase('play.settles', { lineName: lineName(line), places: placesText(line, cells) });
   if (how === 'cells' || !premises.length) return `${first}.`;
   return `${first}${phrase('play.sinceCountKnown', { places: placesText(line, premises), count: premises.length })}.`;

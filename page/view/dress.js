@@ -1,6 +1,7 @@
 // Colours of the open document: in words, and as the look of an element.
 
 import { make } from '../base/elements.js';
+import { verdictName } from '../base/names.js';
 import { cssOf, inkOn, nameOf } from '../document/colours.js';
 import { LETTERS } from '../document/limits.js';
 import { nearPairs } from '../document/near.js';
@@ -37,8 +38,14 @@ function flawText(doc, { kind, letters, place }) {
   return phrase('view.flawGiven', { place: phrase('view.placeOfCell', { value: place[0], columns: place[1] }) });
 }
 
-/** Whether a puzzle is fit to be published, or what is wrong with it. */
-export const fitText = (doc, { fit, flaws }) => (fit ? phrase('view.publishYes') : flaws.map((flaw) => flawText(doc, flaw)).join('; ') || phrase('view.publishNo'));
+/** Whether a puzzle is fit to be published, and what is wrong with it. */
+export function fitText(doc, { fit, flaws }) {
+  if (fit) return phrase('view.publishYes');
+  return flaws.length ? phrase('view.publishNoAs', { flaws: flaws.map((flaw) => flawText(doc, flaw)).join('; ') }) : phrase('view.publishNo');
+}
+
+/** Why a puzzle is not fit to be published: its first flaw, or else the verdict. */
+export const unfitText = (doc, { verdict, flaws }) => (flaws.length ? flawText(doc, flaws[0]) : verdictName(verdict));
 
 /** A colour of a document by its swatch and its name. */
 export function swatchChip(doc, letter) {

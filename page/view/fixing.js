@@ -36,7 +36,7 @@ const LONGER = phrase('view.longerSearchTimeMay');
 const LOOSE = phrase('view.pictureTooLooseBolder');
 
 // What was found, for which picture (`of`) and goal (`by`), and what was asked for. It stays while a proposal is tried: an undo shows the list again.
-const fixing = { goal: 'lines', by: 'lines', of: null, found: [], kept: new Set(), places: NO_PLACES, near: null, said: '', frame: 0, previews: false, isWanted: false, turn: 0, waits: 0 };
+const fixing = { goal: 'lines', by: 'lines', of: null, found: [], kept: new Set(), places: NO_PLACES, near: null, said: '', frame: 0, shown: null, taken: null, isWanted: false, turn: 0, waits: 0 };
 const isOfThis = () => fixing.of !== null && bench.state !== null && sameBenchPart(fixing.of, bench.state);
 
 /** Whether there is something to mend. */
@@ -127,7 +127,7 @@ async function giveCells() {
 async function takeGivens(state, { given, isLeast }) {
   setDown();
   await bench.stroke(given.map((index) => `pin ${placeOf(state, index)}`));
-  say(phrase('view.cellsGivenOneUndo', { cells: given.length, isLeast: isLeast ? phrase('view.noFewerDo') : '' }));
+  sayTaken(state, phrase('view.cellsGivenOneUndo', { cells: given.length, isLeast: isLeast ? phrase('view.noFewerDo') : '' }));
 }
 
 // Lists proposals, while they are found: the smallest and least seen first.
@@ -241,10 +241,12 @@ function showFound() {
   if (!$('fix-list')) return;
   showPlaces();
   if (!isOfThis()) {
+    preview(null);
     $('fix-list').replaceChildren();
     fixSays('');
     return;
   }
+  if (![null, fixing.near, ...fixing.found].includes(fixing.shown)) preview(null);
   const hears = { take, keep, preview, isKept: (one) => fixing.kept.has(one) };
   $('fix-list').replaceChildren(...groups().map(({ title, items }) => make('section', {}, title && make('h3', {}, title), make('ul', {}, ...items.map((one) => proposalItem(one, hears))))));
 }
@@ -263,7 +265,7 @@ function groups() {
   const near = !wholes().length && fixing.near ? [fixing.near] : [];
   const apart = places.length > 1 ? places.map((place, at) => ({ title: phrase('view.placeOnly', { at: at + 1, place: placeText(fixing.of, place[0]) }), items: ideas(ofPlace(at), MOST_SHOWN, fixing.kept) })) : [];
   const isApart = apart.some(({ items }) => items.length);
-  const all = { title: isApart ? phrase('view.allPlaces', { places: places.length }) : '', items: [...ideas(wholes(), isApart ? MOST_OF_ALL : MOST_SHOWN, fixing.kept), ...near] };
+  const all = { title: isApart ? (places.length === 2 ? phrase('view.bothPlaces') : phrase('view.allPlaces', { places: places.length })) : '', items: [...ideas(wholes(), isApart ? MOST_OF_ALL : MOST_SHOWN, fixing.kept), ...near] };
   const others = { title: phrase('view.givesToo'), items: [...mixtures().slice(0, MOST_MIXED), ...givens().slice(-1)] };
   return [all, ...apart, others].filter(({ items }) => items.length);
 }
@@ -273,15 +275,19 @@ function keep(one, is) {
   else fixing.kept.delete(one);
 }
 
-/** Shows a proposal on the sheet, or takes that back. */
+/** Shows a proposal on the sheet, with a frame around each of its cells, or takes that back. */
 function preview(one) {
-  if (one?.cells && bench.state) {
-    const [{ index }] = one.cells;
-    sheet.reveal(Math.floor(index / bench.state.columns), index % bench.state.columns);
-    sheet.preview(new Map(one.cells.map(({ index: place, colour }) => [place, LETTERS[colour]])));
-  } else if (fixing.previews) sheet.preview(null);
-  fixing.previews = Boolean(one?.cells);
+  if (one === fixing.shown) return;
+  const { cells = [], given = [] } = one ?? {};
+  if (cells.length || fixing.shown?.cells) sheet.preview(cells.length ? new Map(cells.map(({ index, colour }) => [index, LETTERS[colour]])) : null);
+  sheet.framed = [...cells.map(({ index }) => index), ...given];
+  if (one) sheet.reveal(Math.floor(sheet.framed[0] / one.state.columns), sheet.framed[0] % one.state.columns);
+  sheet.redraw();
+  fixing.shown = one;
 }
+
+// Says what was taken, until an undo brings the picture back from before.
+const sayTaken = (before, text) => { fixing.taken = { before, unsay: say(text) }; };
 
 async function take(one) {
   preview(null);
@@ -291,12 +297,13 @@ async function take(one) {
   const paints = cells.map(({ index, colour }) => `paint ${placeOf(state, index)} ${LETTERS[colour]}`);
   await bench.stroke([...paints, ...given.map((index) => `pin ${placeOf(state, index)}`)]);
   const more = given.length ? phrase('view.andGiven', { count: given.length }) : '';
-  say(phrase('view.cellsRepaintedOneUndo', { cells: cells.length, more, count: sizeOf(one) }));
+  sayTaken(state, phrase('view.cellsRepaintedOneUndo', { cells: cells.length, more, count: sizeOf(one) }));
 }
 
 /** Shows the proposals with the picture that they are for; while they are shown, another picture gets its own once the hand rests. */
 export function startFixing() {
-  on('shown', () => {
+  on('shown', (state) => {
+    if (fixing.taken && sameBenchPart(fixing.taken.before, state)) fixing.taken.unsay();
     if (!fixing.isWanted) return;
     showLocks();
     if (isOfThis() && !isFixing() && mayFix()) {

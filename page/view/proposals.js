@@ -127,12 +127,12 @@ function shortOf({ cells, given, goal, far, open }) {
   return goal === 'unique' && open ? `${counts}, ${phrase('view.guessShort', { cells: open })}` : counts;
 }
 
-/** A proposal as an item of a list: `hears` has `take`, `keep`, `preview`, `isKept`. */
+/** A proposal as an item of a list: `hears` has `take`, `keep`, `preview`, `isKept`. One that comes to lie under a pointer waits until that moves. */
 export function proposalItem(one, { take, keep, preview, isKept }) {
   const show = () => preview(one);
   const hide = () => preview(null);
   const text = textOf(one);
-  const button = make('button', { type: 'button', 'aria-label': text, title: text, onclick: () => take(one), onpointerenter: show, onfocus: show, onpointerleave: hide, onblur: hide }, make('span', { class: 'parts' }, ...picturesOf(one)), make('span', {}, shortOf(one)));
+  const button = make('button', { type: 'button', 'aria-label': text, title: text, onclick: () => take(one), onpointermove: show, onfocus: show, onpointerleave: hide, onblur: hide }, make('span', { class: 'parts' }, ...picturesOf(one)), make('span', {}, shortOf(one)));
   const box = make('input', { type: 'checkbox', checked: isKept(one), 'aria-label': phrase('view.keepNextSearch'), onchange: (event) => keep(one, event.target.checked) });
   return make('li', {}, button, make('label', { title: phrase('view.keepNextSearch') }, box, phrase('view.keep')));
 }

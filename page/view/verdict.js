@@ -58,7 +58,7 @@ function makeVerdictPanel() {
     make('div', { id: 'verdict-more' },
       make('p', { id: 'verdict-why' }),
       make('div', { id: 'verdict-do', class: 'group' }),
-      make('dl', {}, make('dt', { id: 'grade-name' }, phrase('import.grade')), make('dd', { id: 'grade' }), make('dt', {}, phrase('view.fitToPublish')), make('dd', { id: 'fit-row' }, make('span', { id: 'publish' }), make('span', { id: 'publish-do', hidden: true })), make('dt', { id: 'open-name' }, phrase('view.needGuessing')), make('dd', { id: 'open' }), make('dt', {}, phrase('view.cluesChanged')), make('dd', { id: 'changed' })),
+      make('dl', {}, make('dt', { id: 'grade-name' }, phrase('import.grade')), make('dd', { id: 'grade' }), make('dt', {}, phrase('view.fitToPublish')), make('dd', { id: 'fit-row' }, make('span', { id: 'publish' }), make('span', { id: 'publish-do', hidden: true })), make('dt', {}, phrase('view.openCellsRow')), make('dd', { id: 'open' }), make('dt', {}, phrase('view.cluesChanged')), make('dd', { id: 'changed' })),
       make('p', {}, make('label', {}, phrase('view.show'), choiceOf({ id: 'hatching', onchange: (event) => setHatching(event.target.value) }, HATCHINGS))),
       make('p', { id: 'legend', class: 'faint' }),
       make('p', {}, make('label', {}, phrase('view.searchTime'), choiceOf({ id: 'seconds', onchange: (event) => setSeconds(event.target.value) }, TIMES)))),
@@ -96,7 +96,7 @@ function showHatching(state) {
   $('legend').textContent = {
     off: '',
     differing: state.verdict.other ? phrase('view.framedCellsDiffer') : phrase('view.noOtherPictureKnown'),
-    open: state.verdict.word === 'unique' ? phrase('view.hatchedCellsGuess') : phrase('view.hatchedCells'),
+    open: phrase('view.hatchedCells'),
   }[sheet.hatching];
   sheet.redraw();
 }
@@ -148,7 +148,6 @@ function showVerdict(state) {
   $('verdict').textContent = title;
   $('verdict-why').textContent = told;
   $('verdict-short').textContent = verdictShort(state);
-  $('open-name').textContent = word === 'unique' ? phrase('view.needGuessing') : phrase('view.openCellsRow');
   $('open').textContent = phrase('view.openOfCells', { open: state.open, cells: state.rows * state.columns });
   $('changed').textContent = [numbersOf(state.changed.rows, (rows, places) => phrase('view.changedRows', { rows, places })), numbersOf(state.changed.columns, (columns, places) => phrase('view.changedColumns', { columns, places }))].filter(Boolean).join('; ') || phrase('view.none');
   $('changed').title = $('changed').textContent;

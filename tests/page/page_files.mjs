@@ -44,10 +44,10 @@ test('pictures that are not read', () => {
     refused(() => readPpm(bytes('P3 0 1 255')), /no pixels/);
     refused(() => readPpm(bytes('P3 4097 1 255')), /4,096/);
     refused(() => readPpm(bytes('P6 4096 99999999999999 255 ')), /4,096/);
-    refused(() => readPpm(bytes('P3 1 1 0 0 0 0')), /maxval/);
-    refused(() => readPpm(bytes('P3 1 1 65536 0 0 0')), /maxval/);
+    refused(() => readPpm(bytes('P3 1 1 0 0 0 0')), /value of full brightness/);
+    refused(() => readPpm(bytes('P3 1 1 65536 0 0 0')), /value of full brightness/);
     refused(() => readPpm(bytes('P3 1 1 255 0 0')), /ends before its samples/);
-    refused(() => readPpm(bytes('P3 1 1 255 0 256 0')), /above the maxval/);
+    refused(() => readPpm(bytes('P3 1 1 255 0 256 0')), /above 255, the value of full brightness/);
     refused(() => readPpm(bytes('P3 1 1 255 0 0 0 0')), /more text after/);
     refused(() => readPpm(bytes('P6 1 1 255 ab')), /ends before its last sample/);
 });

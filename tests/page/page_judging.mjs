@@ -72,7 +72,7 @@ test('what was asked for is not told once another document comes', needsAssess, 
 
 test('what is told, in words', () => {
     assert.equal(judgedText({ word: 'unique', open: 0, grade: { word: 'easy' } }), '✓ Unique, easy');
-    assert.equal(judgedText({ word: 'unique', open: 1200, grade: { word: 'expert' } }), '✓ Unique, 1,200 cells need guessing, expert');
+    assert.equal(judgedText({ word: 'unique', open: 1200, grade: { word: 'expert' } }), '✓ Unique, 1,200 cells need more than line logic, expert');
     assert.equal(judgedText({ word: 'ambiguous', open: 4 }), '≠ Ambiguous, 4 cells are open');
     assert.equal(judgedText({ word: 'works' }), 'Looking for another solution …');
 });

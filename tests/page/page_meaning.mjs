@@ -89,7 +89,7 @@ export async function hatching({ trial, page }) {
     await trial.example('heart');
     assert.equal(await trial.judged(), 'unique');
     assert.equal(await page.run(() => sheet.hatching), 'off', 'light where it is unique');
-    assert.match(await trial.text('#verdict-why'), /need guessing|without guessing/);
+    assert.match(await trial.text('#verdict-why'), /need more than line logic|Line logic alone/);
 }
 
 export async function fixing({ trial, page }) {

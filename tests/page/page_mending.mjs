@@ -88,12 +88,12 @@ export async function walkingPoint(hands) {
     await said(page, '^Step 1 of 6');
     await hands.press('#walk-end');
     assert.equal(await page.run(() => play.marks.flat().every((mark) => mark === '?')), true, 'the own marks stand again');
-    for (const wanted of ['^Row 2 tells more\\.$', '^Row 2 settles column 2\\.$']) {
+    for (const wanted of ['^Row 2 settles more cells\\.$', '^Row 2 settles column 2\\.$']) {
         await hands.press('#play-hint');
         await said(page, wanted);
     }
     await page.run(() => { play.marks = ['?a.', 'aa.', '???'].map((row) => [...row]); });
-    for (const wanted of ['^Row 1 tells more\\.$', '^Row 1 settles column 1\\.$', '^Row 1 settles column 1, since columns 2–3 are known\\.$']) {
+    for (const wanted of ['^Row 1 settles more cells\\.$', '^Row 1 settles column 1\\.$', '^Row 1 settles column 1, since columns 2–3 are known\\.$']) {
         await hands.press('#play-hint');
         await said(page, wanted);
     }
@@ -171,6 +171,33 @@ export async function repairsHeedLocks({ trial, page }) {
 // pictures in turn.
 const GUESSED = ['a.a...', 'a.a.aa', 'a....a', 'a..aa.', '.aa..a'];
 
+/** A proposal that comes to lie under a resting pointer is not shown until that moves; what is said of one that was taken goes with its undo. */
+export async function noPreviewAtRest({ trial, page }) {
+    const seen = () => page.run(() => [sheet.overlay.size, sheet.framed.length]);
+    const isListed = () => page.until(() => document.querySelector('#fix-list button') && !searches.running, 30000 * SLACK);
+    await trial.open(ppmOf(PAIR), 'pair');
+    await trial.judged();
+    await trial.action('fix');
+    await isListed();
+    const [x, y] = await page.run(() => { const box = document.querySelector('#fix-list button').getBoundingClientRect(); return [box.left + box.width / 2, box.top + 30]; });
+    await page.mouse('mouseMoved', x, y);
+    assert.deepEqual(await seen(), [1, 1]);
+    await page.run(() => document.getElementById('fix-paint').click());
+    await isListed();
+    assert.equal(await page.run((left, top) => document.elementFromPoint(left, top).closest('#fix-list button') !== null, x, y), true);
+    assert.deepEqual(await seen(), [0, 0], 'the pointer rests');
+    await page.mouse('mouseMoved', x + 1, y);
+    assert.deepEqual(await seen(), [1, 1]);
+    const said = await page.run(async () => {
+        document.querySelector('#fix-list button').click();
+        while (!/^1 cell repainted/.test(document.getElementById('said').textContent)) await new Promise((done) => { setTimeout(done, 5); });
+        const texts = [document.getElementById('said').textContent];
+        await bench.undo();
+        return [...texts, document.getElementById('said').textContent];
+    });
+    assert.deepEqual(said, ['1 cell repainted. One undo takes it back.', '']);
+}
+
 /** Where no few cells leave nothing to guess, repairs that leave one solution are listed instead, and that is said. */
 export async function oneSolutionInstead({ trial, page }) {
     await trial.open(ppmOf(GUESSED), 'guessed');
@@ -180,8 +207,8 @@ export async function oneSolutionInstead({ trial, page }) {
     await trial.action('fix');
     assert.equal(await page.run(() => document.getElementById('fix-goal').value), 'lines');
     await listed(page);
-    await page.until(() => document.getElementById('fix-said').textContent === 'No few cells were found after which nothing needs guessing. These leave one solution.', 20000 * SLACK);
-    assert.match(await page.run(() => document.querySelector('#fix-list button').ariaLabel), /^1 cell: row 3, column 2: white to black; then 13 cells to guess$/);
+    await page.until(() => document.getElementById('fix-said').textContent === 'No small change was found after which lines alone solve it. These leave one solution.', 20000 * SLACK);
+    assert.match(await page.run(() => document.querySelector('#fix-list button').ariaLabel), /^1 cell: row 3, column 2: white to black; then 13 open cells$/);
     await page.click('#fix-list button');
     assert.equal(await trial.judged(), 'unique');
     assert.equal((await trial.state()).open, 13);
@@ -196,14 +223,14 @@ export async function gradeBeside({ trial, page }) {
     assert.equal(await trial.text('#publish'), 'yes');
     await trial.open(ppmOf(['.a.', 'aa.', '...'], { '.': '255 255 255', a: '250 250 250' }), 'whites');
     await trial.judged();
-    await page.until(() => document.getElementById('publish').textContent === 'the background and “white” (a) look alike', 20000 * SLACK);
+    await page.until(() => document.getElementById('publish').textContent === 'no: the background and “white” (a) look alike', 20000 * SLACK);
     await trial.open(ppmOf(GUESS), 'guess');
     await trial.judged();
-    await graded('very hard (8 cells to guess, 1 split, depth 1;');
+    await graded('very hard (8 open cells, 1 split, depth 1;');
     await trial.open(ppmOf(PAIR), 'pair');
     assert.equal(await trial.judged(), 'ambiguous');
     assert.deepEqual([await trial.text('#grade'), await trial.text('#publish')], ['–', '–'], 'no grade without one solution');
-    for (const [rows, background, flaw] of [[['..', '..'], '255,255,255', 'no cell has a colour'], [['aa', 'aa'], '255,255,0', 'no cell has the background']]) {
+    for (const [rows, background, flaw] of [[['..', '..'], '255,255,255', 'no: no cell has a colour'], [['aa', 'aa'], '255,255,0', 'no: no cell has the background']]) {
         await page.run((text, ground) => bench.open({ text, format: 'ppm', background: ground, lines: [] }, { name: 'flat' }).then(() => true), ppmOf(rows), background);
         await page.until((text) => document.getElementById('publish').textContent === text, 20000 * SLACK, flaw);
     }
@@ -227,7 +254,7 @@ export async function flawsAreWhole({ browser, url, folder }) {
         await page.press('Escape');
         await page.until(() => !document.querySelector('dialog[open]'), 3000 * SLACK);
         await page.run(() => bench.stroke(['colour set b 128 45 45', 'pin 1 2']).then(() => true));
-        await publish('^row 1, column 2 need not be given; .* look alike$');
+        await publish('^no: row 1, column 2 need not be given; .* look alike$');
         assert.equal(await page.run(() => document.getElementById('publish-do').checkVisibility()), false);
         await page.run(() => document.getElementById('publish').scrollIntoView({ block: 'nearest' }));
         const cut = await page.run(() => [document.getElementById('fit-row')].map((one) => [one.scrollHeight - one.clientHeight, one.scrollWidth - one.clientWidth]));
@@ -281,10 +308,10 @@ export async function walkOfAGuess({ trial, page }) {
         await page.press('ArrowRight');
         texts.push(await trial.text('#play-said'));
     }
-    assert.equal(texts.filter((text) => /A guess: row \d, column \d is (black|background)\. Any other colour there leads nowhere\./.test(text)).length, 1, texts.join('\n'));
+    assert.equal(texts.filter((text) => /More than line logic: row \d, column \d is (black|background)\. Any other colour there leads nowhere\./.test(text)).length, 1, texts.join('\n'));
     assert.deepEqual(await page.run(() => play.marks.map((row) => row.join(''))), GUESS, 'the path ends at the picture');
     await page.click('#walk-hardest');
-    await said(page, ': A guess: row');
+    await said(page, ': More than line logic: row');
     await page.click('#walk-heat');
     assert.deepEqual(await page.run(() => [...play.heat].filter((round) => round < 0).length), 8, 'what needs a guess is told apart');
     await page.press('Escape');

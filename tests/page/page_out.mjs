@@ -128,8 +128,13 @@ export async function exportsAndPrint({ browser, url, folder }) {
     await trial.judged();
     await menu(page, 'export-site');
     await downloaded(page, own, 'night-site.zip');
+    await page.run(() => openDoc({ rows: 1, columns: 2, maxval: 255, colours: [[255, 255, 255], [200, 40, 40]], picture: ['a.'], givens: new Set([0]) }, { name: 'spare' }));
+    await trial.judged();
+    await menu(page, 'export-site');
+    await downloaded(page, own, 'spare-site.zip');
+    assert.match(await said(page), /^spare-site\.zip saved\. But the puzzle is not fit to be published: row 1, column 1 need not be given\.$/);
     const night = (...words) => execFileSync('unzip', [...words], { cwd: own, encoding: 'utf8' });
-    assert.equal(night('-Z1', 'night-site.zip'), 'night.ppm\nnight.cert\nnight.background\n');
+    assert.equal(night('-Z1', 'night-site.zip'), 'night.ppm\nnight.cert\nnight.txt\nnight.background\n');
     assert.equal(night('-p', 'night-site.zip', 'night.background'), '0,0,40\n');
     for (const zip of ['night-site.zip', 'key-site.zip']) { // dropped again, they are these pictures, and all of them is read
         await drop(page, own, zip, readFileSync(join(own, zip)));

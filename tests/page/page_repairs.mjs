@@ -122,7 +122,7 @@ export async function placesPoint(hands) {
     await fixOf(hands, APART);
     await places(2);
     assert.deepEqual(await page.run(() => sheet.places.map((cells) => cells.length)), [4, 4]);
-    assert.deepEqual(await page.run(() => [...document.querySelectorAll('#fix-list h3')].slice(0, 3).map((one) => one.textContent)), ['All 2 places at once', 'Place 1, from row 1, column 1', 'Place 2, from row 7, column 8']);
+    assert.deepEqual(await page.run(() => [...document.querySelectorAll('#fix-list h3')].slice(0, 3).map((one) => one.textContent)), ['Both places at once', 'Place 1, from row 1, column 1', 'Place 2, from row 7, column 8']);
     const seen = await page.run(() => [...document.querySelectorAll('#fix-list button')].filter((one) => one.getBoundingClientRect().bottom <= Math.min(innerHeight, document.getElementById('fix').getBoundingClientRect().bottom)).length);
     assert.ok(seen >= 2, `${seen} proposals are in sight`);
     await press(2);
@@ -184,7 +184,7 @@ export async function gradeStandsWhole({ browser, url, folder }) {
         await trial.open(ppmOf(['.aa.', 'a..a', 'a..a']), 'guess');
         await trial.judged();
         if (await isNarrow(page)) await page.tap('#verdict-open');
-        await page.until(() => document.getElementById('grade').textContent.startsWith('very hard (8 cells to guess, 1 split, depth 1;'), 20000 * SLACK);
+        await page.until(() => document.getElementById('grade').textContent.startsWith('very hard (8 open cells, 1 split, depth 1;'), 20000 * SLACK);
         const cut = () => page.run(() => {
             const grade = document.getElementById('grade');
             grade.scrollIntoView({ block: 'nearest' });
@@ -194,7 +194,7 @@ export async function gradeStandsWhole({ browser, url, folder }) {
             return { isCut: grade.scrollWidth > grade.clientWidth || text.right > room.right + 1 || text.bottom > room.bottom + 1, isSeen: grade.checkVisibility() && text.left >= 0 && text.right <= innerWidth && text.bottom <= innerHeight };
         });
         assert.deepEqual(await cut(), { isCut: false, isSeen: true }, name);
-        await page.run(() => { document.getElementById('grade').textContent = 'expert (14,400 cells to guess, 1,100 splits, depth 113; 12 rounds, 1,440 lines looked at, longest wait 188)'; });
+        await page.run(() => { document.getElementById('grade').textContent = 'expert (14,400 open cells, 1,100 splits, depth 113; 12 rounds, 1,440 lines looked at, longest wait 188)'; });
         const longest = await cut();
         assert.deepEqual(longest, { isCut: false, isSeen: true }, `${name}: the longest`);
         await page.shot(`${folder}/grade-${name}.png`);
@@ -248,16 +248,17 @@ export async function tutorialSteps({ browser, url, folder }) {
     const tail = (await proposals(page)).findIndex((text) => /^1 cell: row 5, column 6:/.test(text));
     assert.ok(tail >= 0 && tail < 3, (await proposals(page)).join('\n'));
     await page.run((at) => document.querySelectorAll('#fix-list button')[at].focus(), tail);
-    assert.equal(await page.run(() => sheet.overlay.size), 1, 'it is seen first');
+    assert.deepEqual(await page.run(() => [sheet.overlay.size, sheet.framed]), [1, [45]], 'it is seen first, in a frame');
     await page.run((at) => document.querySelectorAll('#fix-list button')[at].click(), tail);
     await page.until(() => bench.state.picture[4][5] !== '.', 5000 * SLACK);
     assert.equal(await trial.judged(), 'unique');
+    assert.deepEqual(await page.run(() => [sheet.overlay.size, sheet.framed]), [0, []]);
     await trial.press('Control+z');
     assert.deepEqual(await trial.picture(), duck);
     assert.equal(await trial.judged(), 'ambiguous');
     assert.ok((await proposals(page)).length > tail, 'the list is there again');
     await page.click('#fix-give');
-    await page.until(() => bench.state.givens.size > 0, 10000 * SLACK);
+    await page.until(() => bench.state.givens.size > 0, 10000 * SLACK).catch(async (fault) => { throw new Error(`${fault.message}: ${await trial.text('#fix-said')}; ${await trial.text('#task')}`); });
     assert.equal(await trial.judged(), 'unique');
     assert.deepEqual(await trial.picture(), duck, 'the picture is as it was');
 

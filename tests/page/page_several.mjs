@@ -229,7 +229,7 @@ test('folders of many files: none is cut off from its picture', async () => {
 
 test('the zip for a puzzle site, dropped again', async () => {
     const entry = (name, text) => ({ name, bytes: bytesOf(text) });
-    const pair = [entry('x/a.ppm', TWO_WAYS), entry('x/a.cert', 'nonocert 1\n'), entry('x/a.proof', 'nonolemma 1\n')];
+    const pair = [entry('x/a.ppm', TWO_WAYS), entry('x/a.cert', 'nonocert 1\n'), entry('x/a.proof', 'nonolemma 1\n'), entry('x/a.txt', 'unique\n')];
     const zipped = async (...files) => {
         const { docs, unread, why } = await readArchive(writeZip(files));
         return [docs.map(({ name, doc }) => [name, givensOf(doc), doc.colours[0].join()]), unread, why];

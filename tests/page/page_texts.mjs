@@ -73,9 +73,10 @@ test('each language has the texts of English, in its order, with the same places
 });
 
 // Words that are the same in another language.
-const SAME_FRENCH = ['document.orange', 'document.cyan', 'base.expert', 'base.unique', 'view.commit', 'view.guide', 'view.keyCtrl', 'view.rectangle', 'view.unique', 'play.pause', 'import.gimpGpl',
+const ARROWS = ['Up', 'Down', 'Left', 'Right'].map((way) => `view.keyArrow${way}`);
+const SAME_FRENCH = ['document.orange', 'document.cyan', 'base.expert', 'base.unique', 'view.commit', 'view.guide', 'view.keyCtrl', ...ARROWS, 'view.rectangle', 'view.unique', 'play.pause', 'import.gimpGpl',
     'import.jascPal', 'import.verdict', 'export.usLetter'];
-const SAME = ['formats.maxval', 'view.name', 'play.pause', 'library.form', 'import.dithering', 'import.palette', 'import.gimpGpl', 'import.jascPal',
+const SAME = [...ARROWS, 'view.name', 'play.pause', 'library.form', 'import.dithering', 'import.palette', 'import.gimpGpl', 'import.jascPal',
     'import.1Gib', 'import.256Mib', 'import.16Mib', 'export.copyright', 'export.usLetter', 'export.linkField', 'main.start'];
 
 test('no English is left in German', () => {
