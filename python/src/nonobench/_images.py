@@ -6,6 +6,7 @@ A file is looked at here as a whole. Pillow unpacks the pixels of PNG, GIF and W
 from __future__ import annotations
 
 import io
+import itertools
 import re
 import struct
 import zlib
