@@ -14,7 +14,6 @@ from ._answers import (
     LengthFault,
     Proved,
     Result,
-    Ruling,
     Verdict,
     assessment_of,
     clues_of,
