@@ -11,7 +11,7 @@ const XML_SIGNS = { lt: '<', gt: '>', amp: '&', quot: '"', apos: "'", copy: '\u0
 
 /** A text with the five signs of XML, `&copy;` and numbers put in; an entity that is not known stays as it stands. */
 function plainText(text) {
-  return text.replace(/&(#x[0-9a-fA-F]{1,6}|#[0-9]{1,7}|[A-Za-z]+);/g, (whole, name) => {
+  return text.replace(/&(#x0*[0-9a-fA-F]{1,6}|#0*[0-9]{1,7}|[A-Za-z]+);/g, (whole, name) => {
     if (name[0] !== '#') return Object.hasOwn(XML_SIGNS, name) ? XML_SIGNS[name] : whole;
     const point = name[1] === 'x' ? parseInt(name.slice(2), 16) : parseInt(name.slice(1), 10);
     return point > 0 && point <= 0x10ffff && (point < 0xd800 || point > 0xdfff) ? String.fromCodePoint(point) : whole;
@@ -117,7 +117,9 @@ function readXmlTag(reader, open) {
   else if (begins('<![CDATA[')) inside.text += reader.past(']]>', phrase('formats.cdataPart'));
   else if (begins('<?')) reader.past('?>', phrase('formats.instruction'));
   else if (begins('<!')) {
-    if (reader.past('>', phrase('formats.declaration')).includes('[')) throw reader.fault(phrase('formats.declarationsOwnNotRead'));
+    // Behind a quote that is not closed, what looks like the end is none: no element begins there.
+    const unquoted = reader.past('>', phrase('formats.declaration')).replace(/"[^"]*"|'[^']*'/g, '');
+    if (/["'[]/.test(unquoted)) throw reader.fault(phrase('formats.declarationsOwnNotRead'));
   } else if (begins('</')) {
     const name = reader.name();
     reader.space();

@@ -510,6 +510,7 @@ def webps():
 
     one = (b"ANMF", bytes(6) + (4).to_bytes(3, "little") + (3).to_bytes(3, "little") + bytes(4) + b"VP8L" + struct.pack("<I", len(stream)) + stream + bytes(len(stream) % 2))
     turned, upright = ((b"EXIF", exif(number)) for number in (6, 1))
+    odd = riff(canvas(), (b"VP8L", stream), (b"ABCD", b"xyz"))
     for name, data, wanted in (
         ("plain", plain, pixels), ("clear", clear, shown([WHITE, BLACK, RED, CLEAR])), ("half", half, HALF), ("lossy", by_pillow("WEBP", quality=100), LOSSY),
         ("lossy-clear", by_pillow("WEBP", "RGBA", clear_colours, quality=100), LOSSY), ("animated", file.getvalue(), FRAMES),
@@ -525,6 +526,7 @@ def webps():
         ("reserved", riff((b"VP8X", b"\1" + canvas()[1][1:]), (b"VP8L", stream)), BROKEN), ("first", riff((b"VPxX", canvas()[1]), (b"VP8L", stream)), BROKEN), ("canvas-late", riff((b"VP8L", stream), canvas()), BROKEN),
         ("opacity-unsaid", riff((b"VP8L", clear_stream[:4] + bytes([clear_stream[4] & 0xEF]) + clear_stream[5:])), BROKEN),
         ("bit", plain.replace(b"\x2f", b"\x2e", 1), BROKEN), ("short-riff", plain[:4] + struct.pack("<I", 14) + plain[8:], BROKEN),
+        ("odd", odd, pixels), ("odd-riff", odd[:4] + struct.pack("<I", len(odd) - 9) + odd[8:], BROKEN),
     ):
         yield Odd(f"webp-{name}", data, *([wanted] if isinstance(wanted, list) else [None, wanted or ""]))
     yield Odd("jpeg", by_pillow("JPEG", quality=100), None, LOSSY)

@@ -222,6 +222,12 @@ class Files(Case):
         told = "the XML cannot be read: it has a namespace without a prefix"
         self.assertEqual(self.errors("--allow", "9"), {"goal.xml": told, "clue.xml": told, "none.xml": None, "prefix.xml": None})
 
+    def test_xml_with_a_puzzle_in_its_document_type(self):
+        """The page once took the first sign > for the type's end, and read what stands in its address, which is ambiguous."""
+        hidden = webpbn(AMBIGUOUS).replace('"', "'")
+        self.put("hidden.xml", f'<!DOCTYPE a SYSTEM "b>{hidden}<!--">{webpbn(UNIQUE)}<!-- -->')
+        self.assertEqual(self.errors("--allow", "9"), {"hidden.xml": "the XML cannot be read: the address of its document type has the sign '>'"})
+
     def test_xml_that_takes_long(self):
         """What makes expat take much longer than the file is long is refused, and files of too many puzzles are."""
         for name, text in (

@@ -110,6 +110,8 @@ test('XML that is not read', () => {
     refused(() => readXml('<a b=1/>'), /no quotes/);
     refused(() => readXml('<a b="1>'), /no end/);
     refused(() => readXml('<!DOCTYPE a [<!ENTITY b "c">]><a/>'), /declarations/);
+    for (const quote of ['"', "'"]) refused(() => readXml(`<!DOCTYPE a SYSTEM ${quote}x><b/><!--${quote}><a/><!-- -->`), /declarations/);
+    assert.equal(readXml('<a>&#00000000065;&#x000000042;</a>').text, 'AB');
     refused(() => readXml(`${'<a>'.repeat(40)}${'</a>'.repeat(40)}`), /too many/);
     refused(() => readXml(`<a>${'<b/>'.repeat(200001)}</a>`), /too many/);
     refused(() => readXml(''), /outermost/);

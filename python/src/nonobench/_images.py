@@ -5,6 +5,7 @@ A file is looked at here as a whole. Pillow unpacks the pixels of PNG, GIF and W
 
 from __future__ import annotations
 
+import itertools
 import io
 import itertools
 import re
@@ -324,6 +325,7 @@ def _webp(data: bytes) -> Pixels:
         _need(at + 8 + size <= end)
         chunks.append((name, data[at + 8 : at + 8 + size]))
         at += 8 + size + size % 2
+    _need(at == end)  # browsers show none that leaves out the byte behind an odd chunk
     names, held = [name for name, _ in chunks], dict(chunks)
     front = held.get(b"VP8X", b"")
     flags = front[0] if front else 0

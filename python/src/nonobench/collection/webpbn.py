@@ -46,6 +46,7 @@ def puzzles_of_xml(data: bytes) -> Iterator[Puzzle | Unreadable]:
         parser = ElementTree.XMLParser(forbid_entities=True)
         parser.parser.AttlistDeclHandler = _refuse_attributes
         parser.parser.StartNamespaceDeclHandler = _look_at_space
+        parser.parser.StartDoctypeDeclHandler = lambda _name, address, _public, _own: _look_at_address(address or "")
         parser.parser.EndDoctypeDeclHandler = lambda: _look_at_entities(data)
         parser.parser.XmlDeclHandler = lambda _version, coding, _alone: _look_at_coding(data, coding or "utf-8")
         yield from _puzzles(ElementTree.iterparse(_Pieces(data, parser.parser), events=("start", "end"), parser=parser))
@@ -80,6 +81,12 @@ def _look_at_coding(data: bytes, coding: str) -> None:
     """The page takes each file for UTF-8: in another coding, letters could be others there."""
     if coding.lower() not in ("utf-8", "utf-16") and not data.isascii():
         raise Unreadable("the XML cannot be read: it has letters in another coding than UTF-8 or UTF-16")
+
+
+def _look_at_address(address: str) -> None:
+    """Some readers take the first `>` for the end of a document type, and what stands behind it for the puzzle."""
+    if ">" in address:
+        raise Unreadable("the XML cannot be read: the address of its document type has the sign '>'")
 
 
 def _look_at_entities(data: bytes) -> None:
