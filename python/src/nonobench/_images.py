@@ -5,7 +5,6 @@ A file is looked at here as a whole. Pillow unpacks the pixels of PNG, GIF and W
 
 from __future__ import annotations
 
-import itertools
 import io
 import itertools
 import re
