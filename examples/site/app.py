@@ -30,6 +30,7 @@ MOST_FILES = 4096  # descriptors: waitress takes up to three for each connection
 MOST_PARTS = 8  # of a form, with what stands before and behind them
 MOST_HEAD = 4096  # bytes of what is said of a part
 BLANKS = re.compile(rb"[ \t]{100}")  # of a request's header, for which waitress takes long; as it does for bodies in small pieces
+COMMENTS = re.compile(rb"(?:#[^\r\n]*\s*){1,999}")  # of a picture, some at a time, since each match takes memory
 ODD_CODING = re.compile(rb"charset(?!=\"?utf-?8\b)", re.IGNORECASE)
 PNG = b"\x89PNG\r\n\x1a\n"
 WHITE = (255, 255, 255)
@@ -143,7 +144,7 @@ class Picture:
 
     def __init__(self, file):
         # A number may have any length; Python would read no more than some thousands of digits.
-        words = [int(word.lstrip(b"0") or b"0") for word in re.sub(rb"#[^\r\n]*", b" ", file[2:]).split()]
+        words = [int(word.lstrip(b"0") or b"0") for word in COMMENTS.sub(b" ", file[2:]).split()]
         self.columns, self.rows, maxval = words[:3]
         exact = list(zip(words[3::3], words[4::3], words[5::3]))
         self.palette = {triple: nonobench.colour_shown(triple, maxval) for triple in dict.fromkeys([(maxval,) * 3, *exact])}
@@ -436,7 +437,10 @@ def bound_connections():
         def parse_header(self, header_plus):
             if BLANKS.search(header_plus):
                 raise ParsingError("Invalid header")
-            super().parse_header(header_plus)
+            try:
+                super().parse_header(header_plus)
+            except ValueError as error:  # of an address that is none, such as http://[
+                raise ParsingError("Bad URI") from error
             self.headers["CONNECTION"] = "close"
             if self.chunked:
                 raise TransferEncodingNotImplemented("Send a Content-Length")

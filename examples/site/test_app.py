@@ -8,6 +8,7 @@ import re
 import signal
 import tempfile
 import time
+import tracemalloc
 import unittest
 import unittest.mock
 from collections import Counter
@@ -248,6 +249,13 @@ class Site(Case):
         # Zeros before a number are lawful, and Python would not read so many digits.
         long = DIAGONAL.replace(b"255", b"0" * 9000 + b"255", 1)
         self.assertEqual(self.bring(long, DIAGONAL_CERT).status_code, 303)
+
+    def test_comments_take_little_memory(self):
+        tracemalloc.start()
+        self.addCleanup(tracemalloc.stop)
+        cells = site.Picture(DIAGONAL.replace(b"P3", b"P3" + b"#\n" * 900_000, 1)).cells
+        self.assertEqual(cells, site.Picture(DIAGONAL).cells)
+        self.assertLess(tracemalloc.get_traced_memory()[1], 16 << 20)
 
     def test_what_is_refused(self):
         self.assert_refused(self.bring(b"GIF89a", DIAGONAL_CERT), "The picture is neither a PNG image nor a plain PPM text (P3).")

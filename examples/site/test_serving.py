@@ -248,6 +248,11 @@ class Serving(unittest.TestCase):
             client.sendall(b"GET /puzzles/" + b"1" * 5000 + b" HTTP/1.0\r\n\r\n")
             self.assertIn(b" 404 ", client.recv(1 << 16).split(b"\r\n")[0])
 
+    def test_an_address_that_is_none_is_refused(self):
+        with socket.create_connection(("127.0.0.1", self.port), timeout=STARTING) as client:
+            client.sendall(b"GET http://[ HTTP/1.1\r\nHost: x\r\n\r\n")
+            self.assertIn(b" 400 ", client.recv(1 << 16).split(b"\r\n")[0])
+
 
 if __name__ == "__main__":
     unittest.main()
