@@ -100,13 +100,17 @@ static HANDLE handle_of(int fd) {
     return found ? found : INVALID_HANDLE_VALUE;
 }
 
-// A pipe whose writer is gone has ended. A console that Ctrl-C interrupts answers no bytes, and then the process is ended.
+// A pipe whose writer is gone has ended, and one whose writer wrote no bytes goes on. A console that Ctrl-C interrupts answers no bytes,
+// and then the process is ended.
 int64_t system_read(int fd, void *to, int64_t room) {
+    HANDLE from = handle_of(fd);
     DWORD done = 0;
-    SetLastError(0);
-    if (!ReadFile(handle_of(fd), to, (DWORD)(room < MOST_BYTES ? room : MOST_BYTES), &done, 0))
-        return GetLastError() == ERROR_BROKEN_PIPE ? 0 : failed();
-    if (!done && GetLastError() == ERROR_OPERATION_ABORTED) Sleep(INFINITE);
+    do {
+        SetLastError(0);
+        if (!ReadFile(from, to, (DWORD)(room < MOST_BYTES ? room : MOST_BYTES), &done, 0))
+            return GetLastError() == ERROR_BROKEN_PIPE ? 0 : failed();
+        if (!done && GetLastError() == ERROR_OPERATION_ABORTED) Sleep(INFINITE);
+    } while (!done && room && GetNamedPipeInfo(from, 0, 0, 0, 0));
     return done;
 }
 

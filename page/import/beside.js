@@ -15,15 +15,18 @@ const NUMBERED = /\.[1-9][0-9]{0,5}\.(cert|proof)$/i; // of a puzzle in a set
 const isPicture = (file) => !file.isDirectory && PICTURE.test(file.name);
 const isBeside = (file) => !file.isDirectory && BESIDE.test(file.name);
 
-// The files that go with a picture and have an ending: those of NAME.png.givens come before those of NAME.givens.
-function filesFor(named, name, ending) {
-  const fronts = [name, name.replace(/\.[^.]*$/, '')];
+const stemOf = (name) => name.replace(/\.[^.]*$/, '');
+
+// The files that go with a picture and have an ending: those of NAME.png.givens come before those of NAME.givens, unless they are those
+// of a picture NAME.png.xml.
+function filesFor(named, stems, name, ending) {
+  const fronts = [...(stems.has(name) ? [] : [name]), stemOf(name)];
   return fronts.flatMap((front) => [ending, ending.toUpperCase()].flatMap((end) => named.get(`${front}.${end}`) ?? []));
 }
 
 // A picture with what goes with it. Where several files have one name, it is not known which of them go together.
-function unitOf(file, named) {
-  const [givens, background, ...others] = ['givens', 'background', 'cert', 'proof', 'txt'].map((ending) => filesFor(named, file.name, ending));
+function unitOf(file, named, stems) {
+  const [givens, background, ...others] = ['givens', 'background', 'cert', 'proof', 'txt'].map((ending) => filesFor(named, stems, file.name, ending));
   const beside = [...givens.slice(0, 1), ...background.slice(0, 1), ...others.flat()];
   const isClear = !beside.length || [file, ...beside].every(({ name }) => named.get(name).length === 1);
   return { file, givens: givens[0], background: background[0], beside, fault: isClear ? '' : phrase('import.severalOfName') };
@@ -37,7 +40,8 @@ export function grouped(files) {
   const named = new Map();
   for (const file of files) if (!file.isDirectory) named.set(file.name, [...(named.get(file.name) ?? []), file]);
   const isOfSet = ({ name }) => NUMBERED.test(name) && ['', '.xml', '.XML'].some((ending) => named.has(name.replace(NUMBERED, ending)));
-  const all = files.filter((file) => !isBeside(file)).map((file) => (isPicture(file) ? unitOf(file, named) : { file, beside: [] }));
+  const stems = new Set(files.filter(isPicture).map(({ name }) => stemOf(name)));
+  const all = files.filter((file) => !isBeside(file)).map((file) => (isPicture(file) ? unitOf(file, named, stems) : { file, beside: [] }));
   const used = new Set(all.flatMap(({ beside }) => beside));
   const units = all.filter(({ file }) => !used.has(file));
   const alone = files.filter((file) => isBeside(file) && !used.has(file) && !isOfSet(file));
