@@ -808,15 +808,16 @@ class Running(Case):
     def test_no_two_certificates_have_one_name(self):
         several = "<puzzleset>" + webpbn(UNIQUE) + webpbn(LEARNT) + "</puzzleset>"
         for name, data in (("set.xml", several), ("set.2.ppm", p3(UNIQUE)), ("a.ppm", p3(UNIQUE)), ("a.pgm", p3(LEARNT)), ("a.ppm.ppm", p3(LEARNT)),
-                           ("b.xml", several), ("b.ppm", p3(UNIQUE)), ("b.xml.2.ppm", p3(LEARNT[::-1])), ("c.xml", several), ("c.2.txt", "")):
+                           ("b.xml", several), ("b.ppm", p3(UNIQUE)), ("b.xml.2.ppm", p3(LEARNT[::-1])), ("c.xml", several), ("c.2.txt", ""),
+                           ("set.xml.xml", "<puzzleset>" + webpbn(LEARNT) + webpbn(UNIQUE) + "</puzzleset>")):
             self.put(name, data)
         self.rows("site", "--certify", "certs", status=0)
         self.assertEqual(sorted(place.name for place in (self.folder / "certs").iterdir()), [
             "a.pgm.cert", "a.ppm.cert", "a.ppm.ppm.cert", "b.ppm.cert", "b.xml.2.cert", "b.xml.2.ppm.cert", "b.xml.cert", "c.2.cert", "c.cert",
-            "set.2.cert", "set.xml.2.cert", "set.xml.cert",
+            "set.2.cert", "set.xml.2.cert", "set.xml.cert", "set.xml.xml.2.cert", "set.xml.xml.cert",
         ])
         rows = self.rows("site", "--certificates", "certs", status=0)
-        self.assertEqual([row["certificate"] for row in rows.values()], [{"accepted": True}] * 12)
+        self.assertEqual([row["certificate"] for row in rows.values()], [{"accepted": True}] * 14)
         # What has the name alone is still read, if it is nobody else's.
         os.rename(self.folder / "certs" / "set.xml.cert", self.folder / "certs" / "set.cert")
         os.remove(self.folder / "certs" / "set.xml.2.cert")

@@ -212,7 +212,7 @@ def _found(folder: Folder, name: str) -> Found:
     if suffix.lower() == ".xml":
         own = folder.numbered.get(name, [])
         # What is numbered after the name alone may belong to another puzzle, or to another file of several.
-        others = folder.numbered.get(stem, []) if folder.stems[stem] == 1 else []
+        others = folder.numbered.get(stem, []) if folder.stems[stem] == 1 and not _is_puzzle(folder, stem) else []
         beside += sorted([*own, *(other for other in others if f"{stem}.{other[0]}" not in folder.stems)] if not is_only else others)
     told = folder.told or NONE
     givens, background = (next(iter(_named(whole, stem, end, told, folder.told_in)), None) for end in (".givens", ".background"))
