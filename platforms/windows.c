@@ -73,6 +73,7 @@ static const wchar_t *as_opened(const wchar_t *path) {
     DWORD size = GetFullPathNameW(path, MOST_UNITS, from, 0);
     if (size < MAX_PATH || size >= MOST_UNITS || !wcsncmp(path, L"\\\\?\\", 4)) return path;
     int is_share = from[0] == L'\\' && from[1] == L'\\';
+    if (is_share && (from[2] == L'?' || from[2] == L'.') && from[3] == L'\\') return from[2] = L'?', from;
     from -= is_share ? 6 : 4;
     wmemcpy(from, is_share ? L"\\\\?\\UNC" : L"\\\\?\\", is_share ? 7 : 4);
     return from;
@@ -100,17 +101,16 @@ static HANDLE handle_of(int fd) {
     return found ? found : INVALID_HANDLE_VALUE;
 }
 
-// A pipe whose writer is gone has ended, and one whose writer wrote no bytes goes on. A console that Ctrl-C interrupts answers no bytes,
-// and then the process is ended.
+// A pipe whose writer is gone has ended; one whose writer wrote no bytes goes on, and so does a console that Ctrl-C interrupts, where that
+// does not end the process. Of a message that is longer than there is room, the rest comes next.
 int64_t system_read(int fd, void *to, int64_t room) {
     HANDLE from = handle_of(fd);
     DWORD done = 0;
     do {
         SetLastError(0);
-        if (!ReadFile(from, to, (DWORD)(room < MOST_BYTES ? room : MOST_BYTES), &done, 0))
+        if (!ReadFile(from, to, (DWORD)(room < MOST_BYTES ? room : MOST_BYTES), &done, 0) && GetLastError() != ERROR_MORE_DATA)
             return GetLastError() == ERROR_BROKEN_PIPE ? 0 : failed();
-        if (!done && GetLastError() == ERROR_OPERATION_ABORTED) Sleep(INFINITE);
-    } while (!done && room && GetNamedPipeInfo(from, 0, 0, 0, 0));
+    } while (!done && room && (GetLastError() == ERROR_OPERATION_ABORTED || GetNamedPipeInfo(from, 0, 0, 0, 0)));
     return done;
 }
 
