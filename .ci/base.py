@@ -73,8 +73,9 @@ SHARED = {
 LONG = 35
 # What README.md says of the lines that a claim needs.
 FIGURES = {
-    'The verdict is true': '{} lines for the verdict ({} with what its clause sees of a bench)',
-    'A certificate proves uniqueness': 'and {} for a certificate with published givens',
+    'The verdict is true': '{} lines for the verdict ({} with the state that it reads)',
+    'A certificate proves uniqueness': '{} for a certificate with published givens',
+    'The program does what its arguments ask for': 'up to {:,} for the program',
 }
 # The claims whose definitions docs/BASE.md quotes, and does not only list.
 QUOTED = 'The verdict is true', 'A certificate proves uniqueness'
