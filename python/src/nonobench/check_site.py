@@ -178,16 +178,16 @@ def main(words: Optional[list[str]] = None) -> int:
     """Runs nonobench-check-site, and answers its status."""
     is_closed = sys.stdout is None
     hold_streams()
-    told = _parser().parse_args(words)
-    if is_closed:
-        print("nonobench-check-site: standard output is closed", file=sys.stderr)
-        return UNREAD
     try:
+        told = _parser().parse_args(words)
+        if is_closed:
+            print("nonobench-check-site: standard output is closed", file=sys.stderr)
+            return UNREAD
         return _run(told)
     except KeyboardInterrupt:
         os._exit(INTERRUPTED)  # no thread is waited for
     except OSError as error:
-        print(f"nonobench-check-site: {error.strerror}", file=sys.stderr)
+        print(f"nonobench-check-site: {error.strerror or error}", file=sys.stderr)
         os._exit(UNREAD)  # no output is tried again
     except Exception:
         traceback.print_exc()
