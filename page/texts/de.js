@@ -346,6 +346,7 @@ export const DE = /** @type {const} */ ({
   'view.noneUpCellsExists': ', und mit bis zu {cells|# Feld|# Feldern} gibt es keine',
   'view.noRepaintFound': 'Keine Ummalung gefunden{ended}.',
   'view.gradeThere': 'Die Schwierigkeit ist schon „{grade}“. Wählen Sie eine andere.',
+  'view.oneSolutionThere': 'Das Rätsel hat schon genau eine Lösung.',
   'view.noChangeForGrade': 'Gefunden wurde weder eine Änderung von höchstens vier Feldern noch ein vorgegebenes Feld, mit denen die Schwierigkeit „{grade}“ ist.',
   'view.whatListedGivesCells': ' Die Vorschläge geben auch Felder vor.',
   'view.whatListedComesNearer': ' Die Vorschläge kommen dem Ziel näher.',

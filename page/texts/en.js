@@ -346,6 +346,7 @@ export const EN = /** @type {const} */ ({
   'view.noneUpCellsExists': ', and none of up to {cells|# cell|# cells} exists',
   'view.noRepaintFound': 'No repaint was found{ended}.',
   'view.gradeThere': 'The grade is “{grade}” already. Choose another one.',
+  'view.oneSolutionThere': 'The puzzle has one solution already.',
   'view.noChangeForGrade': 'Neither a change of at most four cells nor a given cell was found that makes the grade “{grade}”.',
   'view.whatListedGivesCells': ' The proposals below also give cells.',
   'view.whatListedComesNearer': ' The changes below come closest.',

@@ -346,6 +346,7 @@ export const FR = /** @type {const} */ ({
   'view.noneUpCellsExists': ', et il n’en existe aucune d’au plus {cells|# case|# de cases|# cases}',
   'view.noRepaintFound': 'Aucune réparation par peinture trouvée{ended}.',
   'view.gradeThere': 'La difficulté est déjà « {grade} ». Choisissez-en une autre.',
+  'view.oneSolutionThere': 'La grille a déjà une seule solution.',
   'view.noChangeForGrade': 'Aucun changement d’au plus quatre cases, ni aucune case donnée, n’a été trouvé pour que la difficulté soit « {grade} ».',
   'view.whatListedGivesCells': ' Les propositions ci-dessous donnent aussi des cases.',
   'view.whatListedComesNearer': ' Les changements ci-dessous s’en approchent le plus.',

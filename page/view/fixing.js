@@ -121,6 +121,7 @@ async function giveCells() {
   }));
   if (!run) return;
   if (!run.done?.given) return fixSays(verdictView.ended === 'stopped' ? phrase('view.stoppedBeforeThereCells') : phrase('view.noCellsFoundTime', { longer: LONGER }));
+  if (!run.done.given.length) return fixSays(phrase('view.oneSolutionThere'));
   await takeGivens(run.state, run.done);
 }
 
@@ -137,6 +138,7 @@ async function findRepairs() {
   fixSays('');
   showFound();
   const { goal, turn } = fixing;
+  if (goal === 'unique' && bench.state.verdict?.word === 'unique') return fixSays(phrase('view.oneSolutionThere'));
   const part = Math.min(2, secondsChosen() / 4); // of the time, for the givens, and for mixtures
   const run = await searched(phrase('view.lookingRepairs'), async (copy, state) => {
     const board = boardOf(state);
@@ -150,7 +152,7 @@ async function findRepairs() {
     };
     const give = async (seconds) => {
       const given = await copy.work('give', { board, goal, seconds }, () => {});
-      if (given.given) add(state, given);
+      if (given.given?.length) add(state, given);
       return given.isLeast;
     };
     if (isGrade(goal)) return copy.work('aim', { board, word: goal, seconds: Math.max(1, secondsChosen() - 1) }, told);
