@@ -49,9 +49,8 @@ const button = (id, name, run) => make('button', { type: 'button', id, onclick: 
 
 /** Opens the panel for what is to be mended, or for a grade that is aimed for. */
 export function openFix(grade = null) {
-  const { state } = bench;
   if (grade) fixing.goal = grade;
-  else if (state.verdict.word === 'unique' || isGrade(fixing.goal)) fixing.goal = 'lines';
+  else if (bench.state.verdict.word === 'unique' || isGrade(fixing.goal)) fixing.goal = 'lines';
   if (!mayFix()) return;
   fixing.isWanted = true;
   $('fix').hidden = false;
@@ -113,8 +112,7 @@ async function searched(name, work) {
 
 // Gives the fewest cells that suffice, as one stroke.
 async function giveCells() {
-  const { goal } = fixing;
-  fixing.turn++;
+  const { goal } = Object.assign(fixing, { turn: fixing.turn + 1 });
   const run = await searched(phrase('view.lookingCellsGive'), (copy, state) => copy.work('give', { board: boardOf(state), goal, seconds: secondsChosen() }, ({ found }) => {
     copy.found = found;
     copy.note(phrase('view.cellsSuffice', { cells: found.given.length }));
