@@ -50,7 +50,7 @@ MOST = {
     'A refused edit changes nothing': (143, 231),
     'It stays true': (1203, 1203),
     "A session's answers are right": (1686, 1772),
-    'Published pairs are accepted': (2245, 2245),
+    'Published pairs are accepted': (2245, 2320),
     'What prove prints is accepted': (744, 744),
     'A complete search decides': (735, 735),
     'A puzzle that is fit has one solution': (1787, 1787),
@@ -81,7 +81,7 @@ FIGURES = {
 QUOTED = 'The verdict is true', 'A certificate proves uniqueness'
 HEAD = '''# What the claims depend on
 
-This page is for those who want to read all that a claim of [README](../README.md#what-is-proved) means. For each clause that is named below, it lists the definitions on which the clause depends, in reading order. A clause names values of the code, such as `self.old.history.document`. What it sees of them are their types' *views*: definitions that make, say, a document and its history out of what a bench keeps. These are counted and listed after the others, where a clause names such values. (A law names none: it is about all values of its definitions.) Proofs, code and the definitions of the toolchain are left out. A definition that is listed earlier is counted again, but not listed again. The definitions of the first two claims are quoted, without their types. `.ci/base.py --write` makes this page.
+This page is for those who want to read all that a claim of [README](../README.md#what-is-proved) means. For each clause that is named below, it lists the definitions on which the clause depends, in reading order. A clause names values of the code, such as `self.old.history.document`. What it sees of them are their types' *views*: definitions that make, say, a document and its history out of what a bench keeps. These are counted and listed after the others, where a clause names such values. (Most laws name none: they are about all values of their definitions.) Proofs, code and the definitions of the toolchain are left out. A definition that is listed earlier is counted again, but not listed again. The definitions of the first two sections are quoted, abbreviations without their types. `.ci/base.py --write` makes this page.
 '''
 WORD = re.compile(r'[^\s(){},;λ→×⊎≡≢≤≥+*/∷∘\[\]↔=<>]+')
 

@@ -17,7 +17,7 @@ ROOMS = {
     'Ground': ('pictures and their clues', 'picture flaws clues clue_laws'),
     'Line': ('one line and its clue', 'line_facts line_settle'),
     'Settling': ('all lines together, with a reason for each step', 'justify worklist fixpoint grade propagate retract'),
-    'Checking': ('certificates as texts, and their checker', 'trail cert_text cert_check cert_figures givens_text'),
+    'Checking': ('certificates as texts, and their checker', 'trail cert_text cert_check tree_steps cert_figures givens_text'),
     'Search': ('other pictures, and certificates that there is none',
                'split_choice lemma_search lemma_proof second_search certificate assess'),
     'Bench': ('a picture kept up to date while it is edited', 'edits kept_audit live_audit'),

@@ -91,7 +91,7 @@ def views_of(rust, kinds, equation):
 
 def values_of(rust, path, text, function):
     """The types of a function's values: of self, of each parameter and of the result, by name."""
-    found = re.search(rf'^( *)(?:pub(?:\(\w+\))? )?(?:extern "C" )?fn {function}\b(.*?)^ *(?:requires|ensures)', text, re.M | re.S)
+    found = re.search(rf'^( *)(?:pub(?:\(\w+\))? )?(?:extern "C" )?fn {function}(?:<[^()]*>)?\((.*?)^ *(?:requires|ensures)', text, re.M | re.S)
     values = dict(re.findall(r'(\w+): ([^\n]*?),?(?=\n|\)|, \w+:)', found[2]))
     values['result'] = found[2].rpartition('->')[2] if '->' in found[2] else ''
     heads = re.findall(r'^impl[^\n]*?(\w+)(?:<[^\n]*>)? \{$', text[:found.start()], re.M) if found[1] else []

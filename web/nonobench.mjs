@@ -177,7 +177,7 @@ class Engine {
 
   /** Opens a bench. Throws a Fault if the file is refused. */
   open(file, options = {}) {
-    const bytes = this.#input(file), history = own(options, 'history') ?? 100;
+    const bytes = inputOf(file), history = own(options, 'history') ?? 100;
     if (!Number.isInteger(history) || history < 1 || history > 1000) throw new Fault('open', 'history must be 1 to 1000');
     const background = this.#background(options), non = isNonFor(bytes, options, background);
     // Each bench has a desk of its own, which ends in a moment, however many others are open.
@@ -203,8 +203,8 @@ class Engine {
    */
   check(picture, certificate, options = {}) {
     const background = this.#background(options), published = publishedOf(own(options, 'givens'));
-    const cert = this.#input(certificate); // what is checked here, and what the givens are read of
-    const files = [this.#input(picture), cert, ...(published === null ? [] : [this.#input(published)]), background];
+    const cert = inputOf(certificate); // what is checked here, and what the givens are read of
+    const files = [inputOf(picture), cert, ...(published === null ? [] : [inputOf(published)]), background];
     const call = published === null ? 'nonobench_check' : 'nonobench_check_published';
     const status = this.#lend(files, (lent) => this.#calls[call](this.#cell, ...lent.flatMap(({ at, size }) => [at, size])));
     if (status === MEMORY || status === OPTIONS) this.#refuse(status);
@@ -220,13 +220,13 @@ class Engine {
    * `allowance` bounds the splits of each part. Throws a Fault where one of the files is refused.
    */
   assess(puzzle, options = {}) {
-    const file = this.#input(puzzle), background = this.#background(options), non = isNonFor(file, options, background);
+    const file = inputOf(puzzle), background = this.#background(options), non = isNonFor(file, options, background);
     const allowance = own(options, 'allowance') ?? NO_ALLOWANCE;
     if (allowance !== NO_ALLOWANCE && !(Number.isInteger(allowance) && allowance >= 0 && allowance <= MOST_SPLITS)) {
       throw new Fault('open', `allowance must be 0 to ${MOST_SPLITS}`);
     }
     const [givens, certificate] = ['givens', 'certificate'].map((name) => own(options, name) ?? null);
-    const texts = [givens === null || givens === 'any' ? givens : publishedOf(givens), certificate].map((text) => text !== null && this.#input(text));
+    const texts = [givens === null || givens === 'any' ? givens : publishedOf(givens), certificate].map((text) => text !== null && inputOf(text));
     const status = this.#lend([file, background, ...texts.map((text) => text || NONE)], ([picture, word, listed, cert]) =>
       this.#calls.nonobench_assess(this.#cell, picture.at, picture.size, non ? 1 : 0, word.at, word.size,
         texts[0] ? 1 : 0, listed.at, listed.size, texts[1] ? 1 : 0, cert.at, cert.size, allowance));
@@ -239,7 +239,7 @@ class Engine {
    * givens, or 'ambiguous' or 'undecided' with null. Throws a Fault where the picture is refused.
    */
   prove(picture, options = {}) {
-    const status = this.#lend([this.#input(picture), this.#background(options)], ([file, word]) =>
+    const status = this.#lend([inputOf(picture), this.#background(options)], ([file, word]) =>
       this.#calls.nonobench_prove(this.#cell, file.at, file.size, word.at, word.size));
     if (status !== DONE) this.#refuse(status);
     const text = this.#text(), certificate = text.startsWith('nono') ? text : null;
@@ -301,8 +301,6 @@ class Engine {
     this.#calls.nonobench_end(new DataView(this.#calls.memory.buffer).getBigUint64(Number(cell), true));
     this.#calls.free(cell);
   }
-
-  #input(input) { return inputOf(input); }
 
   #background(options) { return encoder.encode(backgroundOf(options)); }
 

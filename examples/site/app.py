@@ -224,11 +224,6 @@ def wants_json():
     return request.accept_mimetypes.best_match(["text/html", "application/json"]) == "application/json"
 
 
-def address_of(number):
-    """The address of a puzzle."""
-    return url_for("puzzle", number=number)
-
-
 def ink_of(triple):
     """The style of a cell or a block in a colour, with a figure that can be read."""
     red, green, blue = (int(sample) for sample in triple)
@@ -341,7 +336,7 @@ def add_pages(app, site):
     def puzzles():
         found = site.database().execute("SELECT id, title FROM published ORDER BY id DESC LIMIT ?", (MOST_SHOWN,)).fetchall()
         if wants_json():
-            return jsonify(puzzles=[{"number": row["id"], "title": row["title"], "address": address_of(row["id"])} for row in found])
+            return jsonify(puzzles=[{"number": row["id"], "title": row["title"], "address": url_for("puzzle", number=row["id"])} for row in found])
         return render_template("list.html", title="Puzzles", found=found)
 
     @app.get("/new")
@@ -356,9 +351,10 @@ def add_pages(app, site):
             raise Refused("Choose a picture and a certificate.")
         picture, certificate = (file.read() for file in files)
         number = site.store(title_of(request.form.get("title", "")), picture_of(picture), certificate)
+        address = url_for("puzzle", number=number)
         if wants_json():
-            return jsonify(number=number, address=address_of(number)), 201, {"Location": address_of(number)}
-        return redirect(address_of(number), 303)
+            return jsonify(number=number, address=address), 201, {"Location": address}
+        return redirect(address, 303)
 
     @app.get("/puzzles/<number>")
     def puzzle(number):

@@ -21,6 +21,9 @@ export const make = (name, attributes = {}, ...children) => {
   return element;
 };
 
+/** Makes a button. */
+export const buttonOf = (id, name, run, more = {}) => make('button', { type: 'button', id, onclick: run, ...more }, name);
+
 /** Makes a choice of some values, pairs of a value and its text; one may be chosen at first. */
 export const choiceOf = (attributes, options, chosen = null) => make('select', attributes, ...options.map(([value, text]) => make('option', { value, selected: value === chosen }, text)));
 

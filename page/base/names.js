@@ -1,6 +1,7 @@
 // Verdicts and grades in words: what they are named inside, in the language of the page.
 
 import { phrase } from '../texts/phrase.js';
+import { capital } from './words.js';
 
 /** @type {Record<string, import('../texts/phrase.js').PlainPhrase>} */
 const GRADES = { easy: 'base.easy', medium: 'base.medium', hard: 'base.hard', 'very-hard': 'base.veryHard', expert: 'base.expert' };
@@ -19,6 +20,10 @@ export const verdictPlace = (word) => Object.keys(VERDICTS).indexOf(word);
 
 /** A verdict in words; what is none stays as it is. */
 export const verdictName = (word) => (VERDICTS[word] ? phrase(VERDICTS[word]) : word);
+
+/** The signs of verdicts, and a verdict with its sign as a title. */
+export const VERDICT_SIGNS = { unique: '✓', ambiguous: '≠', undecided: '?' };
+export const verdictTitle = (word) => `${VERDICT_SIGNS[word]} ${capital(verdictName(word))}`;
 
 /** What the line of a grade in a description begins with: the same in all languages. */
 export const GRADE_MARK = 'Grade: ';

@@ -1,5 +1,13 @@
 // Groups of radio buttons.
 
+/** Marks the button of a group that is chosen; Tab comes to that one. */
+export function markRadio(group, isChosen) {
+  for (const button of group.children) {
+    button.setAttribute('aria-checked', isChosen(button));
+    button.tabIndex = isChosen(button) ? 0 : -1;
+  }
+}
+
 /** A group of radio buttons: a click or an arrow chooses. */
 export function radioGroup(group, pick) {
   group.addEventListener('click', (event) => {

@@ -5,8 +5,27 @@ import { number, phrase } from '../texts/phrase.js';
 export { number };
 export const clamp = (value, least, most) => Math.max(least, Math.min(most, value));
 
+/** A text as the first of a line, and the title of a dialog as the name of what opens it. */
+export const capital = (text) => text.charAt(0).toUpperCase() + text.slice(1);
+export const opening = (title) => `${title} …`;
+
 /** The size of a document in words. */
 export const sizeText = ({ columns, rows }) => phrase('base.by', { columns, rows });
+
+/** The name of a line, counted from 0, inside a sentence. */
+export const lineName = (isRow, at) => (isRow ? phrase('view.rowLine', { line: at + 1 }) : phrase('view.columnLine', { line: at + 1 }));
+
+/** Lines by their places from 1, in words, as in “columns 2–4, 7”; '' for none. */
+export function linesText(isRow, places) {
+  const spans = [];
+  for (const at of [...places].sort((one, other) => one - other)) {
+    if (spans.length && spans.at(-1)[1] === at - 1) spans.at(-1)[1] = at;
+    else spans.push([at, at]);
+  }
+  if (!spans.length) return '';
+  const found = { count: places.length, spans: spans.map(([from, to]) => (from === to ? from : `${from}–${to}`)).join(', ') };
+  return isRow ? phrase('view.inRows', found) : phrase('view.inColumns', found);
+}
 
 /** A name without what no file name may have. */
 export const cleanName = (name) => (name ?? '').replace(/[\u0000-\u001f\\/:*?"<>|]/g, ' ').trim().slice(0, 80).replace(/\.+$/, '') || 'picture';

@@ -10,10 +10,7 @@ export const tripleOf = (hex) => [1, 3, 5].map((at) => parseInt(hex.slice(at, at
 
 /** Black or white, whichever is read more easily on a colour. */
 export function inkOn(triple, maxval) {
-  const [red, green, blue] = triple.map((sample) => {
-    const part = sample / maxval;
-    return part <= 0.04 ? part / 12.92 : ((part + 0.055) / 1.055) ** 2.4;
-  });
+  const [red, green, blue] = eightBits(triple, maxval).map((sample) => LIGHT_OF[sample]);
   return 0.2126 * red + 0.7152 * green + 0.0722 * blue > 0.18 ? '#000' : '#fff';
 }
 
@@ -33,8 +30,7 @@ const stepOf = (light, steps) => steps.filter((least) => light < least).length;
 function greyName(light) {
   if (light > 0.93) return phrase('document.white');
   if (light < 0.12) return phrase('document.black');
-  const step = stepOf(light, GREY_STEPS);
-  return step === 1 ? phrase('document.lightGrey') : step === 3 ? phrase('document.darkGrey') : shadedName(phrase('document.grey'), step);
+  return shadedName(phrase('document.grey'), stepOf(light, GREY_STEPS));
 }
 
 /** A plain name for a colour. */
@@ -59,6 +55,9 @@ export const LIGHT_OF = Float64Array.from({ length: 256 }, (_, sample) => {
   const value = sample / 255;
   return value <= 0.04045 ? value / 12.92 : ((value + 0.055) / 1.055) ** 2.4;
 });
+
+/** The sample of a light. */
+export const sampleOf = (light) => Math.round(255 * (light <= 0.0031308 ? light * 12.92 : 1.055 * light ** (1 / 2.4) - 0.055));
 
 /** A triple of eight bits in Oklab (Ottosson, 2020), where equal steps look equal. */
 export function oklabOf(red, green, blue) {

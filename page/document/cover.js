@@ -3,6 +3,8 @@
 
 import { placeOf } from './document.js';
 import { LETTERS } from './limits.js';
+import { placesOfLetter } from './regions.js';
+import { cellsThatDiffer } from './shapes.js';
 
 /** Cells that are touched and still want the colour, with the sums over rectangles that a cover is found by. */
 class Cover {
@@ -77,9 +79,8 @@ export const painted = (picture, cells) => withCells(picture, cells.map(({ index
 
 /** The cells in which a picture differs from another of its size, with their letters. */
 export function cellsBetween(from, to) {
-  const cells = new Map();
-  to.forEach((row, at) => { for (let col = 0; col < row.length; col++) if (row[col] !== from[at][col]) cells.set(at * row.length + col, row[col]); });
-  return cells;
+  const columns = to[0].length;
+  return new Map(cellsThatDiffer(from, to).map((place) => [place, to[Math.floor(place / columns)][place % columns]]));
 }
 
 /** The commands that make one picture of another of its size: as few rectangles as are easily found; null for more than `most`. */
@@ -87,8 +88,7 @@ export function repaintLines(from, to, most = Infinity) {
   const lines = [];
   let { picture } = from;
   for (const letter of new Set(cellsBetween(picture, to).values())) {
-    const touched = new Set();
-    to.forEach((row, at) => { for (let col = 0; col < row.length; col++) if (row[col] === letter) touched.add(at * row.length + col); });
+    const touched = placesOfLetter(to, letter);
     const boxes = boxesOf(touched, picture, letter);
     if (lines.length + boxes.length > most) return null;
     lines.push(...boxes.map((box) => lineOf(box, letter)));

@@ -5,6 +5,7 @@
 // may paint, extras: what else an XML puzzle had, or null}. A place is row * columns + column, both from 0.
 
 import { phrase } from '../texts/phrase.js';
+import { eightBits } from './colours.js';
 import { FileFault, LETTERS, MOST_CELLS, MOST_COLOURS } from './limits.js';
 
 const NONE = Object.freeze(new Set());
@@ -60,8 +61,7 @@ export function emptyDoc(columns, rows, background = [255, 255, 255]) {
 
 /** A document with 8-bit triples, as files out of the page have them. */
 export function eightBitDoc(doc) {
-  const eight = (triple) => triple.map((sample) => Math.round((sample * 255) / doc.maxval));
-  return { ...docOf(doc), maxval: 255, colours: doc.maxval === 255 ? doc.colours : doc.colours.map(eight) };
+  return { ...docOf(doc), maxval: 255, colours: doc.maxval === 255 ? doc.colours : doc.colours.map((triple) => eightBits(triple, doc.maxval)) };
 }
 
 /** A document as a plain value, which any shelf keeps. */

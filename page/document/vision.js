@@ -1,6 +1,7 @@
 // Colours as people see them who have two kinds of cones, by the matrices of Machado, Oliveira and Fernandes (2009) on light.
 
-import { LIGHT_OF, eightBits } from './colours.js';
+import { clamp } from '../base/words.js';
+import { LIGHT_OF, eightBits, sampleOf } from './colours.js';
 import { nearPairs } from './near.js';
 
 /** The three kinds: without cones for long, for middle, and for short waves. */
@@ -10,15 +11,10 @@ export const VISIONS = {
   tritan: [[1.255528, -0.076749, -0.178779], [-0.078411, 0.930809, 0.147602], [0.004733, 0.691367, 0.3039]],
 };
 
-function sampleOf(light) {
-  const part = Math.max(0, Math.min(1, light));
-  return Math.round(255 * (part <= 0.0031308 ? part * 12.92 : 1.055 * part ** (1 / 2.4) - 0.055));
-}
-
 /** A triple of eight bits as it is seen with one kind of vision. */
 export function seenWith(triple, kind) {
   const light = triple.map((sample) => LIGHT_OF[sample]);
-  return VISIONS[kind].map((row) => sampleOf(row.reduce((sum, part, at) => sum + part * light[at], 0)));
+  return VISIONS[kind].map((row) => sampleOf(clamp(row.reduce((sum, part, at) => sum + part * light[at], 0), 0, 1)));
 }
 
 /** A document in the colours that are seen with one kind of vision. */

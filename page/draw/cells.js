@@ -26,10 +26,7 @@ export class Cells {
     pen.fillRect(0, 0, at.width, at.height);
     this.drawn = new Int32Array(at.rows * at.columns).fill(-1);
     this.prepare(sheet);
-    pen.save();
-    pen.beginPath();
-    pen.rect(at.originX - 1, at.originY - 1, at.width, at.height);
-    pen.clip();
+    this.clip(sheet);
     drawRules(this.surface, this.look, sheet.boardFrame());
     this.changed(sheet, true);
     pen.restore();

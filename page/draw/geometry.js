@@ -107,6 +107,13 @@ export class Geometry {
     this.clamp();
   }
 
+  /** Keeps the cells as they are where the room or the clues are others; with `isFitted` the whole picture is shown. */
+  refit(isFitted = this.isFitted) {
+    if (isFitted) return this.fit();
+    this.spread();
+    return this.clamp();
+  }
+
   spread() {
     Object.assign(this, this.isFolded ? this.edges() : this.room(this.cell));
     this.font = this.fontFor(this.cell);
@@ -174,21 +181,13 @@ export class Geometry {
     this.panY = Math.round(clamp(this.panY, 0, over(this.rows * this.cell, this.height - this.top)));
   }
 
-  slackX() {
-    return this.slack.x;
-  }
-
-  slackY() {
-    return this.slack.y;
-  }
-
   // The edges of the room of the cells.
   get originX() {
-    return this.left + this.slackX();
+    return this.left + this.slack.x;
   }
 
   get originY() {
-    return this.top + this.slackY();
+    return this.top + this.slack.y;
   }
 
   x(col) {

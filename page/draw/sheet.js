@@ -66,11 +66,7 @@ class Sheet {
     this.geometry.measure(state.clues, isOther ? null : state.changed);
     if (isOther) {
       this.places = [];
-      if (!before || this.geometry.isFitted || this.geometry.isFolded) this.geometry.fit();
-      else {
-        this.geometry.spread();
-        this.geometry.clamp();
-      }
+      this.geometry.refit(!before || this.geometry.isFitted || this.geometry.isFolded);
       return this.drawAll();
     }
     if (this.geometry.grow()) return this.drawAll();
@@ -159,11 +155,7 @@ class Sheet {
     this.geometry.resize(width, height, scale);
     for (const canvas of [this.cellCanvas, this.marks]) [canvas.width, canvas.height] = [this.geometry.width, this.geometry.height];
     if (!this.state) return;
-    if (this.geometry.isFitted) this.geometry.fit();
-    else {
-      this.geometry.spread();
-      this.geometry.clamp();
-    }
+    this.geometry.refit();
     this.drawAll();
   }
 

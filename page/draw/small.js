@@ -7,15 +7,19 @@ import { LETTERS } from '../document/limits.js';
 /** The pen of a new canvas whose pixels are read back. */
 export const penOf = (width, height) => Object.assign(document.createElement('canvas'), { width, height }).getContext('2d', { willReadFrequently: true });
 
+/** The pen of a new canvas with an image on it. */
+export function penWith({ width, height, data }) {
+  const pen = penOf(width, height);
+  pen.putImageData(new ImageData(data, width, height), 0, 0);
+  return pen;
+}
+
 /** Draws a document small on a canvas, some pixels a cell. */
 export function drawSmall(canvas, doc, most) {
   const side = Math.max(1, Math.floor(most / Math.max(doc.rows, doc.columns)));
   const { colours } = eightBitDoc(doc);
-  const points = new ImageData(doc.columns, doc.rows);
-  let at = 0;
-  for (const row of doc.picture) for (const letter of row) points.data.set([...colours[LETTERS.indexOf(letter)], 255], at++ * 4);
-  const small = penOf(doc.columns, doc.rows);
-  small.putImageData(points, 0, 0);
+  const data = Uint8ClampedArray.from([...doc.picture.join('')].flatMap((letter) => [...colours[LETTERS.indexOf(letter)], 255]));
+  const small = penWith({ width: doc.columns, height: doc.rows, data });
   canvas.width = doc.columns * side;
   canvas.height = doc.rows * side;
   const pen = canvas.getContext('2d');

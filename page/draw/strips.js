@@ -100,8 +100,8 @@ export class Strips {
     if (axis === 'r') pen.rect(0, Math.max(at.originY, y), at.originX, at.cell);
     else pen.rect(Math.max(at.originX, x), 0, at.cell, at.originY);
     pen.clip();
-    if (axis === 'r') this.band(sheet, 'r', line, at.slackX(), y, at.left - gap / 2, at.cell, anew);
-    else this.band(sheet, 'c', line, x, at.slackY(), at.cell, at.top - gap / 2, anew);
+    if (axis === 'r') this.band(sheet, 'r', line, at.slack.x, y, at.left - gap / 2, at.cell, anew);
+    else this.band(sheet, 'c', line, x, at.slack.y, at.cell, at.top - gap / 2, anew);
     drawClue(this.surfaces[axis], sheet.look, axis, sheet.clues[axis === 'r' ? 'rows' : 'columns'][line], this.placeOf(sheet, axis, line), this.copy);
     pen.restore();
   }
@@ -111,10 +111,10 @@ export class Strips {
     const [gap, around, unit] = [Math.round(3 * at.scale) + Math.round(4 * at.scale), 6 * at.scale, at.scale];
     if (axis === 'r') {
       const height = Math.min(at.cell - 1, at.font + Math.round(6 * at.scale));
-      return { near: at.originX - gap, far: at.slackX() + around, middle: at.y(line) + at.cell / 2, gap: 2, unit, sizeOf: (block) => ({ width: this.rowWidth(at, block), height }) };
+      return { near: at.originX - gap, far: at.slack.x + around, middle: at.y(line) + at.cell / 2, gap: 2, unit, sizeOf: (block) => ({ width: this.rowWidth(at, block), height }) };
     }
     const size = { width: Math.min(at.cell - 1, Math.round(at.font * 2.6)), height: at.cell < 7 * at.scale ? Math.round(4 * at.scale) : at.pitch };
-    return { near: at.originY - gap, far: at.slackY() + around, middle: at.x(line) + at.cell / 2, gap: 1, unit, sizeOf: () => size };
+    return { near: at.originY - gap, far: at.slack.y + around, middle: at.x(line) + at.cell / 2, gap: 1, unit, sizeOf: () => size };
   }
 
   rowWidth(at, block) {

@@ -2,7 +2,7 @@
 // kept nowhere.
 
 import { make } from '../base/elements.js';
-import { penOf } from './small.js';
+import { penWith } from './small.js';
 
 export class Underlay {
   /** `canvas` has the image. It is laid over the picture, as large as it fits there. */
@@ -58,11 +58,9 @@ export class Underlay {
   ground() {
     const { sheet } = this;
     const { rows, columns } = sheet.state;
-    const pen = penOf(columns, rows);
-    const points = new ImageData(columns, rows);
-    for (let row = 0, at = 3; row < rows; row++) for (let col = 0; col < columns; col++, at += 4) points.data[at] = sheet.letterAt(row, col) === '.' ? 255 : 0;
-    pen.putImageData(points, 0, 0);
-    return pen.canvas;
+    const data = new Uint8ClampedArray(columns * rows * 4);
+    for (let row = 0, at = 3; row < rows; row++) for (let col = 0; col < columns; col++, at += 4) data[at] = sheet.letterAt(row, col) === '.' ? 255 : 0;
+    return penWith({ width: columns, height: rows, data }).canvas;
   }
 
   draw() {

@@ -3,7 +3,7 @@
 import { assessed } from './assessing.js';
 import { startEngine } from './client.js';
 
-/** What is said of a document that took too long. */
+/** What is said of a document that took too long, or whose engine failed; `isLate` says which. */
 const LATE = { verdict: 'undecided', grade: null, flaws: [], fit: false, text: '' };
 
 /** Judges documents, each within some seconds. A search that takes longer ends with its worker, and another one goes on. */
@@ -21,14 +21,18 @@ export class Judge {
     if (this.isEnded) return null;
     this.engine ??= this.start();
     const { engine } = this;
-    const late = setTimeout(() => this.discard(engine), this.seconds * 1000);
+    let isLate = false;
+    const late = setTimeout(() => {
+      isLate = true;
+      this.discard(engine);
+    }, this.seconds * 1000);
     try {
       const found = await assessed(engine, doc);
       return this.isEnded ? null : found;
     } catch (fault) {
       this.discard(engine);
       if (fault.kind !== 'ended') throw fault;
-      return this.isEnded ? null : LATE;
+      return this.isEnded ? null : { ...LATE, isLate };
     } finally {
       clearTimeout(late);
     }

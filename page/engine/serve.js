@@ -32,33 +32,17 @@ export function serve(scope, load) {
       opened = engine.open(file, { history, background });
       return true;
     },
-    say({ lines }) {
-      return opened.say(lines);
-    },
+    say: ({ lines }) => opened.say(lines),
     check({ picture, certificate, background, givens }) {
       const answer = engine.check(picture, certificate, { background, givens });
       return { ...answer, hint: hintOf(answer.text, certificate) };
     },
-    prove({ picture, background }) {
-      return engine.prove(picture, { background });
-    },
-    repair({ board, goal, seconds }, told) {
-      return repair({ board: new Board(board), goal, seconds, say }, {
-        found: (found) => told({ found }), nearer: (nearer) => told({ nearer }), placed: (places, placed) => told({ places, placed }),
-      });
-    },
-    give({ board, goal, seconds }, told) {
-      return give({ board: new Board(board), goal, seconds, say }, { found: (found) => told({ found }) });
-    },
-    mix({ board, goal, near, bound, seconds }, told) {
-      return mix({ board: new Board(board), goal, near, bound, seconds, say }, { found: (found) => told({ found }) });
-    },
-    aim({ board, word, seconds }, told) {
-      return aim({ board: new Board(board), word, seconds, say, path: () => fallsOf(say, board), grade: grading(engine, board) }, { found: (found) => told({ found }) });
-    },
-    assess({ puzzle, options }) {
-      return engine.assess(puzzle, options);
-    },
+    prove: ({ picture, background }) => engine.prove(picture, { background }),
+    repair: (fields, told) => repair(onBoard(fields), { found: (found) => told({ found }), nearer: (nearer) => told({ nearer }), placed: (places, placed) => told({ places, placed }) }),
+    give: (fields, told) => give(onBoard(fields), { found: (found) => told({ found }) }),
+    mix: (fields, told) => mix(onBoard(fields), { found: (found) => told({ found }) }),
+    aim: (fields, told) => aim({ ...onBoard(fields), path: () => fallsOf(say, fields.board), grade: grading(engine, fields.board) }, { found: (found) => told({ found }) }),
+    assess: ({ puzzle, options }) => engine.assess(puzzle, options),
     close() {
       opened?.close();
       opened = null;
@@ -66,6 +50,7 @@ export function serve(scope, load) {
     },
   };
   const say = (lines) => opened.say(lines.map((line) => `${line}\n`).join(''));
+  const onBoard = (fields) => ({ ...fields, board: new Board(fields.board), say });
   scope.onmessage = async ({ data }) => {
     const { id, call, ...fields } = data;
     try {

@@ -48,7 +48,7 @@ export function legendOf(doc, show) {
 }
 
 function factsOf(doc, grade) {
-  const given = doc.givens.size ? phrase('export.cellsGiven', { cells: doc.givens.size }) : '';
+  const given = doc.givens.size ? `${phrase('import.given', { cells: doc.givens.size })} (◆)` : '';
   return [sizeText(doc), given, grade, doc.about.author ? phrase('export.by', { author: doc.about.author }) : ''].filter(Boolean).join(', ');
 }
 

@@ -3,7 +3,7 @@
 
 import { $, make, say } from '../base/elements.js';
 import { GRADE_MARK } from '../base/names.js';
-import { bareName, clamp } from '../base/words.js';
+import { bareName, clamp, opening } from '../base/words.js';
 import { docOf, eightBitDoc, sameDoc } from '../document/document.js';
 import { canvasPaper } from '../draw/papers.js';
 import { drawSmall } from '../draw/small.js';
@@ -137,5 +137,5 @@ export function startExporting() {
 export function showExportPanel() {
   const button = (id, name) => make('button', { type: 'button', 'data-action': id, onclick: (event) => runAction(id, event) }, name);
   $('out').replaceChildren(make('h2', {}, phrase('export.saveExport')), make('p', { class: 'group' },
-    button('save', phrase('library.save')), button('export-xml', 'XML'), button('export-empty', phrase('export.puzzlePng')), button('export-picture', phrase('export.picturePng')), button('print', phrase('export.printAction')), button('certificate', phrase('library.certificate'))));
+    button('save', phrase('library.save')), button('export-xml', 'XML'), button('export-empty', phrase('export.puzzlePng')), button('export-picture', phrase('export.picturePng')), button('print', opening(phrase('export.print'))), button('certificate', phrase('library.certificate'))));
 }

@@ -2,7 +2,7 @@
 
 import { $, choiceOf, make, say } from '../base/elements.js';
 import { gradeName, verdictName } from '../base/names.js';
-import { clamp, sizeText } from '../base/words.js';
+import { clamp, opening, sizeText } from '../base/words.js';
 import { docOf } from '../document/document.js';
 import { smallestText } from '../draw/papers.js';
 import { bench } from '../engine/bench.js';
@@ -96,7 +96,7 @@ function printFields(near, graded) {
   if (near) fields.show.querySelector('[value="colours"]').disabled = true;
   const [answers, answersText] = check('print-answers', chosen.answers, phrase('export.solutionsEnd'));
   const [grade, gradeText] = check('print-grade', chosen.hasGrade, graded ? phrase('export.gradeField', { word: gradeName(graded.word) }) : phrase('export.gradeWhereOneKnown'));
-  const rows = [make('label', {}, phrase('export.title'), fields.title), make('div', { class: 'group apart' }, make('label', {}, phrase('export.paper'), fields.paper), make('label', {}, fields.wide, phrase('export.landscape')), make('label', {}, phrase('export.marginMm'), fields.margin)),
+  const rows = [make('label', {}, phrase('export.sheetTitle'), fields.title), make('div', { class: 'group apart' }, make('label', {}, phrase('export.paper'), fields.paper), make('label', {}, fields.wide, phrase('export.landscape')), make('label', {}, phrase('export.marginMm'), fields.margin)),
     make('div', { class: 'group apart' }, make('label', {}, phrase('export.puzzlesSheet'), fields.perSheet), make('label', {}, phrase('export.coloursShown'), fields.show)), make('label', {}, answers, answersText), make('label', {}, grade, gradeText)];
   return { fields: { ...fields, answers, grade }, rows };
 }
@@ -134,7 +134,7 @@ async function printPuzzle() {
   };
   content.addEventListener('change', showSmall);
   showSmall();
-  const way = await openDialog({ title: phrase('export.printTitle'), content, wide: true, buttons: [{ name: phrase('export.saveSvg'), value: 'svg' }, { name: phrase('export.printAction'), value: 'print', main: true }] });
+  const way = await openDialog({ title: phrase('export.print'), content, wide: true, buttons: [{ name: phrase('export.saveSvg'), value: 'svg' }, { name: opening(phrase('export.print')), value: 'print', main: true }] });
   if (!way) return;
   Object.assign(chosen, readFields(fields));
   const title = fields.title.value.trim();
@@ -159,7 +159,7 @@ async function printPuzzle() {
 
 /** Adds print to the menu File. */
 export function startPrinting() {
-  addAction({ id: 'print', name: phrase('export.printAction'), key: 'Ctrl+P', place: 'file', group: 'print', run: printPuzzle });
+  addAction({ id: 'print', name: opening(phrase('export.print')), key: 'Ctrl+P', place: 'file', group: 'print', run: printPuzzle });
   // What is opened by the browser's own print, without the dialog, is a sheet too.
   addEventListener('beforeprint', () => {
     if (bench.state && !$('print').children.length) fillPrint(sheetsFor([atHand()], { ...chosen, show: nearText(bench.state) && chosen.show === 'colours' ? 'letters' : chosen.show }));

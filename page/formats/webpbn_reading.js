@@ -58,9 +58,10 @@ function aboutOf(puzzle) {
   return present({ ...Object.fromEntries(names.map((name) => [name, textIn(puzzle, name)])), note: textsIn(puzzle, 'note')[0] ?? '' });
 }
 
+const textsOfSet = (set) => present({ ...Object.fromEntries(ABOUT_SET.map((name) => [name, textIn(set, name)])), notes: textsIn(set, 'note') });
+
 // What else the puzzle and its set had; null where there is nothing.
-function extrasOf(set, puzzle, goal, others) {
-  const setTexts = set === puzzle ? {} : present({ ...Object.fromEntries(ABOUT_SET.map((name) => [name, textIn(set, name)])), notes: textsIn(set, 'note') });
+function extrasOf(setTexts, puzzle, goal, others) {
   const goalTexts = goal ? present({ id: idOf(goal), notes: textsIn(goal, 'note') }) : {};
   const solutions = others.map((one) => ({ type: typeOf(one, 'goal'), ...present({ id: idOf(one), notes: textsIn(one, 'note') }), image: imageIn(one) }));
   const extras = present({ notes: textsIn(puzzle, 'note').slice(1), solutions, defaultcolor: puzzle.attributes.get('defaultcolor') ?? '' });
@@ -69,13 +70,13 @@ function extrasOf(set, puzzle, goal, others) {
   return Object.keys(extras).length ? extras : null;
 }
 
-/** An XML text as elements `{ set, puzzles }`: those of rows and columns, at least one. */
+/** An XML text as `{ setTexts, puzzles }`: what stands beside the puzzles, and the elements of those of rows and columns, at least one. */
 export function readWebpbnSet(text) {
   const set = readXml(text);
   const all = set.name === 'puzzleset' ? childrenOf(set, 'puzzle') : set.name === 'puzzle' ? [set] : [];
   const puzzles = all.filter((element) => typeOf(element, 'grid') === 'grid');
   if (!puzzles.length) throw new FileFault(phrase('formats.xmlNoPuzzleRows'));
-  return { set, puzzles };
+  return { setTexts: set.name === 'puzzleset' ? textsOfSet(set) : {}, puzzles };
 }
 
 /**
@@ -83,14 +84,14 @@ export function readWebpbnSet(text) {
  * of a two-colour puzzle that has clues and no solution. `count` is how many there are. Throws a FileFault for what no bench would open.
  */
 export function readWebpbn(text, at = 0) {
-  const { set, puzzles } = typeof text === 'string' ? readWebpbnSet(text) : text;
+  const { setTexts, puzzles } = typeof text === 'string' ? readWebpbnSet(text) : text;
   const puzzle = puzzles[at];
   const count = puzzles.length;
   const solutions = childrenOf(puzzle, 'solution');
   const goal = solutions.find((one) => typeOf(one, 'goal') === 'goal') ?? solutions.find((one) => typeOf(one, 'goal') === 'solution');
   const own = (id) => solutions.find((one) => typeOf(one, 'goal') === 'saved' && idOf(one) === id);
   const [givens, locks] = [own(WEBPBN_GIVENS), own(WEBPBN_LOCKS)];
-  const page = { about: aboutOf(puzzle), extras: extrasOf(set, puzzle, goal, solutions.filter((one) => ![goal, givens, locks].includes(one))) };
+  const page = { about: aboutOf(puzzle), extras: extrasOf(setTexts, puzzle, goal, solutions.filter((one) => ![goal, givens, locks].includes(one))) };
   const usual = puzzle.attributes.get('defaultcolor') ?? 'black';
   const clues = { rows: readClues(puzzle, 'rows', usual), columns: readClues(puzzle, 'columns', usual) };
   if (!goal) return { non: nonOfClues(clues), page, count };

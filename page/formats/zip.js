@@ -48,7 +48,10 @@ export function writeZip(files) {
 
 const damaged = () => new FileFault(phrase('formats.archiveDamaged'));
 
-/** The files of a zip by their directory, each `{name, read}`: `read()` gives its bytes, or null for what is encrypted or too large. */
+/**
+ * The files of a zip by their directory, each `{name, size, read}`: `read()` gives its bytes, or null for what is encrypted or too large,
+ * whose size is Infinity.
+ */
 export function zipEntries(bytes) {
   const view = new DataView(bytes.buffer, bytes.byteOffset, bytes.byteLength);
   let end = bytes.length - 22;
@@ -62,16 +65,21 @@ export function zipEntries(bytes) {
     const [title, extra, comment] = [28, 30, 32].map((place) => view.getUint16(at + place, true));
     const name = new TextDecoder().decode(bytes.subarray(at + 46, at + 46 + title));
     const place = at;
-    files.push({ name, read: () => unpackedEntry(bytes, view, place) });
+    files.push({ name, size: unpackedSize(view, place), read: () => unpackedEntry(bytes, view, place) });
     at += 46 + title + extra + comment;
   }
   return files;
 }
 
+function unpackedSize(view, at) {
+  const [flags, method, length] = [view.getUint16(at + 8, true), view.getUint16(at + 10, true), view.getUint32(at + 24, true)];
+  return flags & 1 || ![0, 8].includes(method) || length > MOST_ENTRY ? Infinity : length;
+}
+
 async function unpackedEntry(bytes, view, at) {
-  const [flags, method] = [view.getUint16(at + 8, true), view.getUint16(at + 10, true)];
-  const [crc, size, length, local] = [16, 20, 24, 42].map((place) => view.getUint32(at + place, true));
-  if (flags & 1 || ![0, 8].includes(method) || length > MOST_ENTRY) return null;
+  const [crc, size, local] = [16, 20, 42].map((place) => view.getUint32(at + place, true));
+  const method = view.getUint16(at + 10, true), length = unpackedSize(view, at);
+  if (length === Infinity) return null;
   if (!length) return new Uint8Array();
   if (local + 30 > bytes.length || view.getUint32(local, true) !== LOCAL) throw damaged();
   const from = local + 30 + view.getUint16(local + 26, true) + view.getUint16(local + 28, true);

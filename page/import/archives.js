@@ -42,16 +42,13 @@ export async function exportAll() {
   return saveArchive(sound, { file: 'nonobench library.zip', text: phrase('import.picturesSavedNonobenchLibrary', { pictures: sound.length, count: ones ? phrase('import.onesLeftOut', { ones }) : '' }), kind: ones ? 'alarm' : '' });
 }
 
-// The files of an archive by their folders, as grouped() takes them.
-async function foldersOf(entries, goesOn) {
+// The files of an archive by their folders, as grouped() takes them. Each is unpacked when it is read, so they are not in memory together.
+function foldersOf(entries) {
   const folders = new Map();
-  for (const [at, { name: path, read }] of entries.entries()) {
-    if (!(await goesOn(phrase('import.filesRead', { at, count: entries.length })))) break;
-    const content = await read();
+  for (const { name: path, size, read } of entries) {
     const from = path.lastIndexOf('/') + 1;
-    const file = { path, name: path.slice(from), size: content?.length ?? Infinity, arrayBuffer: async () => content };
     if (!folders.has(path.slice(0, from))) folders.set(path.slice(0, from), []);
-    folders.get(path.slice(0, from)).push(file);
+    folders.get(path.slice(0, from)).push({ path, name: path.slice(from), size, arrayBuffer: read });
   }
   return [...folders.values()];
 }
@@ -64,8 +61,9 @@ const filesIn = (bytes) => zipEntries(bytes).filter(({ name }) => !name.endsWith
  */
 export async function readArchive(bytes, goesOn = async (text) => true) {
   const [docs, unread, faults] = [[], [], []];
-  for (const unit of (await foldersOf(filesIn(bytes), goesOn)).flatMap(grouped)) {
-    if (!(await goesOn(phrase('import.picturesRead', { pictures: docs.length })))) break;
+  const units = foldersOf(filesIn(bytes)).flatMap(grouped);
+  for (const [at, unit] of units.entries()) {
+    if (!(await goesOn(phrase('import.filesRead', { at, count: units.length })))) break;
     const { docs: found, left } = await docsOfUnit(unit).catch((fault) => {
       faults.push(faultText(fault));
       return { docs: [], left: [] };
@@ -99,13 +97,16 @@ async function addAll(docs, goesOn) {
   return { added, known };
 }
 
+/** Whether so many files or puzzles may go to the library: of many the user is asked first. */
+export const mayAdd = async (count, name) => count <= MANY
+  || confirmDialog(phrase('import.addManyFiles', { files: count }), phrase('import.pictureGoesLibrary', { name }), phrase('import.addLibrary'));
+
 /**
  * Adds the pictures of an archive to the library, but for those that are there; of many files the user is asked first. Answers how many
  * of it are there then.
  */
 export async function takeArchive(bytes, name) {
-  const { length: count } = filesIn(bytes);
-  if (count > MANY && !(await confirmDialog(phrase('import.addManyFiles', { files: count }), phrase('import.pictureGoesLibrary', { name }), phrase('import.addLibrary')))) return 0;
+  if (!(await mayAdd(filesIn(bytes).length, name))) return 0;
   const progress = new Progress(phrase('import.opening', { name }), '');
   const goesOn = (text) => progress.goesOn(text);
   try {

@@ -6,6 +6,7 @@ import { MOST_BYTES_READ } from '../formats/ppm.js';
 import { readGivens, readGround } from '../formats/published.js';
 import { faultText } from '../library/open.js';
 import { phrase } from '../texts/phrase.js';
+import { mustHold } from './decoding.js';
 import { docsOfBytes } from './reading.js';
 
 const PICTURE = /\.(p[pgbn]m|png|gif|bmp|webp|avif|svg|jpe?g|non|xml)$/i;
@@ -52,7 +53,7 @@ export function grouped(files) {
 export const hasCertificate = ({ beside }) => beside.some(({ name }) => /\.(cert|proof)$/i.test(name));
 
 async function bytesOf(file) {
-  if (file.size > MOST_BYTES_READ) throw new FileFault(phrase('import.more16Mib'));
+  mustHold(file, MOST_BYTES_READ);
   return new Uint8Array(await file.arrayBuffer());
 }
 

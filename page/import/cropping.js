@@ -6,7 +6,6 @@ import { clamp } from '../base/words.js';
 import { penOf } from '../draw/small.js';
 import { phrase } from '../texts/phrase.js';
 
-const TEXT = { source: phrase('import.imageDragSelectPart') };
 const LEAST = 2; // pixels a side of a part
 const STILL = 4; // pixels of the screen that a pointer moves at most in a click
 const STEPS = 40; // of a key along the longer side
@@ -21,7 +20,7 @@ export class Source {
   constructor({ width, height }, middle, most, { take, pick }) {
     Object.assign(this, { width, height, middle, most, take, pick, small: null, crop: null });
     this.place = [width >> 1, height >> 1]; // that the keys move
-    this.canvas = make('canvas', { id: 'import-source', 'aria-label': TEXT.source, role: 'img', tabindex: '0' });
+    this.canvas = make('canvas', { id: 'import-source', 'aria-label': phrase('import.imageDragSelectPart'), role: 'img', tabindex: '0' });
     this.hear();
   }
 

@@ -14,6 +14,11 @@ const MOST_SVG = 1 << 24; // bytes
 const MOST_DECODED = 100e6; // pixels of an image file, which the browser unpacks
 const MOST_SIDE = 2048; // pixels a side that a larger one is made smaller to: more than the dialog works on
 
+/** Refuses a file of more than `most` bytes. */
+export function mustHold({ size }, most) {
+  if (size > most) throw new FileFault(phrase('import.more', { mib: most / 2 ** 20 }));
+}
+
 /**
  * How an image of that size is decoded: a large one smaller, by its width alone, so that a photo that is turned keeps its shape.
  * @param {number[]} size
@@ -21,7 +26,7 @@ const MOST_SIDE = 2048; // pixels a side that a larger one is made smaller to: m
  */
 function decoding(size) {
   const [width, height] = size;
-  if (width < 1 || height < 1) throw new FileFault(phrase('import.pictureNoPixels'));
+  if (width < 1 || height < 1) throw new FileFault(phrase('formats.pictureNoPixels'));
   if (width * height > MOST_DECODED) throw new FileFault(phrase('import.picturePixelsMostAll', { width, height, most: MOST_DECODED }));
   const scale = MOST_SIDE / Math.max(width, height);
   return scale < 1 ? { resizeWidth: Math.max(1, Math.round(width * scale)), resizeQuality: 'high' } : {};
@@ -31,7 +36,7 @@ function decoding(size) {
 export async function imageOfFile(file, head, kind) {
   if (NOT_DRAWN[kind]) throw new FileFault(phrase('import.saveAsPng', { kind: NOT_DRAWN[kind] }));
   if (kind === 'svg') {
-    if (file.size > MOST_SVG) throw new FileFault(phrase('import.more16Mib'));
+    mustHold(file, MOST_SVG);
     return imageOfSvg(new TextDecoder().decode(await file.arrayBuffer()), MOST_SIDE);
   }
   const size = sizeOfImage(head, kind);

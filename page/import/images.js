@@ -1,7 +1,7 @@
 // Images of pixels, as `{ width, height, data }` with 8-bit red, green, blue and alpha: what a file is by its first bytes, the
 // size that its head tells, and an image cropped and scaled to cells. Samples are averaged as light, not as numbers.
 
-import { LIGHT_OF } from '../document/colours.js';
+import { LIGHT_OF, sampleOf } from '../document/colours.js';
 import { LETTERS, MOST_CELLS, MOST_COLOURS } from '../document/limits.js';
 import { isBlankByte } from '../formats/ppm.js';
 
@@ -102,11 +102,8 @@ export function sizeOfImage(bytes, kind) {
 }
 
 const LIGHT_STEPS = 16384; // fine enough that the light of each sample gives that sample back
-const SAMPLE_OF = Uint8Array.from({ length: LIGHT_STEPS + 1 }, (_, step) => {
-  const light = step / LIGHT_STEPS;
-  return Math.round(255 * (light <= 0.0031308 ? light * 12.92 : 1.055 * light ** (1 / 2.4) - 0.055));
-});
-const sampleOf = (light) => SAMPLE_OF[Math.min(LIGHT_STEPS, Math.round(light * LIGHT_STEPS))];
+const SAMPLE_OF = Uint8Array.from({ length: LIGHT_STEPS + 1 }, (_, step) => sampleOf(step / LIGHT_STEPS));
+const sampleNear = (light) => SAMPLE_OF[Math.min(LIGHT_STEPS, Math.round(light * LIGHT_STEPS))];
 
 // For each target place: the first source place, and the share of each one from there.
 function sharesOf(from, length, count) {
@@ -157,9 +154,9 @@ function meanInto(target, to, data, width, across, down, cover) {
     }
   }
   if (sum > 0) {
-    target[to] = sampleOf(red / sum);
-    target[to + 1] = sampleOf(green / sum);
-    target[to + 2] = sampleOf(blue / sum);
+    target[to] = sampleNear(red / sum);
+    target[to + 1] = sampleNear(green / sum);
+    target[to + 2] = sampleNear(blue / sum);
   }
   target[to + 3] = Math.round(sum / cover);
 }

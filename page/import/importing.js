@@ -3,10 +3,10 @@
 
 import { make, say } from '../base/elements.js';
 import { on } from '../base/events.js';
-import { clamp } from '../base/words.js';
+import { capital, clamp } from '../base/words.js';
 import { MOST_CELLS, MOST_COLOURS } from '../document/limits.js';
 import { COLOUR_NAMES } from '../document/named.js';
-import { drawSmall, penOf } from '../draw/small.js';
+import { drawSmall, penOf, penWith } from '../draw/small.js';
 import { kindOfPalette } from '../formats/palettes.js';
 import { openDoc } from '../library/open.js';
 import { phrase } from '../texts/phrase.js';
@@ -24,13 +24,11 @@ import { Maker } from './making.js';
 import { docApart, proposalFor, withoutMargin } from './proposing.js';
 import { thresholdFor, toned } from './tone.js';
 
-const TEXT = {
-  title: (name) => phrase('import.turnImageIntoPuzzle', { name }), create: phrase('import.createPuzzle'), done: (name) => phrase('import.madeFromImageVerdict', { name }),
-  preview: phrase('import.puzzle'), drag: phrase('import.dragOverImageSelect'), part: phrase('import.partImagePixels'), left: phrase('import.left'), top: phrase('import.top'), wide: phrase('import.width'), high: phrase('import.height'), whole: phrase('import.wholeImage'), sprites: phrase('import.sheetOfSprites'), trim: phrase('import.trimMargin'),
-  cells: phrase('import.cells'), columns: phrase('view.columns'), rows: phrase('view.rows'), keeps: phrase('import.keepProportions'), sharp: phrase('import.pixelArtOnePixel'), several: phrase('import.severalSizes'), colours: phrase('view.colours'), count: phrase('import.howManyBackground'),
-  two: phrase('import.twoColoursLightness'), inverted: phrase('import.drawLightParts'), threshold: phrase('import.darkBelow'), lines: phrase('import.lineArtAreaDark'), area: phrase('import.percentCell'),
-  light: phrase('import.lightDots'), brightness: phrase('import.brightness'), contrast: phrase('import.contrast'), dither: phrase('import.dithering'), specks: phrase('import.removeSpecksUpSo'),
-  facts: ({ columns, rows, colours }) => phrase('import.cellsColoursBackground', { columns, rows, colours: colours.length }),
+// The texts of fields, by their names.
+const LABELS = {
+  left: phrase('import.left'), top: phrase('import.top'), wide: capital(phrase('formats.width')), high: capital(phrase('formats.height')), columns: phrase('view.columns'), rows: phrase('view.rows'),
+  keeps: phrase('import.keepProportions'), sharp: phrase('import.pixelArtOnePixel'), two: phrase('import.twoColoursLightness'), inverted: phrase('import.drawLightParts'), lines: phrase('import.lineArtAreaDark'), dither: phrase('import.dithering'),
+  colours: phrase('import.howManyBackground'), threshold: phrase('import.darkBelow'), area: phrase('import.percentCell'), brightness: phrase('import.brightness'), contrast: phrase('import.contrast'), specks: phrase('import.removeSpecksUpSo'),
 };
 const MOST_WORKED = 480; // pixels a side that the dialog works on; a larger part is made smaller first
 const MOST_MIDDLE = 960; // pixels a side of a copy of the image
@@ -40,13 +38,6 @@ const SHOWN_SIDE = 320; // pixels of the two pictures in the dialog
 const MOST_SPECK = 12;
 const AROUND = 0.008; // of a photo's longer side: how far around a click its colour is a mean
 
-/** An image as points of a canvas. */
-function canvasOfImage({ width, height, data }) {
-  const pen = penOf(width, height);
-  pen.putImageData(new ImageData(data, width, height), 0, 0);
-  return pen.canvas;
-}
-
 class Importing {
   left; top; wide; high; columns; rows; // fields of numbers
   keeps; sharp; two; inverted; lines; dither; // boxes to tick
@@ -55,7 +46,7 @@ class Importing {
   constructor(image) {
     this.proposal = proposalFor(image);
     this.full = image;
-    this.canvas = canvasOfImage(image);
+    this.canvas = penWith(image).canvas;
     this.middle = this.smaller(MOST_MIDDLE); // what large parts are taken of: to make all of a photo smaller takes long
     this.worked = null; // the part that is taken, no larger than the dialog works on
     this.crop = { x: 0, y: 0, width: image.width, height: image.height }; // in pixels of the full image
@@ -77,46 +68,47 @@ class Importing {
   field(name, attributes) {
     const input = make('input', { type: 'number', required: true, ...attributes });
     input.addEventListener('input', () => this.change(name));
+    input.addEventListener('change', () => { [this.columns.value, this.rows.value] = this.size; });
     this[name] = input;
-    return make('label', {}, TEXT[name], input);
+    return make('label', {}, LABELS[name], input);
   }
 
   tick(name, checked = false) {
     this[name] = make('input', { type: 'checkbox', checked });
     this[name].addEventListener('input', () => this.change(name));
-    return make('label', {}, this[name], TEXT[name]);
+    return make('label', {}, this[name], LABELS[name]);
   }
 
-  slider(name, text, min, max, value) {
+  slider(name, min, max, value) {
     this[name] = make('input', { type: 'range', min, max, value, id: `import-${name}` });
     const shown = make('output', {}, String(value));
     this[name].addEventListener('input', () => this.change(name));
-    return Object.assign(make('label', {}, text, this[name], shown), { show: () => { shown.value = this[name].value; } });
+    return Object.assign(make('label', {}, LABELS[name], this[name], shown), { show: () => { shown.value = this[name].value; } });
   }
 
   make() {
-    this.preview = make('canvas', { id: 'import-preview', 'aria-label': TEXT.preview, role: 'img' });
+    this.preview = make('canvas', { id: 'import-preview', 'aria-label': phrase('import.puzzle'), role: 'img' });
     this.facts = make('p', { role: 'status', class: 'faint', id: 'import-facts' });
     this.verdict = make('p', { role: 'status', id: 'import-verdict' });
     this.content = make('div', { class: 'importing' },
-      make('div', { class: 'pictures' }, make('figure', {}, this.source.canvas, make('figcaption', {}, TEXT.drag)), make('figure', {}, this.preview, this.facts, this.verdict, this.alike.element)),
+      make('div', { class: 'pictures' }, make('figure', {}, this.source.canvas, make('figcaption', {}, phrase('import.dragOverImageSelect'))), make('figure', {}, this.preview, this.facts, this.verdict, this.alike.element)),
       make('div', { class: 'choices' }, this.sizes(), this.inkChoices(), this.lights()), this.parts(),
       make('datalist', { id: 'colour-names' }, ...COLOUR_NAMES.map((name) => make('option', { value: name }))));
   }
 
   parts() {
     const { width, height } = this.full;
-    return make('fieldset', { class: 'parts' }, make('legend', {}, TEXT.part), this.field('left', { min: '0', max: width - 1, value: 0 }), this.field('top', { min: '0', max: height - 1, value: 0 }),
+    return make('fieldset', { class: 'parts' }, make('legend', {}, phrase('import.partImagePixels')), this.field('left', { min: '0', max: width - 1, value: 0 }), this.field('top', { min: '0', max: height - 1, value: 0 }),
       this.field('wide', { min: '1', max: width, value: width }), this.field('high', { min: '1', max: height, value: height }),
-      make('div', { class: 'ground' }, make('button', { type: 'button', onclick: () => this.take({ x: 0, y: 0, width, height }) }, TEXT.whole),
-        make('button', { type: 'button', id: 'import-trim', onclick: () => this.take(withoutMargin(this.full)) }, TEXT.trim),
-        make('button', { type: 'button', id: 'import-sprites', onclick: () => this.leaveForSprites() }, TEXT.sprites)));
+      make('div', { class: 'ground' }, make('button', { type: 'button', onclick: () => this.take({ x: 0, y: 0, width, height }) }, phrase('import.wholeImage')),
+        make('button', { type: 'button', id: 'import-trim', onclick: () => this.take(withoutMargin(this.full)) }, phrase('import.trimMargin')),
+        make('button', { type: 'button', id: 'import-sprites', onclick: () => this.leaveForSprites() }, phrase('import.sheetOfSprites'))));
   }
 
   sizes() {
     const { columns, rows, sharp } = this.proposal;
-    const several = make('button', { type: 'button', id: 'import-contacts', onclick: () => this.showContacts() }, TEXT.several);
-    return make('fieldset', {}, make('legend', {}, TEXT.cells), this.field('columns', { min: '1', max: MOST_CELLS, value: columns, id: 'import-columns', autofocus: true }),
+    const several = make('button', { type: 'button', id: 'import-contacts', onclick: () => this.showContacts() }, phrase('import.severalSizes'));
+    return make('fieldset', {}, make('legend', {}, phrase('import.cells')), this.field('columns', { min: '1', max: MOST_CELLS, value: columns, id: 'import-columns', autofocus: true }),
       this.field('rows', { min: '1', max: MOST_CELLS, value: rows, id: 'import-rows' }), this.tick('keeps', true), this.tick('sharp', sharp), several);
   }
 
@@ -131,19 +123,19 @@ class Importing {
   }
 
   inkChoices() {
-    const count = this.slider('colours', TEXT.count, 2, MOST_COLOURS, this.proposal.colours);
-    const threshold = this.slider('threshold', TEXT.threshold, 1, 255, 128);
-    const area = this.slider('area', TEXT.area, 5, 95, 30);
+    const count = this.slider('colours', 2, MOST_COLOURS, this.proposal.colours);
+    const threshold = this.slider('threshold', 1, 255, 128);
+    const area = this.slider('area', 5, 95, 30);
     this.sliders = [count, threshold, area];
     this.ofArea = area;
     this.onlyTwo = make('div', { class: 'ground' }, threshold, this.tick('inverted'), this.tick('lines'), area);
-    return make('fieldset', {}, make('legend', {}, TEXT.colours), count, this.tick('two'), this.onlyTwo, this.inks.element);
+    return make('fieldset', {}, make('legend', {}, phrase('view.colours')), count, this.tick('two'), this.onlyTwo, this.inks.element);
   }
 
   lights() {
-    const all = [this.slider('brightness', TEXT.brightness, -100, 100, 0), this.slider('contrast', TEXT.contrast, -100, 100, 0), this.tick('dither'), this.slider('specks', TEXT.specks, 0, MOST_SPECK, 0)];
+    const all = [this.slider('brightness', -100, 100, 0), this.slider('contrast', -100, 100, 0), this.tick('dither'), this.slider('specks', 0, MOST_SPECK, 0)];
     this.sliders.push(...all.filter((one) => one.show));
-    return make('fieldset', {}, make('legend', {}, TEXT.light), ...all);
+    return make('fieldset', {}, make('legend', {}, phrase('import.lightDots')), ...all);
   }
 
   leaveForSprites() {
@@ -278,7 +270,7 @@ class Importing {
     this.source.draw(this.crop);
     this.inks.show(this.doc);
     this.alike.show(this.doc);
-    this.facts.textContent = TEXT.facts(this.doc);
+    this.facts.textContent = phrase('import.cellsColoursBackground', { columns: this.doc.columns, rows: this.doc.rows, colours: this.doc.colours.length });
   }
 }
 
@@ -307,11 +299,11 @@ function offerTrim(text) {
 export async function importImage(image, name) {
   const importing = new Importing(image);
   atHand = importing;
-  const doc = await openDialog({ title: TEXT.title(name), content: importing.content, wide: true, buttons: [{ name: TEXT.create, value: () => importing.finished(), main: true }] });
+  const doc = await openDialog({ title: phrase('import.turnImageIntoPuzzle', { name }), content: importing.content, wide: true, buttons: [{ name: phrase('import.createPuzzle'), value: () => importing.finished(), main: true }] });
   importing.judging.end();
   if (atHand === importing) atHand = null;
   if (importing.isSheet) return cutSheet(image, importing.canvas, name);
   if (!doc || !(await openDoc(doc, { name, isSaved: false }))) return false;
-  offerTrim(TEXT.done(name));
+  offerTrim(phrase('import.madeFromImageVerdict', { name }));
   return true;
 }

@@ -2,7 +2,8 @@
 // the background, is locked, is replaced by another one, or is dropped. A palette from a file takes the place of the image's own.
 
 import { make } from '../base/elements.js';
-import { radioGroup } from '../base/radios.js';
+import { markRadio, radioGroup } from '../base/radios.js';
+import { capital } from '../base/words.js';
 import { hexOf, isAmong, isSame, nameOf, tripleOf } from '../document/colours.js';
 import { LETTERS } from '../document/limits.js';
 import { colourNamed } from '../document/named.js';
@@ -10,11 +11,6 @@ import { mergedNumbers } from '../document/near.js';
 import { readPalette } from '../formats/palettes.js';
 import { LANGUAGE, phrase } from '../texts/phrase.js';
 
-const TEXT = {
-  palette: phrase('import.palette'), background: phrase('import.background'), lock: phrase('view.lockedBox'), replace: phrase('import.replace'), drop: phrase('import.drop'), reset: phrase('import.startAgain'), file: phrase('import.paletteFile'), name: phrase('import.nameColour'), nameHint: phrase('import.orName'),
-  lockHint: phrase('import.staysHoweverManyColours'), unknown: (text) => phrase('view.noColourName', { text }), from: (name) => phrase('import.coloursAlone', { name }),
-  isGround: phrase('import.isGround'), isLocked: phrase('import.isLocked'), wrong: (name, fault) => phrase('import.fileNotRead', { name, fault }),
-};
 const shareText = (share) => share.toLocaleString(LANGUAGE, { style: 'percent', minimumFractionDigits: 1, maximumFractionDigits: 1 });
 const without = (triples, triple) => triples.filter((one) => !isSame(one, triple));
 const noEdits = () => ({ locked: [], dropped: [], replaced: [], background: null, palette: null });
@@ -25,20 +21,20 @@ export class Inks {
   /** `changed` hears each edit; `drops` hears that a colour was dropped. */
   constructor(changed, drops) {
     Object.assign(this, { changed, drops, edits: noEdits(), doc: null, at: 0, wanted: null });
-    this.row = make('div', { class: 'swatches', role: 'radiogroup', 'aria-label': TEXT.palette, id: 'import-palette' });
+    this.row = make('div', { class: 'swatches', role: 'radiogroup', 'aria-label': phrase('import.palette'), id: 'import-palette' });
     this.text = make('output', { class: 'faint', id: 'import-ink' });
-    this.ground = make('button', { type: 'button', onclick: () => this.edit({ background: this.source }) }, TEXT.background);
+    this.ground = make('button', { type: 'button', onclick: () => this.edit({ background: this.source }) }, capital(phrase('view.background')));
     this.locked = make('input', { type: 'checkbox', id: 'import-lock' });
-    this.picker = make('input', { type: 'color', 'aria-label': TEXT.replace });
-    this.named = make('input', { type: 'text', 'aria-label': TEXT.name, placeholder: TEXT.nameHint, list: 'colour-names', size: 12 });
-    this.dropped = make('button', { type: 'button', id: 'import-drop', onclick: () => this.drop() }, TEXT.drop);
+    this.picker = make('input', { type: 'color', 'aria-label': phrase('import.replace') });
+    this.named = make('input', { type: 'text', 'aria-label': phrase('view.chosenColourName'), placeholder: phrase('view.name123abc'), list: 'colour-names', size: 12 });
+    this.dropped = make('button', { type: 'button', id: 'import-drop', onclick: () => this.drop() }, phrase('import.remove'));
     this.file = make('input', { type: 'file', accept: '.gpl,.pal,.hex,.txt', hidden: true });
     this.said = make('p', { class: 'faint', role: 'status' });
     this.element = make('div', { class: 'inks' }, this.row, this.text,
-      make('div', { class: 'ground' }, this.ground, make('label', { title: TEXT.lockHint }, this.locked, TEXT.lock), this.dropped),
-      make('div', { class: 'ground' }, make('label', {}, TEXT.replace, this.picker), this.named),
-      make('div', { class: 'ground' }, make('button', { type: 'button', id: 'import-file', onclick: () => this.file.click() }, TEXT.file), this.file,
-        make('button', { type: 'button', id: 'import-reset', onclick: () => this.reset() }, TEXT.reset)), this.said);
+      make('div', { class: 'ground' }, this.ground, make('label', { title: phrase('import.staysHoweverManyColours') }, this.locked, capital(phrase('view.locked'))), this.dropped),
+      make('div', { class: 'ground' }, make('label', {}, phrase('import.replace'), this.picker), this.named),
+      make('div', { class: 'ground' }, make('button', { type: 'button', id: 'import-file', onclick: () => this.file.click() }, phrase('import.paletteFile')), this.file,
+        make('button', { type: 'button', id: 'import-reset', onclick: () => this.reset() }, phrase('play.startOver'))), this.said);
     this.hear();
   }
 
@@ -49,7 +45,7 @@ export class Inks {
     this.named.addEventListener('change', () => {
       const triple = colourNamed(this.named.value);
       if (triple) this.replace(triple);
-      this.said.textContent = triple || !this.named.value ? '' : TEXT.unknown(this.named.value);
+      this.said.textContent = triple || !this.named.value ? '' : phrase('view.noColourName', { text: this.named.value });
       this.named.value = '';
     });
     this.file.addEventListener('change', () => this.file.files[0] && this.read(this.file.files[0]));
@@ -110,10 +106,10 @@ export class Inks {
   async read(file) {
     try {
       const { colours } = readPalette(await file.text());
-      this.said.textContent = TEXT.from(file.name);
+      this.said.textContent = phrase('import.coloursAlone', { name: file.name });
       this.edit({ ...noEdits(), palette: colours.map(({ triple }) => triple) });
     } catch (fault) {
-      this.said.textContent = TEXT.wrong(file.name, fault.message);
+      this.said.textContent = phrase('import.fileNotRead', { name: file.name, fault: fault.message });
     }
     this.file.value = '';
   }
@@ -150,16 +146,13 @@ export class Inks {
     const { doc } = this;
     const cells = doc.picture.join('').split(LETTERS[at]).length - 1;
     const share = shareText(cells / (doc.rows * doc.columns));
-    return [`${nameOf(doc.colours[at], 255)} ${hexOf(doc.colours[at], 255)}`, share, at === 0 ? TEXT.isGround : '', this.isLocked(at) ? TEXT.isLocked : ''].filter(Boolean).join(', ');
+    return [`${nameOf(doc.colours[at], 255)} ${hexOf(doc.colours[at], 255)}`, share, at === 0 ? phrase('view.background') : '', this.isLocked(at) ? phrase('view.locked') : ''].filter(Boolean).join(', ');
   }
 
   mark() {
     const { doc, at } = this;
-    [...this.row.children].forEach((/** @type {any} */ button, one) => {
-      button.setAttribute('aria-checked', String(one === at));
-      button.setAttribute('aria-label', this.textOf(one));
-      button.tabIndex = one === at ? 0 : -1;
-    });
+    markRadio(this.row, (button) => button === this.row.children[at]);
+    [...this.row.children].forEach((button, one) => button.setAttribute('aria-label', this.textOf(one)));
     this.text.value = this.textOf(at);
     this.picker.value = hexOf(doc.colours[at], 255);
     this.locked.checked = this.isLocked(at);

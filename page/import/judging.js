@@ -1,20 +1,18 @@
 // What a puzzle that is not open yet would be like: its verdict and grade, worked out in a worker of its own, of the newest one alone.
 
-import { gradeName } from '../base/names.js';
-import { assessed, gradeIn } from '../engine/assessing.js';
+import { gradeName, verdictTitle } from '../base/names.js';
+import { gradeIn } from '../engine/assessing.js';
 import { startEngine } from '../engine/client.js';
+import { Judge } from '../engine/judging.js';
 import { phrase } from '../texts/phrase.js';
 
-const TEXT = {
-  works: phrase('import.lookingAnotherSolution'), unique: phrase('view.unique'), ambiguous: phrase('view.ambiguous'), undecided: phrase('import.notDecidedWithinSome'), failed: phrase('import.noVerdictEngineFailed'),
-  guesses: (count) => phrase('import.cellsNeedGuessing', { count }), open: (count) => phrase('import.cellsOpen', { count }),
-};
+const TEXT = { works: phrase('import.lookingAnotherSolution'), unique: verdictTitle('unique'), ambiguous: verdictTitle('ambiguous'), undecided: phrase('import.notDecidedWithinSome'), failed: phrase('import.noVerdictEngineFailed') };
 const REST = 120; // milliseconds without a change
 const MOST_SECONDS = 5;
 
 /** What is told of a document: in words. */
 export function judgedText({ word, open = 0, grade = null }) {
-  const more = !open ? '' : word === 'unique' ? TEXT.guesses(open) : word === 'ambiguous' ? TEXT.open(open) : '';
+  const more = !open ? '' : word === 'unique' ? phrase('import.cellsNeedGuessing', { count: open }) : word === 'ambiguous' ? phrase('import.cellsOpen', { count: open }) : '';
   return [TEXT[word], more, grade ? gradeName(grade.word) : ''].filter(Boolean).join(', ');
 }
 
@@ -23,7 +21,8 @@ export class Judging {
   told; start; seconds; rest; turn; timer; isBusy;
 
   constructor(told, { start = startEngine, seconds = MOST_SECONDS, rest = REST } = {}) {
-    Object.assign(this, { told, start, seconds, rest, engine: null, turn: 0, timer: 0, isBusy: false });
+    Object.assign(this, { told, start, seconds, rest, turn: 0, timer: 0, isBusy: false });
+    this.judge = new Judge(this);
   }
 
   /** What was asked for holds no more: another document comes. */
@@ -42,33 +41,18 @@ export class Judging {
   end() {
     clearTimeout(this.timer);
     this.turn++;
-    this.engine?.end();
-    this.engine = null;
+    this.judge.end();
   }
 
   async work(doc, turn) {
     if (this.isBusy) { // on an older one
-      this.engine?.end();
-      this.engine = null;
+      this.judge.end();
+      this.judge = new Judge(this);
     }
     this.isBusy = true;
-    const engine = (this.engine ??= this.start());
-    let isLate = false;
-    const clock = setTimeout(() => {
-      isLate = true;
-      engine.end();
-    }, this.seconds * 1000);
-    let found;
-    try {
-      const said = await assessed(engine, doc);
-      found = { word: said.verdict, open: said.open, grade: gradeIn(said) };
-    } catch {
-      found = { word: isLate ? 'undecided' : 'failed' };
-    }
-    clearTimeout(clock);
-    if (engine.isEnded && this.engine === engine) this.engine = null;
+    const said = await this.judge.judge(doc).catch(() => ({ isLate: false }));
     if (turn !== this.turn) return;
     this.isBusy = false;
-    this.told(found);
+    this.told(said.isLate === false ? { word: 'failed' } : { word: said.verdict, open: said.open, grade: gradeIn(said) });
   }
 }

@@ -2,7 +2,7 @@
 // colours as such a file.
 
 import { choiceOf, chooseFiles, make, say } from '../base/elements.js';
-import { cleanName } from '../base/words.js';
+import { cleanName, opening } from '../base/words.js';
 import { hexOf, isAmong, nameOf } from '../document/colours.js';
 import { eightBitDoc } from '../document/document.js';
 import { LETTERS, MOST_COLOURS } from '../document/limits.js';
@@ -17,12 +17,6 @@ import { asSeen, heard } from '../view/tools.js';
 import { placeOfTriple } from './flat.js';
 import { farness } from './spots.js';
 
-const TEXT = {
-  open: phrase('import.coloursFromPaletteFile'), save: phrase('import.savePalette'), format: phrase('library.form'), kinds: { gpl: phrase('import.gimpGpl'), pal: phrase('import.jascPal'), hex: phrase('import.hexadecimalHex') }, saved: (name) => phrase('import.paletteSaved', { name }),
-  title: (name) => phrase('import.coloursOf', { name }), hint: phrase('import.chooseColoursAddPicture'),
-  add: phrase('import.addChosen'), near: phrase('import.takeNearest'), none: phrase('import.chooseColourFirst'), full: (free) => phrase('import.paletteRoomColours', { colours: free }), few: phrase('import.fewerColoursPicture'),
-  noPicture: (name) => phrase('import.paletteOpenPictureFirst', { name }), wrong: (name, fault) => phrase('import.fileNotRead', { name, fault }),
-};
 const MOST_SHOWN = 256;
 
 // What the page keeps of a colour that becomes another one, with that one's name where it has one.
@@ -65,7 +59,7 @@ function swatchOf({ triple, name }) {
 export async function takePalette(text, name) {
   const { colours } = readPalette(text);
   if (!bench.state) {
-    say(TEXT.noPicture(name), 'alarm');
+    say(phrase('import.paletteOpenPictureFirst', { name }), 'alarm');
     return false;
   }
   await asSeen();
@@ -74,12 +68,13 @@ export async function takePalette(text, name) {
   const swatches = offered.map(swatchOf);
   const chosen = () => offered.filter(({ triple }, at) => swatches[at].getAttribute('aria-pressed') === 'true' && !isAmong(doc.colours, triple));
   const free = MOST_COLOURS - doc.colours.length;
+  const title = phrase('import.coloursOf', { name });
   const done = await openDialog({
-    title: TEXT.title(name),
-    content: make('div', {}, make('p', {}, TEXT.hint), make('div', { class: 'swatches', id: 'palette-file', role: 'group', 'aria-label': TEXT.title(name) }, ...swatches)),
+    title,
+    content: make('div', {}, make('p', {}, phrase('import.chooseColoursAddPicture')), make('div', { class: 'swatches', id: 'palette-file', role: 'group', 'aria-label': title }, ...swatches)),
     buttons: [
-      { name: TEXT.near, value: () => withNearest(doc, colours), test: () => (colours.length < doc.colours.length ? TEXT.few : '') },
-      { name: TEXT.add, main: true, value: () => withMore(doc, chosen()), test: () => (!chosen().length ? TEXT.none : chosen().length > free ? TEXT.full(free) : '') },
+      { name: phrase('import.takeNearest'), value: () => withNearest(doc, colours), test: () => (colours.length < doc.colours.length ? phrase('import.fewerColoursPicture') : '') },
+      { name: phrase('import.addChosen'), main: true, value: () => withMore(doc, chosen()), test: () => (!chosen().length ? phrase('import.chooseColourFirst') : chosen().length > free ? phrase('import.paletteRoomColours', { colours: free }) : '') },
     ],
   });
   return done ? heard(bench.become(done)) : false;
@@ -92,25 +87,25 @@ export function paletteOf(doc, name) {
 }
 
 async function savePalette() {
-  const choice = choiceOf({ 'aria-label': TEXT.format, id: 'palette-kind' }, Object.entries(TEXT.kinds));
-  const kind = await openDialog({ title: TEXT.save.replace(' …', ''), content: make('label', {}, TEXT.format, choice), buttons: [{ name: TEXT.save.split(' ')[0], value: () => choice.value, main: true }] });
+  const choice = choiceOf({ 'aria-label': phrase('library.form'), id: 'palette-kind' }, Object.entries({ gpl: phrase('import.gimpGpl'), pal: phrase('import.jascPal'), hex: phrase('import.hexadecimalHex') }));
+  const kind = await openDialog({ title: phrase('import.savePalette'), content: make('label', {}, phrase('library.form'), choice), buttons: [{ name: phrase('library.save'), value: () => choice.value, main: true }] });
   if (!kind) return;
   await asSeen();
   const name = `${cleanName(bench.name)}.${kind}`;
   download(paletteText(paletteOf(bench.state, bench.name), kind), name, 'text/plain');
-  say(TEXT.saved(name));
+  say(phrase('import.paletteSaved', { name }));
 }
 
 async function openPalette([file]) {
   try {
     await takePalette(await file.text(), file.name);
   } catch (fault) {
-    say(TEXT.wrong(file.name, fault.message), 'alarm');
+    say(phrase('import.fileNotRead', { name: file.name, fault: fault.message }), 'alarm');
   }
 }
 
 /** Adds what there is to palettes to the menus. */
 export function startPalettes() {
-  addAction({ id: 'palette-open', name: TEXT.open, place: 'picture', group: 'colours', run: () => chooseFiles('.gpl,.pal,.hex,.txt', openPalette) });
-  addAction({ id: 'palette-save', name: TEXT.save, place: 'picture', group: 'colours', run: savePalette });
+  addAction({ id: 'palette-open', name: phrase('import.coloursFromPaletteFile'), place: 'picture', group: 'colours', run: () => chooseFiles('.gpl,.pal,.hex,.txt', openPalette) });
+  addAction({ id: 'palette-save', name: opening(phrase('import.savePalette')), place: 'picture', group: 'colours', run: savePalette });
 }

@@ -68,8 +68,8 @@ export async function docOfNon(text, page = {}, engine = startEngine(), most = 0
 
 // The document of a PPM picture without the dialog; null where it has none. `ground` holds in place of the background in its notes.
 async function docOfPpm(bytes, ground) {
-  const { image, isText, doc } = readPpmFile(bytes);
-  const background = ground && (await ground(image, isText ? image.maxval : 255));
+  const { image, doc } = readPpmFile(bytes);
+  const background = ground && (await ground(image, image.maxval));
   if (doc && (!background || doc.colours[0].join() === background.join())) return doc;
   const own = docByItself(image, background);
   return own && doc ? { ...own, ...pageOf(doc), inks: [], givens: doc.givens } : own;

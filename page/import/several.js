@@ -155,7 +155,7 @@ export async function showRows(rows, notes = []) {
   const table = new Table(rows, notes);
   const { puzzles } = table;
   const chosen = openDialog({
-    title: phrase('import.puzzles', { puzzles: rows.length }), wide: true, content: table.element,
+    title: phrase('import.puzzles', { puzzles: puzzles.length }), wide: true, content: table.element,
     buttons: [{ name: phrase('view.close'), value: null }, ...(puzzles.length ? [{ name: phrase('import.saveAllZip'), value: 'zip' }, { name: phrase('import.addLibrary'), value: 'library', main: true }] : [])],
   });
   const judged = table.judgeAll();

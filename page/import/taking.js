@@ -15,10 +15,10 @@ import { phrase } from '../texts/phrase.js';
 import { isTyping } from '../view/actions.js';
 import { openDialogs } from '../view/dialogs.js';
 import { Progress } from '../view/progress.js';
-import { takeArchive } from './archives.js';
+import { mayAdd, takeArchive } from './archives.js';
 import { grouped } from './beside.js';
 import { takeCertificate } from './certificates.js';
-import { HEAD, IMAGES, MOST_IMAGE, imageOfFile } from './decoding.js';
+import { HEAD, IMAGES, MOST_IMAGE, imageOfFile, mustHold } from './decoding.js';
 import { unitsIn } from './folders.js';
 import { kindOfFile } from './images.js';
 import { importImage, takesPalette } from './importing.js';
@@ -36,8 +36,7 @@ export async function takeFile(file, handle = null) {
   try {
     const head = new Uint8Array(await file.slice(0, HEAD).arrayBuffer());
     const kind = kindOfFile(head);
-    const [most, text] = kind === 'zip' ? [MOST_ARCHIVE, phrase('import.1Gib')] : IMAGES.has(kind) ? [MOST_IMAGE, phrase('import.256Mib')] : [MOST_BYTES_READ, phrase('import.16Mib')];
-    if (file.size > most) throw new FileFault(phrase('import.more', { text }));
+    mustHold(file, kind === 'zip' ? MOST_ARCHIVE : IMAGES.has(kind) ? MOST_IMAGE : MOST_BYTES_READ);
     if (IMAGES.has(kind)) return await importImage(await imageOfFile(file, head, kind), bareName(file.name));
     return await takeBytes(new Uint8Array(await file.arrayBuffer()), file, handle);
   } catch (fault) {
@@ -73,7 +72,7 @@ async function takeXml(text, name, handle) {
   const [first, ...others] = readXmlFile(text);
   if (first.fault) throw first.fault;
   const isOpen = first.non ? await openNon(first.non, name, first.page) : await openDoc(first.doc, { name, handle: others.length ? null : handle, form: 'xml' });
-  if (!isOpen || !others.length) return isOpen;
+  if (!isOpen || !others.length || !(await mayAdd(others.length, name))) return isOpen;
   const keeper = await keep.ready();
   let added = 0;
   for (const [at, { doc }] of others.entries()) {
@@ -177,7 +176,7 @@ export function hearFiles() {
     if (isTyping(event.target) && (!file || text)) return; // a field takes a text itself
     if (file) takeDropped([file], null);
     else if (/^\s*(P3\s|<\?xml|<puzzle|<svg[\s>]|nonocert|nonolemma)/.test(text) || /^width [0-9]/m.test(text)) takeDropped([new File([text], 'pasted')], null);
-    else if (text && !event.defaultPrevented) say(phrase('import.whatPastedCouldNot', { why: NOT_READ }), 'alarm');
+    else if (text && !event.defaultPrevented) say(phrase('import.couldNotOpened', { name: phrase('import.whatPasted'), fault: NOT_READ }), 'alarm');
     else return;
     event.preventDefault();
   });

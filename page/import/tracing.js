@@ -5,12 +5,12 @@ import { on } from '../base/events.js';
 import { clamp } from '../base/words.js';
 import { FileFault } from '../document/limits.js';
 import { sheet } from '../draw/sheet.js';
-import { penOf } from '../draw/small.js';
+import { penWith } from '../draw/small.js';
 import { Underlay } from '../draw/underlay.js';
 import { faultText } from '../library/open.js';
 import { phrase } from '../texts/phrase.js';
 import { addAction } from '../view/actions.js';
-import { HEAD, IMAGES, MOST_IMAGE, imageOfFile } from './decoding.js';
+import { HEAD, IMAGES, MOST_IMAGE, imageOfFile, mustHold } from './decoding.js';
 import { kindOfFile } from './images.js';
 
 const STEP = 0.25; // cells that an arrow moves the image by
@@ -27,11 +27,9 @@ function endTracing() {
 }
 
 /** Lays an image under the picture. */
-export function trace({ width, height, data }) {
+export function trace(image) {
   endTracing();
-  const pen = penOf(width, height);
-  pen.putImageData(new ImageData(data, width, height), 0, 0);
-  sheet.underlay = new Underlay(sheet, pen.canvas);
+  sheet.underlay = new Underlay(sheet, penWith(image).canvas);
   tracing.fits = sheet.underlay.wide;
   makePanel();
   hearMoves(sheet.underlay);
@@ -110,7 +108,7 @@ function hearMoves(underlay) {
 
 async function traceFile(file) {
   try {
-    if (file.size > MOST_IMAGE) throw new FileFault(phrase('import.more256Mib'));
+    mustHold(file, MOST_IMAGE);
     const head = new Uint8Array(await file.slice(0, HEAD).arrayBuffer());
     const kind = kindOfFile(head);
     if (!IMAGES.has(kind)) throw new FileFault(phrase('import.noImage'));

@@ -3,6 +3,7 @@
 
 import { say } from '../base/elements.js';
 import { tell } from '../base/events.js';
+import { opening } from '../base/words.js';
 import { docOf, sameDoc } from '../document/document.js';
 import { bench } from '../engine/bench.js';
 import { phrase } from '../texts/phrase.js';
@@ -31,7 +32,7 @@ keep.said = ({ kind, why }) => {
     keep.told = null;
   }
   if (keep.isKept || keep.told) return;
-  keep.told = say(phrase('library.yourWorkTabAlone', { why: REASONS[why] }), 'alarm', why === 'full' ? { name: phrase('library.makeRoom'), run: () => keep.makeRoom?.() } : null);
+  keep.told = say(phrase('library.yourWorkTabAlone', { why: REASONS[why] }), 'alarm', why === 'full' ? { name: opening(phrase('start.makeRoom')), run: () => keep.makeRoom?.() } : null);
 };
 
 /**

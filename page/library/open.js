@@ -24,7 +24,7 @@ export async function openDoc(doc, { name, isSaved = true, id = null, strokes = 
   try {
     await bench.open(baseOf(doc), { name, page: pageOf(doc), strokes, isSaved });
   } catch (fault) {
-    say(phrase('library.couldNotOpened', { name, fault: faultText(fault) }), 'alarm');
+    say(phrase('import.couldNotOpened', { name: phrase('import.quoted', { name }), fault: faultText(fault) }), 'alarm');
     return false;
   } finally {
     keep.isPaused = false;

@@ -21,7 +21,7 @@ export const SAVE_TYPES = {
   non: { type: 'text/plain', ending: '.non', what: phrase('library.nonTwoColourPuzzle') },
   cert: { type: 'text/plain', ending: '.cert', what: phrase('library.certificate') },
   svg: { type: 'image/svg+xml', ending: '.svg', what: phrase('library.sheetSvg') },
-  png: { type: 'image/png', ending: '.png', what: phrase('library.picturePng') },
+  png: { type: 'image/png', ending: '.png', what: phrase('export.picturePng') },
   gif: { type: 'image/gif', ending: '.gif', what: phrase('library.solvingPath') },
   zip: { type: 'application/zip', ending: '.zip', what: phrase('library.archive') },
 };
@@ -51,7 +51,7 @@ async function textAs(form) {
   if (form === 'xml') return webpbnText(state, state.clues);
   const [answer] = await bench.ask('write non').catch(() => []);
   if (answer?.kind === 'text') return nonHead(state.about) + answer.text;
-  say(answer?.name === 'TwoColoursOnly' ? phrase('library.nonPuzzleOneColour') : phrase('library.nonTextNotMade'), 'alarm');
+  say(answer?.name === 'TwoColoursOnly' ? phrase('view.notDone', { meaning: phrase('view.nonPuzzleOneColour') }) : phrase('library.nonTextNotMade'), 'alarm');
   return null;
 }
 

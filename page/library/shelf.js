@@ -10,19 +10,14 @@ const settledRequest = (request) => new Promise((resolve, reject) => {
 });
 
 function openDatabase(factory) {
-  return new Promise((resolve, reject) => {
-    const request = factory.open(SHELF_NAME, 1);
-    const timer = setTimeout(() => reject(new Error('the database does not open')), SHELF_WAIT);
-    request.onupgradeneeded = () => request.result.createObjectStore('kept');
-    request.onsuccess = () => {
-      clearTimeout(timer);
-      resolve(request.result);
-    };
-    request.onerror = request.onblocked = () => {
-      clearTimeout(timer);
-      reject(request.error ?? new Error('the database is blocked'));
-    };
+  const request = factory.open(SHELF_NAME, 1);
+  request.onupgradeneeded = () => request.result.createObjectStore('kept');
+  let timer;
+  const fails = new Promise((_, reject) => {
+    timer = setTimeout(() => reject(new Error('the database does not open')), SHELF_WAIT);
+    request.onblocked = () => reject(new Error('the database is blocked'));
   });
+  return Promise.race([settledRequest(request), fails]).finally(() => clearTimeout(timer));
 }
 
 async function indexedShelf(factory) {

@@ -1,26 +1,19 @@
 // Hints: which line first, then which of its cells, then why. They follow from the player's own marks: the engine tells the path of the
 // puzzle in which these cells are given.
 
+import { capital, lineName, linesText } from '../base/words.js';
 import { phrase } from '../texts/phrase.js';
 import { searches } from '../view/verdict.js';
 import { play } from './play.js';
 
 const MOST_SECONDS = 30;
 
-const lineName = (line) => (line < play.state.rows ? phrase('view.rowLine', { line: line + 1 }) : phrase('play.columnLine', { rows: line - play.state.rows + 1 }));
-const placeIn = (line, index) => (line < play.state.rows ? (index % play.state.columns) + 1 : Math.floor(index / play.state.columns) + 1);
+const isRow = (line) => line < play.state.rows;
+const nameOfLine = (line) => capital(isRow(line) ? lineName(true, line) : lineName(false, line - play.state.rows));
+const placeIn = (line, index) => (isRow(line) ? (index % play.state.columns) + 1 : Math.floor(index / play.state.columns) + 1);
 
 /** Places along a line in words, as in “columns 2–4, 7”. */
-export function placesText(line, cells) {
-  const places = cells.map((index) => placeIn(line, index)).sort((one, other) => one - other);
-  const spans = [];
-  for (const at of places) {
-    if (spans.length && spans.at(-1)[1] === at - 1) spans.at(-1)[1] = at;
-    else spans.push([at, at]);
-  }
-  const found = { count: places.length, spans: spans.map(([from, to]) => (from === to ? from : `${from}–${to}`)).join(', ') };
-  return line < play.state.rows ? phrase('play.inColumns', found) : phrase('play.inRows', found);
-}
+export const placesText = (line, cells) => linesText(!isRow(line), cells.map((index) => placeIn(line, index)));
 
 /** The cells of a line that are known, by the letters of all cells. */
 export function knownIn(line, letters) {
@@ -31,9 +24,9 @@ export function knownIn(line, letters) {
 
 /** What a step says, as far as it is told: 'line', 'cells' or 'why', that is, with the cells of its line that were known. */
 export function stepText({ line, cells, premises }, how = 'why') {
-  if (!cells.length) return phrase('play.excludesColours', { lineName: lineName(line) });
-  if (how === 'line') return phrase('play.tellsMore', { lineName: lineName(line) });
-  const first = phrase('play.settles', { lineName: lineName(line), places: placesText(line, cells) });
+  if (!cells.length) return phrase('play.excludesColours', { lineName: nameOfLine(line) });
+  if (how === 'line') return phrase('play.tellsMore', { lineName: nameOfLine(line) });
+  const first = phrase('play.settles', { lineName: nameOfLine(line), places: placesText(line, cells) });
   if (how === 'cells' || !premises.length) return `${first}.`;
   return `${first}${phrase('play.sinceCountKnown', { places: placesText(line, premises), count: premises.length })}.`;
 }

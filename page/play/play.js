@@ -1,10 +1,12 @@
 // Play: the empty puzzle as a solver gets it. Marks are the player's own and change nothing of the picture.
 
-import { $, make, withoutGestures } from '../base/elements.js';
+import { $, buttonOf, make, withoutGestures } from '../base/elements.js';
 import { tell } from '../base/events.js';
+import { markRadio } from '../base/radios.js';
 import { clamp } from '../base/words.js';
 import { nameOf } from '../document/colours.js';
 import { LETTERS, MOST_CELLS } from '../document/limits.js';
+import { lineCells } from '../document/shapes.js';
 import { bench } from '../engine/bench.js';
 import { phrase } from '../texts/phrase.js';
 import { addAction, runAction } from '../view/actions.js';
@@ -56,18 +58,17 @@ function keepOpen(dialog) {
 }
 
 export const playSays = (text) => { $('play-said').textContent = text; };
-const playButton = (id, name, run, more = {}) => make('button', { type: 'button', id, onclick: run, ...more }, name);
 
 function playBar() {
   return make('div', { class: 'group', id: 'play-bar' },
     make('h2', {}, phrase('play.play')),
-    playButton('play-undo', phrase('view.undo'), () => playTurn('past', 'future'), { 'data-short': '↶', 'aria-label': phrase('view.undo') }), playButton('play-redo', phrase('view.redo'), () => playTurn('future', 'past'), { 'data-short': '↷', 'aria-label': phrase('view.redo') }),
-    playButton('play-check', phrase('view.check'), checkPlay, { title: phrase('play.marksCellsNotYour') }),
-    playButton('play-hint', phrase('play.hint'), hintPlay, { title: phrase('play.lineTellsMoreAgain') }),
-    playButton('play-clear', phrase('play.startOver'), clearPlay), playButton('play-walk', phrase('play.walkThrough'), startWalk),
-    playButton('play-smaller', '−', () => zoomPlay(-1), { 'aria-label': phrase('play.smallerCells') }), playButton('play-larger', '+', () => zoomPlay(1), { 'aria-label': phrase('play.largerCells') }),
-    playButton('play-help', '?', () => runAction('guide'), { 'aria-label': phrase('view.guide'), title: phrase('view.guide') }),
-    playButton('play-close', phrase('play.backPicture'), () => $('play-room').close(), { 'data-short': '←', 'aria-label': phrase('play.backPicture') }));
+    buttonOf('play-undo', phrase('view.undo'), () => playTurn('past', 'future'), { 'data-short': '↶', 'aria-label': phrase('view.undo') }), buttonOf('play-redo', phrase('view.redo'), () => playTurn('future', 'past'), { 'data-short': '↷', 'aria-label': phrase('view.redo') }),
+    buttonOf('play-check', phrase('view.check'), checkPlay, { title: phrase('play.marksCellsNotYour') }),
+    buttonOf('play-hint', phrase('play.hint'), hintPlay, { title: phrase('play.lineTellsMoreAgain') }),
+    buttonOf('play-clear', phrase('play.startOver'), clearPlay), buttonOf('play-walk', phrase('play.walkThrough'), startWalk),
+    buttonOf('play-smaller', '−', () => zoomPlay(-1), { 'aria-label': phrase('view.smaller') }), buttonOf('play-larger', '+', () => zoomPlay(1), { 'aria-label': phrase('view.larger') }),
+    buttonOf('play-help', '?', () => runAction('guide'), { 'aria-label': phrase('view.guide'), title: phrase('view.guide') }),
+    buttonOf('play-close', phrase('play.backPicture'), () => $('play-room').close(), { 'data-short': '←', 'aria-label': phrase('play.backPicture') }));
 }
 
 function playBoard() {
@@ -87,7 +88,7 @@ function playPalette() {
   $('play-palette').replaceChildren(...choices.map((letter) => {
     const name = letter === '.' ? phrase('view.background') : letter === '?' ? phrase('play.wipe') : nameOf(colours[LETTERS.indexOf(letter)], maxval);
     const sign = { '.': '×', '?': '⌫' }[letter] ?? letter;
-    const button = playButton(null, sign, () => choosePlay(letter), { role: 'radio', 'data-letter': letter, 'aria-label': name, title: name });
+    const button = buttonOf(null, sign, () => choosePlay(letter), { role: 'radio', 'data-letter': letter, 'aria-label': name, title: name });
     if (letter !== '?') dress(button, letter, play.state);
     return button;
   }));
@@ -97,10 +98,7 @@ function playPalette() {
 function choosePlay(letter) {
   if (letter !== '?' && LETTERS.indexOf(letter) >= play.state.colours.length) return;
   play.letter = letter;
-  for (const button of $('play-palette').children) {
-    button.setAttribute('aria-checked', button.dataset.letter === letter);
-    button.tabIndex = button.dataset.letter === letter ? 0 : -1;
-  }
+  markRadio($('play-palette'), ({ dataset }) => dataset.letter === letter);
 }
 
 // ---- marks
@@ -202,12 +200,7 @@ function beginPlay(at, letter) {
 
 function alongPlay(at) {
   const { drag } = play;
-  const steps = Math.max(Math.abs(at.row - drag.to.row), Math.abs(at.col - drag.to.col), 1);
-  for (let step = 0; step <= steps; step++) {
-    const row = Math.round(drag.to.row + ((at.row - drag.to.row) * step) / steps);
-    const col = Math.round(drag.to.col + ((at.col - drag.to.col) * step) / steps);
-    drag.stroke.push(...markPlay([row * play.state.columns + col], drag.mark));
-  }
+  drag.stroke.push(...markPlay(lineCells(drag.to, at).map(({ row, col }) => row * play.state.columns + col), drag.mark));
   drag.to = at;
   movePlay(at);
 }
@@ -237,6 +230,12 @@ function pinchPlay() {
   zoomPlay(way, middle);
 }
 
+function endFinger(event) {
+  playFingers.delete(event.pointerId);
+  pinched = 0;
+  endPlay();
+}
+
 const playPointer = {
   pointerdown(event) {
     event.preventDefault();
@@ -263,16 +262,8 @@ const playPointer = {
     const at = playCellAt(event);
     if (at && play.drag) alongPlay(at);
   },
-  pointerup(event) {
-    playFingers.delete(event.pointerId);
-    pinched = 0;
-    endPlay();
-  },
-  pointercancel(event) {
-    playFingers.delete(event.pointerId);
-    pinched = 0;
-    endPlay();
-  },
+  pointerup: endFinger,
+  pointercancel: endFinger,
 };
 
 const PLAY_STEPS = { ArrowUp: [-1, 0], ArrowDown: [1, 0], ArrowLeft: [0, -1], ArrowRight: [0, 1], PageUp: [-10, 0], PageDown: [10, 0], Home: [0, -MOST_CELLS], End: [0, MOST_CELLS] };

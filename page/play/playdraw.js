@@ -188,7 +188,7 @@ function drawPlayCell(surface, look, cell) {
   }
 }
 
-const playClueText = (blocks) => blocks.map((block) => `${block.length} ${nameOf(play.state.colours[LETTERS.indexOf(block.letter)], play.state.maxval)}`).join(', ') || phrase('play.nothing');
+const playClueText = (blocks) => blocks.map((block) => `${block.length} ${nameOf(play.state.colours[LETTERS.indexOf(block.letter)], play.state.maxval)}`).join(', ') || phrase('view.emptyClue');
 
 /** Takes the cursor to a cell; `told` says it to those who hear the page. */
 export function movePlay(at, told = false) {
@@ -197,7 +197,7 @@ export function movePlay(at, told = false) {
   if (!told) return;
   const mark = play.marks[at.row][at.col];
   const { clues } = play.state;
-  const place = phrase('play.cellAt', { row: at.row + 1, col: at.col + 1, mark: mark === '?' ? phrase('play.noMark') : wordOf(mark) });
+  const place = phrase('view.rowColumn', { row: at.row + 1, col: at.col + 1, letterAt: mark === '?' ? phrase('play.noMark') : wordOf(mark) });
   $('play-cell').textContent = phrase('play.cellClues', { place, playClue: playClueText(clues.rows[at.row]), playClue2: playClueText(clues.columns[at.col]) });
   const board = $('play-board').getBoundingClientRect();
   const field = $('play-field').getBoundingClientRect();

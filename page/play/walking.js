@@ -1,6 +1,6 @@
 // Walk through: the solving path on the field, step by step, with a slider, the hardest step, and the heat map.
 
-import { $, make } from '../base/elements.js';
+import { $, buttonOf, make } from '../base/elements.js';
 import { clamp } from '../base/words.js';
 import { nameOf } from '../document/colours.js';
 import { LETTERS } from '../document/limits.js';
@@ -18,18 +18,16 @@ const walking = { walk: null, at: 0, told: '', isKnown: false, timer: 0, marks: 
 /** Whether the path is shown in place of the player's marks. */
 export const isWalking = () => walking.walk !== null;
 
-const button = (id, name, run, more = {}) => make('button', { type: 'button', id, onclick: run, ...more }, name);
-
 /** The bar of the path, which is hidden until it is walked. */
 export function walkBar() {
   return make('div', { id: 'walk-bar', class: 'group', hidden: true },
-    button('walk-back', '◂', () => goTo(walking.at - 1), { 'aria-label': phrase('play.stepBack') }),
+    buttonOf('walk-back', '◂', () => goTo(walking.at - 1), { 'aria-label': phrase('play.stepBack') }),
     make('input', { type: 'range', id: 'walk-at', min: 0, value: 0, 'aria-label': phrase('play.step'), oninput: (event) => goTo(Number(event.target.value)) }),
-    button('walk-on', '▸', () => goTo(walking.at + 1), { 'aria-label': phrase('play.stepOn') }),
-    button('walk-play', phrase('play.playSteps'), turnPlaying), button('walk-hardest', phrase('play.hardestStep'), () => goTo(walking.walk.hardest)),
+    buttonOf('walk-on', '▸', () => goTo(walking.at + 1), { 'aria-label': phrase('play.stepOn') }),
+    buttonOf('walk-play', phrase('play.playSteps'), turnPlaying), buttonOf('walk-hardest', phrase('play.hardestStep'), () => goTo(walking.walk.hardest)),
     make('label', {}, make('input', { type: 'checkbox', id: 'walk-heat', onchange: showHeat }), phrase('play.heatMap')),
-    button('walk-save', 'GIF', () => runAction('export-path'), { title: phrase('play.savePath'), 'aria-label': phrase('play.savePath') }),
-    button('walk-end', phrase('play.solveYourself'), endWalk));
+    buttonOf('walk-save', 'GIF', () => runAction('export-path'), { title: phrase('export.exportPath'), 'aria-label': phrase('export.exportPath') }),
+    buttonOf('walk-end', phrase('play.solveYourself'), endWalk));
 }
 
 /** Begins the path from the empty puzzle; the player's marks come back at its end. */

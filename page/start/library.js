@@ -2,8 +2,8 @@
 
 import { $, choiceOf, make, say } from '../base/elements.js';
 import { on } from '../base/events.js';
-import { gradeName, verdictName } from '../base/names.js';
-import { cleanName, sizeText } from '../base/words.js';
+import { VERDICT_SIGNS, gradeName, verdictName } from '../base/names.js';
+import { cleanName, opening, sizeText } from '../base/words.js';
 import { smallPicture } from '../draw/small.js';
 import { bench } from '../engine/bench.js';
 import { exportAll } from '../import/archives.js';
@@ -17,11 +17,11 @@ const [MINUTE, HOUR, DAY] = [60000, 3600000, 86400000];
 function ageText(when, now = Date.now()) {
   const age = Math.max(0, now - when);
   if (age < MINUTE) return phrase('start.justNow');
-  if (age < HOUR) return phrase('start.minutesAgo', { minutes: Math.floor(age / MINUTE) });
-  return age < DAY ? phrase('start.hoursAgo', { hours: Math.floor(age / HOUR) }) : phrase('start.daysAgo', { days: Math.floor(age / DAY) });
+  const ago = new Intl.RelativeTimeFormat(LANGUAGE);
+  if (age < HOUR) return ago.format(-Math.floor(age / MINUTE), 'minute');
+  return age < DAY ? ago.format(-Math.floor(age / HOUR), 'hour') : ago.format(-Math.floor(age / DAY), 'day');
 }
 
-const SIGNS = { unique: '✓', ambiguous: '≠', undecided: '?' };
 const ORDERS = {
   when: [phrase('start.newestFirst'), (a, b) => b.when - a.when],
   name: [phrase('start.byName'), (a, b) => a.name.localeCompare(b.name)],
@@ -84,7 +84,7 @@ function showCards() {
 async function showRoom(keeper) {
   if (!keeper.shelf.lasts) {
     view.section.hidden = false;
-    view.room.textContent = phrase('start.browserKeepsNothingPage');
+    view.room.textContent = phrase('library.yourWorkTabAlone', { why: phrase('library.browserKeepsNothingPage') });
     return;
   }
   const own = view.cards.reduce((sum, card) => sum + card.size, 0);
@@ -99,7 +99,7 @@ async function showRoom(keeper) {
 
 function tileOf(card) {
   const isOpen = card.id === keep.id && bench.state !== null;
-  const facts = [sizeText(card.doc), SIGNS[card.verdict] && `${SIGNS[card.verdict]}\u00a0${verdictName(card.verdict)}`, card.grade && gradeName(card.grade)].filter(Boolean).join(', ');
+  const facts = [sizeText(card.doc), VERDICT_SIGNS[card.verdict] && `${VERDICT_SIGNS[card.verdict]}\u00a0${verdictName(card.verdict)}`, card.grade && gradeName(card.grade)].filter(Boolean).join(', ');
   const when = [isOpen ? phrase('start.openHere') : ageText(card.when), card.isSaved ? '' : phrase('start.notFile')].filter(Boolean).join(', ');
   const open = () => (isOpen ? view.goBack() : openRecord(card.id));
   return make('li', { class: 'tile' },
@@ -112,7 +112,7 @@ function menuOf(card, isOpen) {
   const list = make('div', { class: 'menu', role: 'menu', popover: 'auto', 'aria-label': card.name });
   const button = make('button', { type: 'button', class: 'quiet', 'aria-haspopup': 'menu', 'aria-label': phrase('start.moreFor', { name: card.name }), title: phrase('view.more') }, '⋯');
   const item = (name, run) => make('button', { type: 'button', role: 'menuitem', onclick: () => { list.hidePopover(); run(); } }, name);
-  list.append(item(phrase('start.renameAction'), () => rename(card)), item(phrase('start.duplicate'), () => duplicate(card)), ...(isOpen ? [] : [item(phrase('view.delete'), () => remove([card]))]));
+  list.append(item(opening(phrase('start.rename')), () => rename(card)), item(phrase('start.duplicate'), () => duplicate(card)), ...(isOpen ? [] : [item(phrase('view.delete'), () => remove([card]))]));
   list.addEventListener('toggle', (event) => { if (event.newState === 'open') list.querySelector('button').focus(); });
   list.addEventListener('keydown', (event) => {
     const items = [...list.children];
@@ -166,7 +166,7 @@ async function remove(cards) {
 async function makeRoom() {
   const cards = (await keep.keeper.cards()).filter((card) => card.id !== keep.id).sort((a, b) => Number(b.isSaved) - Number(a.isSaved) || b.size - a.size);
   const boxes = cards.map((card) => make('input', { type: 'checkbox' }));
-  const rows = cards.map((card, at) => make('label', {}, boxes[at], `${card.name}, ${bytesText(card.size)}${card.isSaved ? '' : phrase('start.andNotInFile')}`));
+  const rows = cards.map((card, at) => make('label', {}, boxes[at], `${card.name}, ${bytesText(card.size)}${card.isSaved ? '' : `, ${phrase('start.notFile')}`}`));
   const warn = make('p', { class: 'wrong', role: 'status' });
   const chosen = () => cards.filter((_, at) => boxes[at].checked);
   const content = make('div', { class: 'rows' }, make('p', {}, phrase('start.browserNoRoomLeft')), ...rows, warn);

@@ -29,9 +29,10 @@ function tellSite() {
   if (window.parent !== window) window.parent.postMessage({ nonobench: 'solved' }, '*');
 }
 
-/** Opens the link that the page was called by, and those that follow in the same tab. */
+/** Opens the link that the page was called by, and those that follow in the same tab, each once the one before it is open. */
 export function startLinked() {
+  let opened = openFragment();
   on('solved', tellSite);
-  addEventListener('hashchange', openFragment);
-  return openFragment();
+  addEventListener('hashchange', () => { opened = opened.then(openFragment); });
+  return opened;
 }

@@ -2,7 +2,7 @@
 
 import { $, make } from '../base/elements.js';
 import { on } from '../base/events.js';
-import { freeName, sizeText } from '../base/words.js';
+import { capital, freeName, opening, sizeText } from '../base/words.js';
 import { emptyDoc } from '../document/document.js';
 import { MOST_CELLS } from '../document/limits.js';
 import { smallPicture } from '../draw/small.js';
@@ -15,6 +15,7 @@ import { openDoc } from '../library/open.js';
 import { save, saveAs } from '../library/saving.js';
 import { phrase } from '../texts/phrase.js';
 import { addAction } from '../view/actions.js';
+import { useColour } from '../view/tools.js';
 import { libraryListed, makeLibrary, startLibrary } from './library.js';
 
 const START_SIZE = [20, 15];
@@ -25,12 +26,12 @@ function newCard() {
   const ground = make('input', { type: 'color', id: 'new-background', value: '#ffffff' });
   const form = make('form', { class: 'card', 'aria-labelledby': 'new-title' },
     make('h2', { id: 'new-title' }, phrase('start.new')),
-    make('p', { class: 'fields' }, make('label', {}, phrase('view.columns'), columns), make('label', {}, phrase('view.rows'), rows), make('label', {}, phrase('import.background'), ground)),
+    make('p', { class: 'fields' }, make('label', {}, phrase('view.columns'), columns), make('label', {}, phrase('view.rows'), rows), make('label', {}, capital(phrase('view.background')), ground)),
     make('button', { type: 'submit', class: 'main', id: 'new-go' }, phrase('start.startPainting')));
   form.addEventListener('submit', async (event) => {
     event.preventDefault();
     const background = [1, 3, 5].map((at) => parseInt(ground.value.slice(at, at + 2), 16));
-    openDoc(emptyDoc(Number(columns.value), Number(rows.value), background), { name: await newName(), isBlank: true });
+    if (await openDoc(emptyDoc(Number(columns.value), Number(rows.value), background), { name: await newName(), isBlank: true })) useColour('a');
   });
   return form;
 }
@@ -59,7 +60,7 @@ function exampleItem(source) {
   if (!doc) return '';
   const { example } = source.dataset;
   const name = EXAMPLES[example] ?? example;
-  const facts = example === MEND ? phrase('start.mendExample') : phrase('start.uniqueExample');
+  const facts = example === MEND ? phrase('start.mendExample') : phrase('view.oneSolution');
   return make('li', {}, make('button', { type: 'button', class: 'kept', 'data-name': example, onclick: () => openDoc(doc, { name }) },
     smallPicture(doc, EXAMPLE_SIDE), make('span', {}, make('b', {}, name), make('span', { class: 'faint' }, sizeText(doc)), make('span', { class: 'faint' }, facts))));
 }
@@ -97,7 +98,7 @@ export function startStart() {
   addAction({ id: 'new', name: phrase('start.newOpen'), place: 'file', group: 'open', needs: false, run: showStart });
   addAction({ id: 'open', name: phrase('start.openFile'), key: 'Ctrl+O', place: 'file', group: 'open', needs: false, run: () => chooseFile() });
   addAction({ id: 'save', name: phrase('library.save'), key: 'Ctrl+S', place: 'file', group: 'save', run: save });
-  addAction({ id: 'save-as', name: phrase('start.saveAs'), key: 'Ctrl+Shift+S', place: 'file', group: 'save', run: saveAs });
+  addAction({ id: 'save-as', name: opening(phrase('library.saveAs')), key: 'Ctrl+Shift+S', place: 'file', group: 'save', run: saveAs });
 
   on('opened', hideStart);
 }

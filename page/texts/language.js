@@ -8,23 +8,24 @@ export const MIRRORED = 'en-x-mirrored';
 
 const KEPT = 'nonobench-language';
 
-function keptLanguage() {
+/** A choice that the browser keeps, by its name; null where it keeps none. */
+export function keptChoice(name) {
   try {
-    return localStorage.getItem(KEPT);
+    return localStorage.getItem(name);
   } catch {
     return null;
   }
 }
 
-/** Keeps the language for the next start of the page; says whether the browser keeps it. */
-export function keepLanguage(language) {
+/** Keeps a choice for the next start of the page, where the browser can. */
+export function keepChoice(name, value) {
   try {
-    localStorage.setItem(KEPT, language);
-    return localStorage.getItem(KEPT) === language;
-  } catch {
-    return false;
-  }
+    localStorage.setItem(name, value);
+  } catch { /* it holds until the page is closed */ }
 }
+
+/** Keeps the language for the next start of the page. */
+export const keepLanguage = (language) => keepChoice(KEPT, language);
 
 /** The language of a choice, or else of the wishes of a browser. */
 export function languageOf(kept, wishes) {
@@ -33,7 +34,7 @@ export function languageOf(kept, wishes) {
 }
 
 /** The language of the page; without a document, as in tests, English. */
-export const LANGUAGE = globalThis.document ? languageOf(keptLanguage(), navigator.languages ?? []) : 'en';
+export const LANGUAGE = globalThis.document ? languageOf(keptChoice(KEPT), navigator.languages ?? []) : 'en';
 
 /** The direction in which it is written. */
 export const DIRECTION = LANGUAGE === MIRRORED ? 'rtl' : 'ltr';

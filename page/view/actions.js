@@ -37,14 +37,13 @@ export function actionButton(action, attributes = {}) {
   return button;
 }
 
-/** @type {Record<string, import('../texts/phrase.js').PlainPhrase>} */
 const KEY_NAMES = {
-  Ctrl: 'view.keyCtrl', Shift: 'view.keyShift', ArrowUp: 'view.keyArrowUp', ArrowDown: 'view.keyArrowDown', ArrowLeft: 'view.keyArrowLeft', ArrowRight: 'view.keyArrowRight',
-  Enter: 'view.keyEnter', Escape: 'view.keyEscape', Delete: 'view.keyDelete',
+  Ctrl: phrase('view.keyCtrl'), Shift: phrase('view.keyShift'), ArrowUp: '↑', ArrowDown: '↓', ArrowLeft: '←', ArrowRight: '→',
+  Enter: phrase('view.keyEnter'), Escape: phrase('view.keyEscape'), Delete: phrase('view.keyDelete'),
 };
 
 /** A key as keyboards of the language have it. */
-export const keyText = (key) => key.replace(/[A-Za-z]{2,}/g, (name) => (KEY_NAMES[name] ? phrase(KEY_NAMES[name]) : name));
+export const keyText = (key) => key.replace(/[A-Za-z]{2,}/g, (name) => KEY_NAMES[name] ?? name);
 
 const ariaKey = (key) => key.replace('Ctrl', 'Control');
 

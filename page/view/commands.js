@@ -1,6 +1,7 @@
 // What the menus Edit, Picture, View and Help have, with their keys.
 
 import { make, say } from '../base/elements.js';
+import { opening } from '../base/words.js';
 import { LETTERS, MOST_CELLS, MOST_COLOURS } from '../document/limits.js';
 import { outlineOf, placesOfBox, placesOfLetter, shadowOf } from '../document/regions.js';
 import { boxInMargin, cutOut, resized, rowsOfText, shifted, turned } from '../document/shapes.js';
@@ -17,6 +18,7 @@ import { clearSelected, copyToClipboard, dropSelection, lift, moveFloat, pasteRo
 import { dropDrag, forgetReason, heard, nextSymmetry, paintPlaces, sendStroke, tools, useAdding, useColour, useTool } from './tools.js';
 
 const FAR = 5; // cells that a selection is moved by with Shift
+const SHIFTS = [{ key: 'ArrowUp', name: phrase('view.shiftUp'), down: -1 }, { key: 'ArrowDown', name: phrase('view.shiftDown'), down: 1 }, { key: 'ArrowLeft', name: phrase('view.shiftLeft'), across: -1 }, { key: 'ArrowRight', name: phrase('view.shiftRight'), across: 1 }];
 
 async function undoStroke() {
   if (dropSelectionMove()) return;
@@ -39,7 +41,7 @@ export function addEditActions() {
   edit({ id: 'select-none', name: phrase('view.selectNothing'), group: 'select', run: () => { setDown(); dropSelection(); }, can: hasBox });
   edit({ id: 'copy', name: phrase('view.copyCtrlC'), group: 'select', run: () => copyToClipboard(false) });
   edit({ id: 'cut', name: phrase('view.cutCtrlX'), group: 'select', run: () => copyToClipboard(true), can: hasBox });
-  edit({ id: 'paste', name: phrase('view.pasteText'), group: 'select', run: pasteByDialog });
+  edit({ id: 'paste', name: opening(phrase('view.pasteText')), group: 'select', run: pasteByDialog });
   edit({ id: 'clear', name: phrase('view.clearSelection'), key: 'Delete Backspace', group: 'select', run: clearSelected, can: hasBox });
   edit({ id: 'select-colour', name: phrase('view.selectAllCellsColour'), key: 'Shift+A A', group: 'region', run: selectColour });
   edit({ id: 'wand-adds', name: phrase('view.wandAdds'), group: 'region', run: () => useAdding(!tools.adds), isOn: () => tools.adds });
@@ -85,7 +87,7 @@ async function pasteByDialog() {
   const field = make('textarea', { rows: 8, cols: 40, 'aria-label': phrase('view.rowsLetters'), placeholder: '..aa..\n.abba.' });
   const rows = () => rowsOfText(field.value, bench.state.colours.length);
   const done = await openDialog({
-    title: phrase('view.pasteTextTitle'),
+    title: phrase('view.pasteText'),
     content: make('div', {}, make('p', {}, phrase('view.oneLineEachRow')), field),
     buttons: [{ name: phrase('view.paste'), value: rows, main: true, test: () => (rows() ? '' : phrase('view.theseNotRowsLetters')) }],
   });
@@ -98,16 +100,12 @@ export function addPictureActions() {
   add('mirror-down', phrase('view.mirrorTopBottom'), 'Ctrl+Alt+Shift+M', () => transform((doc) => turned(doc, 'down')), 'turn');
   add('turn-right', phrase('view.turnRight'), 'Ctrl+Alt+R', () => transform((doc) => turned(doc, 'right')), 'turn');
   add('turn-left', phrase('view.turnLeft'), 'Ctrl+Alt+Shift+R', () => transform((doc) => turned(doc, 'left')), 'turn');
-  add('shift-up', phrase('view.shiftUp'), 'Alt+ArrowUp', () => shiftBy(-1, 0), 'shift');
-  add('shift-down', phrase('view.shiftDown'), 'Alt+ArrowDown', () => shiftBy(1, 0), 'shift');
-  add('shift-left', phrase('view.shiftLeft'), 'Alt+ArrowLeft', () => shiftBy(0, -1), 'shift');
-  add('shift-right', phrase('view.shiftRight'), 'Alt+ArrowRight', () => shiftBy(0, 1), 'shift');
-  const far = (id, name, key, down, across) => addAction({ id, name, key, run: () => shiftBy(down * FAR, across * FAR) });
-  far('shift-up-far', phrase('view.shiftUpFar', { cells: FAR }), 'Alt+Shift+ArrowUp', -1, 0);
-  far('shift-down-far', phrase('view.shiftDownFar', { cells: FAR }), 'Alt+Shift+ArrowDown', 1, 0);
-  far('shift-left-far', phrase('view.shiftLeftFar', { cells: FAR }), 'Alt+Shift+ArrowLeft', 0, -1);
-  far('shift-right-far', phrase('view.shiftRightFar', { cells: FAR }), 'Alt+Shift+ArrowRight', 0, 1);
-  add('resize', phrase('view.resize'), 'Ctrl+Alt+S', resizeByDialog, 'size');
+  for (const { key, name, down = 0, across = 0 } of SHIFTS) {
+    const id = `shift-${key.slice(5).toLowerCase()}`;
+    add(id, name, `Alt+${key}`, () => shiftBy(down, across), 'shift');
+    addAction({ id: `${id}-far`, name: phrase('view.byCells', { action: name, cells: FAR }), key: `Alt+Shift+${key}`, run: () => shiftBy(down * FAR, across * FAR) });
+  }
+  add('resize', opening(phrase('view.resize')), 'Ctrl+Alt+S', resizeByDialog, 'size');
   add('trim', phrase('import.trimMargin'), null, trim, 'size', () => boxInMargin(bench.state.picture) !== null);
   for (const word of ['row', 'column']) {
     const at = () => (word === 'row' ? cursor.row : cursor.col) + 1;
@@ -139,16 +137,16 @@ async function resizeByDialog() {
   const doc = bench.seen();
   const field = (label, value) => make('input', { type: 'number', min: 1, max: MOST_CELLS, value, 'aria-label': label });
   const [columns, rows] = [field(phrase('view.columns'), doc.columns), field(phrase('view.rows'), doc.rows)];
-  const names = [phrase('view.topLeft'), phrase('view.topMiddle'), phrase('view.topRight'), phrase('view.middleLeft'), phrase('view.middle'), phrase('view.middleRight'), phrase('view.bottomLeft'), phrase('view.bottomMiddle'), phrase('view.bottomRight')];
-  const places = names.map((name, at) => ({ name, d: Math.floor(at / 3) / 2, a: (at % 3) / 2 }));
+  const [heights, sides] = [[phrase('view.atTop'), phrase('view.middle'), phrase('view.atBottom')], [phrase('view.atLeft'), phrase('view.middle'), phrase('view.atRight')]];
+  const places = heights.flatMap((height, down) => sides.map((side, across) => ({ name: height === side ? side : `${height} ${side}`, d: down / 2, a: across / 2 })));
   const anchor = make('div', { class: 'anchor', role: 'radiogroup', 'aria-label': phrase('view.wherePictureStays') },
     ...places.map((place, at) => make('input', { type: 'radio', name: 'anchor', value: at, 'aria-label': place.name, checked: at === 0 })));
   const isSize = (input) => /^[0-9]+$/.test(input.value) && Number(input.value) >= 1 && Number(input.value) <= MOST_CELLS;
   const chosen = () => places[Number(anchor.querySelector(':checked').value)];
   const done = await openDialog({
-    title: phrase('view.resizeTitle'),
+    title: phrase('view.resize'),
     content: make('div', {}, make('p', {}, make('label', {}, phrase('view.columns'), columns), ' ', make('label', {}, phrase('view.rows'), rows)), make('p', {}, phrase('view.keepPicture')), anchor),
-    buttons: [{ name: phrase('view.resizeTitle'), main: true, value: () => ({ columns: Number(columns.value), rows: Number(rows.value), ...chosen() }), test: () => (isSize(columns) && isSize(rows) ? '' : phrase('view.bothSizes', { most: MOST_CELLS })) }],
+    buttons: [{ name: phrase('view.resize'), main: true, value: () => ({ columns: Number(columns.value), rows: Number(rows.value), ...chosen() }), test: () => (isSize(columns) && isSize(rows) ? '' : phrase('view.bothSizes', { most: MOST_CELLS })) }],
   });
   if (!done || (done.rows === doc.rows && done.columns === doc.columns)) return;
   heard(bench.become((now) => resized(now, done.rows, done.columns, { down: done.d, across: done.a })));

@@ -22,12 +22,15 @@ export const colourText = (letter) => `${wordOf(letter)}, ${inkName(bench.state,
 /** A colour's name with its letter, which tells it from others of that name. */
 export const letterName = (doc, letter) => (letter === '.' ? phrase('view.theBackground') : phrase('view.nameLetter', { name: inkName(doc, letter), letter }));
 
+/** Two colours by their names and letters. */
+export const pairText = (doc, one, other) => phrase('view.andPair', { name: letterName(doc, one), name2: letterName(doc, other) });
+
 /** Colours of a document that a solver may take for one another, in words; '' where there are none. */
 export function nearText(doc) {
-  const pairs = nearPairs(doc).map(([one, other]) => phrase('view.andPair', { name: letterName(doc, one), name2: letterName(doc, other) }));
+  const pairs = nearPairs(doc).map(([one, other]) => pairText(doc, one, other));
   if (!pairs.length) return '';
-  const more = pairs.length > 2 ? phrase('view.pairs', { pairs: pairs.length - 2 }) : '';
-  return phrase('view.tooMuchAlikeTold', { value: pairs.slice(0, 2).join('; '), more });
+  const more = pairs.length > 2 ? [phrase('import.morePairs', { pairs: pairs.length - 2 })] : [];
+  return `${phrase('import.lookAlike')} ${[...pairs.slice(0, 2), ...more].join('; ')}.`;
 }
 
 // What the engine finds wrong with a puzzle, in words.

@@ -1,7 +1,7 @@
 // Fix it, below the picture: proposals of cells to repaint, to give, or some of both, until the picture needs no guessing or is at least
 // the only solution, or has a grade that is aimed for. They are seen side by side, place by place; one click takes one, and one undo takes it back.
 
-import { $, choiceOf, make, say } from '../base/elements.js';
+import { $, buttonOf, choiceOf, make, say } from '../base/elements.js';
 import { on, tell } from '../base/events.js';
 import { gradeName } from '../base/names.js';
 import { number } from '../base/words.js';
@@ -45,8 +45,6 @@ export const canFix = () => bench.state !== null && (bench.state.verdict.word !=
 /** Whether the panel has something to do: a grade may be aimed for by any picture. */
 export const mayFix = () => canFix() || (bench.state !== null && isGrade(fixing.goal));
 
-const button = (id, name, run) => make('button', { type: 'button', id, onclick: run }, name);
-
 /** Opens the panel for what is to be mended, or for a grade that is aimed for. */
 export function openFix(grade = null) {
   if (grade) fixing.goal = grade;
@@ -57,7 +55,7 @@ export function openFix(grade = null) {
   $('fix').replaceChildren(
     make('div', { class: 'group' },
       make('h2', {}, grade ? phrase('view.aimTitle') : phrase('view.fixTitle')), make('label', {}, phrase('view.until'), choiceOf({ id: 'fix-goal', onchange: (event) => aimFor(event.target.value) }, [...(canFix() ? GOALS : []), ...GRADES], fixing.goal)),
-      button('fix-paint', phrase('view.findCellsRepaint'), findRepairs), button('fix-give', phrase('view.giveCells'), giveCells), button('fix-close', phrase('view.close'), closeFix)),
+      buttonOf('fix-paint', phrase('view.findCellsRepaint'), findRepairs), buttonOf('fix-give', phrase('view.giveCells'), giveCells), buttonOf('fix-close', phrase('view.close'), closeFix)),
     make('p', { id: 'fix-said', role: 'status' }),
     make('div', { id: 'fix-list', role: 'group', 'aria-label': phrase('view.proposals') }),
     make('details', { id: 'fix-more' }, make('summary', {}, phrase('view.whatMayRepainted')), ...limitChoices(fixSays)),

@@ -4,6 +4,7 @@
 import { $ } from '../base/elements.js';
 import { on, tell } from '../base/events.js';
 import { gradeName, gradeText } from '../base/names.js';
+import { opening } from '../base/words.js';
 import { gradeIn } from '../engine/assessing.js';
 import { bench } from '../engine/bench.js';
 import { phrase } from '../texts/phrase.js';
@@ -65,7 +66,7 @@ const nextWord = () => (['easy', 'hard'].includes(gradeAtHand()?.word) ? 'medium
 /** Hears verdicts. */
 export function startGrading() {
   const isSolved = () => bench.state.verdict.word === 'unique' && bench.state.open === 0;
-  addAction({ place: 'check', id: 'aim', name: phrase('view.aimAction'), run: () => openFix(nextWord()), can: isSolved });
+  addAction({ place: 'check', id: 'aim', name: opening(phrase('view.aimTitle')), run: () => openFix(nextWord()), can: isSolved });
   on('stroke', () => clearTimeout(grading.waits));
   for (const name of ['shown', 'judged']) {
     on(name, () => {

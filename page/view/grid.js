@@ -3,7 +3,7 @@
 
 import { make } from '../base/elements.js';
 import { on, tell } from '../base/events.js';
-import { clamp } from '../base/words.js';
+import { capital, clamp, lineName } from '../base/words.js';
 import { MOST_CELLS } from '../document/limits.js';
 import { sheet } from '../draw/sheet.js';
 import { bench } from '../engine/bench.js';
@@ -87,7 +87,7 @@ function showWholes(at) {
     const box = wholes[axis];
     box.hidden = at === null || !sheet.state || at.part === (axis === 'r' ? 'column' : 'row') || !sheet.strips.isCut(sheet, axis, line);
     if (box.hidden) continue;
-    fillClue(box, axis === 'r' ? phrase('view.rowLine', { line: line + 1 }) : phrase('view.columnLine', { line: line + 1 }), sheet.clues[axis === 'r' ? 'rows' : 'columns'][line]);
+    fillClue(box, capital(lineName(axis === 'r', line)), sheet.clues[axis === 'r' ? 'rows' : 'columns'][line]);
     Object.assign(box.style, geometry.isFolded ? { transform: '', maxWidth: '' } : besideLine(axis, line, at.col));
   }
 }

@@ -1,6 +1,7 @@
 // What a repair may change: by the rule for neighbours, with a symmetry, and without what is locked.
 
-import { $, choiceOf, make } from '../base/elements.js';
+import { $, buttonOf, choiceOf, make } from '../base/elements.js';
+import { placesOfBox } from '../document/regions.js';
 import { bench } from '../engine/bench.js';
 import { boardFields } from '../repair/board.js';
 import { phrase } from '../texts/phrase.js';
@@ -17,11 +18,10 @@ export const boardOf = (state) => boardFields(state, { rule: limits.rule, mirror
 export function limitChoices(says) {
   const rule = make('input', { type: 'checkbox', id: 'fix-rule', checked: limits.rule, onchange: (event) => { limits.rule = event.target.checked; } });
   const mirror = choiceOf({ id: 'fix-mirror', onchange: (event) => { limits.mirror = event.target.value; } }, MIRRORS, limits.mirror);
-  const button = (id, name, run) => make('button', { type: 'button', id, onclick: run }, name);
   return [
     make('p', {}, make('label', {}, rule, phrase('view.onlyNeighboursColourNo'))),
     make('p', {}, make('label', {}, phrase('view.symmetry'), mirror)),
-    make('div', { class: 'group' }, button('fix-lock', phrase('view.lockAllButSelection'), () => lockOutside(says)), button('fix-unlock', phrase('view.unlockAll'), unlock)),
+    make('div', { class: 'group' }, buttonOf('fix-lock', phrase('view.lockAllButSelection'), () => lockOutside(says)), buttonOf('fix-unlock', phrase('view.unlockAll'), unlock)),
     make('p', { id: 'fix-locks', class: 'faint' }),
   ];
 }
@@ -30,12 +30,8 @@ function lockOutside(says) {
   const { box } = selection;
   if (!box) return says(phrase('view.selectPartMayChange'));
   return bench.become((doc) => {
-    const locks = new Set();
-    for (let place = 0; place < doc.rows * doc.columns; place++) {
-      const [row, col] = [Math.floor(place / doc.columns), place % doc.columns];
-      if (row < box.top || row > box.bottom || col < box.left || col > box.right) locks.add(place);
-    }
-    return { ...doc, locks };
+    const chosen = placesOfBox(box, doc.columns);
+    return { ...doc, locks: new Set([...Array(doc.rows * doc.columns).keys()].filter((place) => !chosen.has(place))) };
   });
 }
 

@@ -1,11 +1,12 @@
 // The palette: choosing, adding, changing, merging, removing and ordering colours. The session can add and change a colour and
 // take one for another; what it cannot (removing, ordering, another background) opens the picture anew, and undo takes it back.
 
-import { $, make, say } from '../base/elements.js';
+import { $, choiceOf, make, say } from '../base/elements.js';
 import { behindFrame, on } from '../base/events.js';
-import { radioGroup } from '../base/radios.js';
-import { number } from '../base/words.js';
-import { eightBits, hexOf, isAmong, nameOf, tripleOf } from '../document/colours.js';
+import { markRadio, radioGroup } from '../base/radios.js';
+import { capital, number, opening } from '../base/words.js';
+import { hexOf, isAmong, nameOf, tripleOf } from '../document/colours.js';
+import { eightBitDoc } from '../document/document.js';
 import { LETTERS, MOST_COLOURS } from '../document/limits.js';
 import { COLOUR_NAMES, colourNamed } from '../document/named.js';
 import { reordered } from '../document/shapes.js';
@@ -18,15 +19,12 @@ import { colourText, dress, nearText } from './dress.js';
 import { setDown } from './select.js';
 import { heard, tools, useColour } from './tools.js';
 
-const TEXT = {
-  named: phrase('view.chosenColourName'), namedHint: phrase('view.name123abc'), unknown: (text) => phrase('view.noColourName', { text }),
-};
 
 const palette = {
   row: make('div', { id: 'palette', role: 'radiogroup', 'aria-label': phrase('view.colourLabel') }),
   text: make('p', { id: 'colour-text', class: 'faint' }),
   picker: make('input', { id: 'picker', type: 'color', 'aria-label': phrase('view.chosenColour') }),
-  named: make('input', { id: 'colour-named', type: 'text', maxlength: '30', list: 'colour-words', 'aria-label': TEXT.named, placeholder: TEXT.namedHint, size: 13 }),
+  named: make('input', { id: 'colour-named', type: 'text', maxlength: '30', list: 'colour-words', 'aria-label': phrase('view.chosenColourName'), placeholder: phrase('view.name123abc'), size: 13 }),
   name: make('input', { id: 'ink-name', type: 'text', maxlength: '40', 'aria-label': phrase('view.nameColour') }),
   sign: make('input', { id: 'ink-sign', type: 'text', maxlength: '2', 'aria-label': phrase('view.signColourXml') }),
   locked: make('input', { id: 'ink-locked', type: 'checkbox' }),
@@ -50,11 +48,7 @@ function showPalette() {
 function markColour() {
   if (!bench.state) return;
   const { colours, maxval } = bench.state;
-  for (const button of palette.row.children) {
-    const is = button.dataset.letter === tools.colour;
-    button.setAttribute('aria-checked', is);
-    button.tabIndex = is ? 0 : -1;
-  }
+  markRadio(palette.row, ({ dataset }) => dataset.letter === tools.colour);
   palette.picker.value = hexOf(colours[LETTERS.indexOf(tools.colour)], maxval);
   const ink = bench.state.inks[LETTERS.indexOf(tools.colour)] ?? {};
   const usual = inksOf(bench.state)[LETTERS.indexOf(tools.colour)];
@@ -125,11 +119,6 @@ function changeSign() {
   return changeInk(({ sign: before, ...ink }) => (sign ? { ...ink, sign } : ink));
 }
 
-// A colour picked with eight bits in the picture's own samples; a picture with coarser ones is opened anew with eight bits.
-function withEightBits(doc) {
-  return doc.maxval === 255 ? doc : { ...doc, maxval: 255, colours: doc.colours.map((triple) => eightBits(triple, doc.maxval)) };
-}
-
 // Some colour near to this one that the palette does not have.
 function freeColour(doc, triple) {
   let found = [...triple];
@@ -142,7 +131,7 @@ const NEW_COLOURS = [[34, 59, 104], [196, 69, 54], [233, 180, 76], [83, 141, 110
 async function addColour() {
   setDown();
   const added = (old) => {
-    const doc = withEightBits(old);
+    const doc = eightBitDoc(old);
     if (doc.colours.length >= MOST_COLOURS) return null;
     return { ...doc, colours: [...doc.colours, freeColour(doc, NEW_COLOURS[doc.colours.length % NEW_COLOURS.length])] };
   };
@@ -160,17 +149,17 @@ function changeByName() {
   palette.named.value = '';
   const triple = text ? colourNamed(text) : null;
   if (triple) return changeColour(triple);
-  return text ? say(TEXT.unknown(text), 'alarm') : null;
+  return text ? say(phrase('view.noColourName', { text }), 'alarm') : null;
 }
 
 async function changeColour(triple) {
   setDown();
   const at = LETTERS.indexOf(tools.colour);
-  const now = withEightBits(bench.state).colours;
+  const now = eightBitDoc(bench.state).colours;
   if (now[at].join() === triple.join()) return null;
   if (isAmong(now, triple)) return refuse(phrase('view.paletteColourAlreadyMake'));
   const changed = (old) => {
-    const doc = withEightBits(old);
+    const doc = eightBitDoc(old);
     if (at >= doc.colours.length || isAmong(doc.colours, triple)) return null;
     const inks = doc.inks.map((ink, other) => (other === at ? inkOfOther(ink, doc.colours[at]) : ink));
     return { ...doc, inks, colours: doc.colours.map((one, other) => (other === at ? triple : one)) };
@@ -178,17 +167,13 @@ async function changeColour(triple) {
   return heard(bench.become(changed));
 }
 
-// Asks for one of the other colours.
-async function askColour(title, text) {
-  const letters = [...LETTERS.slice(0, bench.state.colours.length)].filter((letter) => letter !== tools.colour);
-  const choice = make('select', { 'aria-label': phrase('view.colourLabel') }, ...letters.map((letter) => make('option', { value: letter }, `${LETTERS.indexOf(letter)}: ${colourText(letter)}`)));
-  return openDialog({ title, content: make('div', {}, make('p', {}, text), choice), buttons: [{ name: title.split(' ')[0], value: () => choice.value, main: true }] });
-}
-
 async function mergeColour() {
   const from = tools.colour;
-  if (from === '.') return say(phrase('view.backgroundCannotMergedInto'), 'alarm');
-  const into = await askColour(phrase('view.mergeColour'), phrase('view.allCellsGetAnother', { colour: colourText(from) }));
+  if (from === '.') return say(phrase('view.backgroundStaysEveryPicture'), 'alarm');
+  const letters = [...LETTERS.slice(0, bench.state.colours.length)].filter((letter) => letter !== from);
+  const choice = choiceOf({ 'aria-label': phrase('view.colourLabel') }, letters.map((letter) => [letter, `${LETTERS.indexOf(letter)}: ${colourText(letter)}`]));
+  const content = make('div', {}, make('p', {}, phrase('view.allCellsGetAnother', { colour: colourText(from) })), choice);
+  const into = await openDialog({ title: phrase('view.mergeColour'), content, buttons: [{ name: phrase('view.merge'), value: () => choice.value, main: true }] });
   if (into) removeColour(from, into);
 }
 
@@ -230,12 +215,12 @@ export function makePalette() {
   const more = make('div', { class: 'group' });
   const opens = make('button', { type: 'button', id: 'colours-open', 'aria-expanded': 'false', onclick: () => opens.setAttribute('aria-expanded', $('colours').classList.toggle('open')) }, phrase('view.edit'));
   opens.setAttribute('aria-label', phrase('view.editColours'));
-  $('colours').append(make('h2', {}, phrase('view.colours')), palette.row, opens, palette.text, more, make('div', { class: 'group' }, make('label', {}, phrase('view.change'), palette.picker), palette.named, make('datalist', { id: 'colour-words' }, ...COLOUR_NAMES.map((name) => make('option', { value: name }))), make('label', { title: phrase('view.noRepairChangesCells') }, palette.locked, phrase('view.lockedBox'))),
+  $('colours').append(make('h2', {}, phrase('view.colours')), palette.row, opens, palette.text, more, make('div', { class: 'group' }, make('label', {}, phrase('view.change'), palette.picker), palette.named, make('datalist', { id: 'colour-words' }, ...COLOUR_NAMES.map((name) => make('option', { value: name }))), make('label', { title: phrase('view.noRepairChangesCells') }, palette.locked, capital(phrase('view.locked')))),
     make('div', { class: 'group' }, make('label', {}, phrase('view.name'), palette.name), make('label', { title: phrase('view.oneSignEachCell') }, phrase('view.sign'), palette.sign)), palette.near);
   more.id = 'colour-more';
   const add = (id, name, run, can) => addAction({ id, name, place: 'colour-more', run, can });
   add('colour-add', phrase('view.add'), addColour, () => bench.state.colours.length < MOST_COLOURS);
-  add('colour-merge', phrase('view.merge'), mergeColour);
+  add('colour-merge', opening(phrase('view.merge')), mergeColour);
   add('colour-delete', phrase('view.delete'), deleteColour);
   add('colour-earlier', phrase('view.earlier'), () => moveColour(-1));
   add('colour-later', phrase('view.later'), () => moveColour(1));

@@ -2,7 +2,8 @@
 
 import { $, choiceOf, make, say, svgPart } from '../base/elements.js';
 import { on } from '../base/events.js';
-import { radioGroup } from '../base/radios.js';
+import { markRadio, radioGroup } from '../base/radios.js';
+import { capital, lineName } from '../base/words.js';
 import { MOST_CELLS } from '../document/limits.js';
 import { sheet } from '../draw/sheet.js';
 import { bench } from '../engine/bench.js';
@@ -38,12 +39,8 @@ export function makeToolBar() {
 
 // Shows which tool is taken, and returns its button.
 function showTool() {
-  for (const button of bar.row.children) {
-    const is = button.dataset.tool === tools.name;
-    button.setAttribute('aria-checked', is);
-    button.tabIndex = is ? 0 : -1;
-    if (button.dataset.tool === 'wand') button.querySelector('span').textContent = TOOLS.wand.name + (tools.adds ? ' +' : '');
-  }
+  markRadio(bar.row, ({ dataset }) => dataset.tool === tools.name);
+  bar.row.querySelector('[data-tool=wand] span').textContent = TOOLS.wand.name + (tools.adds ? ' +' : '');
   bar.hint.textContent = TOOLS[tools.name].hint;
   sheet.stage.dataset.tool = tools.name;
   return bar.row.querySelector('[aria-checked=true]');
@@ -71,8 +68,8 @@ export function showCell(at = cursor) {
     if (!state) return;
     const [row, col] = [Math.min(panel.at.row, state.rows - 1), Math.min(panel.at.col, state.columns - 1)];
     panel.text.textContent = cellText(row, col);
-    fillClue(panel.row, phrase('view.rowNumber', { row: row + 1 }), state.clues.rows[row]);
-    fillClue(panel.column, phrase('view.columnNumber', { col: col + 1 }), state.clues.columns[col]);
+    fillClue(panel.row, capital(lineName(true, row)), state.clues.rows[row]);
+    fillClue(panel.column, capital(lineName(false, col)), state.clues.columns[col]);
     showLineNames();
   });
 }
@@ -96,7 +93,7 @@ export function makeLinesPanel() {
     const other = make('input', { type: 'number', min: 1, max: MOST_CELLS, 'aria-label': word === 'row' ? phrase('view.otherRow') : phrase('view.otherColumn') });
     const at = () => (word === 'row' ? cursor.row : cursor.col) + 1;
     const button = (text, label, lines) => make('button', { type: 'button', 'aria-label': label, onclick: () => { setDown(); sendStroke([lines()]); } }, text);
-    $('lines').append(make('div', { class: 'lines', role: 'group', 'aria-label': word === 'row' ? phrase('view.rowGroup') : phrase('view.columnGroup') },
+    $('lines').append(make('div', { class: 'lines', role: 'group', 'aria-labelledby': `${word}-name` },
       make('b', { id: `${word}-name` }),
       button(word === 'row' ? phrase('view.above') : phrase('view.left'), LINE_TEXTS[word].before, () => `insert ${word} ${at()}`),
       button(word === 'row' ? phrase('view.below') : phrase('view.right'), LINE_TEXTS[word].after, () => `insert ${word} ${at() + 1}`),
@@ -107,13 +104,13 @@ export function makeLinesPanel() {
 
 function swapLines(word, at, other) {
   const count = word === 'row' ? bench.state.rows : bench.state.columns;
-  if (!other || other > count) return say(word === 'row' ? phrase('view.thereRowsGiveNumber', { count }) : phrase('view.thereColumnsGiveNumber', { count }), 'alarm');
+  if (!other || other > count) return say(phrase('view.giveNumber', { count }), 'alarm');
   if (other === at) return null;
   setDown();
   return sendStroke([`swap ${word} ${at} ${other}`]);
 }
 
 function showLineNames() {
-  $('row-name').textContent = phrase('view.rowNumber', { row: cursor.row + 1 });
-  $('column-name').textContent = phrase('view.columnNumber', { col: cursor.col + 1 });
+  $('row-name').textContent = capital(lineName(true, cursor.row));
+  $('column-name').textContent = capital(lineName(false, cursor.col));
 }

@@ -42,10 +42,7 @@ export function selectPlaces(places) {
 export function showSelection() {
   sheet.boxes = selectionBoxes();
   if (selection.rows && bench.state && isOfSize(selection.under, sheet.doc)) {
-    const floated = stamped(selection.under, selection.rows, selection.box.top, selection.box.left);
-    const cells = new Map();
-    floated.forEach((row, at) => { for (let col = 0; col < row.length; col++) if (row[col] !== sheet.doc.picture[at][col]) cells.set(at * row.length + col, row[col]); });
-    sheet.preview(cells);
+    sheet.preview(cellsBetween(sheet.doc.picture, stamped(selection.under, selection.rows, selection.box.top, selection.box.left)));
   }
   sheet.drawMarks();
   tell('selected', selection.box);

@@ -3,11 +3,14 @@
 
 import { $, choiceOf, make, say } from '../base/elements.js';
 import { on } from '../base/events.js';
+import { verdictTitle } from '../base/names.js';
+import { capital, linesText, opening } from '../base/words.js';
 import { cellsThatDiffer } from '../document/shapes.js';
 import { sheet } from '../draw/sheet.js';
 import { bench } from '../engine/bench.js';
 import { startEngine } from '../engine/client.js';
 import { Searches } from '../engine/searches.js';
+import { keepChoice, keptChoice } from '../texts/language.js';
 import { phrase } from '../texts/phrase.js';
 import { actionButton, actions, addAction } from './actions.js';
 import { canFix, hideFix, isFixing, mayFix, openFix } from './fixing.js';
@@ -15,22 +18,9 @@ import { canFix, hideFix, isFixing, mayFix, openFix } from './fixing.js';
 const TIMES = [['5', '5 s'], ['30', '30 s'], ['', phrase('view.untilStopped')]];
 const HATCHINGS = [['off', phrase('view.pictureAlone')], ['differing', phrase('view.cellsDiffer')], ['open', phrase('view.openCells')]];
 
-// A choice that the browser keeps where it can.
-function keptChoice(name, values, first) {
-  try {
-    const value = localStorage.getItem(name);
-    return values.some(([one]) => one === value) ? value : first;
-  } catch {
-    return first;
-  }
-}
-function keepChoice(name, value) {
-  try {
-    localStorage.setItem(name, value);
-  } catch { /* it holds until the page is closed */ }
-}
+const KEPT = 'nonobench-seconds';
 
-export const verdictView = { seconds: keptChoice('nonobench-seconds', TIMES, '5'), hatching: null, ended: null };
+export const verdictView = { seconds: TIMES.find(([value]) => value === keptChoice(KEPT))?.[0] ?? '5', hatching: null, ended: null };
 export const secondsChosen = () => Number(verdictView.seconds) || Infinity;
 
 export const searches = new Searches({
@@ -58,14 +48,14 @@ function makeVerdictPanel() {
     make('div', { id: 'verdict-more' },
       make('p', { id: 'verdict-why' }),
       make('div', { id: 'verdict-do', class: 'group' }),
-      make('dl', {}, make('dt', { id: 'grade-name' }, phrase('import.grade')), make('dd', { id: 'grade' }), make('dt', {}, phrase('view.fitToPublish')), make('dd', { id: 'fit-row' }, make('span', { id: 'publish' }), make('span', { id: 'publish-do', hidden: true })), make('dt', {}, phrase('view.openCellsRow')), make('dd', { id: 'open' }), make('dt', {}, phrase('view.cluesChanged')), make('dd', { id: 'changed' })),
+      make('dl', {}, make('dt', { id: 'grade-name' }, phrase('import.grade')), make('dd', { id: 'grade' }), make('dt', {}, phrase('view.fitToPublish')), make('dd', { id: 'fit-row' }, make('span', { id: 'publish' }), make('span', { id: 'publish-do', hidden: true })), make('dt', {}, capital(phrase('view.openCells'))), make('dd', { id: 'open' }), make('dt', {}, phrase('view.cluesChanged')), make('dd', { id: 'changed' })),
       make('p', {}, make('label', {}, phrase('view.show'), choiceOf({ id: 'hatching', onchange: (event) => setHatching(event.target.value) }, HATCHINGS))),
       make('p', { id: 'legend', class: 'faint' }),
       make('p', {}, make('label', {}, phrase('view.searchTime'), choiceOf({ id: 'seconds', onchange: (event) => setSeconds(event.target.value) }, TIMES)))),
   );
   $('audit').append(make('p', { id: 'verdict-heard', class: 'unseen', role: 'status' }));
   $('seconds').value = verdictView.seconds;
-  const stop = make('button', { type: 'button', id: 'stop', title: phrase('view.stopSearch'), onclick: () => searches.stop() }, phrase('view.stop'));
+  const stop = make('button', { type: 'button', id: 'stop', title: `${phrase('view.stopSearch')} (.)`, onclick: () => searches.stop() }, phrase('view.stop'));
   $('task').append(make('span', { id: 'task-name' }), make('span', { id: 'task-time', 'aria-hidden': 'true' }), stop);
 }
 
@@ -78,7 +68,7 @@ function turnVerdictMore() {
 
 export function setSeconds(value) {
   verdictView.seconds = value;
-  keepChoice('nonobench-seconds', value);
+  keepChoice(KEPT, value);
   if (bench.state?.verdict.word === 'undecided') searches.judge();
 }
 
@@ -101,16 +91,6 @@ function showHatching(state) {
   sheet.redraw();
 }
 
-// The numbers of lines in words of `named`, from 1; '' where there are none.
-const numbersOf = (set, named) => {
-  const spans = [];
-  for (const at of [...set].sort((a, b) => a - b)) {
-    if (spans.length && spans.at(-1)[1] === at) spans.at(-1)[1]++;
-    else spans.push([at + 1, at + 1]);
-  }
-  return spans.length ? named(set.size, spans.map(([from, to]) => (from === to ? from : `${from}–${to}`)).join(', ')) : '';
-};
-
 // In how many cells the other picture differs: counted once for each verdict.
 const counted = { verdict: null, count: 0 };
 function differCount({ verdict, picture }) {
@@ -132,12 +112,12 @@ function verdictTexts(state) {
   const size = state.rows * state.columns;
   if (verdict.word === 'unique') {
     const with_ = givens.size ? phrase('view.andGivenCells', { cells: givens.size }) : '';
-    return [phrase('view.unique'), phrase('view.noOtherPictureThese', { with: with_, open: open ? phrase('view.someNeedGuessing', { open, count: size }) : phrase('view.lineLogicSolvesWithout') })];
+    return [verdictTitle('unique'), phrase('view.noOtherPictureThese', { with: with_, open: open ? phrase('view.someNeedGuessing', { open, count: size }) : phrase('view.lineLogicSolvesWithout') })];
   }
-  if (verdict.word === 'ambiguous') return [phrase('view.ambiguous'), phrase('view.anotherPictureTheseClues', { cells: differCount(state) })];
+  if (verdict.word === 'ambiguous') return [verdictTitle('ambiguous'), phrase('view.anotherPictureTheseClues', { cells: differCount(state) })];
   if (searches.running?.judges) return [phrase('view.searching'), phrase('view.noOtherPictureFound')];
   const why = { time: phrase('view.withinS', { secondsChosen: secondsChosen() }), stopped: phrase('view.beforeStopped') }[verdictView.ended];
-  return [phrase('view.undecided'), why ? phrase('view.nothingFound', { why }) : phrase('view.nothingFoundYet')];
+  return [verdictTitle('undecided'), why ? phrase('view.nothingFound', { why }) : phrase('view.nothingFoundYet')];
 }
 
 function showVerdict(state) {
@@ -149,7 +129,7 @@ function showVerdict(state) {
   $('verdict-why').textContent = told;
   $('verdict-short').textContent = verdictShort(state);
   $('open').textContent = phrase('view.openOfCells', { open: state.open, cells: state.rows * state.columns });
-  $('changed').textContent = [numbersOf(state.changed.rows, (rows, places) => phrase('view.changedRows', { rows, places })), numbersOf(state.changed.columns, (columns, places) => phrase('view.changedColumns', { columns, places }))].filter(Boolean).join('; ') || phrase('view.none');
+  $('changed').textContent = [state.changed.rows, state.changed.columns].map((lines, axis) => linesText(axis === 0, [...lines].map((at) => at + 1))).filter(Boolean).join('; ') || phrase('view.none');
   $('changed').title = $('changed').textContent;
   if (word !== 'ambiguous') sheet.other = false;
   showVerdictButtons();
@@ -233,9 +213,9 @@ function sayVerdict(state) {
 export function startVerdict() {
   for (const action of [
     { id: 'other', name: phrase('view.showOtherPicture'), key: 'x', run: () => showOther(!sheet.other), can: () => isWord('ambiguous') },
-    { id: 'fix', name: phrase('view.fixAction'), run: () => openFix(), can: canFix },
+    { id: 'fix', name: opening(phrase('view.fixTitle')), run: () => openFix(), can: canFix },
     { id: 'search', name: phrase('view.searchAnotherPicture'), run: () => searches.judge(), can: () => isWord('undecided') && !searches.running },
-    { id: 'stop', name: phrase('view.stopSearchAction'), key: '.', run: () => searches.stop(), can: () => searches.running !== null },
+    { id: 'stop', name: phrase('view.stopSearch'), key: '.', run: () => searches.stop(), can: () => searches.running !== null },
     { id: 'hatching', name: phrase('view.showOpenCellsThose'), key: 'h', run: nextHatching },
   ]) addAction({ place: 'check', ...action });
   on('stroke', () => searches.strokeBegun());

@@ -1,21 +1,21 @@
 // The check of colours for the colour-blind: the picture as they see it, and the colours that look alike to them.
 
 import { make } from '../base/elements.js';
+import { opening } from '../base/words.js';
 import { VISIONS, clashesWith, docSeenWith } from '../document/vision.js';
 import { drawSmall } from '../draw/small.js';
 import { bench } from '../engine/bench.js';
 import { phrase } from '../texts/phrase.js';
 import { addAction } from './actions.js';
 import { openDialog } from './dialogs.js';
-import { letterName } from './dress.js';
+import { pairText } from './dress.js';
 
 const KINDS = { protan: phrase('view.withoutRedCones'), deutan: phrase('view.withoutGreenCones'), tritan: phrase('view.withoutBlueCones') };
 const SHOWN_SIDE = 160; // pixels
 
-
 /** The colours that look alike with one kind of vision, in words. */
 export function clashText(doc, kind) {
-  const pairs = clashesWith(doc, kind).map(([one, other]) => phrase('view.pairColours', { one: letterName(doc, one), other: letterName(doc, other) }));
+  const pairs = clashesWith(doc, kind).map(([one, other]) => pairText(doc, one, other));
   return pairs.length ? phrase('view.lookAlike', { pairs: pairs.join('; ') }) : phrase('view.noTwoColoursLook');
 }
 
@@ -31,4 +31,4 @@ function showVisions() {
 }
 
 /** Adds the check to the menu. */
-export const startVision = () => addAction({ id: 'vision', name: phrase('view.coloursColourBlindMore'), place: 'check', group: 'colours', run: showVisions });
+export const startVision = () => addAction({ id: 'vision', name: opening(phrase('view.coloursColourBlind')), place: 'check', group: 'colours', run: showVisions });

@@ -2,6 +2,7 @@
 
 import { $, make } from '../base/elements.js';
 import { on } from '../base/events.js';
+import { lineName } from '../base/words.js';
 import { LETTERS } from '../document/limits.js';
 import { sheet } from '../draw/sheet.js';
 import { bench } from '../engine/bench.js';
@@ -43,10 +44,11 @@ function whyParts(reason, doc) {
   if (reason.word === 'possible') return [phrase('view.possibleHereNoLine')];
   if (reason.word === 'given') return [phrase('view.excludedCellGiven')];
   const across = reason.axis === 'r';
-  if (!reason.premises.length) return [across ? phrase('view.excludedRowAlone', { at: reason.at }) : phrase('view.excludedColumnAlone', { at: reason.at })];
-  const parts = [across ? phrase('view.excludedRowWhere', { at: reason.at }) : phrase('view.excludedColumnWhere', { at: reason.at })];
+  const line = lineName(across, reason.at - 1);
+  if (!reason.premises.length) return [phrase('view.excludedAlone', { line })];
+  const parts = [phrase('view.excludedWhere', { line })];
   reason.premises.forEach((premise, at) => {
-    parts.push(at === 0 ? '' : ', ', across ? phrase('view.columnIs', { at: premise.at }) : phrase('view.rowIs', { at: premise.at }));
+    parts.push(at === 0 ? '' : ', ', phrase('view.lineIs', { line: lineName(!across, premise.at - 1) }));
     premiseLetters(premise, doc).forEach((letter, one) => parts.push(...(one ? [phrase('view.or')] : []), swatchChip(doc, letter)));
   });
   return [...parts, '.'];

@@ -253,6 +253,14 @@ class Reading(unittest.TestCase):
         with self.assertRaisesRegex(Unreadable, "the background is larger than the picture's samples"):
             one(raw, ground=readers.ground_of("16,0,0"))
 
+    def test_a_background_beside_a_raw_picture(self):
+        """It is in the scale of the picture too, and no other than its own."""
+        cells = bytes([0, 0, 50, 0, 0, 0, 0, 0, 0, 0, 0, 50])
+        files = serving.Files(b"P6\n2 2\n100\n" + cells, (), None, b"0,0,50\n", ())
+        judging = serving.Judging(running.settings_of(arguments.Options([])), None)
+        (puzzle,) = judging._puzzles("one.ppm", files)
+        self.assertEqual(puzzle, one(files.file, ground=readers.ground_of("0,0,50")))
+
     @pytest.mark.since("0.7.0")
     def test_a_background_beside_a_puzzle_with_its_own(self):
         for puzzle in (one(webpbn(UNIQUE).encode()), one(b"width 1\nheight 1\nrows\n1\ncolumns\n1\n", ".non")):
@@ -519,7 +527,7 @@ class Running(Case):
     def test_puzzles_without_a_certificate_are_counted(self):
         counts = tally.Tally(())
         for verdict, text in (("unique", '{"lines":7}'), ("unique", '{"note":"\\"lines\\":"}'), ("ambiguous", "{}")):
-            counts.put(verdict, text)
+            counts.put({"verdict": verdict, **json.loads(text)})
         for certify, wanted in (("certs", "nonobench-audit: unique, but no certificate made in time or memory: 1\n"), (None, "")):
             said = io.StringIO()
             with contextlib.redirect_stderr(said):
@@ -1270,6 +1278,15 @@ class Again(Case):
         self.rows("site", "--allow", "1000", "--resume")
         self.assertEqual((self.folder / "rows.jsonl").read_bytes(), whole)
 
+    def test_resume_on_a_file_of_something_else(self):
+        """It stays as it is, also where its last line has no end."""
+        self.fill(1)
+        for text in ("a note", "a line\nand a note"):
+            (self.folder / "notes").write_text(text)
+            done = self.run_audit("site", "--jsonl", "notes", "--resume", status=3)
+            self.assertEqual(done.stderr, "nonobench-audit: notes: its last line is not a row of an audit\n")
+            self.assertEqual((self.folder / "notes").read_text(), text)
+
     @pytest.mark.since("0.7.0")
     def test_resume_checks_certificates_again(self):
         """Whatever a kept row of a unique puzzle says, its puzzle and its certificate bear it out, or it is made again."""
@@ -1427,6 +1444,16 @@ class Again(Case):
         self.assertEqual(run._close(True), [])
         self.assertEqual(place.read_text().splitlines(), texts)
         self.assertEqual([line[:5] for line in (self.folder / "rows.csv").read_text().splitlines()[1:]], ["0.ppm", "1.ppm", "2.ppm"])
+
+    def test_an_answer_that_is_lost_is_told(self):
+        place, text = self.folder / "rows.jsonl", json.dumps({"file": "1.ppm", "verdict": "error", "error": "x"})
+        run = running.Run(arguments.Options([], jsonl=str(place), is_quiet=True))
+        run._open()
+        run._kept = {at: running.Kept((), None) for at in range(3)}
+        with self.assertRaisesRegex(running.Failure, "no rows: 2$"):
+            run._take_all(iter([workers.Answer(1, True, "error", text)]))
+        run._close(False)
+        self.assertEqual(place.read_text(), text + "\n")
 
     def test_what_is_counted_is_of_one_kind(self):
         run = running.Run(arguments.Options(["site"], is_quiet=True))

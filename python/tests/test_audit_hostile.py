@@ -497,6 +497,9 @@ class Names(Case):
         os.mkdir(self.folder / "in")
         (self.folder / "in" / "one.ppm").write_bytes(p3(UNIQUE))
         self.assertIn("the same names", self.run_audit("in", "site/in", "--certify", "certs", status=2).stderr)
+        # The root has no name of its own, and `certs` with a name that begins with `/` would be that.
+        os.symlink("/", self.folder / "way")
+        self.assertEqual([finding.front_of(path) for path in ("/", f"{self.folder}/way")], ["root/", "root/"])
 
     @pytest.mark.since("0.7.0")
     def test_a_set_is_called_one(self):
@@ -674,6 +677,26 @@ class Outputs(Case):
                 self.assertEqual(self.run_audit("site", "--html", name, status=3).stderr, f"nonobench-audit: {name}: this is not a file\n")
                 self.assertFalse(os.path.exists(self.folder / f"{name}.new"))
 
+    def test_what_nobody_named_is_no_link(self):
+        """What is written first, and then takes an output's place, goes through no stranger's link, and waits at no pipe."""
+        (self.folder / "kept").write_text("as it was")
+        self.run_audit("site", "--jsonl", "rows", status=1)
+        self.put("first.ppm", p3(UNIQUE))  # so that the rows are put in order
+        for name, words in (("report", ["--html", "report"]), ("rows", ["--jsonl", "rows", "--resume"])):
+            for make, why in ((lambda place: os.symlink("kept", place), "Too many levels of symbolic links"), (os.mkfifo, "this is not a file")):
+                make(self.folder / f"{name}.new")
+                with self.subTest((name, why)):
+                    self.assertEqual(self.run_audit("site", *words, status=3).stderr, f"nonobench-audit: {name}.new: {why}\n")
+                    self.assertEqual((self.folder / "kept").read_text(), "as it was")
+                os.unlink(self.folder / f"{name}.new")
+
+    def test_messages_show_names_as_rows_do(self):
+        (self.folder / "up\x1b[31m\nall fine").mkdir()
+        self.assertEqual(self.run_audit("up\x1b[31m\nall fine", status=3).stderr, "nonobench-audit: no puzzles in up\\x1b[31m\\nall fine\n")
+        self.assertEqual(
+            self.run_audit("site", "--csv", "no\x1b[31m/rows", status=3).stderr, "nonobench-audit: no\\x1b[31m/rows: No such file or directory\n"
+        )
+
     def test_streams_that_are_closed(self):
         """What is opened next must not take the number of standard output."""
         for words, status in ((["--jsonl", "-"], 3), (["--csv", "-"], 3), ([], 3), (["--jsonl", "rows"], 1)):
@@ -766,6 +789,49 @@ class Processes(Case):
         row = self.read("rows")["site/hard.ppm"]
         self.assertEqual((row["verdict"], row["note"]), ("unique", "its grade: its process ended by signal 9"))
         self.assertEqual(row["lines"], (self.folder / "certs" / "hard.cert").read_bytes().count(b"\n"))
+
+    def by_process(self, lines, *words):
+        """A run whose processes do so before they serve."""
+        (self.folder / "begins").write_text("import sys\nexec(sys.argv.pop(1).rpartition('\\n')[0])\n" + lines + "serve(int(sys.argv[3]))\n")
+        words = ["site", "--seconds", str(PATIENCE), "--jsonl", "rows", *words]
+        return self.by_script(['shift 2', 'set -- -I -c "$(cat begins)" "$@"'], *words)
+
+    def test_files_that_end_each_process_at_once(self):
+        """The files before them have their rows, though their answers had not gone out by then."""
+        for at in range(30):
+            self.put(f"{at:02}.ppm", p3(UNIQUE))
+        ends = [f"{at:02}.gif" for at in (0, 20, 21, 29)]
+        for name in ends:
+            self.put(name, "GIF89a")
+        lines = (
+            "import os, signal\n"
+            "from nonobench.collection import readers\n"
+            "readers.is_image = lambda data: data[:3] == b'GIF' and os.kill(os.getpid(), signal.SIGKILL)\n"
+        )
+        for jobs in ("1", "2"):
+            done = self.by_process(lines, "--jobs", jobs)
+            self.assertEqual(done.returncode, 3, done.stderr)
+            rows = self.read("rows")
+            self.assertEqual({name: row.get("error") for name, row in rows.items() if row["verdict"] != "unique"}, {
+                f"site/{name}": "its process ended by signal 9" for name in ends
+            })
+            self.assertEqual(len(rows), 34)
+
+    def test_pillow_is_loaded_before_memory_is_bounded(self):
+        """What the system cannot map then, Pillow leaves out for as long as the process lives, whosever images come next."""
+        for kind in ("gif", "png", "webp"):
+            self.put(f"one.{kind}", next(odd.data for odd in odd_images() if odd.pixels and odd.name.startswith(f"{kind}-")))
+        lines = (
+            "from nonobench.collection import serving\n"
+            "class Full:\n"
+            "    def find_spec(self, name, *_more):\n"
+            "        if name.startswith('PIL'):\n"
+            "            raise ImportError('failed to map segment from shared object')\n"
+            "bound = serving.begin\n"
+            "serving.begin = lambda memory: (bound(memory), sys.meta_path.insert(0, Full()))\n"
+        )
+        self.by_process(lines, "--jobs", "1")
+        self.assertEqual([row.get("error") for row in self.read("rows").values()], [None] * 3)
 
     def test_a_process_that_hangs(self):
         for at in range(12):

@@ -250,6 +250,15 @@ class Answers(unittest.TestCase):
         with self.assertRaises(ValueError):
             nonobench.picture_of(2, 2, [(0, 0, 0)])
 
+    @pytest.mark.since("0.7.0")
+    def test_a_copy_of_any_given(self):
+        """As it comes out of a task queue."""
+        copied = pickle.loads(pickle.dumps(ANY_GIVEN))
+        self.assertEqual(nonobench.check(DIAGONAL, GIVEN, published=copied).givens, ((1, 1),))
+        self.assertEqual(nonobench.assess(DIAGONAL, GIVEN, published=copied).named, ((1, 1),))
+        with self.assertRaisesRegex(CertificateFault, "^certificate NotDone at line 3$"):
+            nonobench.assess(DIAGONAL, b"nonocert 2\ngiven 1 1\ndone\n", published=copied)
+
     def test_long_text(self):
         rows = ["a." * 60, ".a" * 60] * 60
         clues = nonobench.clues(picture_of("/".join(rows)))

@@ -4,7 +4,7 @@ import assert from 'node:assert/strict';
 import { test } from 'node:test';
 import { needsModule, workers } from '../../page/test/worker.mjs';
 import { emptyDoc } from '../../page/document/document.js';
-import { Client } from '../../page/engine/client.js';
+import { Client, EngineFault } from '../../page/engine/client.js';
 import { Judging, judgedText } from '../../page/import/judging.js';
 import { waits } from '../waits.mjs';
 
@@ -70,9 +70,27 @@ test('what was asked for is not told once another document comes', needsAssess, 
     assert.deepEqual(heard, ['works', 'works']);
 });
 
+// An engine that fails at once, or never answers until it is ended.
+const failing = (isAtOnce) => () => {
+    let fail;
+    const answer = new Promise((_, reject) => { fail = () => reject(new EngineFault({ kind: 'ended', text: 'the worker failed' })); });
+    return { call: () => { if (isAtOnce) fail(); return answer; }, end: () => fail() };
+};
+
+test('an engine that fails is told apart from one that takes too long', async () => {
+    for (const [isAtOnce, word] of [[true, 'failed'], [false, 'undecided']]) {
+        const found = await new Promise((go) => {
+            const judging = new Judging((one) => one.word !== 'works' && go(one), { start: failing(isAtOnce), seconds: isAtOnce ? 300 : 0.01, rest: 1 });
+            judging.ask(UNIQUE);
+        });
+        assert.equal(found.word, word);
+    }
+});
+
 test('what is told, in words', () => {
     assert.equal(judgedText({ word: 'unique', open: 0, grade: { word: 'easy' } }), '✓ Unique, easy');
     assert.equal(judgedText({ word: 'unique', open: 1200, grade: { word: 'expert' } }), '✓ Unique, 1,200 cells need more than line logic, expert');
     assert.equal(judgedText({ word: 'ambiguous', open: 4 }), '≠ Ambiguous, 4 cells are open');
+    assert.equal(judgedText({ word: 'undecided' }), 'Not decided within a few seconds');
     assert.equal(judgedText({ word: 'works' }), 'Looking for another solution …');
 });

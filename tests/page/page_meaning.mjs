@@ -77,7 +77,7 @@ export async function hatching({ trial, page }) {
     assert.equal(await trial.judged(), 'ambiguous');
     assert.match(await trial.text('#verdict-why'), /differs in 4 cells/);
     assert.equal(await page.run(() => sheet.hatching), 'differing', 'the default where it is ambiguous');
-    assert.match(await trial.text('#legend'), /other picture/);
+    assert.match(await trial.text('#legend'), /corner has the colour of the picture that is not shown/);
     await page.press('x');
     assert.equal(await page.run(() => sheet.other), true, 'the other picture in place');
     assert.match(await trial.text('button[data-action="other"]'), /Back/);

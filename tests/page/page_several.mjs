@@ -115,8 +115,8 @@ test('givens and a background beside a picture', async () => {
     assert.deepEqual(corner.picture, night.picture);
     const small = await docOf({ 'a.ppm': 'P3 2 1 15 15 0 0 0 0 15', 'a.background': '15,0,0' });
     assert.deepEqual([small.colours, small.picture], [[[255, 0, 0], [0, 0, 255]], ['.a']]);
-    // Raw samples are read as eight bits, as Pillow does.
-    const raw = await docOf({ 'a.ppm': new Uint8Array([...bytesOf('P6 2 1 15\n'), 15, 0, 0, 0, 0, 15]), 'a.background': '255,0,0' });
+    // Raw samples have the picture's own scale, too.
+    const raw = await docOf({ 'a.ppm': new Uint8Array([...bytesOf('P6 2 1 15\n'), 15, 0, 0, 0, 0, 15]), 'a.background': '15,0,0' });
     assert.deepEqual([raw.colours, raw.picture], [[[255, 0, 0], [0, 0, 255]], ['.a']]);
     // A background that no cell has.
     const other = await docOf({ 'a.ppm': TWO_WAYS, 'a.background': '1,2,3' });
@@ -247,6 +247,17 @@ test('in an archive, what lies in another folder does not go with a picture', as
     const entry = (name, text) => ({ name, bytes: bytesOf(text) });
     const { docs, unread } = await readArchive(writeZip([entry('x/y/a.ppm', TWO_WAYS), entry('x/z/a.givens', 'given 1 1\n'), entry('x/z/b.ppm', TWO_WAYS)]));
     assert.deepEqual([docs.map(({ name, doc }) => [name, givensOf(doc)]), unread], [[['a', []], ['b', []]], ['x/z/a.givens']]);
+});
+
+test('each file of an archive is unpacked by itself: one that is damaged leaves the others, and none is unpacked before its turn', async () => {
+    const zip = writeZip(['a.ppm', 'b.ppm'].map((name) => ({ name, bytes: bytesOf(TWO_WAYS) })));
+    zip[Buffer.from(zip).lastIndexOf('P3')] ^= 85;
+    const { docs, unread, why } = await readArchive(zip);
+    assert.deepEqual([docs.map(({ name }) => name), unread], [['a'], ['b.ppm']]);
+    assert.match(why, /damaged/);
+    let turns = 0;
+    const before = await readArchive(zip, async () => ++turns < 2);
+    assert.deepEqual([before.docs.length, before.unread], [1, []]);
 });
 
 test('a zip by another program: extra fields, flags, and what is not read', async () => {

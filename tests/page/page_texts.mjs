@@ -15,6 +15,8 @@ const { FR } = await import('../../page/texts/fr.js');
 const { LANGUAGES, MIRRORED, languageOf } = await import('../../page/texts/language.js');
 const { mirrored } = await import('../../page/texts/mirrored.js');
 const { LANGUAGE, filled, phrase } = await import('../../page/texts/phrase.js');
+const { verdictTitle } = await import('../../page/base/names.js');
+const { capital, lineName, linesText, opening } = await import('../../page/base/words.js');
 const TABLES = { en: EN, de: DE, fr: FR };
 const page = fileURLToPath(new URL('../../page/', import.meta.url));
 const modules = readdirSync(page, { recursive: true }).filter((file) => file.endsWith('.js') && !/^(test|texts)\//.test(file)).sort();
@@ -73,11 +75,10 @@ test('each language has the texts of English, in its order, with the same places
 });
 
 // Words that are the same in another language.
-const ARROWS = ['Up', 'Down', 'Left', 'Right'].map((way) => `view.keyArrow${way}`);
-const SAME_FRENCH = ['document.orange', 'document.cyan', 'base.expert', 'base.unique', 'view.commit', 'view.guide', 'view.keyCtrl', ...ARROWS, 'view.rectangle', 'view.unique', 'play.pause', 'import.gimpGpl',
+const SAME_FRENCH = ['document.orange', 'document.cyan', 'base.expert', 'base.unique', 'view.commit', 'view.guide', 'view.keyCtrl', 'view.rectangle', 'play.pause', 'import.gimpGpl',
     'import.jascPal', 'import.verdict', 'export.usLetter'];
-const SAME = [...ARROWS, 'view.name', 'play.pause', 'library.form', 'import.dithering', 'import.palette', 'import.gimpGpl', 'import.jascPal',
-    'import.1Gib', 'import.256Mib', 'import.16Mib', 'export.copyright', 'export.usLetter', 'export.linkField', 'main.start'];
+const SAME = ['view.name', 'play.pause', 'library.form', 'import.dithering', 'import.palette', 'import.gimpGpl', 'import.jascPal',
+    'export.copyright', 'export.usLetter', 'export.linkField', 'main.start'];
 
 test('no English is left in German', () => {
     assert.deepEqual(Object.keys(EN).filter((name) => DE[name] === EN[name]).sort(), [...SAME].sort());
@@ -122,6 +123,12 @@ test('places are filled: texts as they are, numbers as the language writes them,
     assert.deepEqual([0, 1, 2, 1000].map((count) => filled(cells, { cells: count })), ['0 cells differ', '1 cell differs', '2 cells differ', '1,000 cells differ']);
     assert.equal(filled('Take {cells|it|them} back.', { cells: 1 }), 'Take it back.');
     assert.equal(phrase('base.by', { columns: 20, rows: 15 }), '20 by 15');
+});
+
+test('lines by their names and places, a verdict and what opens a dialog, in words', () => {
+    assert.deepEqual([linesText(false, [7, 2, 4, 3]), linesText(true, [5]), linesText(true, [])], ['columns 2–4, 7', 'row 5', '']);
+    assert.deepEqual([lineName(true, 0), capital(lineName(false, 11)), opening('Print')], ['row 1', 'Column 12', 'Print …']);
+    assert.deepEqual(['unique', 'ambiguous', 'undecided'].map(verdictTitle), ['✓ Unique', '≠ Ambiguous', '? Undecided']);
 });
 
 // ---- no text elsewhere

@@ -24,7 +24,7 @@ OFFERS = """
 
 def main() -> None:
     """Prints it."""
-    print(f"nonobench {nonobench.version()}, of {nonobench._library._calls._library._name}\n{OFFERS}")
+    print(f"nonobench {nonobench.version()}, of {nonobench._library.PATH}\n{OFFERS}")
     recipes = os.path.join(sysconfig.get_path("data"), "share/doc/nonobench/docs/RECIPES.md")
     if os.path.isfile(recipes):
         print(f"  recipes: {recipes}\n")

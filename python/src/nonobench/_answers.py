@@ -3,6 +3,8 @@
 from __future__ import annotations
 
 import enum
+import io
+import itertools
 import re
 from dataclasses import dataclass
 from typing import Iterable, NamedTuple, Optional
@@ -98,12 +100,9 @@ class Result:
 
 def givens_of(certificate: bytes) -> tuple[Given, ...]:
     """The givens that a right certificate names: they stand directly below its first line. No right one has longer numbers."""
-    found = re.compile(rb"given (\d{1,3}) (\d{1,3})(?:\n|\Z)")
-    givens, match = [], found.match(certificate, certificate.find(b"\n") + 1)
-    while match:
-        givens.append(Given(int(match[1]), int(match[2])))
-        match = found.match(certificate, match.end())
-    return tuple(givens)
+    lines = itertools.islice(io.BytesIO(certificate), 1, None)
+    found = itertools.takewhile(bool, map(re.compile(rb"given (\d{1,3}) (\d{1,3})\n?").fullmatch, lines))
+    return tuple(Given(int(match[1]), int(match[2])) for match in found if match)
 
 
 def result_of(text: str, certificate: bytes) -> Result:
@@ -241,13 +240,8 @@ def proved_of(text: bytes) -> Proved:
     return Proved(Ruling(text.decode("ascii").rstrip("\n")))
 
 
-_UNIQUE = Verdict(Ruling.UNIQUE)
-
-
 def verdict_of(text: bytes) -> Verdict:
     """The verdict that a text tells."""
-    if text == b"unique\n":
-        return _UNIQUE
     first, *rows = text.decode("ascii").splitlines()
     ruling = Ruling(first.split(" ")[0])
     return Verdict(ruling, tuple(rows) if ruling is Ruling.AMBIGUOUS else None)
@@ -262,15 +256,11 @@ def assessment_of(text: str, named: tuple[Given, ...] = ()) -> Assessment:
     return Assessment(
         verdict_of(front.encode("ascii")), int(size[0]), int(size[1]), int(told["colours"][0]), int(told["givens"][0]), int(told["open"][0]),
         None if grade is None else Grade(grade[0], *map(int, grade[1:])), tuple(_flaw(words[1:]) for words in lines if words[0] == "flaw"),
-        _place(told["unknown"][1:]) if "unknown" in told else None, lines[-1] == ["fit"], text, named,
+        Given(*map(int, told["unknown"][1:])) if "unknown" in told else None, lines[-1] == ["fit"], text, named,
     )
-
-
-def _place(words: list[str]) -> Given:
-    return Given(int(words[0]), int(words[1]))
 
 
 def _flaw(words: list[str]) -> Flaw:
     if words[0] == "alike":
         return Flaw("alike", None, (words[1], words[2]))
-    return Flaw(words[0], _place(words[1:]) if words[1:] else None)
+    return Flaw(words[0], Given(*map(int, words[1:])) if words[1:] else None)

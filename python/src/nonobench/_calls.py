@@ -93,7 +93,7 @@ class Questions:
         checker says what is unique, and nothing is searched. Otherwise the allowance bounds each search, as in `verdict`.
         """
         puzzle, held = bytes_of(puzzle), None if certificate is None else bytes_of(certificate)
-        givens = _file_of(givens_of(held or b"") if published is ANY_GIVEN else published)
+        givens = _file_of(givens_of(held or b"") if isinstance(published, AnyGiven) else published)
         _allow(allowance)
         if non and background is not None:
             raise ValueError("background goes with a P3 text")
@@ -102,7 +102,7 @@ class Questions:
         try:
             (text,) = self._ask(ASSESS, puzzle, background, rest, givens or b"")
         except GivensFault:
-            if held is not None and published is ANY_GIVEN:
+            if held is not None and isinstance(published, AnyGiven):
                 self.check(puzzle, held, background, ANY_GIVEN)  # which says what is wrong with the certificate that names them
             raise
         return assessment_of(text.decode("ascii"), givens_of(held or b""))

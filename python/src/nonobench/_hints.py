@@ -6,14 +6,9 @@ from typing import Union
 
 from ._answers import Fault
 
-_UTF_16 = "it is UTF-16, and must be ASCII"
-
 # What a certificate that begins with these two bytes is.
 _ODD_STARTS = {
-    b"\xff\xfe": _UTF_16,
-    b"\xfe\xff": _UTF_16,
-    b"n\0": _UTF_16,
-    b"\0n": _UTF_16,
+    **dict.fromkeys((b"\xff\xfe", b"\xfe\xff", b"n\0", b"\0n"), "it is UTF-16, and must be ASCII"),
     b"\xef\xbb": "it begins with a byte order mark, and must begin with its first word",
 }
 _CR_LF = "its lines end with CR LF, and must end with LF alone"

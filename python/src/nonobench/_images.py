@@ -5,6 +5,7 @@ A file is looked at here as a whole. Pillow unpacks the pixels of PNG, GIF and W
 
 from __future__ import annotations
 
+import contextlib
 import io
 import itertools
 import re
@@ -45,7 +46,7 @@ def colour_shown(colour: Colour, maxval: int) -> Colour:
 
 
 def picture_of_image(data: Bytes, background: Colour = WHITE) -> bytes:
-    """The P3 text of a PNG, GIF, BMP, WebP, PPM, PGM or PBM image, a cell for each pixel as a browser shows it.
+    """The P3 text of a PNG, GIF, BMP, WebP, PGM, PBM or raw PPM image, a cell for each pixel as a browser shows it.
 
     Transparent pixels get the background. Raises ImageFault if the image is refused, and ImportError if it needs Pillow, and there
     is none.
@@ -61,15 +62,13 @@ def is_image(data: bytes) -> bool:
 
 def pixels_of(data: bytes) -> Pixels:
     """The pixels of an image."""
-    read = _reader_of(data)
-    if read is None:
-        _refuse(UNKNOWN)
+    read = _reader_of(data) or _refuse(UNKNOWN)
     try:
         pixels = read(data)
     except (ImageFault, MemoryError, ImportError):
         raise
-    except Exception as error:  # whatever a decoder makes of a stranger's bytes
-        raise _fault(DAMAGED) from error
+    except Exception:  # whatever a decoder makes of a stranger's bytes
+        _refuse(DAMAGED)
     if any(pixel[3] not in (0, 255) for pixel in pixels.cells):
         _refuse(HALF)
     return Pixels(pixels.columns, [pixel if pixel[3] else CLEAR for pixel in pixels.cells])
@@ -81,16 +80,21 @@ def most_of(data: bytes) -> int:
     return 255 if head is None else int(head[0][2][:9])
 
 
+def prepare() -> None:
+    """Loads Pillow with its readers, if it is there. Within a bound of memory it might leave one out, for as long as the process lives."""
+    with contextlib.suppress(ImportError):
+        from PIL import Image, WebPImagePlugin  # type: ignore[import]
+
+        assert WebPImagePlugin
+        Image.preinit()
+
+
 def _reader_of(data: bytes) -> Optional[Callable[[bytes], Pixels]]:
     return next((read for sign, read in _READERS if re.match(sign, data, re.DOTALL)), None)
 
 
-def _fault(reason: str) -> ImageFault:
-    return ImageFault(reason, f"the image is refused: {reason}")
-
-
 def _refuse(reason: str) -> NoReturn:
-    raise _fault(reason)
+    raise ImageFault(reason, f"the image is refused: {reason}")
 
 
 def _need(is_right: object, reason: str = DAMAGED) -> None:
@@ -107,7 +111,7 @@ def _bounded(columns: int, rows: int) -> None:
 
 def _unpacked(kind: str, data: bytes) -> list[bytes]:
     """The pixels that Pillow unpacks, each as the bytes of its samples; of a palette, of its number."""
-    from PIL import Image, ImageFile  # type: ignore[import]
+    from PIL import Image, ImageFile
 
     _need(not ImageFile.LOAD_TRUNCATED_IMAGES, "not looked at, since Pillow's LOAD_TRUNCATED_IMAGES is set")
     with Image.open(io.BytesIO(data), formats=[kind]) as image:
@@ -206,8 +210,7 @@ def _need_plain_colours(chunks: list[tuple[bytes, bytes]]) -> bool:
     _need(not names & {b"iCCP", b"cICP"}, PROFILE)
     is_converted = {b"gAMA", b"cHRM"} <= names and b"sRGB" not in names
     _need(not is_converted or all(body == _PRIMARIES for name, body in chunks if name == b"cHRM"), PROFILE)
-    for name, body in chunks:
-        _need(name != b"sRGB" or body in (b"\0", b"\1", b"\2", b"\3"))
+    _need({body for name, body in chunks if name == b"sRGB"} <= {b"\0", b"\1", b"\2", b"\3"})
     return is_converted
 
 
@@ -243,9 +246,10 @@ def _gif(data: bytes) -> Pixels:
     while data[at] != 0x3B:
         begun, sign = at, data[at]
         if sign == 0x21:
-            at, body = _blocks(data, at + 2)
+            at, (body, *more) = _blocks(data, at + 2)
             _need(not body.startswith(b"ICCRGBG1"), PROFILE)
-            _need(body not in _LOOPS or _is_loop(data, begun + 14))
+            # Where a block does not say how often frames come, browsers show no image.
+            _need(body not in _LOOPS or (more and all(len(block) > 2 and block[0] & 7 in (1, 2) for block in more)))
             if data[begun + 1] == 0xF9:
                 _need(len(body) == 4 and at == begun + 8 and not told)
                 told.append(body[3] if body[0] & 1 else None)
@@ -271,21 +275,13 @@ def _behind_table(at: int, flags: int) -> int:
     return at + (3 << (flags % 8 + 1)) if flags & 0x80 else at
 
 
-def _is_loop(data: bytes, at: int) -> bool:
-    """Whether the blocks of a GIF that begin at a place say how often frames come. Where one does not, browsers show no image."""
-    is_loop = data[at] > 0
+def _blocks(data: bytes, at: int) -> tuple[int, list[bytes]]:
+    """Where the blocks of a GIF end that begin at a place, and what is in them: an empty one where there is none."""
+    blocks = []
     while data[at]:
-        is_loop = is_loop and data[at] > 2 and data[at + 1] & 7 in (1, 2)
+        blocks.append(data[at + 1 : at + 1 + data[at]])
         at += 1 + data[at]
-    return is_loop
-
-
-def _blocks(data: bytes, at: int) -> tuple[int, bytes]:
-    """Where the blocks of a GIF end that begin at a place, and the first of them."""
-    first = data[at + 1 : at + 1 + data[at]]
-    while data[at]:
-        at += 1 + data[at]
-    return at + 1, first
+    return at + 1, blocks or [b""]
 
 
 def _bmp(data: bytes) -> Pixels:
@@ -302,9 +298,7 @@ def _bmp(data: bytes) -> Pixels:
     _need(method == 0 and (bits in (1, 4, 8, 24) or (bits, head) == (32, 40)), UNKNOWN)
     wide = (columns * bits + 31) // 32 * 4
     _need(14 + head <= start and len(data) >= start + rows * wide)  # not all browsers take headers for pixels
-    lines = [data[start + at * wide : start + (at + 1) * wide] for at in range(rows)]
-    if not is_down:
-        lines.reverse()
+    lines = [data[start + at * wide : start + (at + 1) * wide] for at in range(rows)[:: 1 if is_down else -1]]
     if bits > 8:
         step = bits // 8
         return Pixels(columns, [(*line[at : at + 3][::-1], 255) for line in lines for at in range(0, columns * step, step)])
@@ -364,14 +358,11 @@ def header_of(data: bytes, count: int) -> Optional[tuple[list[bytes], int]]:
     words: list[bytes] = []
     at = 2
     for _ in range(count):
-        blank = _BLANK.match(data, at)
-        if blank is None:
-            return None
-        while blank is not None:
+        begun = at
+        while blank := _BLANK.match(data, at):
             at = blank.end()
-            blank = _BLANK.match(data, at)
         digits = _DIGITS.match(data, at)
-        if digits is None:
+        if at == begun or digits is None:
             return None
         words.append(digits[0].lstrip(b"0") or b"0")
         at = digits.end()
@@ -380,14 +371,12 @@ def header_of(data: bytes, count: int) -> Optional[tuple[list[bytes], int]]:
 
 def _pnm(data: bytes) -> Pixels:
     kind = data[1] - 48
-    head = header_of(data, 2 if kind in (1, 4) else 3)
-    _need(head)
-    assert head is not None
-    columns, rows, most = (int(word[:9]) for word in [*head[0], b"1"][:3])
+    words, end = header_of(data, 2 if kind in (1, 4) else 3) or _refuse(DAMAGED)
+    columns, rows, most = (int(word[:9]) for word in [*words, b"1"][:3])
     _bounded(columns, rows)
     _need(most > 0)
     _need(most < 256, DEEP)
-    rest, step = data[head[1] :], 3 if kind == 6 else 1
+    rest, step = data[end:], 3 if kind == 6 else 1
     samples = _raw_samples(rest, rows, columns * step, kind == 4) if kind > 3 else _plain_samples(rest, rows * columns, kind == 1)
     _need(len(samples) == rows * columns * step and max(samples) <= most)
     if kind in (1, 4):

@@ -31,10 +31,7 @@ def _path() -> str:
         # A name without a slash is looked for by the system.
         return os.path.abspath(named) if os.sep in named else named
     checkout = os.path.dirname(os.path.dirname(os.path.dirname(FOLDER)))
-    for place in (os.path.join(FOLDER, NAME), os.path.join(checkout, "c", "out", NAME)):
-        if os.path.isfile(place):
-            return place
-    return NAME
+    return next(filter(os.path.isfile, (os.path.join(FOLDER, NAME), os.path.join(checkout, "c", "out", NAME))), NAME)
 
 
 def _load(path: str) -> ctypes.CDLL:
@@ -50,12 +47,12 @@ def _kinds() -> dict[str, tuple[Any, list[Any]]]:
     bytes_of = [ctypes.c_char_p, ctypes.c_size_t]
     number = ctypes.c_uint32
     return {
-        "version": (ctypes.c_size_t, [ctypes.c_char_p, ctypes.c_size_t]),
+        "version": (ctypes.c_size_t, [*bytes_of]),
         "start": (number, [cell]),
         "end": (None, [ctypes.c_void_p]),
         "open": (number, [cell, *bytes_of, ctypes.c_bool, *bytes_of, number, ctypes.POINTER(number)]),
         "say": (number, [cell, number, *bytes_of]),
-        "take": (ctypes.c_size_t, [cell, ctypes.c_char_p, ctypes.c_size_t]),
+        "take": (ctypes.c_size_t, [cell, *bytes_of]),
         "close": (number, [cell, number]),
         "check": (number, [cell, *bytes_of, *bytes_of, *bytes_of]),
         "check_published": (number, [cell, *bytes_of, *bytes_of, *bytes_of, *bytes_of]),
@@ -72,10 +69,7 @@ class _Calls:
     """The calls of the library, which the first of them loads."""
 
     def __getattr__(self, name: str) -> Any:
-        if name == "_library":
-            self._library = _load(PATH)
-            return self._library
-        call = getattr(self._library, name)
+        call = getattr(_load(PATH), name)
         call.restype, call.argtypes = _kinds()[name.removeprefix("nonobench_")]
         setattr(self, name, call)
         return call
@@ -116,23 +110,20 @@ class Desk:
         """Checks a certificate of a picture, with the file of givens that are published if there is one, and answers the status."""
         call = _calls.nonobench_check if givens is None else _calls.nonobench_check_published
         files = (picture, certificate, background) if givens is None else (picture, certificate, givens, background)
-        status: int = call(self._at, *(word for file in files for word in (file, len(file))))
-        return status
+        return int(call(self._at, *(word for file in files for word in (file, len(file)))))
 
     def prove(self, picture: bytes, background: bytes) -> int:
         """Makes a certificate with lemmas of a picture, and answers the status."""
-        status: int = _calls.nonobench_prove(self._at, picture, len(picture), background, len(background))
-        return status
+        return int(_calls.nonobench_prove(self._at, picture, len(picture), background, len(background)))
 
     def assess(
         self, puzzle: bytes, non: bool, background: bytes, givens: bytes, certificate: bytes | None, allowance: int
     ) -> int:
         """Assesses a puzzle, by a certificate where there is one, and answers the status."""
         held, is_by = certificate or b"", certificate is not None
-        status: int = _calls.nonobench_assess(
+        return int(_calls.nonobench_assess(
             self._at, puzzle, len(puzzle), non, background, len(background), True, givens, len(givens), is_by, held, len(held), allowance
-        )
-        return status
+        ))
 
     def open(self, puzzle: bytes, background: bytes, non: bool = False) -> tuple[int, int]:
         """Opens a bench on a puzzle: the status and the handle."""
@@ -142,8 +133,7 @@ class Desk:
 
     def say(self, handle: int, lines: bytes) -> int:
         """Says lines of commands to a bench, and answers the status."""
-        status: int = _calls.nonobench_say(self._at, handle, lines, len(lines))
-        return status
+        return int(_calls.nonobench_say(self._at, handle, lines, len(lines)))
 
     def close(self, handle: int) -> None:
         """Closes a bench."""

@@ -76,12 +76,8 @@ class Child:
         env = {**os.environ, "NONOBENCH_LIBRARY": PATH}
         with theirs:
             self._process = subprocess.Popen(words, stdin=theirs.fileno(), stdout=subprocess.DEVNULL, env=env, **more)
+        self.pid = self._process.pid
         self.end = weakref.finalize(self, _end, self._process, self._stream, os.getpid())
-
-    @property
-    def pid(self) -> int:
-        """The process's number."""
-        return self._process.pid
 
     @property
     def is_sending(self) -> bool:

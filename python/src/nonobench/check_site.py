@@ -97,13 +97,9 @@ class Site:
         """The bytes of a picture."""
         return _read("its picture: ", os.path.join(self._folder, f"{stem}.ppm"), MOST_BYTES)
 
-    def givens(self, stem: str) -> bytes:
-        """The file of the cells that are published with a picture; without it none are."""
-        return self._beside(stem, "givens", MOST_BYTES) or b""
-
     def background(self, stem: str) -> Optional[Triple]:
         """The background of a picture; nothing for white."""
-        text = self._beside(stem, "background", MOST_BACKGROUND)
+        text = self.beside(stem, "background", MOST_BACKGROUND)
         word = "white" if text is None else text.decode("ascii", "replace").strip()
         try:
             if word == "corner":
@@ -112,7 +108,7 @@ class Site:
         except ValueError as error:
             raise Unreadable(f"its background {error}") from error
 
-    def _beside(self, stem: str, ending: str, most: int) -> Optional[bytes]:
+    def beside(self, stem: str, ending: str, most: int) -> Optional[bytes]:
         """What the site has beside a picture; nothing where it has no such file."""
         if self._published is None:
             return None
@@ -153,7 +149,8 @@ class Checks:
         worker = self._workers.get()
         try:
             certificate, stem = self._site.certificate(name), os.path.splitext(name)[0]
-            said = worker.assess(self._site.picture(stem), certificate, self._site.background(stem), self._site.givens(stem))
+            givens = self._site.beside(stem, "givens", MOST_BYTES) or b""
+            said = worker.assess(self._site.picture(stem), certificate, self._site.background(stem), givens)
             flaws = refused_flaws(map(str, said.flaws), self._allowed)
         except Fault as fault:
             hint = hint_of(fault, certificate)

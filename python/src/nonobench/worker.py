@@ -85,11 +85,10 @@ class Worker(Questions):
                 self._number += 1
                 answer = process.ask(self._number, kind, files, self._seconds, self._processor)
             except BaseException as error:
-                if not process:
-                    raise
-                process.end()
-                if isinstance(error, EOFError):
-                    raise process.why() from error
+                if process:
+                    process.end()
+                    if isinstance(error, EOFError):
+                        raise process.why() from error
                 raise
             self._process = process
             return answer

@@ -171,13 +171,8 @@ def _refuse_inputs(parser: argparse.ArgumentParser, told: argparse.Namespace) ->
             continue
         if os.path.splitext(name)[1].lower() in _ENDINGS:
             parser.error(f"{name!r} is no name for an output: its ending is that of a puzzle, or of what lies beside one")
-        if any(_are_same(path, name) for path in told.paths):
+        if os.path.exists(name) and any(os.path.exists(path) and os.path.samefile(path, name) for path in told.paths):
             parser.error(f"{name!r} is both an input and an output")
-
-
-def _are_same(one: str, other: str) -> bool:
-    """Whether two names are of the same file."""
-    return os.path.exists(one) and os.path.exists(other) and os.path.samefile(one, other)
 
 
 def _refuse_twins(parser: argparse.ArgumentParser, paths: list[str], option: str) -> None:

@@ -126,14 +126,12 @@ def _replace(path: str, data: bytes) -> None:
 
 def _write_new(path: str, data: bytes) -> None:
     """Writes a file that is not there yet, or none."""
-    handle = os.open(path, os.O_WRONLY | os.O_CREAT | os.O_EXCL | os.O_CLOEXEC, 0o666)
-    try:
-        write_all(handle, data)
-    except OSError:
-        os.unlink(path)
-        raise
-    finally:
-        os.close(handle)
+    with open(path, "xb", buffering=0) as file:
+        try:
+            write_all(file.fileno(), data)
+        except OSError:
+            os.unlink(path)
+            raise
 
 
 def delivered(answer: Answer, to: Optional[str]) -> str:

@@ -6,10 +6,11 @@ Each worker needs this package in the same version, and no file of the collectio
 from __future__ import annotations
 
 import asyncio
+import itertools
 import marshal
 import zlib
 from collections import deque
-from typing import Any, Callable, Iterator, NamedTuple, Optional
+from typing import Any, Callable, Iterator, Optional
 
 from .._library import version
 from .outputs import Failure
@@ -23,13 +24,6 @@ RETRIES = 5
 CONNECTING = 10.0  # seconds
 
 Plain = tuple[Any, ...]
-
-
-class Flying(NamedTuple):
-    """A pack that is being judged: its future, or the answers where none is needed."""
-
-    future: Any
-    unread: list[Answer]
 
 
 def judge_pack(wanted: str, settings: Plain, seconds: Optional[float], pack: bytes) -> list[Plain]:
@@ -68,17 +62,13 @@ class Cluster:
     def answers(self, tasks: Iterator[Task], is_full: Callable[[], bool] = bool) -> Iterator[Optional[Answer]]:
         """What is answered to tasks, pack after pack; nothing, from time to time."""
         packs = _packs(tasks, self._settings)
-        flying: deque[Flying] = deque()
-        has_more = True
+        flying: deque[tuple[Any, list[Answer]]] = deque()  # what is being judged, with the answers of files that are not
         while True:
-            while has_more and len(flying) < self._room():
-                pack = next(packs, None)
-                has_more = pack is not None
-                if pack is not None:
-                    flying.append(self._submit(*pack))
+            for pack, told in itertools.islice(packs, max(0, self._room() - len(flying))):
+                flying.append((self._submit(pack), told))
             if not flying:
                 return
-            found = self._result(flying[0])
+            found = self._result(*flying[0])
             if found is not None:
                 flying.popleft()
                 yield from found
@@ -94,24 +84,23 @@ class Cluster:
         threads: dict[str, int] = self._client.nthreads()
         return 4 + 2 * sum(threads.values())
 
-    def _submit(self, tasks: list[Task], answers: list[Answer]) -> Flying:
+    def _submit(self, tasks: list[Task]) -> Any:
         pack = zlib.compress(marshal.dumps([tuple(task) for task in tasks]), 1)
-        future = self._client.submit(
+        return self._client.submit(
             judge_pack, version(), tuple(self._settings), self._seconds, pack, retries=RETRIES, pure=False
         )
-        return Flying(future, answers)
 
-    def _result(self, flying: Flying) -> Optional[list[Answer]]:
+    def _result(self, future: Any, told: list[Answer]) -> Optional[list[Answer]]:
         """The answers of a pack in order, where they are there within a moment."""
         try:
-            found = [Answer(*answer) for answer in flying.future.result(timeout=TICK)]
+            found = [Answer(*answer) for answer in future.result(timeout=TICK)]
         except (asyncio.TimeoutError, TimeoutError):
             return None
         except Broken as error:
             raise Failure(f"a worker of the scheduler: {error}") from error
         except Exception as error:  # whatever a worker, or the way to it, failed by
             raise Failure(f"the scheduler's workers: {type(error).__name__}: {error}") from error
-        return sorted([*found, *flying.unread], key=lambda answer: answer.number)
+        return sorted([*found, *told], key=lambda answer: answer.number)
 
 
 def _packs(tasks: Iterator[Task], settings: Settings) -> Iterator[tuple[list[Task], list[Answer]]]:

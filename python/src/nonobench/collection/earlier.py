@@ -2,7 +2,6 @@
 
 from __future__ import annotations
 
-import hashlib
 import os
 import re
 from typing import BinaryIO, Optional
@@ -24,7 +23,7 @@ class Earlier:
 
     def __init__(self, name: str) -> None:
         self._name = name
-        self._places: dict[int, tuple[int, int]] = {}  # where a row begins, and the number of its line
+        self._places: dict[int, tuple[int, int]] = {}  # by hashes of names: where a row begins, and the number of its line
         with telling(name):
             self._lines: BinaryIO = open(name, "rb")
         for number, (place, line) in enumerate(lines_of(self._lines), 1):
@@ -35,13 +34,13 @@ class Earlier:
                 file = row_of(front[1])
             except ValueError as error:
                 raise no_row(name, number, str(error)) from None
-            self._places[_key(file, int((front[2] or b"1")[:9]))] = place, number
+            self._places[hash((file, int((front[2] or b"1")[:9])))] = place, number
 
     def rows(self, name: str) -> list[tuple[int, Row]]:
         """The rows of a file, each with its place; none where some are missing."""
         found: list[tuple[int, Row]] = []
         while True:
-            place, number = self._places.get(_key(name, len(found) + 1), (0, 0))
+            place, number = self._places.get(hash((name, len(found) + 1)), (0, 0))
             if not number:
                 return []
             self._lines.seek(place)
@@ -55,8 +54,7 @@ class Earlier:
     def row(self, place: int) -> Row:
         """The row at a place, which was read before."""
         self._lines.seek(place)
-        row: Row = row_of(self._lines.readline())
-        return row
+        return dict(row_of(self._lines.readline()))
 
 
 def no_row(name: str, number: int, why: str) -> Failure:
@@ -102,8 +100,3 @@ def to_check(rows: list[tuple[int, Row]], to: Optional[str], published: Optional
         certificate: File = f"{numbered_name(to, number)}.cert" if is_unique and to is not None else b""
         kept.append((number, text_of(row if is_unique else {}), certificate))
     return tuple(kept)
-
-
-def _key(name: str, puzzle: int) -> int:
-    digest = hashlib.blake2b(f"{puzzle}\n{name}".encode("utf-8", "surrogatepass"), digest_size=8)
-    return int.from_bytes(digest.digest(), "big")

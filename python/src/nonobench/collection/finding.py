@@ -109,8 +109,8 @@ def _is_within(path: str, outer: str) -> bool:
 
 
 def front_of(path: str) -> str:
-    """What a folder is called in the names of certificates, where there are several: never `..`."""
-    return os.path.basename(os.path.realpath(path)) + "/"
+    """What a folder is called in the names of certificates, where there are several: never `..`, nor `/`, which would lead elsewhere."""
+    return (os.path.basename(os.path.realpath(path)) or "root") + "/"
 
 
 def find(paths: list[str], places: Places = Places()) -> Iterator[Found]:

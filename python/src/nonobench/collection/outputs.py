@@ -19,17 +19,11 @@ SOME = 1 << 16  # bytes that are written together
 MOMENT = 0.25  # seconds until a row is in its file
 MOST_LINE = 1 << 20  # bytes of a row
 CLOSED = "standard output was closed"
+ROW = b'{"file":"'  # how a row begins
 
 
 class Failure(Exception):
     """Something cannot be read or written. The text says what and why."""
-
-
-def failure(name: str, error: Exception) -> Failure:
-    """The failure that an error of the system is."""
-    if name == "-" and isinstance(error, BrokenPipeError):
-        return Failure(CLOSED)
-    return Failure(f"{'standard output' if name == '-' else name}: {getattr(error, 'strerror', None) or error}")
 
 
 @contextlib.contextmanager
@@ -38,7 +32,9 @@ def telling(name: str) -> Iterator[None]:
     try:
         yield
     except OSError as error:
-        raise failure(name, error) from error
+        if name == "-" and isinstance(error, BrokenPipeError):
+            raise Failure(CLOSED) from error
+        raise Failure(f"{'standard output' if name == '-' else name}: {error.strerror or error}") from error
 
 
 def locked(name: str, file: Union[BinaryIO, int], is_shared: bool = False) -> None:
@@ -77,29 +73,32 @@ def hold_streams() -> None:
     sys.stdout, sys.stderr = (stream or open(os.devnull, "w", encoding="utf-8") for stream in (sys.stdout, sys.stderr))
 
 
-def _opened(name: str) -> BinaryIO:
+def _opened(name: str, flags: int) -> BinaryIO:
     """A file to write to. Nothing waits for somebody to read a pipe: that there is nobody is told, now or later."""
-    if not os.path.exists(name) or not stat.S_ISFIFO(os.stat(name).st_mode):
-        return os.fdopen(os.open(name, os.O_RDWR | os.O_CREAT | os.O_APPEND | os.O_CLOEXEC, 0o666), "r+b", buffering=0)
+    if flags or not os.path.exists(name) or not stat.S_ISFIFO(os.stat(name).st_mode):
+        return os.fdopen(os.open(name, os.O_RDWR | os.O_CREAT | os.O_APPEND | os.O_CLOEXEC | flags, 0o666), "r+b", buffering=0)
     handle = os.open(name, os.O_WRONLY | os.O_NONBLOCK | os.O_CLOEXEC)
     os.set_blocking(handle, True)
     return os.fdopen(handle, "wb", buffering=0)
 
 
 class Output:
-    """Bytes on their way to a file, or to standard output, which is called `-`. What a file had is kept until something is written."""
+    """Bytes on their way to a file, or to standard output, which is called `-`. What a file had is kept until something is written.
+    With flags, for one that nobody named and that then takes another's place, a link or a pipe that lies there is none.
+    """
 
-    def __init__(self, name: str, keeps: bool = False) -> None:
+    def __init__(self, name: str, keeps: bool = False, flags: int = 0) -> None:
         self.name = name
-        self._parts: list[bytes] = []
-        self._size = 0
+        self._held = bytearray()
         self._since = 0.0
         self._is_old = False  # whether the file still has what it had
         with telling(name):
             if name == "-":
                 self.file: BinaryIO = os.fdopen(os.dup(1), "wb", buffering=0)
                 return
-            self.file = _opened(name)
+            self.file = _opened(name, flags)
+            if flags and not is_regular(self.file):
+                raise Failure(f"{name}: this is not a file")
             if is_regular(self.file):  # a device such as /dev/null may have several runs
                 locked(name, self.file)
                 self._is_old = not keeps
@@ -113,16 +112,15 @@ class Output:
 
     def put(self, data: bytes) -> None:
         """Puts bytes, which go out within a moment where `flush` is called now and then."""
-        self._parts.append(data)
-        self._size += len(data)
-        if self._size > SOME:
+        self._held += data
+        if len(self._held) > SOME:
             self.flush()
 
     def flush(self, is_hurried: bool = True) -> None:
         """Writes what waits; unhurried, only where it has waited for a moment."""
-        if not self._parts or not (is_hurried or time.monotonic() - self._since > MOMENT):
+        if not self._held or not (is_hurried or time.monotonic() - self._since > MOMENT):
             return
-        data, self._parts, self._size = memoryview(b"".join(self._parts)), [], 0
+        data, self._held = memoryview(self._held), bytearray()
         self._since = time.monotonic()
         self._empty()
         with telling(self.name):
@@ -141,8 +139,8 @@ class Output:
 class Sink:
     """Rows on their way into an output."""
 
-    def __init__(self, name: str, keeps: bool = False) -> None:
-        self._output = Output(name, keeps)
+    def __init__(self, name: str, keeps: bool = False, flags: int = 0) -> None:
+        self._output = Output(name, keeps, flags)
 
     def flush(self) -> None:
         """Writes what has waited for a moment."""
@@ -193,7 +191,7 @@ class Lines(Sink):
         file = self._output.file
         if all(before < after for before, after in zip(self._order, self._order[1:])) and len(self._order) == _count(file):
             return
-        new = Output(f"{self._name}.new")
+        new = Output(f"{self._name}.new", flags=os.O_NOFOLLOW)
         with contextlib.closing(new), telling(self._name):
             with open(self._name, "rb") as lines:
                 for place in self._order:
@@ -218,6 +216,9 @@ def _cut_torn_line(file: BinaryIO, name: str) -> int:
         file.seek(begin)
         at = file.read(SOME).rfind(b"\n")
     place = begin + at + 1
+    file.seek(place)
+    if not ROW.startswith(file.read(len(ROW))):
+        raise Failure(f"{name}: its last line is not a row of an audit")  # a file of something else stays whole
     if place < end:
         with telling(name):
             file.truncate(place)

@@ -6,7 +6,7 @@ import contextlib
 import sys
 import time
 from collections import Counter
-from typing import Any, Iterable, Iterator, Optional
+from typing import Any, Iterable, Optional
 
 from .rows import VERDICTS
 from .tally import counted
@@ -52,15 +52,9 @@ class Progress:
             line += f", {(self._total - self._files) * spent / self._files:.0f} s left"
         return f"{line}; {counted(self._verdicts, VERDICTS) or 'no verdict yet'}"
 
-    @contextlib.contextmanager
-    def aside(self) -> Iterator[None]:
+    def aside(self) -> Any:
         """Takes the bar away while lines are printed."""
-        if self._bar is not None and sys.stdout.isatty():
-            self._bar.clear()
-            yield
-            self._bar.refresh()
-        else:
-            yield
+        return self._bar.external_write_mode() if self._bar is not None and sys.stdout.isatty() else contextlib.nullcontext()
 
     def close(self) -> None:
         """Shows the end."""

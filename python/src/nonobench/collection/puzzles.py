@@ -25,6 +25,12 @@ class Unreadable(Exception):
     """A file, or a puzzle of it, is not read. The text says why in one line."""
 
 
+def need(is_right: object, why: str) -> None:
+    """Refuses a file, or a puzzle of it, where something is not right."""
+    if not is_right:
+        raise Unreadable(why)
+
+
 class Missing(Unreadable):
     """A library is not installed that a file or an option needs."""
 

@@ -13,7 +13,7 @@ from .._answers import ImageFault
 from .._calls import picture_of
 from .._images import colour_shown, header_of, is_image, most_of, pixels_of
 from . import webpbn
-from .puzzles import MOST_BYTES, MOST_COLOURS, WHITE, Missing, Puzzle, Triple, Unreadable, one_line
+from .puzzles import MOST_BYTES, MOST_COLOURS, WHITE, Missing, Puzzle, Triple, Unreadable, need, one_line
 
 NAMED = {".png": "PNG", ".gif": "GIF", ".bmp": "BMP", ".webp": "WebP", ".xml": "XML"}
 
@@ -39,25 +39,22 @@ def bytes_of(path: Union[str, bytes], most: int = MOST_BYTES, follows: bool = Tr
     """The bytes of a file. Pipes, devices and folders are none, and nothing waits for one. Nor are links, where it follows none;
     and a real path is absolute, and leads through no link.
     """
+    more = os.O_NONBLOCK | (0 if follows else os.O_NOFOLLOW)
     try:
-        handle = os.open(path, os.O_RDONLY | os.O_NONBLOCK | os.O_CLOEXEC | (0 if follows else os.O_NOFOLLOW))
-        try:
-            found = os.fstat(handle)
-            if not stat.S_ISREG(found.st_mode):
-                raise Unreadable("this is not a file" if not stat.S_ISDIR(found.st_mode) else "this folder is not read")
-            if found.st_size > most:
-                raise Unreadable(f"more than {most} bytes")
-            if is_real and os.readlink(f"/proc/self/fd/{handle}") != path:
-                raise Unreadable("a part of its path is a link" if os.fstat(handle).st_nlink else "it was replaced while it was read")
-            with os.fdopen(handle, "rb", closefd=False) as file:
-                data = file.read(found.st_size)
-        finally:
-            os.close(handle)
+        with open(path, "rb", opener=lambda name, flags: os.open(name, flags | more)) as file:
+            found = os.fstat(file.fileno())
+            need(stat.S_ISREG(found.st_mode), "this is not a file")
+            need(found.st_size <= most, f"more than {most} bytes")
+            if is_real and os.readlink(f"/proc/self/fd/{file.fileno()}") != path:
+                is_link = os.fstat(file.fileno()).st_nlink
+                raise Unreadable("a part of its path is a link" if is_link else "it was replaced while it was read")
+            return file.read(found.st_size)
+    except IsADirectoryError as error:
+        raise Unreadable("this folder is not read") from error
     except (OSError, ValueError) as error:
         if not follows and getattr(error, "errno", None) == errno.ELOOP:
             raise Unreadable("this is a link") from error
         raise Unreadable(one_line(getattr(error, "strerror", None) or str(error))) from error
-    return data
 
 
 def puzzles_of(
@@ -67,6 +64,7 @@ def puzzles_of(
 
     The first bytes tell what a file is. Its suffix counts where they do not. A file of givens takes the place of those in XML.
     """
+    puzzle: Union[Puzzle, Unreadable]
     if data.startswith(b"P3") and suffix != ".non":
         puzzle = Puzzle(data, background=first_triple(data) if ground.is_corner else ground.triple)
     elif is_image(data):
@@ -74,18 +72,15 @@ def puzzles_of(
     elif _is_xml(data):
         puzzles = webpbn.puzzles_of_xml(data)
         if givens is None:
-            yield from puzzles if suffix == ".xml" else _alone(puzzles)
+            yield from puzzles if suffix == ".xml" else [_only(puzzles, "several puzzles, and a name that does not end in .xml")]
             return
-        puzzle = _only(puzzles)
+        puzzle = _only(puzzles, "a file of givens lies beside several puzzles")
     elif suffix == ".non":
         puzzle = Puzzle(data, is_non=True)
-    elif suffix not in NAMED:
-        puzzle = Puzzle(data)
     else:
-        raise Unreadable(f"this does not begin as {NAMED[suffix]} does")
-    if givens is not None:
-        puzzle = replace(puzzle, published=givens)
-    yield puzzle
+        need(suffix not in NAMED, f"this does not begin as {NAMED.get(suffix)} does")
+        puzzle = Puzzle(data)
+    yield replace(puzzle, published=givens) if givens is not None and isinstance(puzzle, Puzzle) else puzzle
 
 
 def _puzzle_of_image(data: bytes, ground: Ground) -> Puzzle:
@@ -96,33 +91,22 @@ def _puzzle_of_image(data: bytes, ground: Ground) -> Puzzle:
         raise Missing("Pillow", "reads images") from None
     except ImageFault as fault:
         raise Unreadable(str(fault)) from fault
-    if ground.triple is not None and max(ground.triple) > most_of(data):
-        raise Unreadable("the background is larger than the picture's samples")
+    need(ground.triple is None or max(ground.triple) <= most_of(data), "the background is larger than the picture's samples")
     under = WHITE if ground.triple is None else colour_shown(ground.triple, most_of(data))
     if ground.is_corner:
         under = pixels.triples(under)[0]
     triples = pixels.triples(under)
-    if len({under, *triples}) > MOST_COLOURS:
-        raise Unreadable(f"more than {MOST_COLOURS} colours with the background")
+    need(len({under, *triples}) <= MOST_COLOURS, f"more than {MOST_COLOURS} colours with the background")
     background = None if ground == Ground() else under
     return Puzzle(picture_of(pixels.columns, len(triples) // pixels.columns, triples), background=background)
 
 
-def _alone(puzzles: Iterator[Union[Puzzle, Unreadable]]) -> Iterator[Union[Puzzle, Unreadable]]:
-    """The puzzle of a file whose name does not tell that there may be several: the name of the second could be that of another file."""
-    first = next(puzzles)
-    if next(puzzles, None) is not None:
-        raise Unreadable("several puzzles, and a name that does not end in .xml")
-    yield first
-
-
-def _only(puzzles: Iterator[Union[Puzzle, Unreadable]]) -> Puzzle:
-    """The puzzle of a file that has one. Where it has several, nothing says which of them a file of givens is for."""
-    puzzle = next(puzzles, Unreadable("no puzzle"))
-    if next(puzzles, None) is not None:
-        raise Unreadable("a file of givens lies beside several puzzles")
-    if isinstance(puzzle, Unreadable):
-        raise puzzle
+def _only(puzzles: Iterator[Union[Puzzle, Unreadable]], why: str) -> Union[Puzzle, Unreadable]:
+    """The puzzle of a file that must have one: where its name does not tell that there may be several, the name of the second could be
+    that of another file; and of several nothing says which one a file of givens is for.
+    """
+    puzzle = next(puzzles)
+    need(next(puzzles, None) is None, why)
     return puzzle
 
 

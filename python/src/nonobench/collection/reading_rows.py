@@ -22,21 +22,24 @@ def checked_row(line: bytes) -> Row:
         raise ValueError("it is not UTF-8") from None
     except json.JSONDecodeError as error:
         raise ValueError(f"it is not JSON: {error.msg}") from None
-    if not isinstance(row, dict):
-        raise ValueError("it is not an object")
+    _need(isinstance(row, dict), "it is not an object")
     for name, value in row.items():
         if name not in _FIELDS:
             raise ValueError(f"no row has a field {name[:40]!a}")
         if not _FIELDS[name](value):
             raise ValueError(f"the field {name!r} is wrong")
     _compare(row)
-    return row
+    return dict(row)
+
+
+def _need(is_right: object, why: str) -> None:
+    if not is_right:
+        raise ValueError(why)
 
 
 def _object(pairs: list[tuple[str, Any]]) -> dict[str, Any]:
     made = dict(pairs)
-    if len(made) < len(pairs):
-        raise ValueError("it has a field twice")
+    _need(len(made) == len(pairs), "it has a field twice")
     return made
 
 
@@ -53,35 +56,31 @@ def _compare(row: Row) -> None:
     wanted += ["error"] if verdict == "error" else ["other"] if verdict == "ambiguous" else ["figures"] if "grade" in row else []
     wanted += ["fit"] if "rows" in row else []
     for name in wanted:
-        if name not in row:
-            raise ValueError(f"the field {name!r} is missing")
+        _need(name in row, f"the field {name!r} is missing")
     for name in ("grade", "figures", "lines"):
-        if name in row and verdict != "unique":
-            raise ValueError(f"the field {name!r} goes with the verdict 'unique'")
+        _need(name not in row or verdict == "unique", f"the field {name!r} goes with the verdict 'unique'")
     if "picture" in row:
         _compare_picture(row)
-    elif "flaws" in row or "unknown" in row:
-        raise ValueError("the field 'picture' is missing")
-    if row.get("fit", False) != (verdict == "unique" and "rows" in row and "flaws" not in row):
-        raise ValueError("the field 'fit' is not what verdict and flaws say")
+    _need("picture" in row or not row.keys() & {"flaws", "unknown"}, "the field 'picture' is missing")
+    is_fit = verdict == "unique" and "rows" in row and "flaws" not in row
+    _need(row.get("fit", False) == is_fit, "the field 'fit' is not what verdict and flaws say")
 
 
 def _compare_picture(row: Row) -> None:
     rows, columns, letters = row["rows"], row["columns"], {*LETTERS[: row["colours"]]}
     for name in ("picture", "other"):
         lines = row.get(name, row["picture"]).split("/")
-        if len(lines) != rows or {*map(len, lines)} != {columns} or not letters.issuperset("".join(lines)):
-            raise ValueError(f"the field {name!r} has another size, or other colours")
-    if len(row["palette"]) != row["colours"] or row["palette"][0] != row["background"] or row["open"] > rows * columns:
-        raise ValueError("the numbers of colours or open cells differ, or the background")
+        is_right = len(lines) == rows and {*map(len, lines)} == {columns} and letters.issuperset("".join(lines))
+        _need(is_right, f"the field {name!r} has another size, or other colours")
+    is_right = len(row["palette"]) == row["colours"] and row["palette"][0] == row["background"] and row["open"] <= rows * columns
+    _need(is_right, "the numbers of colours or open cells differ, or the background")
     flaws = [flaw.split(" ") for flaw in row.get("flaws", ())]
-    if not letters.issuperset(letter for kind, *pair in flaws if kind == "alike" for letter in pair):
-        raise ValueError("a flaw names a colour that the picture does not have")
+    named = {letter for kind, *pair in flaws if kind == "alike" for letter in pair}
+    _need(named <= letters, "a flaw names a colour that the picture does not have")
     places = [place for one in (row, row.get("certificate", {})) for place in one.get("givens", ())]
     places += [[int(word) for word in place] for kind, *place in flaws if kind in ("given", "spare")]
     places += [row["unknown"]] if "unknown" in row else []
-    if any(place[0] > rows or place[1] > columns for place in places):
-        raise ValueError("a given lies outside the picture")
+    _need(all(place[0] <= rows and place[1] <= columns for place in places), "a given lies outside the picture")
 
 
 def _is_text(value: Any) -> bool:

@@ -2,7 +2,6 @@
 
 from __future__ import annotations
 
-import functools
 import json
 import unicodedata
 from typing import Any, Iterable, Optional, Sequence
@@ -27,22 +26,15 @@ row_of = json.loads
 
 def judged_row(puzzle: Puzzle, said: Assessment) -> Row:
     """What a row says of a puzzle that was judged, and is a P3 text."""
-    row: Row = {"title": puzzle.title} if puzzle.title else {}
     palette, picture = _shown(puzzle, said.rows * said.columns)
-    row.update(
-        rows=said.rows, columns=said.columns, colours=len(palette), verdict=said.verdict.ruling.value, open=said.open, **graded(said), fit=said.is_fit,
-    )
-    if said.flaws:
-        row["flaws"] = list(map(str, said.flaws))
-    if said.unknown:
-        row["unknown"] = list(said.unknown)
-    if puzzle.givens:
-        row["givens"] = [list(place) for place in puzzle.givens]
-    lines = [picture[at : at + said.columns] for at in range(0, len(picture), said.columns)]
-    row.update(background=palette[0], palette=palette, picture="/".join(lines))
-    if said.verdict.other:
-        row["other"] = "/".join(said.verdict.other)
-    return row
+    row: Row = {
+        "title": puzzle.title, "rows": said.rows, "columns": said.columns, "colours": len(palette), "verdict": said.verdict.ruling.value,
+        "open": said.open, **graded(said), "fit": said.is_fit, "flaws": list(map(str, said.flaws)), "unknown": list(said.unknown or ()),
+        "givens": [list(place) for place in puzzle.givens], "background": palette[0], "palette": palette,
+        "picture": "/".join(picture[at : at + said.columns] for at in range(0, len(picture), said.columns)),
+        "other": "/".join(said.verdict.other or ()),
+    }
+    return {name: value for name, value in row.items() if value not in ("", [])}
 
 
 def _shown(puzzle: Puzzle, cells: int) -> tuple[list[str], str]:
@@ -55,7 +47,8 @@ def _shown(puzzle: Puzzle, cells: int) -> tuple[list[str], str]:
     colours = dict.fromkeys([puzzle.background or _triple([most] * 3), *triples.values()])
     by_colour = dict(zip(colours, LETTERS))
     letters = {three: by_colour[triple] for three, triple in triples.items()}
-    return _palette_of(tuple(colours), _number(most)), "".join(map(letters.__getitem__, words))
+    palette = ["%02x%02x%02x" % colour_shown(triple, _number(most)) for triple in colours]
+    return palette, "".join(map(letters.__getitem__, words))
 
 
 def graded(said: Assessment) -> Row:
@@ -64,11 +57,6 @@ def graded(said: Assessment) -> Row:
         return {}
     word, *figures = said.grade
     return {"grade": word.replace("-", " "), "figures": {name: figure for name, figure in zip(FIGURES, figures) if figure is not None}}
-
-
-@functools.lru_cache(maxsize=1024)
-def _palette_of(colours: tuple[Triple, ...], maxval: int) -> list[str]:
-    return ["%02x%02x%02x" % colour_shown(triple, maxval) for triple in colours]
 
 
 def _triple(words: Sequence[bytes]) -> Triple:
@@ -115,9 +103,6 @@ def certificate_words(row: Row) -> str:
     return f"accepted, givens {len(told['givens'])}" if told.get("givens") else "accepted"
 
 
-# What a row's text has where there may be flaws. No string in it holds these marks: a quote in one follows a backslash.
-FLAW_MARKS = ('"accepted":false', '"flaws":[')
-
 # What is counted of a collection, by the kinds of flaws.
 FLAWS = {
     "blank": "blank pictures", "background": "backgrounds that no cell has", "given": "givens that are not needed",
@@ -154,32 +139,29 @@ def words_of(row: Row) -> list[str]:
     return [printable(word) for word in told if word]
 
 
+# What is said of one, but for colours that look alike.
+FLAW_WORDS = {
+    "blank": "the picture is blank", "background": "no cell has its background", "given": "given {} {} is not needed",
+    "spare": "given {} {} is not named by its certificate",
+}
+
+
 def flaw_words(row: Row) -> list[str]:
     """The flaws of a puzzle, and what is not known."""
-    words = [_flaw_words(*flaw.split(" ")) for flaw in row.get("flaws", ()) if not flaw.startswith("alike")]
-    pairs = [[f"#{row['palette'][LETTERS.index(letter)]}" for letter in flaw.split(" ")[1:]] for flaw in row.get("flaws", ()) if flaw.startswith("alike")]
+    flaws = [flaw.split(" ") for flaw in row.get("flaws", ())]
+    words = [FLAW_WORDS[kind].format(*place) for kind, *place in flaws if kind != "alike"]
+    pairs = [" and ".join(f"#{row['palette'][LETTERS.index(letter)]}" for letter in pair) for kind, *pair in flaws if kind == "alike"]
     if pairs:
-        words.append(f"colours look alike: {', '.join(' and '.join(pair) for pair in pairs)}")
+        words.append(f"colours look alike: {', '.join(pairs)}")
     if "unknown" in row:
         words.append("it is not known whether given {} {} is needed".format(*row["unknown"]))
     return words
 
 
-def _flaw_words(kind: str, *place: str) -> str:
-    if kind == "blank":
-        return "the picture is blank"
-    if kind == "background":
-        return "no cell has its background"
-    return f"given {' '.join(place)} is not {'needed' if kind == 'given' else 'named by its certificate'}"
-
-
 def printable(text: str) -> str:
     """A text in one line, that a terminal can show."""
-    return text if text.isprintable() else "".join(sign if sign.isprintable() else _escaped(sign) for sign in text)
-
-
-def _escaped(sign: str) -> str:
-    return sign.encode("unicode_escape").decode("ascii")
+    signs = (sign if sign.isprintable() else sign.encode("unicode_escape").decode("ascii") for sign in text)
+    return text if text.isprintable() else "".join(signs)
 
 
 def csv_cells(row: Row) -> list[Any]:

@@ -16,7 +16,7 @@ from . import certificates
 from .arguments import Options, options_of
 from .earlier import Earlier, content_before, read_row, to_check
 from .finding import Places, find, order_of
-from .outputs import CLOSED, Failure, Lines, Sheet, Table, hold_streams, kept_folder, lines_of
+from .outputs import CLOSED, Failure, Lines, Sheet, Table, hold_streams, kept_folder, lines_of, telling
 from .progress import Progress
 from .rows import Row, printable, row_of, text_of
 from .serving import FULL, Settings, Task
@@ -61,7 +61,7 @@ def main(words: Optional[list[str]] = None) -> int:
         options = options_of(sys.argv[1:] if words is None else words)
         return Run(options).merge() if options.is_merge else Run(options).audit()
     except (Failure, Broken) as error:
-        print(f"nonobench-audit: {error}", file=sys.stderr)
+        print(f"nonobench-audit: {printable(str(error))}", file=sys.stderr)
         return ERRORS
     except Stopped as error:
         return error.status
@@ -95,7 +95,6 @@ class Run:
         self._progress = Progress(options.is_quiet or options.is_merge)
         self._lines: Optional[Lines] = None
         self._sinks: list[Any] = []
-        self._reads_rows = False  # whether more is written than the rows' own texts
         self._earlier: Optional[Earlier] = None
         self._kept: dict[int, Kept] = {}
         self._waiting: dict[int, list[Answer]] = {}
@@ -115,7 +114,12 @@ class Run:
             for name in {options.certify, options.publish}:
                 if name is not None:
                     stack.callback(os.close, kept_folder(name, options.shard != (1, 1)))
-            source = stack.enter_context(contextlib.closing(self._source(settings)))
+            source: Any = Pool(settings, options.jobs, options.seconds)
+            if options.scheduler is not None:
+                from .cluster import Cluster
+
+                source = Cluster(options.scheduler, settings, options.seconds)
+            stack.callback(source.close)
             source.start()
             self._open()
             if options.is_resumed and options.jsonl is not None:
@@ -132,13 +136,11 @@ class Run:
         for at, path in enumerate(self._options.paths):
             if os.path.exists(path) and not os.path.isfile(path):
                 raise Failure(f"{path}: this is not a file")  # it is read twice, and nothing waits for a pipe
-            try:
+            with telling(path):
                 files.append(open(path, "rb"))
                 for number, (place, line) in enumerate(lines_of(files[-1]), 1):
                     row = read_row(path, number, line)
                     rows[order_of(row["file"]), row.get("puzzle", 1)] = (at, place)
-            except OSError as error:
-                raise Failure(f"{path}: {error.strerror}") from error
         self._open()
         return self._guarded(lambda: self._join(files, rows))
 
@@ -152,17 +154,9 @@ class Run:
                 raise Failure(f"{printable((before if before.get('more') else row)['file'])}: {MIXED}")
             # One whose process was ended does not tell its content.
             before = {**row, "content": before.get("content")} if before.get("more") and "content" not in row else row
-            self._deliver(row["verdict"], text_of(row))  # written anew: other programs may have put blanks in
+            self._deliver(text_of(row))  # written anew: other programs may have put blanks in
         if before.get("more"):
             raise Failure(f"{printable(before['file'])}: {MIXED}")
-
-    def _source(self, settings: Settings) -> Any:
-        options = self._options
-        if options.scheduler is None:
-            return Pool(settings, options.jobs, options.seconds)
-        from .cluster import Cluster
-
-        return Cluster(options.scheduler, settings, options.seconds)
 
     def _open(self) -> None:
         """Opens what is written, so that what cannot be is told before anything is done."""
@@ -175,10 +169,9 @@ class Run:
         if options.html is not None:
             from .report import Report
 
-            self._sinks.append(Report(options.html, options.title, options.allowed))
+            self._sinks.append(Report(options.html, options.title, self._tally))
         if not self._sinks and not options.is_quiet:
             self._sinks.append(Table(self._progress.aside))
-        self._reads_rows = any(sink is not self._lines for sink in self._sinks)
 
     def _count_files(self) -> None:
         """Counts the files beside the run, so that it can be told how long it takes."""
@@ -204,16 +197,12 @@ class Run:
             self._beside += len(found.beside)
             self._unread += found.unread
             to, published = (name and os.path.join(name, found.stem) for name in (options.certify, options.publish))
-            before, again = "", to_check([], None, None)
-            if self._earlier is not None:
-                rows = self._earlier.rows(found.name)
-                before = content_before(rows, settings.made, settings.limit, to, published)
-                again = to_check(rows, to, published) if before else ()
-                self._kept[number] = Kept(tuple((place, row["verdict"]) for place, row in rows) if before else (), to)
-            elif to is not None:
-                self._kept[number] = Kept((), to)
+            rows = [] if self._earlier is None else self._earlier.rows(found.name)
+            before = content_before(rows, settings.made, settings.limit, to, published)
+            rows = rows if before else []
+            self._kept[number] = Kept(tuple((place, row["verdict"]) for place, row in rows), to)
             beside = found.beside, found.givens, found.background
-            yield Task(number, found.name, found.path, *beside, to, before, 1, FULL, published, again)
+            yield Task(number, found.name, found.path, *beside, to, before, 1, FULL, published, to_check(rows, to, published))
 
     def _guarded(self, work: Callable[[], None]) -> int:
         """Does the work, and ends what is written whatever comes: what is done is kept."""
@@ -239,7 +228,7 @@ class Run:
         failures += self._close(is_whole)
         self._progress.close()
         for words in dict.fromkeys(map(str, failures)):
-            print(f"nonobench-audit: {words}", file=sys.stderr)
+            print(f"nonobench-audit: {printable(words)}", file=sys.stderr)
         self._summary(is_whole, bool(status))
         return status or (ERRORS if failures else self._tally.status())
 
@@ -268,6 +257,11 @@ class Run:
                 self._release(self._next)
                 self._next += 1
                 self._since = time.monotonic()
+        missing = len(self._kept.keys() - self._complete)
+        if missing:
+            for number in sorted(self._complete):
+                self._release(number)
+            raise Failure(f"files that were not answered, and have no rows: {missing}")
 
     def _tick(self) -> None:
         """Does what is done now and then: rows of the file that comes next are shown before it is complete."""
@@ -308,16 +302,15 @@ class Run:
         self._size -= len(answer.text)
         if answer.verdict == "same":
             assert self._earlier is not None
-            for place, verdict in self._kept[answer.number].rows:
-                # Written anew: what is looked for in it may stand otherwise in the file.
-                self._deliver(verdict, text_of(self._earlier.row(place)), place)
+            for place, _ in self._kept[answer.number].rows:
+                self._deliver(text_of(self._earlier.row(place)), place)
         elif answer.verdict != "none":
-            self._deliver(answer.verdict, self._text_of(answer), answer.place)
+            self._deliver(self._text_of(answer), answer.place)
 
-    def _deliver(self, verdict: str, text: str, place: Optional[int] = None) -> None:
+    def _deliver(self, text: str, place: Optional[int] = None) -> None:
         """Puts a row into what is written. One that has a place in the file of rows stays there."""
-        self._tally.put(verdict, text)
-        row = row_of(text) if self._reads_rows else {}
+        row = row_of(text)
+        self._tally.put(row)
         for sink in self._sinks:
             if sink is self._lines and place is not None:
                 self._lines.keep(place)

@@ -17,6 +17,7 @@ import time
 from collections import deque
 from typing import Any, Iterator, NamedTuple, Optional, Union
 
+from .._images import is_image, prepare
 from .._serve import STREAM, begin, framed, receive, write
 from . import certificates, readers
 from .judging import Desk
@@ -71,6 +72,7 @@ def serve(memory: int) -> None:
     ctypes.CDLL(None).prctl(DIES_WITH_PARENT, signal.SIGKILL)
     os.dup2(2, 1)  # what prints is seen, and not beside the answers
     answers = Answers()
+    prepare()
     begin(memory)
     gc.set_threshold(20_000)
     asked = _asked()
@@ -79,6 +81,7 @@ def serve(memory: int) -> None:
         return
     judging = Judging(Settings(*settings), answers)
     answers.put(0, "ready", "")
+    answers.flush()  # before a file can end the process
     for pack in asked:
         for task in pack:
             judging.answer(Task(*task))
@@ -121,8 +124,7 @@ class Answers:
         the process ends and has begun no other task, `ready` that it begins.
         """
         self._waiting.append(framed(number, *(word.encode("ascii") for word in (kind, verdict, text, certificate))))
-        if not self._some.is_set():
-            self._some.set()
+        self._some.set()
 
     def flush(self) -> None:
         """Sends what there is."""
@@ -184,12 +186,8 @@ class Judging:
         if content == task.before and self._holds(task, files):
             self._answers.put(task.number, "same", "")
             return
-        try:
-            puzzles = numbered(self._puzzles(task.name, files))
-        except Unreadable as error:
-            puzzles = iter([(1, False, error)])
         number, sha256 = 0, hashlib.sha256(files.file).hexdigest()
-        for number, has_more, puzzle in puzzles:
+        for number, has_more, puzzle in numbered(self._puzzles(task.name, files)):
             if number < task.start:
                 continue
             front: Row = {"file": task.name}
@@ -235,7 +233,8 @@ class Judging:
             except ValueError as error:
                 raise Unreadable(f"the file of its background {error}") from error
         puzzles = readers.puzzles_of(files.file, os.path.splitext(name)[1].lower(), ground, files.givens)
-        return puzzles if files.background is None else readers.grounded(puzzles, ground)
+        has_none = files.background is None or is_image(files.file)  # of its own
+        yield from puzzles if has_none else readers.grounded(puzzles, ground)
 
     def _judge(self, task: Task, about: About, puzzle: Union[Puzzle, Unreadable], beside: list[bytes]) -> None:
         """Puts the row of one puzzle. Where memory ends, it has what is known by then, and what is missing."""

@@ -8,7 +8,7 @@ from typing import Iterable, Sequence
 
 from .arguments import Options
 from .finding import shown
-from .rows import FLAW_MARKS, GRADES, VERDICTS, WRITTEN, flaws_of, printable, row_of, unwritten
+from .rows import GRADES, VERDICTS, WRITTEN, Row, flaws_of, printable, unwritten
 
 ALL_UNIQUE, SOME_NOT, ERRORS = 0, 1, 3
 
@@ -17,48 +17,41 @@ class Tally:
     """How many puzzles have which verdict, grade and flaw, but for flaws of the kinds that are allowed."""
 
     def __init__(self, allowed: Sequence[str]) -> None:
-        self._allowed = allowed
-        self._verdicts: Counter[str] = Counter()
-        self._grades: Counter[str] = Counter()
-        self._flaws: Counter[str] = Counter()
+        self.allowed = allowed
+        self.verdicts: Counter[str] = Counter()
+        self.grades: Counter[str] = Counter()
+        self.flaws: Counter[str] = Counter()
         self._missing: Counter[str] = Counter()
         self._unwritten: Counter[str] = Counter()  # by what was not written
         self._bare = 0  # unique, without a certificate
 
-    def put(self, verdict: str, text: str) -> None:
+    def put(self, row: Row) -> None:
         """Counts a row."""
-        self._verdicts[verdict] += 1
-        if verdict == "error":
-            self._missing.update(name for name in [row_of(text).get("missing")] if name)
-        elif any(mark in text for mark in FLAW_MARKS):
-            self._flaws.update(flaws_of(row_of(text), self._allowed))
-        if '"note":"' in text:
-            note = row_of(text)["note"]
-            self._unwritten.update(word for word in WRITTEN if unwritten(word) in note)
-        if verdict == "unique" and '"lines":' not in text:
-            self._bare += 1
-        at = text.find('"grade":"')
-        if at >= 0:
-            self._grades[text[at + 9 : text.index('"', at + 9)]] += 1
+        self.verdicts[row["verdict"]] += 1
+        self.flaws.update(flaws_of(row, self.allowed))
+        for counts, name in ((self.grades, "grade"), (self._missing, "missing")):
+            counts.update([row[name]] if name in row else [])
+        self._unwritten.update(word for word in WRITTEN if unwritten(word) in row.get("note", ""))
+        self._bare += row["verdict"] == "unique" and "lines" not in row
 
     @property
     def total(self) -> int:
         """All rows."""
-        return sum(self._verdicts.values())
+        return sum(self.verdicts.values())
 
     def status(self) -> int:
         """The status of a run that came to its end."""
-        if self._verdicts["error"] or self._unwritten:
+        if self.verdicts["error"] or self._unwritten:
             return ERRORS
-        return ALL_UNIQUE if self.total == self._verdicts["unique"] and not self._flaws else SOME_NOT
+        return ALL_UNIQUE if self.total == self.verdicts["unique"] and not self.flaws else SOME_NOT
 
     def summary(self) -> str:
         """The lines that end a run."""
-        lines = [f"{self.total} {'puzzle' if self.total == 1 else 'puzzles'}{f': {counted(self._verdicts, VERDICTS)}' if self.total else ''}"]
-        if self._grades:
-            lines.append(f"grades: {counted(self._grades, GRADES)}")
-        if self._flaws:
-            lines.append(f"besides: {counted(self._flaws, sorted(self._flaws))}")
+        lines = [f"{self.total} {'puzzle' if self.total == 1 else 'puzzles'}{f': {counted(self.verdicts, VERDICTS)}' if self.total else ''}"]
+        if self.grades:
+            lines.append(f"grades: {counted(self.grades, GRADES)}")
+        if self.flaws:
+            lines.append(f"besides: {counted(self.flaws, sorted(self.flaws))}")
         return "\n".join(lines)
 
     def warn(self, options: Options, is_stopped: bool, unread: list[str]) -> None:

@@ -12,7 +12,7 @@ import re
 from typing import Any, Iterator, NamedTuple, Optional
 
 from .._calls import picture_of
-from .puzzles import BLACK, MOST_CELLS, MOST_COLOURS, WHITE, Missing, Puzzle, Triple, Unreadable, one_line
+from .puzzles import BLACK, MOST_CELLS, MOST_COLOURS, WHITE, Missing, Puzzle, Triple, Unreadable, need, one_line
 
 MOST_ELEMENTS = 200_000  # in one puzzle
 MOST_DEPTH = 32
@@ -67,8 +67,8 @@ class _Pieces(io.BytesIO):
 
     def read(self, size: Optional[int] = -1) -> bytes:
         """The next piece. What expat has taken and not yet told of is the beginning of one part."""
-        if self.tell() - self._expat.CurrentByteIndex > MOST_PART:
-            raise Unreadable(f"the XML cannot be read: a tag or a comment of it has more than {MOST_PART} bytes")
+        is_short = self.tell() - self._expat.CurrentByteIndex <= MOST_PART
+        need(is_short, f"the XML cannot be read: a tag or a comment of it has more than {MOST_PART} bytes")
         return super().read(size)
 
 
@@ -79,14 +79,13 @@ def _refuse_attributes(*_declared: Any) -> None:
 
 def _look_at_coding(data: bytes, coding: str) -> None:
     """The page takes each file for UTF-8: in another coding, letters could be others there."""
-    if coding.lower() not in ("utf-8", "utf-16") and not data.isascii():
-        raise Unreadable("the XML cannot be read: it has letters in another coding than UTF-8 or UTF-16")
+    is_known = coding.lower() in ("utf-8", "utf-16") or data.isascii()
+    need(is_known, "the XML cannot be read: it has letters in another coding than UTF-8 or UTF-16")
 
 
 def _look_at_address(address: str) -> None:
     """Some readers take the first `>` for the end of a document type, and what stands behind it for the puzzle."""
-    if ">" in address:
-        raise Unreadable("the XML cannot be read: the address of its document type has the sign '>'")
+    need(">" not in address, "the XML cannot be read: the address of its document type has the sign '>'")
 
 
 def _look_at_entities(data: bytes) -> None:
@@ -97,10 +96,8 @@ def _look_at_entities(data: bytes) -> None:
 
 def _look_at_space(prefix: Optional[str], space: Optional[str]) -> None:
     """The page heeds no namespaces: what is in one without a prefix is an element of the format there, and would be none here."""
-    if len(space or "") > MOST_SPACE:
-        raise Unreadable(f"the XML cannot be read: a namespace of it has more than {MOST_SPACE} characters")
-    if space and prefix is None:
-        raise Unreadable("the XML cannot be read: it has a namespace without a prefix")
+    need(len(space or "") <= MOST_SPACE, f"the XML cannot be read: a namespace of it has more than {MOST_SPACE} characters")
+    need(prefix is not None or not space, "the XML cannot be read: it has a namespace without a prefix")
 
 
 def _puzzles(events: Any) -> Iterator[Puzzle | Unreadable]:
@@ -111,31 +108,27 @@ def _puzzles(events: Any) -> Iterator[Puzzle | Unreadable]:
             depth += 1
             elements += 1
             outer = element if outer is None else outer
-            if depth > MOST_DEPTH or elements > MOST_ELEMENTS:
-                raise Unreadable("the XML cannot be read: it has too many elements")
+            need(depth <= MOST_DEPTH and elements <= MOST_ELEMENTS, "the XML cannot be read: it has too many elements")
             continue
         depth -= 1
         if element.tag != "puzzle":
             continue
-        if depth > 1 or (depth == 1 and outer.tag != "puzzleset"):
-            raise Unreadable("the XML has a puzzle that is not directly in its set")
+        need(depth == 0 or (depth == 1 and outer.tag == "puzzleset"), "the XML has a puzzle that is not directly in its set")
         found += 1
-        if found > MOST_PUZZLES:
-            raise Unreadable(f"the XML has more than {MOST_PUZZLES} puzzles")
+        need(found <= MOST_PUZZLES, f"the XML has more than {MOST_PUZZLES} puzzles")
         try:
             yield puzzle_of(element)
         except Unreadable as error:
             yield error
         outer.clear()
         elements = 0
-    if not found:
-        raise Unreadable("the XML has no puzzle")
+    need(found, "the XML has no puzzle")
 
 
 def puzzle_of(element: Any) -> Puzzle:
     """One puzzle, by its goal, or by its clues where it has none and two colours."""
-    if element.get("type", "grid") != "grid":
-        raise Unreadable(f"a puzzle of the type {one_line(element.get('type'), 30)}, which has no rows and columns")
+    kind = element.get("type", "grid")
+    need(kind == "grid", f"a puzzle of the type {one_line(kind, 30)}, which has no rows and columns")
     title = one_line(element.findtext("title") or "")
     clues = {axis: _clues(element, axis, element.get("defaultcolor", "black")) for axis in ("rows", "columns")}
     solutions = element.findall("solution")
@@ -143,15 +136,12 @@ def puzzle_of(element: Any) -> Puzzle:
     if not goals:
         text, colours, ground = _non_text(clues), _colours(element), element.get("backgroundcolor", "white")
         used = {name for lines in clues.values() for line in lines or () for _, name in line}
-        if not used | {ground} <= colours.keys():
-            raise Unreadable("the puzzle has clues, or a background, in a colour that it does not have")
-        if ground in used:
-            raise Unreadable("the puzzle has clues in the colour of its background")
+        need(used | {ground} <= colours.keys(), "the puzzle has clues, or a background, in a colour that it does not have")
+        need(ground not in used, "the puzzle has clues in the colour of its background")
         under, ink = _apart([colours[ground], *(colours[name] for name in sorted(used) or ["black"])])
         return Puzzle(text, is_non=True, background=_named(under), title=title, inks=(under, ink))
     signs, *others = map(_image, goals)
-    if any(other != signs for other in others):
-        raise Unreadable("the puzzle has several goals, and they are different pictures")
+    need(all(other == signs for other in others), "the puzzle has several goals, and they are different pictures")
     order, by_sign = _order(_colours(element), element.get("backgroundcolor", "white"), {sign for row in signs for sign in row})
     cells = [[by_sign[sign].name for sign in row] for row in signs]
     _compare(cells, order[0].name, clues)
@@ -169,15 +159,13 @@ def _named(ground: Triple) -> Optional[Triple]:
 
 def _text(element: Any) -> str:
     """The text of an element. Others within it would hide what stands behind them."""
-    if len(element):
-        raise Unreadable("a text of the puzzle has elements in it")
+    need(not len(element), "a text of the puzzle has elements in it")
     return element.text or ""
 
 
 def _only(elements: list[Any], what: str) -> Any:
     """The only one of some elements, or none: of several nothing says which one is shown."""
-    if len(elements) > 1:
-        raise Unreadable(f"the puzzle has {what} twice")
+    need(len(elements) < 2, f"the puzzle has {what} twice")
     return next(iter(elements), None)
 
 
@@ -187,10 +175,8 @@ def _colours(element: Any) -> dict[str, Colour]:
     colours: dict[str, Colour] = {}
     for one in element.findall("color"):
         name = one.get("name", "")
-        if name in colours:
-            raise Unreadable("a colour of the puzzle is declared twice")
-        if one.get("char") == "?":
-            raise Unreadable("a colour of the puzzle has the sign '?', which stands for a cell of any colour")
+        need(name not in colours, "a colour of the puzzle is declared twice")
+        need(one.get("char") != "?", "a colour of the puzzle has the sign '?', which stands for a cell of any colour")
         sign = one.get("char", known[name].sign if name in known else None)
         colours[name] = Colour(name, sign, _triple(_text(one)), True)
     return {**colours, **{name: colour for name, colour in known.items() if name not in colours}}
@@ -200,16 +186,14 @@ def _triple(text: str) -> Triple:
     digits = text.strip().removeprefix("#")
     if re.fullmatch("[0-9a-fA-F]{3}", digits):
         digits = "".join(digit * 2 for digit in digits)
-    if not re.fullmatch("[0-9a-fA-F]{6}", digits):
-        raise Unreadable("a colour of the puzzle is not three or six hexadecimal digits")
+    need(re.fullmatch("[0-9a-fA-F]{6}", digits), "a colour of the puzzle is not three or six hexadecimal digits")
     red, green, blue = bytes.fromhex(digits)
     return red, green, blue
 
 
 def _order(colours: dict[str, Colour], ground: str, used: set[str]) -> tuple[list[Colour], dict[str, Colour]]:
     """The colours of a solution, its background first, and the colour of each sign."""
-    if ground not in colours:
-        raise Unreadable("the background of the puzzle is a colour that it does not have")
+    need(ground in colours, "the background of the puzzle is a colour that it does not have")
     by_sign: dict[str, Colour] = {}
     for colour in colours.values():
         before = by_sign.get(colour.sign or "")
@@ -220,8 +204,7 @@ def _order(colours: dict[str, Colour], ground: str, used: set[str]) -> tuple[lis
     for sign in sorted(used - by_sign.keys()):
         raise Unreadable(f"the solution has a cell {one_line(sign, 2)!r}, which is not a colour of the puzzle")
     seen = [colours[ground], *(by_sign[sign] for sign in sorted(used) if by_sign[sign].name != ground)]
-    if len(seen) > MOST_COLOURS:
-        raise Unreadable(f"more than {MOST_COLOURS} colours with the background")
+    need(len(seen) <= MOST_COLOURS, f"more than {MOST_COLOURS} colours with the background")
     return seen, by_sign
 
 
@@ -238,13 +221,11 @@ def _image(solution: Any) -> Signs:
     """Rows of signs between bars. A backslash takes the next sign as it stands, and `[..]` is a cell that may have several."""
     image = _only(solution.findall("image"), "the image of a solution")
     text = "" if image is None else _text(image)
-    if len(text) > 64 * MOST_CELLS * MOST_CELLS or not re.fullmatch(rf"(\s*\|(?:{_CELL})*\|)+\s*", text):
-        raise Unreadable("a row of the solution is not between bars")
+    is_short = len(text) <= 64 * MOST_CELLS * MOST_CELLS
+    need(is_short and re.fullmatch(rf"(\s*\|(?:{_CELL})*\|)+\s*", text), "a row of the solution is not between bars")
     rows = [[_sign(cell) for cell in re.findall(_CELL, row)] for row in re.findall(rf"\|((?:{_CELL})*)\|", text)]
-    if max(len(rows), *map(len, rows)) > MOST_CELLS:
-        raise Unreadable(f"the solution is larger than {MOST_CELLS} by {MOST_CELLS}")
-    if len(set(map(len, rows))) != 1 or not rows[0]:
-        raise Unreadable("the rows of the solution have several lengths, or none")
+    need(max(len(rows), *map(len, rows)) <= MOST_CELLS, f"the solution is larger than {MOST_CELLS} by {MOST_CELLS}")
+    need(rows[0] and len(set(map(len, rows))) == 1, "the rows of the solution have several lengths, or none")
     return rows
 
 
@@ -265,8 +246,7 @@ def _clues(element: Any, axis: str, usual: str) -> Optional[list[list[tuple[int,
 
 def _length(count: Any) -> int:
     text = _text(count)
-    if not re.fullmatch(r"\s*[0-9]{1,6}\s*", text):
-        raise Unreadable("a clue of the puzzle is not a number")
+    need(re.fullmatch(r"\s*[0-9]{1,6}\s*", text), "a clue of the puzzle is not a number")
     return int(text)
 
 
@@ -274,8 +254,8 @@ def _compare(cells: list[list[str]], ground: str, clues: dict[str, Any]) -> None
     """Clues that stand in the file must be those of the goal."""
     columns: list[list[str]] = list(map(list, zip(*cells)))
     for axis, lines in (("rows", cells), ("columns", columns)):
-        if clues[axis] is not None and clues[axis] != [_blocks(line, ground) for line in lines]:
-            raise Unreadable(f"the clues of the {axis} are not those of the solution")
+        is_right = clues[axis] is None or clues[axis] == [_blocks(line, ground) for line in lines]
+        need(is_right, f"the clues of the {axis} are not those of the solution")
 
 
 def _blocks(line: Any, ground: str) -> list[tuple[int, str]]:
@@ -283,21 +263,18 @@ def _blocks(line: Any, ground: str) -> list[tuple[int, str]]:
 
 
 def _givens(saved: Signs, signs: Signs) -> bytes:
-    if (len(saved), len(saved[0])) != (len(signs), len(signs[0])):
-        raise Unreadable("the givens have another size than the solution")
+    need((len(saved), len(saved[0])) == (len(signs), len(signs[0])), "the givens have another size than the solution")
     places = [(row, column) for row, cells in enumerate(saved) for column, sign in enumerate(cells) if sign != "?"]
-    if any(saved[row][column] != signs[row][column] for row, column in places):
-        raise Unreadable("a given has another colour than the solution")
+    need(all(saved[row][column] == signs[row][column] for row, column in places), "a given has another colour than the solution")
     return b"".join(b"given %d %d\n" % (row + 1, column + 1) for row, column in places)
 
 
 def _non_text(clues: dict[str, Any]) -> bytes:
     """The .non text of a puzzle of two colours that has clues and no solution."""
     rows, columns = clues["rows"], clues["columns"]
-    if not rows or not columns:
-        raise Unreadable("the puzzle has neither a solution nor all clues")
-    if len({name for line in [*rows, *columns] for _, name in line}) > 1:
-        raise Unreadable("the puzzle has clues in several colours and no solution")
+    need(rows and columns, "the puzzle has neither a solution nor all clues")
+    names = {name for line in [*rows, *columns] for _, name in line}
+    need(len(names) < 2, "the puzzle has clues in several colours and no solution")
     lines = [f"width {len(columns)}", f"height {len(rows)}"]
     for axis, all_clues in (("rows", rows), ("columns", columns)):
         lines += [axis, *(",".join(str(length) for length, _ in line) or "0" for line in all_clues)]

@@ -2,6 +2,7 @@
 
 from __future__ import annotations
 
+import itertools
 import json
 import marshal
 import site
@@ -97,12 +98,11 @@ class Pool:
 
     def _feed(self) -> None:
         for hand in self._hands:
-            size = max(1, min(MOST_PACKED, int(PACK_SECONDS / hand.cost)))
-            if hand.is_left or hand.is_sending or len(hand.tasks) > size // 2:
+            size = 1 if self._again else max(1, min(MOST_PACKED, int(PACK_SECONDS / hand.cost)))
+            is_alone = any((task.number, task.start) in self._died for task in hand.tasks)
+            if hand.is_left or hand.is_sending or is_alone or len(hand.tasks) > size // 2:
                 continue
-            pack: list[Task] = []
-            while len(pack) < size and (task := self._next()) is not None:
-                pack.append(task)
+            pack = list(itertools.islice(iter(self._next, None), size))
             if pack:
                 if not hand.tasks:
                     hand.since = time.monotonic()
@@ -191,10 +191,16 @@ class Pool:
         return status
 
     def _end(self, hand: Hand, late: str) -> Iterator[Answer]:
-        """Puts a new process in the place of one that ended, or is ended since it took too long. Its first task is to blame."""
+        """Puts a new process in the place of one that ended, or is ended since it took too long: of this its first task is to blame.
+
+        Where one ended, the answers of some tasks may not have gone out: each is tried once more, alone.
+        """
         status = self._replace(hand)
         tasks = hand.tasks
-        if tasks and hand.is_ready and hand.reached >= 0:
+        is_to_blame = tasks and hand.is_ready and hand.reached >= 0
+        if is_to_blame and not late and len(tasks) > 1:
+            self._died.update((task.number, task.start) for task in tasks)
+        elif is_to_blame:
             task = tasks.popleft()
             task = task._replace(used=task.used + time.monotonic() - hand.since)
             why = late or (f"its process ended by signal {-status}" if status < 0 else f"its process ended with status {status}")

@@ -9,51 +9,40 @@ import secrets
 import tempfile
 from collections import Counter
 from pathlib import Path
-from typing import Any, Optional, Sequence
+from typing import Any, Optional
 
 from ..._library import version
-from ..outputs import Failure, Output, telling
+from ..outputs import Failure, Sink, telling
 from ..puzzles import Missing
 from ..rows import FIGURES, GRADES, VERDICTS, Row, flaws_of, name_of, printable, text_of, words_of
+from ..tally import Tally
 
 SIDES = (10, 15, 20, 25, 30, 40, 60, 120)  # the longer sides that puzzles are counted by
 _FOLDER = Path(__file__).resolve().parent
 
 
-class Report:
-    """Gathers rows in a file, and makes the report of them in the end."""
+class Report(Sink):
+    """Gathers rows in a file, and makes the report of them in the end, with what was counted of them."""
 
-    def __init__(self, name: str, title: Optional[str], allowed: Sequence[str]) -> None:
+    def __init__(self, name: str, title: Optional[str], tally: Tally) -> None:
         self._environment = _environment()
         if os.path.exists(name) and not os.path.isfile(name):
             raise Failure(f"{name}: this is not a file")  # the report takes its place
         self._name = name
         self._title = title
-        self._allowed = allowed
-        self._output = Output(f"{name}.new")
+        self._tally = tally
+        super().__init__(f"{name}.new", flags=os.O_NOFOLLOW)
         self._rows = tempfile.TemporaryFile(dir=os.path.dirname(name) or ".")
-        self._verdicts: Counter[str] = Counter()
-        self._grades: Counter[str] = Counter()
         self._sides: Counter[tuple[int, str]] = Counter()
-        self._flaws: Counter[str] = Counter()
 
     def put(self, text: str, row: Row) -> None:
         """Puts a row."""
-        verdict = row["verdict"]
-        self._verdicts[verdict] += 1
-        flaws = flaws_of(row, self._allowed)
-        self._flaws.update(flaws)
-        if "grade" in row:
-            self._grades[row["grade"]] += 1
         if "rows" in row:
             side = max(row["rows"], row["columns"])
-            self._sides[next((most for most in SIDES if side <= most), SIDES[-1]), verdict] += 1
-        line = text_of(record_of(row, len(flaws))).replace("<", "\\u003c")
+            self._sides[next((most for most in SIDES if side <= most), SIDES[-1]), row["verdict"]] += 1
+        line = text_of(record_of(row, len(flaws_of(row, self._tally.allowed)))).replace("<", "\\u003c")
         with telling(self._name):
-            self._rows.write((line + ",\n").encode("ascii"))
-
-    def flush(self) -> None:
-        """Nothing waits for a moment here."""
+            self._rows.write(((",\n" if self._rows.tell() else "") + line).encode("ascii"))
 
     def close(self, is_whole: bool) -> None:
         """Makes the report of the rows that were put."""
@@ -79,26 +68,23 @@ class Report:
         front, _, back = page.partition(mark)
         self._output.put(front.encode("utf-8"))
         self._rows.seek(0)
-        held = b""
         for chunk in iter(lambda: self._rows.read(1 << 20), b""):
-            self._output.put(held)
-            held = chunk
-        self._output.put(held.removesuffix(b",\n"))
+            self._output.put(chunk)
         self._output.put(back.encode("utf-8"))
         self._output.close()
 
     def _figures(self) -> dict[str, Any]:
         """What the front of the page tells, as numbers and shares."""
-        total = sum(self._verdicts.values())
-        tallest = max(self._grades.values(), default=1)
+        tally = self._tally
+        tallest = max(tally.grades.values(), default=1)
         sides = [(most, [self._sides[most, verdict] for verdict in VERDICTS]) for most in SIDES]
         widest = max((sum(counts) for _, counts in sides), default=1) or 1
         return {
-            "total": total,
-            "verdicts": [(name, self._verdicts[name], self._verdicts[name] / (total or 1)) for name in VERDICTS],
-            "grades": [(name, self._grades[name], self._grades[name] / tallest) for name in GRADES],
-            "flaws": sorted(self._flaws.items()),
-            "graded": sum(self._grades.values()),
+            "total": tally.total,
+            "verdicts": [(name, tally.verdicts[name], tally.verdicts[name] / (tally.total or 1)) for name in VERDICTS],
+            "grades": [(name, tally.grades[name], tally.grades[name] / tallest) for name in GRADES],
+            "flaws": sorted(tally.flaws.items()),
+            "graded": sum(tally.grades.values()),
             "sides": [
                 (least + 1, most, sum(counts), [(name, count, count / widest) for name, count in zip(VERDICTS, counts)])
                 for least, (most, counts) in zip((0, *SIDES), sides)

@@ -54,12 +54,6 @@ function puzzleOf(index) {
   return puzzle;
 }
 
-function differOf(record) {
-  if (!record[at.other]) return 0;
-  const others = cellsOf(record[at.other]);
-  return cellsOf(record[at.picture]).reduce((sum, colour, cell) => sum + (colour !== others[cell]), 0);
-}
-
 // ---- pictures
 
 /** A canvas with a picture, at most so many pixels a side. Cells that differ are framed, given ones have a ring. */
@@ -88,19 +82,14 @@ function frameCells(pen, { differ, givens, columns }, cell, wide) {
   const style = getComputedStyle(document.documentElement);
   const rectangle = (place, inside) => [(place % columns) * cell + inside, Math.floor(place / columns) * cell + inside, cell - 2 * inside, cell - 2 * inside];
   for (const place of differ) {
-    pen.lineWidth = wide * 2;
-    pen.strokeStyle = '#fff';
-    pen.strokeRect(...rectangle(place, wide));
-    pen.lineWidth = wide;
-    pen.strokeStyle = style.getPropertyValue('--frame');
-    pen.strokeRect(...rectangle(place, wide / 2));
+    for (const [strokeStyle, lineWidth] of [['#fff', wide * 2], [style.getPropertyValue('--frame'), wide]]) {
+      Object.assign(pen, { strokeStyle, lineWidth }).strokeRect(...rectangle(place, lineWidth / 2));
+    }
   }
   for (const place of givens) {
     const [left, top] = rectangle(place, 0);
-    for (const [colour, width] of [['#fff', wide * 2], ['#000', wide]]) {
-      pen.beginPath();
-      pen.lineWidth = width;
-      pen.strokeStyle = colour;
+    for (const [strokeStyle, lineWidth] of [['#fff', wide * 2], ['#000', wide]]) {
+      Object.assign(pen, { strokeStyle, lineWidth }).beginPath();
       pen.arc(left + cell / 2, top + cell / 2, cell / 4, 0, 2 * Math.PI);
       pen.stroke();
     }
@@ -118,7 +107,7 @@ function shotsOf(puzzle, most, withCaptions) {
 
 // ---- cards
 
-const sizeOf = (puzzle) => (puzzle.columns ? `${puzzle.columns} \u00d7 ${puzzle.rows}` : '');
+const verdictOf = ({ verdict }) => make('span', { className: `verdict ${VERDICTS[verdict]}` }, make('span', { className: 'sign', 'aria-hidden': 'true' }), SHOWN[verdict]);
 
 function toldOf(puzzle) {
   if (puzzle.grade >= 0) return GRADES[puzzle.grade];
@@ -126,18 +115,18 @@ function toldOf(puzzle) {
 }
 
 function sizesOf(puzzle) {
-  const guess = puzzle.open ? `${number.format(puzzle.open)} open` : '';
-  return [sizeOf(puzzle), puzzle.colours.length && `${puzzle.colours.length} colours`, guess].filter(Boolean).join(', ');
+  const size = puzzle.columns && `${puzzle.columns} \u00d7 ${puzzle.rows}`;
+  const guess = puzzle.open && `${number.format(puzzle.open)} open`;
+  return [size, puzzle.colours.length && `${puzzle.colours.length} colours`, guess].filter(Boolean).join(', ');
 }
 
 function cardOf(index, width) {
   const puzzle = puzzleOf(index);
-  const verdict = make('span', { className: `verdict ${VERDICTS[puzzle.verdict]}` }, make('span', { className: 'sign', 'aria-hidden': 'true' }), SHOWN[puzzle.verdict]);
   const shots = shotsOf(puzzle, puzzle.others ? CARD.pair : CARD.shot, false);
   if (!shots.length) shots.push(make('p', { className: 'why' }, puzzle.words));
   const under = make('div', {},
     make('div', { className: 'name', title: puzzle.name }, puzzle.title || puzzle.name.split('/').at(-1)),
-    make('div', { className: 'told' }, verdict, make('span', {}, toldOf(puzzle))),
+    make('div', { className: 'told' }, verdictOf(puzzle), make('span', {}, toldOf(puzzle))),
     puzzle.flaws
       ? make('div', { className: 'told besides', title: puzzle.words }, make('span', {}, puzzle.words))
       : make('div', { className: 'told faint' }, make('span', {}, sizesOf(puzzle))));
@@ -281,14 +270,9 @@ class Details {
 }
 
 function figuresOf(puzzle) {
-  const verdict = make('span', { className: `verdict ${VERDICTS[puzzle.verdict]}` }, make('span', { className: 'sign', 'aria-hidden': 'true' }), SHOWN[puzzle.verdict]);
-  const swatches = puzzle.colours.flatMap((colour) => {
-    const swatch = make('span', { className: 'swatch' });
-    swatch.style.background = colour;
-    return [swatch, `${colour}  `];
-  });
+  const swatches = puzzle.colours.flatMap((colour) => [make('span', { className: 'swatch', style: `background: ${colour}` }), `${colour}  `]);
   return [
-    ['Verdict', verdict],
+    ['Verdict', verdictOf(puzzle)],
     puzzle.columns && ['Size', `${puzzle.columns} columns, ${puzzle.rows} rows`],
     puzzle.columns && ['Cells to guess', puzzle.open ? `${number.format(puzzle.open)} are left open by line logic` : 'none: line logic solves it'],
     puzzle.grade >= 0 && ['Grade', `${GRADES[puzzle.grade]} (${puzzle.figures.map((figure, place) => `${FIGURES[place]} ${number.format(figure)}`).join(', ')})`],
@@ -303,7 +287,8 @@ function figuresOf(puzzle) {
 
 // ---- filters and sorting
 
-const filter = { verdicts: new Set(), grades: new Set() };
+const filter = { verdict: new Set(), grade: new Set() };
+const choosers = Object.entries(filter).flatMap(([kind, chosen]) => [...document.querySelectorAll(`[data-${kind}]`)].map((button) => ({ button, chosen, value: Number(button.dataset[kind]) })));
 let lowered = null; // names in lower case
 let ranks = null; // names as a reader sorts them
 let differs = null;
@@ -315,7 +300,7 @@ const KEYS = {
   grade: () => grades,
   size: () => Uint16Array.from(records, (record) => (record[at.rows] ?? 0) * (record[at.columns] ?? 0)),
   open: () => Uint16Array.from(records, (record) => record[at.open] ?? 0),
-  differ: () => (differs ??= Uint16Array.from(records, differOf)),
+  differ: () => (differs ??= Uint16Array.from(records, (record, index) => (record[at.other] ? puzzleOf(index).differ.length : 0))),
   lines: () => Uint32Array.from(records, (record) => record[at.lines] ?? 0),
   seconds: () => Float32Array.from(records, (record) => record[at.seconds] ?? 0),
 };
@@ -336,8 +321,8 @@ function wanted() {
   const most = Number(byId('most').value || 255);
   const found = [];
   for (let index = 0; index < records.length; index++) {
-    if (filter.verdicts.size && !filter.verdicts.has(verdicts[index])) continue;
-    if (filter.grades.size && !filter.grades.has(grades[index])) continue;
+    if (filter.verdict.size && !filter.verdict.has(verdicts[index])) continue;
+    if (filter.grade.size && !filter.grade.has(grades[index])) continue;
     if (sides[index] < least || sides[index] > most) continue;
     if (text && !lowered[index].includes(text)) continue;
     found.push(index);
@@ -354,8 +339,7 @@ function renew() {
   list.show(Uint32Array.from(found));
   byId('empty').hidden = found.length > 0;
   byId('count').textContent = found.length === records.length ? `${number.format(found.length)} shown` : `${number.format(found.length)} of ${number.format(records.length)}`;
-  for (const button of document.querySelectorAll('[data-verdict]')) button.setAttribute('aria-pressed', filter.verdicts.has(Number(button.dataset.verdict)));
-  for (const button of document.querySelectorAll('[data-grade]')) button.setAttribute('aria-pressed', filter.grades.has(Number(button.dataset.grade)));
+  for (const { button, chosen, value } of choosers) button.setAttribute('aria-pressed', chosen.has(value));
   for (const button of document.querySelectorAll('[data-least]')) button.setAttribute('aria-pressed', byId('least').value === button.dataset.least && byId('most').value === button.dataset.most);
 }
 
@@ -380,8 +364,7 @@ function turnTheme(isDark) {
 
 const list = new List();
 const details = new Details();
-for (const button of document.querySelectorAll('[data-verdict]')) button.addEventListener('click', () => toggle(filter.verdicts, Number(button.dataset.verdict)));
-for (const button of document.querySelectorAll('[data-grade]')) button.addEventListener('click', () => toggle(filter.grades, Number(button.dataset.grade)));
+for (const { button, chosen, value } of choosers) button.addEventListener('click', () => toggle(chosen, value));
 for (const button of document.querySelectorAll('[data-least]')) button.addEventListener('click', () => chooseSize(button));
 for (const id of ['name', 'least', 'most', 'sort']) byId(id).addEventListener('input', renew);
 byId('turn').addEventListener('click', (event) => {
@@ -389,8 +372,7 @@ byId('turn').addEventListener('click', (event) => {
   renew();
 });
 byId('reset').addEventListener('click', () => {
-  filter.verdicts.clear();
-  filter.grades.clear();
+  for (const { chosen } of choosers) chosen.clear();
   for (const id of ['name', 'least', 'most']) byId(id).value = '';
   byId('sort').value = 'order';
   byId('turn').setAttribute('aria-pressed', 'false');

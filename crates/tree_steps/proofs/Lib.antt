@@ -1,0 +1,4 @@
+pub mod ColourLemmas
+pub mod StepLemmas
+pub mod ToldLemmas
+pub mod ProofLemmas
