@@ -10,6 +10,8 @@ from tried import ROOT, Ended, ended, needs, passes
 
 HERE = Path(__file__).parent
 SECONDS = 1800
+TRIES = 3
+LOST = -17_000  # launch.c has a number above it for what did not begin; a crash has one far below
 
 
 class Linux:
@@ -60,11 +62,11 @@ class Windows:
 
     def launch(self, lines, cwd):
         """How programs end: each is a line of a command, and three names of streams as launch.c takes them. What wine did not begin, as
-        it was seen to happen at load, is run once more."""
+        it was seen to happen at load, is run again."""
         found = self.launch_once(dict(enumerate(lines)), cwd)
-        lost = {at: lines[at] for at, run in found.items() if -2000 < run.status < 0}
-        if lost:
-            found.update(self.launch_once(lost, cwd))
+        for _ in range(TRIES):
+            lost = {at: lines[at] for at, run in found.items() if LOST < run.status < 0}
+            found.update(self.launch_once(lost, cwd) if lost else {})
         return [found[at] for at in range(len(lines))]
 
     def launch_once(self, lines, cwd):

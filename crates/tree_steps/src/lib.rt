@@ -4,9 +4,9 @@
 ghost use Rattle.tree_steps.specs.Told.{ToldTreesAreProofs, TreesCanBeTold};
 
 #[tactic(auto, using(crate::proofs::ToldLemmas::trees_can_be_told, crate::proofs::ProofLemmas::told_trees_are_proofs))]
-/// Each certificate that proves a picture by a tree can be told step by step in each form with lemmas: with the same givens, a
-/// split of n colours as n - 1 times `part`, one of no colour as its cell's dead row, and all else as it is. Whatever tells it so
-/// is a proof with lemmas of the same picture, in which no lemma stands, and can be written.
+/// Each certificate that proves a picture by a tree can be told step by step in each form with lemmas, with the same givens. A split
+/// of n colours is n - 1 times `part`, one of no colour its cell's dead row, and all else stays as it is. Whatever tells it so is a
+/// proof with lemmas of the same picture, in which no lemma stands, and can be written.
 pub fn trees_are_told_step_by_step()
     ensures there { TreesCanBeTold }
     ensures proofs { ToldTreesAreProofs }
