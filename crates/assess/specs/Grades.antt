@@ -1,5 +1,5 @@
 -- The grade of a puzzle with one solution.
-use Rattle.std.specs.Prelude.{◌≡◌, ℕ, ◌≤◌, List, Option, None, Some, length}
+use Rattle.std.specs.Prelude.{◌≡◌, ℕ, ◌<◌, ◌≤◌, List, Option, None, Some, length}
 use Rattle.picture.specs.Rows.{Rows}
 use Rattle.cert_text.specs.Cert.{Certificate}
 use Rattle.cert_figures.specs.declared.guesses.Guesses.{Guesses}
@@ -28,6 +28,12 @@ pub record IsGradeBy (picture : Rows) (cert : Certificate) (figures : Figures) (
 pub record IsShortCert (picture : Rows) (givens : List ℕ) (cert : Certificate) : Type 0 where
   pub is_made : IsMade picture givens cert
   pub short : length cert.lines ≤ GRADE_LINES
+
+-- the certificate that was found stays, exactly if its number of lines is within the bound
+abbrev pub IsIfShort : Option Certificate → Option Certificate → Type 0
+IsIfShort None short = short ≡ None
+IsIfShort (Some cert) None = GRADE_LINES < length cert.lines
+IsIfShort (Some cert) (Some short) = (short ≡ cert) × (length cert.lines ≤ GRADE_LINES)
 
 -- where cells are open, the grade is that of a certificate, or there is neither
 abbrev pub IsGradedOpen : Rows → List ℕ → Figures → Option Certificate → Option Grade → Type 0

@@ -2,7 +2,7 @@
 
 ghost use Rattle.std.specs.Prelude.{◌≡◌, ◌+◌, ◌≤◌, length, IfOk, IfSome};
 ghost use Rattle.assess.specs.Calls.{most_in_trees, most_to_grade};
-ghost use Rattle.assess.specs.Grades.{IsGradeBy, IsGraded, IsGradedIf, IsShortCert};
+ghost use Rattle.assess.specs.Grades.{IsGradeBy, IsGraded, IsGradedIf, IsIfShort, IsShortCert};
 
 use crate::assessment::Verdict;
 use cert_figures::guesses_of;
@@ -106,9 +106,17 @@ fn short_cert<E: LineEngine>(
 {
     let _ = (engine.calls(), document.picture.height());
     let (picture, givens) = (&document.picture, &document.givens);
-    match make_small_cert(alloc, engine, picture, givens, GRADE_EVALUATIONS)? {
-        Some(cert) if cert.lines().len() <= GRADE_LINES => Ok(Some(cert)),
-        _ => Ok(None),
+    let found = make_small_cert(alloc, engine, picture, givens, GRADE_EVALUATIONS)?;
+    Ok(if_short(found))
+}
+
+// The certificate, unless it has too many lines.
+fn if_short(found: Option<Cert>) -> Option<Cert>
+    ensures { IsIfShort found result }
+{
+    match found {
+        Some(cert) if cert.lines().len() <= GRADE_LINES => Some(cert),
+        _ => None,
     }
 }
 

@@ -12,7 +12,7 @@ ghost use Rattle.lemma_proof.specs.Making.{Makes};
 use crate::branches::told_lines;
 use crate::root::root_facts;
 use crate::trees::decided_by_trees;
-use cert_text::{Cert, Form, runs_of, write_cert};
+use cert_text::{Cert, CertLine, Form, runs_of, write_cert};
 use clues::ClueBook;
 use lemma_proof::{Made, check_made, given_cells, make_proof};
 use line_facts::LineEngine;
@@ -85,6 +85,19 @@ fn told_tree<E: LineEngine>(
     check_made(alloc, engine, picture, givens, cert)
 }
 
+// Whether something is a certificate without a split: lines alone settle its picture.
+fn is_straight(made: &Made) -> bool {
+    let Made::Proof(cert) = made else {
+        return false;
+    };
+    for line in cert.lines() {
+        if matches!(line, CertLine::Split(_)) {
+            return false;
+        }
+    }
+    true
+}
+
 // The length of a certificate's text in bytes.
 fn text_length(alloc: Global, cert: &Cert) -> Result<usize, AllocError> {
     let mut text = Vec::new(alloc);
@@ -111,7 +124,7 @@ fn shorter(alloc: Global, first: Made, second: Made) -> Result<Made, AllocError>
 }
 
 // Searches for a certificate, or another picture, where none that is near was found. A certificate is the shortest of these: a
-// small tree, its lines with those of lemmas, and what a search with lemmas makes.
+// small tree, its lines with those of lemmas, and, where the tree has a split, what a search with lemmas makes.
 fn proof_within<E: LineEngine>(
     alloc: Global,
     engine: &mut E,
@@ -130,6 +143,9 @@ fn proof_within<E: LineEngine>(
         return Ok(tree);
     }
     let told = told_tree(alloc, engine, picture, givens, &tree)?;
+    if is_straight(&tree) {
+        return shorter(alloc, told, tree);
+    }
     let learnt = make_proof(alloc, engine, picture, givens)?;
     let made = shorter(alloc, learnt, told)?;
     shorter(alloc, made, tree)

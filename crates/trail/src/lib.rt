@@ -1,4 +1,4 @@
-//! The trail with which searches and both checkers backtrack, and the cells that they hold.
+//! The trail with which searches and the checker backtrack, and the cells that they hold.
 #![tactic(auto)]
 
 mod cell;
