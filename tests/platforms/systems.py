@@ -11,7 +11,7 @@ from tried import ROOT, Ended, ended, needs, passes
 HERE = Path(__file__).parent
 SECONDS = 1800
 TRIES = 3
-LOST = -17_000  # launch.c has a number above it for what did not begin; a crash has one far below
+LOST, NOT_ENDED = -17_000, -1  # launch.c: numbers between them are of what did not begin; a crash has one far below
 
 
 class Linux:
@@ -65,7 +65,7 @@ class Windows:
         it was seen to happen at load, is run again."""
         found = self.launch_once(dict(enumerate(lines)), cwd)
         for _ in range(TRIES):
-            lost = {at: lines[at] for at, run in found.items() if LOST < run.status < 0}
+            lost = {at: lines[at] for at, run in found.items() if LOST < run.status < NOT_ENDED}
             found.update(self.launch_once(lost, cwd) if lost else {})
         return [found[at] for at in range(len(lines))]
 
