@@ -390,6 +390,29 @@ class Strangers(Case):
         (self.folder / "told" / "one.givens").write_text("given 1 1\n")
         self.assertEqual(self.rows_of("site", "--givens", "mine", "--untrusted")["one.ppm"]["givens"], [[1, 1]])
 
+    def test_strangers_do_not_say_whose_givens_are_the_operators(self):
+        """Beside puzzles `one.ppm.givens` is that of a puzzle `one.ppm.png`. In a folder of their own, names alone tell."""
+        self.put("one.ppm", p3(AMBIGUOUS))
+        mine = self.folder / "mine"
+        mine.mkdir()
+        for place in (self.site, mine):
+            (place / "one.ppm.givens").write_text("given 1 1\n")
+            (place / "one.ppm.background").write_text("0,0,0\n")
+        os.symlink("site", self.folder / "way")
+        own = (["--givens", "site"], ["--givens", "way"], [])
+        for name, text, called in (("one.ppm.png", None, True), ("one.ppm.xml", webpbn(UNIQUE), True), ("one.ppm.ppm", p3(UNIQUE), True), ("x", "", False)):
+            other = self.put(name, png(1, 1, zlib.compress(bytes(4))) if text is None else text)
+            for words, is_given in (*((words, not called) for words in own), (["--givens", "mine"], True), (["--givens", "mine", "--untrusted"], True)):
+                row = self.rows_of("site", *words)["one.ppm"]
+                with self.subTest((name, words)):
+                    self.assertEqual((row["background"], row.get("givens")), ("000000", [[1, 1]]) if is_given else ("ffffff", None))
+            other.unlink()
+        # A name of its own comes first.
+        self.put("one.ppm.ppm", p3(AMBIGUOUS))
+        (mine / "one.ppm.ppm.givens").write_text("given 2 2\n")
+        rows = self.rows_of("site", "--givens", "mine", "--untrusted")
+        self.assertEqual([rows[name]["givens"] for name in ("one.ppm", "one.ppm.ppm")], [[[1, 1]], [[2, 2]]])
+
     def test_over_a_scheduler_too(self):
         os.symlink("/dev/zero", self.site / "one.ppm")
         settings = running.settings_of(arguments.options_of([str(self.site), "--untrusted"]))
@@ -528,13 +551,17 @@ class Names(Case):
 
     @pytest.mark.since("0.7.0")
     def test_givens_are_not_those_of_another_path_that_is_called_alike(self):
-        for name in ("bob/in/one.ppm", "eve/in/one.ppm", "eve/in/two.ppm"):
+        for name in ("bob/in/one.ppm", "eve/in/one.ppm", "eve/in/two.ppm", "eve/one.ppm.ppm", "ann/one.ppm.ppm", "two/one.ppm", "two/one.png"):
             self.put(name, p3(AMBIGUOUS))
         self.put("mine/in/one.givens", b"given 1 1\n")
         self.put("mine/one.givens", b"given 1 1\n")
         for option, (one, other), status in (
             ("--givens", ("bob/in", "eve/in"), 2), ("--certificates", ("bob/in", "eve/in"), 2), ("--givens", ("bob/in/one.ppm", "eve/in/one.ppm"), 2),
             ("--givens", ("bob/in/one.ppm", "eve/in/two.ppm"), 1), ("--givens", ("bob", "eve"), 1),
+            # Files that are called after the whole name of the first: mine/one.ppm.givens.
+            ("--givens", ("bob/in/one.ppm", "eve/one.ppm.ppm"), 2), ("--givens", ("bob/in/one.ppm", "ann/one.ppm.ppm"), 2),
+            ("--certificates", ("eve/one.ppm.ppm", "bob/in/one.ppm"), 2), ("--certify", ("eve/one.ppm.ppm", "bob/in/one.ppm"), 1),
+            ("--givens", ("two/one.ppm", "bob/in/one.ppm"), 2), ("--givens", ("bob/in/one.ppm", "two/one.ppm"), 2),
         ):
             with self.subTest(option, one=one, other=other):
                 done = self.run_audit(f"site/{one}", f"site/{other}", "--untrusted", option, "site/mine", status=status)

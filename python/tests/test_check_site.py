@@ -146,14 +146,27 @@ def test_a_folder_that_is_a_link_is_not_followed(site, checked, tmp_path):
 
 
 def test_files_of_a_picture_that_is_called_as_another_one_with_its_suffix(site, checked, tmp_path):
-    """`one.ppm.givens` lies beside `one.ppm` and `one.ppm.ppm`: it is that of the second."""
+    """`one.ppm.givens` beside `one.ppm` and `one.ppm.ppm` is that of the second. In a folder of their own, names alone tell: it is
+    that of both, whatever else strangers have.
+    """
     pair(site, "one", CROSS, ONE)
     pair(tmp_path / "ours", "one.ppm", None, None, givens="given 1 1\n")
-    assert checked("site", "--givens", "ours") == (0, [])
+    pair(site, "one.ppm", None, None, givens="given 1 1\n")
+    (tmp_path / "way").symlink_to("site")
+    own = (), ("--givens", "site"), ("--givens", "way")
+    for words in (*own, ("--givens", "ours"), ("--givens", "ours", "--untrusted")):
+        assert checked("site", *words) == (0, [])
+    for make in (lambda place: place.symlink_to("nowhere"), os.mkdir, lambda place: place.write_text(CROSS)):
+        make(site / "one.ppm.ppm")
+        for words in own:
+            assert checked("site", *words) == (1, ["site/one.cert: certificate UnpublishedGiven at line 2"])
+        assert checked("site", "--givens", "ours", "--untrusted") == (0, [])
+        (site / "one.ppm.ppm").rename(tmp_path / "gone")
+        (tmp_path / "gone").rmdir() if (tmp_path / "gone").is_dir() else (tmp_path / "gone").unlink()
     pair(site, "one.ppm", CROSS, ONE)
-    assert checked("site", "--givens", "ours") == (1, ["site/one.cert: certificate UnpublishedGiven at line 2"])
-    pair(tmp_path / "ours", "one", None, None, givens="given 1 1\n")
     assert checked("site", "--givens", "ours") == (0, [])
+    pair(tmp_path / "ours", "one.ppm.ppm", None, None, givens="given 2 2\n")
+    assert checked("site", "--givens", "ours") == (1, ["site/one.ppm.cert: certificate UnpublishedGiven at line 2"])
 
 
 def test_givens_and_backgrounds_of_the_site_and_not_of_strangers(site, checked, tmp_path):

@@ -112,8 +112,9 @@ class Site:
         """What the site has beside a picture; nothing where it has no such file."""
         if self._published is None:
             return None
-        # A file that is called after the whole name is that of the picture with this name and the suffix, where there is one.
-        whole = stem if os.path.lexists(os.path.join(self._folder, f"{stem}.ppm.ppm")) else f"{stem}.ppm"
+        # Beside pictures, a file that is called after the whole name is that of the picture with this name and the suffix.
+        is_other = self._published == self._folder and os.path.lexists(os.path.join(self._folder, f"{stem}.ppm.ppm"))
+        whole = stem if is_other else f"{stem}.ppm"
         paths = [os.path.join(self._published, name) for name in finding.called_beside(whole, stem, f".{ending}")]
         path = next(filter(os.path.lexists, paths), None)
         return None if path is None else _read(f"its {ending}: ", path, most)

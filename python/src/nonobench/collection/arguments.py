@@ -177,7 +177,7 @@ def _refuse_inputs(parser: argparse.ArgumentParser, told: argparse.Namespace) ->
 
 def _refuse_twins(parser: argparse.ArgumentParser, paths: list[str], option: str) -> None:
     """Two paths must not give one certificate its name, as `SET.3` of the third puzzle in SET.xml; nor have the givens of one puzzle."""
-    named = [(front_of(path) if os.path.isdir(path) else next(find([path])).stem, os.path.normpath(path)) for path in paths]
+    named = [(name, path) for path in dict.fromkeys(map(os.path.normpath, paths)) for name in _names_of(path, option)]
     seen = dict(named)
     for name, path in named:
         numbered = re.fullmatch(r"(.+)\.[1-9][0-9]*", name, re.DOTALL)
@@ -185,6 +185,14 @@ def _refuse_twins(parser: argparse.ArgumentParser, paths: list[str], option: str
         other = of if of.lower().endswith(".xml") and of != path else seen[name]
         if other != path:
             parser.error(f"--{option} would give {other!r} and {path!r} the same names")
+
+
+def _names_of(path: str, option: str) -> list[str]:
+    """What certificates of a path are called, or the folder of several. What is read may be called after the whole name of a file."""
+    if os.path.isdir(path):
+        return [front_of(path)]
+    name = os.path.basename(path)
+    return [next(find([path])).stem] if option in ("certify", "ppm") else [name, os.path.splitext(name)[0]]
 
 
 def _refuse_publishing(parser: argparse.ArgumentParser, told: argparse.Namespace) -> None:

@@ -51,6 +51,7 @@ class Folder(NamedTuple):
     held_in: str
     told: Optional[Names]  # the names where givens and backgrounds lie; nothing where they cannot be listed
     told_in: str
+    is_apart: bool  # whether that is another folder than that of the puzzles
     numbered: dict[str, list[Named]]  # those of files with several puzzles
     unlisted: tuple[Named, ...]  # a folder that cannot be listed stands for what lies there: it cannot be read either
 
@@ -195,7 +196,8 @@ def _folder(prefix: str, real: str, front: str, names: Optional[Names], places: 
     stems = Counter(stem for stem, suffix in [os.path.splitext(name) for name in names or ()] if suffix.lower() in SUFFIXES)
     numbers = frozenset(parts[1] for parts in map(_NUMBER.fullmatch, stems) if parts)
     whole = tuple((1, ENDINGS[0], place) for place in unlisted)
-    return Folder(prefix, real, front, names or NONE, stems, numbers, held or NONE, held_in, told, told_in, numbered, whole)
+    is_apart = places.givens is not None and os.path.realpath(told_in) != os.path.realpath(real)
+    return Folder(prefix, real, front, names or NONE, stems, numbers, held or NONE, held_in, told, told_in, is_apart, numbered, whole)
 
 
 def _found(folder: Folder, name: str) -> Found:
@@ -214,8 +216,8 @@ def _found(folder: Folder, name: str) -> Found:
         # What is numbered after the name alone may belong to another puzzle, or to another file of several.
         others = folder.numbered.get(stem, []) if folder.stems[stem] == 1 and not _is_puzzle(folder, stem) else []
         beside += sorted([*own, *(other for other in others if f"{stem}.{other[0]}" not in folder.stems)] if not is_only else others)
-    told = folder.told or NONE
-    givens, background = (next(iter(_named(whole, stem, end, told, folder.told_in)), None) for end in (".givens", ".background"))
+    told, of = folder.told or NONE, name if folder.is_apart else whole  # strangers do not say whose files the operator's are
+    givens, background = (next(iter(_named(of, stem, end, told, folder.told_in)), None) for end in (".givens", ".background"))
     if folder.told is None:
         givens = folder.told_in or "."
     newer = {of for of, ending, _ in beside if ending == ENDINGS[0]}
