@@ -1360,9 +1360,25 @@ class Again(Case):
         self.run_audit("merge", "part3", "part1", "part2", "--jsonl", "merged", "--html", "merged.html", "--csv", "merged.csv", status=1)
         for end in ("", ".html", ".csv"):
             self.assertEqual((self.folder / f"merged{end}").read_bytes(), (self.folder / f"whole{end}").read_bytes())
-        # The set of three comes last, so it is in the third part.
-        self.assertEqual([len((self.folder / f"part{part}").read_text().splitlines()) for part in (1, 2, 3)], [8, 8, 10])
+        # The part of a name is its sha256 as a number, modulo 3. The set of three is in the first one, whole.
+        self.assertEqual([len((self.folder / f"part{part}").read_text().splitlines()) for part in (1, 2, 3)], [9, 12, 5])
+        self.assertEqual([row.get("more") for name, row in self.read("part1").items() if "#" in name], [True, True, None])
         self.run_audit("merge", "part1", "--jsonl", "part1", status=2)
+
+    def test_shares_stay_while_files_come_and_go(self):
+        """What comes or goes between two shares is no reason for another file to be judged by neither."""
+        self.fill(23)
+        self.run_audit("site", "--shard", "1/2", "--jsonl", "part1")
+        self.run_audit("site", "--shard", "2/2", "--jsonl", "part2")
+        before = self.read("part2")
+        for names in (["0/000.ppm"], ["0/new.ppm", "0/newer.ppm"], ["0/new.ppm"]):
+            for place in map(self.site.joinpath, names):
+                place.unlink() if place.exists() else place.write_bytes(p3(UNIQUE))
+            self.run_audit("site", "--shard", "2/2", "--jsonl", "part2")
+            of = {f"site/{place.relative_to(self.site)}" for place in self.site.rglob("*.ppm")}
+            with self.subTest(names):
+                self.assertEqual((of & before.keys()) - self.read("part2").keys(), set())
+                self.assertEqual(self.read("part1").keys() & self.read("part2").keys(), set())
 
     @pytest.mark.since("0.7.0")
     def test_a_share_without_files(self):
@@ -1370,25 +1386,25 @@ class Again(Case):
         self.put("two.ppm", p3(AMBIGUOUS))
         words = ["site", "--allow", "9"]
         self.run_audit(*words, "--jsonl", "whole", "--csv", "whole.csv", "--html", "whole.html", status=1)
-        (self.folder / "part3").write_text("of an earlier run\n")
+        (self.folder / "part1").write_text("of an earlier run\n")
         for more in ([], ["--resume"]):
-            outputs = ["--jsonl", "part3", "--csv", "part3.csv", "--html", "part3.html", "--certify", "certs", *more]
-            done = self.run_audit(*words, "--shard", "3/3", *outputs, status=0)
+            outputs = ["--jsonl", "part1", "--csv", "part1.csv", "--html", "part1.html", "--certify", "certs", *more]
+            done = self.run_audit(*words, "--shard", "1/3", *outputs, status=0)
             self.assertEqual((done.stdout, done.stderr), ("0 puzzles\n", ""))
-            self.assertEqual((self.folder / "part3").read_bytes(), b"")
-            self.assertEqual((self.folder / "part3.csv").read_bytes(), (self.folder / "whole.csv").read_bytes().splitlines(keepends=True)[0])
-            self.assertEqual(records_of((self.folder / "part3.html").read_text()), [])
+            self.assertEqual((self.folder / "part1").read_bytes(), b"")
+            self.assertEqual((self.folder / "part1.csv").read_bytes(), (self.folder / "whole.csv").read_bytes().splitlines(keepends=True)[0])
+            self.assertEqual(records_of((self.folder / "part1.html").read_text()), [])
         self.assertEqual(self.run_audit(*words, "--shard", "9/9").stdout.splitlines()[1:], ["", "0 puzzles"])
-        for part in (1, 2):
+        for part in (2, 3):
             self.run_audit(*words, "--shard", f"{part}/3", "--jsonl", f"part{part}")
-        self.run_audit("merge", "part3", "part1", "part2", "--jsonl", "merged", "--html", "merged.html", "--csv", "merged.csv", status=1)
+        self.run_audit("merge", "part1", "part2", "part3", "--jsonl", "merged", "--html", "merged.html", "--csv", "merged.csv", status=1)
         for end in ("", ".html", ".csv"):
             self.assertEqual((self.folder / f"merged{end}").read_bytes(), (self.folder / f"whole{end}").read_bytes())
         # Where nothing has a puzzle, that is wrong, in a share too.
         (self.folder / "empty").mkdir()
         for shard in ("1/1", "3/3"):
             self.assertEqual(self.run_audit("empty", "--shard", shard, status=3).stderr, "nonobench-audit: no puzzles in empty\n")
-        self.assertEqual(self.run_audit("merge", "part3", status=3).stderr, "nonobench-audit: no puzzles in part3\n")
+        self.assertEqual(self.run_audit("merge", "part1", status=3).stderr, "nonobench-audit: no puzzles in part1\n")
 
     def test_the_same_bytes_however_many_work(self):
         self.fill(40)

@@ -757,7 +757,7 @@ class Outputs(Case):
         first.send_signal(signal.SIGTERM)
         first.communicate(timeout=PATIENCE)
         # Parts of one collection share the folder of certificates.
-        self.run_audit("site/one.ppm", "--shard", "1/2", "--certify", "certs", status=0)
+        self.run_audit("site/one.ppm", "--shard", "2/2", "--certify", "certs", status=0)
 
 
 class Processes(Case):

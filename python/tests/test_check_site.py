@@ -102,7 +102,7 @@ def test_all_forms_and_endings_of_a_certificate(site, checked, capsys):
     assert capsys.readouterr() == ("", "".join(f"nonobench-check-site: site/{name}: not read, since a .cert is there\n" for name in (
         "both.Proof", "capitals.PROOF")) + "accepted 4, refused 0, not read 0\n")
     (site / "both.cert").unlink()
-    assert checked("site", "--shard", "1/4") == (1, ["site/both.Proof: certificate NotCert at line 1"])
+    assert checked("site", "--shard", "2/4") == (1, ["site/both.Proof: certificate NotCert at line 1"])
 
 
 def test_givens_are_those_that_are_published(site, checked):
@@ -333,9 +333,16 @@ def test_shares(site, checked):
     for name in names:
         pair(site, name, certificate="nonocert 1\n")
     printed = [checked("site", "--shard", f"{part}/3")[1] for part in (1, 2, 3)]
-    assert [len(lines) for lines in printed] == [4, 4, 3]
+    # The part of a name is its sha256 as a number, modulo 3.
+    assert [len(lines) for lines in printed] == [2, 4, 5]
     assert sorted(sum(printed, [])) == [f"site/{name}.cert: certificate Ended at line 2" for name in names]
     assert checked("site", "--shard", "12/12") == (0, [])
+    # Names alone tell: what comes and goes between two shares moves no other certificate, nor does an older ending.
+    (site / "00.cert").unlink()
+    pair(site, "000", certificate="nonocert 1\n")
+    (site / "10.cert").rename(site / "10.proof")
+    assert checked("site", "--shard", "2/3")[1] == [line.replace("10.cert", "10.proof") for line in printed[1]]
+    assert set(printed[2]) <= {*checked("site", "--shard", "3/3")[1]}
 
 
 def test_certificates_in_a_folder_of_their_own(site, checked, tmp_path):

@@ -82,8 +82,9 @@ class Site:
                 self.unsearched.append(Answer(os.path.join(place, ""), UNREAD, error.strerror))
         newer = {os.path.splitext(file)[0] for file in found if file.lower().endswith(ENDINGS[0])}
         self.unread = sorted(file for file in found if not file.lower().endswith(ENDINGS[0]) and os.path.splitext(file)[0] in newer)
-        first, step = self._shard
-        return [os.path.relpath(file, self._certificates) for file in sorted({*found}.difference(self.unread))][first - 1 :: step]
+        names = [os.path.relpath(file, self._certificates) for file in sorted({*found}.difference(self.unread))]
+        # One that comes in the place of an older one is in its share.
+        return [name for name in names if finding.is_in_share(finding.shown(os.path.splitext(name)[0]), self._shard)]
 
     def path(self, name: str) -> str:
         """The path of a certificate, as it is shown."""
@@ -223,7 +224,7 @@ def _parser() -> argparse.ArgumentParser:
     parser.add_argument("--processor", metavar="S", type=_above_0, default=10, help="seconds of processor time for each (by default 10)")
     parser.add_argument("--seconds", metavar="S", type=_seconds, default=60.0, help="seconds by the clock for each (by default 60)")
     parser.add_argument("--memory", metavar="MIB", type=_memory, default=1024, help="for each check at a time (by default 1024)")
-    parser.add_argument("--shard", metavar="I/N", type=_shard, default=(1, 1), help="only every N-th certificate, from the I-th")
+    parser.add_argument("--shard", metavar="I/N", type=_shard, default=(1, 1), help="only the I-th of N shares of the certificates, which their names decide")
     parser.add_argument("--quiet", action="store_true", help="no last line with the counts")
     parser.add_argument("--version", action="version", version=f"%(prog)s {version()}")
     return parser

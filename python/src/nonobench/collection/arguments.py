@@ -124,7 +124,7 @@ def _parser() -> argparse.ArgumentParser:
     bounds.add_argument("--memory", metavar="MIB", type=_memory, default=1024, help="for each process (by default 1024)")
     parts = parser.add_argument_group("in parts, and on several machines")
     parts.add_argument("--resume", action="store_true", dest="is_resumed", help="keep the rows of --jsonl FILE whose puzzles have not changed")
-    parts.add_argument("--shard", metavar="I/N", type=_shard, default=(1, 1), help="only every N-th file, from the I-th; see merge")
+    parts.add_argument("--shard", metavar="I/N", type=_shard, default=(1, 1), help="only the I-th of N shares of the files, which their names decide; see merge")
     parts.add_argument("--scheduler", metavar="ADDRESS", help="use the workers of this Dask scheduler")
     return parser
 

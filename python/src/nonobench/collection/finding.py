@@ -3,6 +3,7 @@
 from __future__ import annotations
 
 import functools
+import hashlib
 import os
 import re
 from collections import Counter
@@ -66,6 +67,12 @@ def shown(path: str) -> str:
 def order_of(name: str) -> str:
     """What names are sorted by: folder by folder."""
     return name.replace("/", "\0")
+
+
+def is_in_share(name: str, shard: tuple[int, int]) -> bool:
+    """Whether a file is in a share. Its name alone tells: what comes or goes beside it between two shares moves it to no other one."""
+    part, parts = shard
+    return parts == 1 or int.from_bytes(hashlib.sha256(name.encode()).digest(), "big") % parts == part - 1
 
 
 def without_nested(paths: list[str]) -> list[str]:

@@ -15,7 +15,7 @@ from .._library import version
 from . import certificates
 from .arguments import Options, options_of
 from .earlier import Earlier, content_before, read_row, to_check
-from .finding import Places, find, order_of
+from .finding import Places, find, is_in_share, order_of
 from .outputs import CLOSED, Failure, Lines, Sheet, Table, hold_streams, kept_folder, lines_of, telling
 from .progress import Progress
 from .rows import Row, printable, row_of, text_of
@@ -178,19 +178,17 @@ class Run:
         options = self._options
 
         def count() -> None:
-            number = sum(1 for _ in find(options.paths))
-            self._progress.expect((number - options.shard[0]) // options.shard[1] + 1)
+            self._progress.expect(sum(is_in_share(found.name, options.shard) for found in find(options.paths)))
 
         if not options.is_quiet:
             threading.Thread(target=count, daemon=True).start()
 
     def _tasks(self, settings: Settings) -> Iterator[Task]:
         options = self._options
-        part, parts = options.shard
         number = -1
         places = Places(options.certificates, options.givens, options.is_untrusted)
-        for at, found in enumerate(find(options.paths, places)):
-            if at % parts != part - 1:
+        for found in find(options.paths, places):
+            if not is_in_share(found.name, options.shard):
                 self._is_elsewhere = True
                 continue
             number += 1
