@@ -114,6 +114,12 @@ class Workers(unittest.TestCase):
                 worker.check(DIAGONAL, b" " * 16777216)
         with nonobench.Worker(seconds=300) as worker, self.assertRaises(CertificateFault):
             worker.check(DIAGONAL, b" " * 16777216)
+        # The answer alone takes more than there is.
+        for memory in (1, 20):
+            with nonobench.Worker(seconds=300, memory=memory) as worker:
+                for _ in range(2):
+                    with self.assertRaisesRegex(MemoryError, "larger than its memory"):
+                        worker.clues(DIAGONAL)
 
     def test_bounds(self):
         for bounds in ({"memory": "x"}, {"memory": 1.5}, {"memory": None}, {"seconds": "5"}, {"seconds": None}):

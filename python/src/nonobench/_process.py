@@ -115,7 +115,9 @@ class Child:
             self._out.clear()
 
     def answers(self) -> list[tuple[int, list[bytes]]]:
-        """The answers that have come whole, each a number and its parts. Raises EOFError where the process has ended."""
+        """The answers that have come whole, each a number and its parts. Raises EOFError where the process has ended, and MemoryError
+        where an answer would not fit into its memory.
+        """
         try:
             data = self._stream.recv(ROOM)
         except BlockingIOError:
@@ -130,7 +132,7 @@ class Child:
             number, *sizes = FRAME.unpack_from(self._come)
             *places, end = itertools.accumulate(sizes, initial=FRAME.size)
             if end > FRAME.size + self._memory:
-                raise RuntimeError("the worker's answer is larger than its memory")
+                raise MemoryError("the worker's answer is larger than its memory")
             if len(self._come) < end:
                 break
             found.append((number, [bytes(self._come[at : at + size]) for at, size in zip(places, sizes)]))

@@ -121,7 +121,7 @@ class Pool:
     def _read(self, hand: Hand) -> Iterator[Answer]:
         try:
             answers = [(number, [part.decode("ascii") for part in parts]) for number, parts in hand.answers()]
-        except (EOFError, RuntimeError):
+        except (EOFError, MemoryError):
             yield from self._end(hand, "")
             return
         now = time.monotonic()
