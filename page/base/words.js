@@ -27,6 +27,15 @@ export function linesText(isRow, places) {
   return isRow ? phrase('view.inRows', found) : phrase('view.inColumns', found);
 }
 
+/** A text without the white space of ASCII at its ends, which alone nonobench-audit leaves out, too. */
+export function withoutSpace(text) {
+  const isSpace = (at) => ' \t\n\v\f\r'.includes(text[at]);
+  let [from, to] = [0, text.length];
+  while (from < to && isSpace(from)) from++;
+  while (from < to && isSpace(to - 1)) to--;
+  return text.slice(from, to);
+}
+
 /** A name without what no file name may have. */
 export const cleanName = (name) => (name ?? '').replace(/[\u0000-\u001f\\/:*?"<>|]/g, ' ').trim().slice(0, 80).replace(/\.+$/, '') || 'picture';
 

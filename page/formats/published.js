@@ -1,6 +1,7 @@
 // What a site publishes beside a picture, as nonobench-audit reads it: NAME.givens, the cells that are revealed with the puzzle, and
 // NAME.background.
 
+import { withoutSpace } from '../base/words.js';
 import { eightBits } from '../document/colours.js';
 import { FileFault } from '../document/limits.js';
 import { phrase } from '../texts/phrase.js';
@@ -25,7 +26,7 @@ export function readGivens(text, { rows, columns }) {
  * bits for an image whose samples go up to `maxval`. An empty text names none.
  */
 export function readGround(text) {
-  const word = text.trim();
+  const word = withoutSpace(text);
   const triple = /^[0-9]{1,5}(,[0-9]{1,5}){2}$/.test(word) ? word.split(',').map(Number) : null;
   if (!triple && !['white', 'corner'].includes(word)) throw new FileFault(phrase('formats.noBackground'));
   return ({ data }, maxval) => {

@@ -1,25 +1,35 @@
 // Web Paint-by-Number's XML puzzle sets, read: the picture, and all else that the format has, so that writing it again loses nothing.
 
+import { withoutSpace } from '../base/words.js';
 import { sameValue, unpackedDoc } from '../document/document.js';
-import { FileFault, LETTERS, MOST_COLOURS } from '../document/limits.js';
+import { FileFault, LETTERS, MOST_CELLS, MOST_COLOURS } from '../document/limits.js';
 import { phrase } from '../texts/phrase.js';
 import { LOCKED_COLOURS, WEBPBN_GIVENS, WEBPBN_LOCKS } from './webpbn.js';
 import { readWebpbnImage } from './webpbn_image.js';
 import { readXml } from './xml.js';
 
 const MOST_SIGNS = 100000; // of a text
+const MOST_KEPT = 64 * MOST_CELLS * MOST_CELLS; // signs of an image, as for nonobench-audit, and of what is kept beside one
 
 const childrenOf = (element, name) => element.children.filter((child) => child.name === name);
 const trimmed = (element) => element.text.trim().slice(0, MOST_SIGNS);
 const textIn = (element, name) => (childrenOf(element, name).length ? trimmed(childrenOf(element, name)[0]) : '');
 const textsIn = (element, name) => childrenOf(element, name).map(trimmed).filter(Boolean);
 const present = (texts) => Object.fromEntries(Object.entries(texts).filter(([, text]) => text.length));
-const imageIn = (solution) => childrenOf(solution, 'image')[0]?.text ?? '';
+const imageIn = (solution) => short(childrenOf(solution, 'image')[0]?.text ?? '');
 const typeOf = (element, usual) => element.attributes.get('type') ?? usual;
 const idOf = (element) => element.attributes.get('id') ?? '';
 
+function short(text, most = MOST_KEPT) {
+  if (text.length > most) throw new FileFault(phrase('formats.xmlTextsTooLong'));
+  return text;
+}
+
+// A value in texts of its own: a part of the file's text would keep all of it in memory.
+const kept = (value, most = MOST_KEPT) => JSON.parse(short(JSON.stringify(value), most));
+
 function tripleOfHex(text) {
-  const hex = text.trim().replace(/^#/, '');
+  const hex = withoutSpace(text).replace(/^#/, '');
   if (/^[0-9a-fA-F]{3}$/.test(hex)) return [...hex].map((digit) => parseInt(digit + digit, 16));
   if (/^[0-9a-fA-F]{6}$/.test(hex)) return [0, 2, 4].map((at) => parseInt(hex.slice(at, at + 2), 16));
   throw new FileFault(phrase('formats.colourPuzzleNotThree'));
@@ -44,7 +54,7 @@ function readClues(puzzle, type, usual) {
   const clues = childrenOf(puzzle, 'clues').find((element) => element.attributes.get('type') === type);
   if (!clues) return null;
   return childrenOf(clues, 'line').map((line) => childrenOf(line, 'count').map((count) => {
-    if (!/^\s*[0-9]{1,6}\s*$/.test(count.text)) throw new FileFault(phrase('formats.cluePuzzleNoNumber'));
+    if (!/^[0-9]{1,6}$/.test(withoutSpace(count.text))) throw new FileFault(phrase('formats.cluePuzzleNoNumber'));
     return { length: Number(count.text), name: count.attributes.get('color') ?? usual };
   }).filter((block) => block.length > 0));
 }
@@ -61,13 +71,12 @@ function aboutOf(puzzle) {
 const textsOfSet = (set) => present({ ...Object.fromEntries(ABOUT_SET.map((name) => [name, textIn(set, name)])), notes: textsIn(set, 'note') });
 
 // What else the puzzle and its set had; null where there is nothing.
-function extrasOf(setTexts, puzzle, goal, others) {
+function extrasOf(puzzle, goal, others) {
   const goalTexts = goal ? present({ id: idOf(goal), notes: textsIn(goal, 'note') }) : {};
   const solutions = others.map((one) => ({ type: typeOf(one, 'goal'), ...present({ id: idOf(one), notes: textsIn(one, 'note') }), image: imageIn(one) }));
   const extras = present({ notes: textsIn(puzzle, 'note').slice(1), solutions, defaultcolor: puzzle.attributes.get('defaultcolor') ?? '' });
-  if (Object.keys(setTexts).length) extras.set = setTexts;
   if (Object.keys(goalTexts).length) extras.goal = goalTexts;
-  return Object.keys(extras).length ? extras : null;
+  return extras;
 }
 
 /** An XML text as `{ setTexts, puzzles }`: what stands beside the puzzles, and the elements of those of rows and columns, at least one. */
@@ -76,7 +85,7 @@ export function readWebpbnSet(text) {
   const all = set.name === 'puzzleset' ? childrenOf(set, 'puzzle') : set.name === 'puzzle' ? [set] : [];
   const puzzles = all.filter((element) => typeOf(element, 'grid') === 'grid');
   if (!puzzles.length) throw new FileFault(phrase('formats.xmlNoPuzzleRows'));
-  return { setTexts: set.name === 'puzzleset' ? textsOfSet(set) : {}, puzzles };
+  return { setTexts: set.name === 'puzzleset' ? kept(textsOfSet(set), MOST_SIGNS) : {}, puzzles };
 }
 
 /**
@@ -91,7 +100,9 @@ export function readWebpbn(text, at = 0) {
   const goal = solutions.find((one) => typeOf(one, 'goal') === 'goal') ?? solutions.find((one) => typeOf(one, 'goal') === 'solution');
   const own = (id) => solutions.find((one) => typeOf(one, 'goal') === 'saved' && idOf(one) === id);
   const [givens, locks] = [own(WEBPBN_GIVENS), own(WEBPBN_LOCKS)];
-  const page = { about: aboutOf(puzzle), extras: extrasOf(setTexts, puzzle, goal, solutions.filter((one) => ![goal, givens, locks].includes(one))) };
+  const page = kept({ about: aboutOf(puzzle), extras: extrasOf(puzzle, goal, solutions.filter((one) => ![goal, givens, locks].includes(one))) });
+  if (Object.keys(setTexts).length) page.extras.set = setTexts;
+  if (!Object.keys(page.extras).length) page.extras = null;
   const usual = puzzle.attributes.get('defaultcolor') ?? 'black';
   const clues = { rows: readClues(puzzle, 'rows', usual), columns: readClues(puzzle, 'columns', usual) };
   if (!goal) return { non: nonOfClues(clues), page, count };
@@ -101,7 +112,7 @@ export function readWebpbn(text, at = 0) {
   if (givens) doc.givens = placesOfSigns(readWebpbnImage(imageIn(givens)), signs, phrase('formats.givenCellAnotherColour'));
   if (locks) doc.locks = placesOfSigns(readWebpbnImage(imageIn(locks)), signs, phrase('formats.lockedCellAnotherColour'));
   for (const name of lockedNames(locks)) if (names.includes(name)) doc.inks[names.indexOf(name)].locked = true;
-  return { doc: unpackedDoc({ ...doc, ...page }), count };
+  return { doc: unpackedDoc({ ...doc, ...page, inks: kept(doc.inks) }), count };
 }
 
 function lockedNames(locks) {

@@ -1,6 +1,7 @@
 // A small bounded reader of XML, for puzzle files: elements, attributes and texts alone. Nothing is fetched, no entity is
 // declared, and no text is ever taken as HTML.
 
+import { withoutSpace } from '../base/words.js';
 import { FileFault } from '../document/limits.js';
 import { phrase } from '../texts/phrase.js';
 
@@ -97,7 +98,7 @@ export function readXml(source) {
       const run = text.slice(reader.at, end < 0 ? text.length : end);
       reader.at += run.length;
       if (open.length > 1) inside.text += plainText(run);
-      else if (run.trim()) throw reader.fault(phrase('formats.textStandsOutsideAll'));
+      else if (withoutSpace(run)) throw reader.fault(phrase('formats.textStandsOutsideAll'));
     } else readXmlTag(reader, open);
   }
   if (open.length > 1) throw reader.fault(phrase('formats.elementNotClosed', { name: open.at(-1).name }));

@@ -97,16 +97,17 @@ async function addAll(docs, goesOn) {
   return { added, known };
 }
 
-/** Whether so many files or puzzles may go to the library: of many the user is asked first. */
-export const mayAdd = async (count, name) => count <= MANY
-  || confirmDialog(phrase('import.addManyFiles', { files: count }), phrase('import.pictureGoesLibrary', { name }), phrase('import.addLibrary'));
+/** Whether so many files or puzzles may go to the library: of many the user is asked first, by a title. */
+export const mayAdd = async (count, name, title) => count <= MANY
+  || confirmDialog(title, phrase('import.pictureGoesLibrary', { name }), phrase('import.addLibrary'));
 
 /**
  * Adds the pictures of an archive to the library, but for those that are there; of many files the user is asked first. Answers how many
  * of it are there then.
  */
 export async function takeArchive(bytes, name) {
-  if (!(await mayAdd(filesIn(bytes).length, name))) return 0;
+  const files = filesIn(bytes).length;
+  if (!(await mayAdd(files, name, phrase('import.addManyFiles', { files })))) return 0;
   const progress = new Progress(phrase('import.opening', { name }), '');
   const goesOn = (text) => progress.goesOn(text);
   try {

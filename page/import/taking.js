@@ -72,7 +72,8 @@ async function takeXml(text, name, handle) {
   const [first, ...others] = readXmlFile(text);
   if (first.fault) throw first.fault;
   const isOpen = first.non ? await openNon(first.non, name, first.page) : await openDoc(first.doc, { name, handle: others.length ? null : handle, form: 'xml' });
-  if (!isOpen || !others.length || !(await mayAdd(others.length, name))) return isOpen;
+  const title = phrase('import.addManyPuzzles', { puzzles: others.length });
+  if (!isOpen || !others.length || !(await mayAdd(others.length, name, title))) return isOpen;
   const keeper = await keep.ready();
   let added = 0;
   for (const [at, { doc }] of others.entries()) {

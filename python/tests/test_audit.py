@@ -141,7 +141,7 @@ def beside_words(text):
 def ground_words(text):
     """The background of a file, likewise."""
     try:
-        ground = readers.ground_of(text.decode("ascii", "replace").strip())
+        ground = readers.ground_beside(text)
     except ValueError:
         return "refused"
     if ground.triple is None:
@@ -271,6 +271,19 @@ class Reading(unittest.TestCase):
                     self.assertEqual(isinstance(found, Unreadable), not is_read)
         dark = one(p3(UNIQUE), ground=readers.ground_of("0,0,0"))
         self.assertEqual(list(readers.grounded(iter([dark]), readers.ground_of("0,0,0"))), [dark])
+
+    def test_white_space_in_xml(self):
+        """Around colours, clues and rows there may be that of XML, and no other, as for the page."""
+        clues = "<clues type='rows'><line><count> 1</count></line><line><count color='red'>1</count></line></clues>"
+        text = webpbn(UNIQUE, more=clues)
+        for old, why in (("f00", "hexadecimal"), (" 1", "number"), ("||", "bars")):
+            self.assertEqual(text.count(old), 1)
+            for sign, is_read in ((" ", True), ("\t", True), ("\r\n", True), ("\u00a0", False), ("\u2003", False), ("\u0085", False), ("\ufeff", False)):
+                new = f"|{sign}|" if old == "||" else f"{sign}{old.strip()}{sign}"
+                found = one(text.replace(old, new).encode(), ".xml")
+                with self.subTest((old, sign)):
+                    self.assertEqual(getattr(found, "text", None), p3(UNIQUE) if is_read else None)
+                    self.assertRegex(str(found), "." if is_read else why)
 
     def test_a_jpeg_is_named(self):
         for suffix in (".jpg", ".ppm", ".png", ""):

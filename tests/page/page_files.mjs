@@ -166,6 +166,26 @@ test('a puzzle of webpbn.com', () => {
     refused(() => readWebpbn('<svg/>'), /no puzzle/);
 });
 
+test('white space of XML, and no other, stands around colours, clues and elements', () => {
+    for (const [sign, isRead] of [[' ', true], ['\t', true], ['\n', true], ['\r\n', true], ['\u00a0', false], ['\ufeff', false], ['\u2003', false], ['\u0085', false]]) {
+        for (const text of [PUZZLE.replace('00B000', `${sign}00B000${sign}`), PUZZLE.replace('<count>1', `<count>${sign}1${sign}`), `${PUZZLE}${sign}`]) {
+            const read = () => readWebpbn(text).doc.picture.join();
+            if (isRead) assert.equal(read(), 'bbb,.a.', JSON.stringify(sign));
+            else refused(read, /hexadecimal|number|outside all/);
+        }
+    }
+});
+
+test('an image, and all that a puzzle has beside its picture, is as long as nonobench-audit takes it', () => {
+    const most = 64 * 120 * 120;
+    const puzzle = (goal, more = '') => `<puzzle><solution><image>|X|${' '.repeat(goal)}|.|</image></solution>${more}</puzzle>`;
+    const saved = (length) => `<solution type="saved"><image>${' '.repeat(length)}</image></solution>`;
+    const note = `<note>${'n'.repeat(100000)}</note>`;
+    assert.equal(readWebpbn(puzzle(most - 6)).doc.rows, 2);
+    assert.equal(readWebpbn(puzzle(0, saved(most - 1000) + saved(10))).doc.extras.solutions.length, 2);
+    for (const text of [puzzle(most - 5), puzzle(0, saved(most + 1)), puzzle(0, saved(most / 2) + saved(most / 2)), puzzle(0, note.repeat(10)), `<puzzleset>${note}${puzzle(0)}</puzzleset>`]) refused(() => readWebpbn(text), /texts of the XML are too long/);
+});
+
 test('clues without a solution: two colours alone', () => {
     const bare = PUZZLE.replace(/<solution[^]*<\/solution>/, '');
     refused(() => readWebpbn(bare), /several colours/);

@@ -76,6 +76,7 @@ test('a background is in the samples of its picture', () => {
     assert.deepEqual(readGround('corner')(white, 255), [255, 255, 255]); // what is transparent has no colour
     assert.deepEqual([127, 128].map((opacity) => readGround('corner')({ data: Uint8ClampedArray.of(9, 8, 7, opacity) }, 255).join()), ['255,255,255', '9,8,7']);
     assert.throws(() => readGround('0,0,16')(white, 15), /above 15/);
+    for (const sign of ['\u00a0', '\u0085', '\u001c']) assert.throws(() => readGround(`white${sign}`), FileFault); // no white space of ASCII
 });
 
 test('what goes with a picture, by its name', () => {

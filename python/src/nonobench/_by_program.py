@@ -75,7 +75,7 @@ def beside(path: str, ground: Optional[str]) -> list[str]:
     told = lying(path, "background")
     if told is not None:
         with open(told, "rb") as file:
-            ground = file.read(MOST_BACKGROUND).decode("ascii", "replace").strip()
+            ground = file.read(MOST_BACKGROUND).strip().decode("ascii", "replace")
     certificate = next(filter(None, (lying(path, ending, False) for ending in ENDINGS)), None)
     named = {"--givens": lying(path, "givens"), "--background": None if ground == "white" else ground, "--certificate": certificate}
     return [word for option, value in named.items() if value is not None for word in (option, value)]

@@ -22,7 +22,7 @@ from .collection import finding
 from .collection.arguments import _above_0, _memory, _seconds, _shard, add_allowed
 from .collection.outputs import hold_streams
 from .collection.puzzles import MOST_BYTES, Triple, Unreadable, one_line
-from .collection.readers import bytes_of, ground_of
+from .collection.readers import bytes_of, ground_beside
 from .worker import Worker
 
 ACCEPTED, REFUSED, WRONG, UNREAD = range(4)  # the exit statuses; WRONG is that of wrong arguments
@@ -101,11 +101,11 @@ class Site:
     def background(self, stem: str) -> Optional[Triple]:
         """The background of a picture; nothing for white."""
         text = self.beside(stem, "background", MOST_BACKGROUND)
-        word = "white" if text is None else text.decode("ascii", "replace").strip()
         try:
-            if word == "corner":
+            ground = ground_beside(b"white" if text is None else text)
+            if ground.is_corner:
                 raise ValueError("must be white or R,G,B")
-            return ground_of(word).triple
+            return ground.triple
         except ValueError as error:
             raise Unreadable(f"its background {error}") from error
 

@@ -35,6 +35,11 @@ def ground_of(word: str) -> Ground:
     return Ground((red, green, blue))
 
 
+def ground_beside(held: bytes) -> Ground:
+    """The background that a file names, with white space around it: that of ASCII alone, as for the page."""
+    return ground_of(held.strip().decode("ascii", "replace"))
+
+
 def bytes_of(path: Union[str, bytes], most: int = MOST_BYTES, follows: bool = True, is_real: bool = False) -> bytes:
     """The bytes of a file. Pipes, devices and folders are none, and nothing waits for one. Nor are links, where it follows none;
     and a real path is absolute, and leads through no link.

@@ -229,7 +229,7 @@ class Judging:
         ground = self._ground
         if files.background is not None:
             try:
-                ground = readers.ground_of(files.background.decode("ascii", "replace").strip())
+                ground = readers.ground_beside(files.background)
             except ValueError as error:
                 raise Unreadable(f"the file of its background {error}") from error
         puzzles = readers.puzzles_of(files.file, os.path.splitext(name)[1].lower(), ground, files.givens)

@@ -18,6 +18,7 @@ MOST_ELEMENTS = 200_000  # in one puzzle
 MOST_DEPTH = 32
 MOST_PUZZLES = 10_000  # in one file
 MOST_PART = 1 << 20  # bytes of a tag or a comment, about: expat reads it again with each piece of the file
+SPACE = " \t\r\n"  # of XML; other letters count nowhere for blanks
 MOST_SPACE = 200  # characters of a namespace, which each name in it repeats
 NO_MEMORY = 1  # an error of expat
 GIVENS = "givens"
@@ -183,7 +184,7 @@ def _colours(element: Any) -> dict[str, Colour]:
 
 
 def _triple(text: str) -> Triple:
-    digits = text.strip().removeprefix("#")
+    digits = text.strip(SPACE).removeprefix("#")
     if re.fullmatch("[0-9a-fA-F]{3}", digits):
         digits = "".join(digit * 2 for digit in digits)
     need(re.fullmatch("[0-9a-fA-F]{6}", digits), "a colour of the puzzle is not three or six hexadecimal digits")
@@ -222,7 +223,7 @@ def _image(solution: Any) -> Signs:
     image = _only(solution.findall("image"), "the image of a solution")
     text = "" if image is None else _text(image)
     is_short = len(text) <= 64 * MOST_CELLS * MOST_CELLS
-    need(is_short and re.fullmatch(rf"(\s*\|(?:{_CELL})*\|)+\s*", text), "a row of the solution is not between bars")
+    need(is_short and re.fullmatch(rf"([{SPACE}]*\|(?:{_CELL})*\|)+[{SPACE}]*", text), "a row of the solution is not between bars")
     rows = [[_sign(cell) for cell in re.findall(_CELL, row)] for row in re.findall(rf"\|((?:{_CELL})*)\|", text)]
     need(max(len(rows), *map(len, rows)) <= MOST_CELLS, f"the solution is larger than {MOST_CELLS} by {MOST_CELLS}")
     need(rows[0] and len(set(map(len, rows))) == 1, "the rows of the solution have several lengths, or none")
@@ -246,7 +247,7 @@ def _clues(element: Any, axis: str, usual: str) -> Optional[list[list[tuple[int,
 
 def _length(count: Any) -> int:
     text = _text(count)
-    need(re.fullmatch(r"\s*[0-9]{1,6}\s*", text), "a clue of the puzzle is not a number")
+    need(re.fullmatch("[0-9]{1,6}", text.strip(SPACE)), "a clue of the puzzle is not a number")
     return int(text)
 
 
