@@ -386,13 +386,13 @@ def _pnm(data: bytes) -> Pixels:
 
 
 def plain_words(text: bytes, most: int) -> list[bytes]:
-    """The words of a plain text, of which comments are none, and at the most so many."""
-    return (_COMMENTS.sub(b" ", text) if b"#" in text else text).split(None, most)[:most]
+    """The words of a plain text, of which comments are none, and at the most so many; then the rest."""
+    return (_COMMENTS.sub(b" ", text) if b"#" in text else text).split(None, most)
 
 
 def _plain_samples(text: bytes, count: int, is_bits: bool) -> list[int]:
     """The samples behind a header: where they are too many, one more than there are to be."""
-    words = plain_words(text, count + 1)
+    words = plain_words(text, count + 1)[: count + 1]
     _need(all(map(bytes.isdigit, words)))
     if is_bits:
         return [digit - 48 for digit in b"".join(words)[: count + 1]]

@@ -57,17 +57,23 @@ def framed(number: int, *parts: bytes) -> bytes:
 
 def receive() -> tuple[int, list[bytes]]:
     """The number and the parts that come next to this process."""
-    number, *sizes = FRAME.unpack(_read(FRAME.size))
-    return number, [_read(size) for size in sizes]
+    number, *sizes = FRAME.unpack(_whole(FRAME.size))
+    return number, [_whole(size) for size in sizes]
 
 
-def _read(size: int) -> bytes:
+def _whole(size: int) -> bytes:
+    data = read(STREAM, size)
+    if len(data) < size:
+        raise EOFError
+    return data
+
+
+def read(stream: int, size: int) -> bytes:
+    """So many bytes of a stream, or all where it ends before."""
     parts = []
-    while size > 0:
-        parts.append(os.read(STREAM, min(size, 1 << 20)))
-        if not parts[-1]:
-            raise EOFError
-        size -= len(parts[-1])
+    while size > 0 and (part := os.read(stream, min(size, 1 << 20))):
+        parts.append(part)
+        size -= len(part)
     return b"".join(parts)
 
 

@@ -12,6 +12,7 @@ from typing import Iterator, NamedTuple, Optional, Union
 from .._answers import ImageFault
 from .._calls import picture_of
 from .._images import colour_shown, header_of, is_image, most_of, pixels_of
+from .._serve import read
 from . import webpbn
 from .puzzles import MOST_BYTES, MOST_COLOURS, WHITE, Missing, Puzzle, Triple, Unreadable, need, one_line
 
@@ -44,18 +45,18 @@ def bytes_of(path: Union[str, bytes], most: int = MOST_BYTES, follows: bool = Tr
     """The bytes of a file. Pipes, devices and folders are none, and nothing waits for one. Nor are links, where it follows none;
     and a real path is absolute, and leads through no link.
     """
-    more = os.O_NONBLOCK | (0 if follows else os.O_NOFOLLOW)
     try:
-        with open(path, "rb", opener=lambda name, flags: os.open(name, flags | more)) as file:
-            found = os.fstat(file.fileno())
-            need(stat.S_ISREG(found.st_mode), "this is not a file")
+        handle = os.open(path, os.O_NONBLOCK | os.O_CLOEXEC | (0 if follows else os.O_NOFOLLOW))
+        try:
+            found = os.fstat(handle)
+            need(stat.S_ISREG(found.st_mode), "this folder is not read" if stat.S_ISDIR(found.st_mode) else "this is not a file")
             need(found.st_size <= most, f"more than {most} bytes")
-            if is_real and os.readlink(f"/proc/self/fd/{file.fileno()}") != path:
-                is_link = os.fstat(file.fileno()).st_nlink
+            if is_real and os.readlink(f"/proc/self/fd/{handle}") != path:
+                is_link = os.fstat(handle).st_nlink
                 raise Unreadable("a part of its path is a link" if is_link else "it was replaced while it was read")
-            return file.read(found.st_size)
-    except IsADirectoryError as error:
-        raise Unreadable("this folder is not read") from error
+            return read(handle, found.st_size)
+        finally:
+            os.close(handle)
     except (OSError, ValueError) as error:
         if not follows and getattr(error, "errno", None) == errno.ELOOP:
             raise Unreadable("this is a link") from error

@@ -124,7 +124,8 @@ class Answers:
         the process ends and has begun no other task, `ready` that it begins.
         """
         self._waiting.append(framed(number, *(word.encode("ascii") for word in (kind, verdict, text, certificate))))
-        self._some.set()
+        if not self._some.is_set():  # which takes no lock
+            self._some.set()
 
     def flush(self) -> None:
         """Sends what there is."""
@@ -182,11 +183,12 @@ class Judging:
         except Unreadable as error:
             self._answers.put(task.number, "last", "error", unread(task.name, error, self._settings.has_times))
             return
-        content = _content(files)
-        if content == task.before and self._holds(task, files):
+        sha256 = hashlib.sha256(files.file).hexdigest()
+        content = _content(files, sha256)
+        if content == task.before and self._holds(task, files, sha256):
             self._answers.put(task.number, "same", "")
             return
-        number, sha256 = 0, hashlib.sha256(files.file).hexdigest()
+        number = 0
         for number, has_more, puzzle in numbered(self._puzzles(task.name, files)):
             if number < task.start:
                 continue
@@ -205,12 +207,11 @@ class Judging:
         if number < task.start:
             self._answers.put(task.number, "none", "")
 
-    def _holds(self, task: Task, files: Files) -> bool:
+    def _holds(self, task: Task, files: Files, sha256: str) -> bool:
         """Whether there is a kept row for each puzzle, and those of puzzles with one solution are true, and their pictures there."""
         kept = {number: (row_of(text), held) for number, text, held in files.kept}
         if not kept:
             return True
-        sha256 = hashlib.sha256(files.file).hexdigest()
         with contextlib.suppress(Unreadable):
             for number, _, puzzle in numbered(self._puzzles(task.name, files)):
                 row, held = kept.pop(number, (None, b""))
@@ -364,10 +365,10 @@ def files_of(task: Task, settings: Settings) -> Files:
     return Files(bytes_of(task.file), beside, givens, background, kept)
 
 
-def _content(files: Files) -> str:
-    """A digest of a file and of what lies beside it: also of which puzzle each certificate is for."""
+def _content(files: Files, sha256: str) -> str:
+    """A digest of a file, whose own is passed, and of what lies beside it: also of which puzzle each certificate is for."""
     told = ("background", files.background), ("givens", files.givens)
-    parts = [("", files.file), *((name, data) for name, data in told if data is not None)]
+    parts = [("", sha256.encode("ascii")), *((name, data) for name, data in told if data is not None)]
     parts += [(f"{of}", held) for of, held in files.beside]
     front = ",".join(f"{name} {len(held)}" for name, held in parts).encode("ascii")
     return hashlib.blake2b(b":".join((front, *(held for _, held in parts))), digest_size=16).hexdigest()

@@ -28,10 +28,13 @@ class Tally:
     def put(self, row: Row) -> None:
         """Counts a row."""
         self.verdicts[row["verdict"]] += 1
-        self.flaws.update(flaws_of(row, self.allowed))
+        for flaw in flaws_of(row, self.allowed):
+            self.flaws[flaw] += 1
         for counts, name in ((self.grades, "grade"), (self._missing, "missing")):
-            counts.update([row[name]] if name in row else [])
-        self._unwritten.update(word for word in WRITTEN if unwritten(word) in row.get("note", ""))
+            if name in row:
+                counts[row[name]] += 1
+        if "note" in row:
+            self._unwritten.update(word for word in WRITTEN if unwritten(word) in row["note"])
         self._bare += row["verdict"] == "unique" and "lines" not in row
 
     @property
