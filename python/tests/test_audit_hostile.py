@@ -413,6 +413,32 @@ class Strangers(Case):
         rows = self.rows_of("site", "--givens", "mine", "--untrusted")
         self.assertEqual([rows[name]["givens"] for name in ("one.ppm", "one.ppm.ppm")], [[[1, 1]], [[2, 2]]])
 
+    def test_outputs_go_through_no_link_of_strangers(self):
+        self.put("one.ppm", p3(UNIQUE))
+        kept, secret = self.folder / "kept", self.folder / "secret"
+        kept.write_text("")
+        secret.mkdir()
+        for name, to in (("rows", "../kept"), ("gone", "../made"), ("sub", "../secret")):
+            os.symlink(to, self.site / name)
+        for name, to in (("way", "site"), ("mine", "kept")):
+            os.symlink(to, self.folder / name)
+        options = ("--jsonl", "--csv", "--html")
+        for path in ("site", "site/one.ppm", "way/"):
+            for option, name in (*((option, name) for option in options for name in ("rows", "gone", "sub/rows")), ("--certify", "sub"), ("--ppm", "sub/x")):
+                with self.subTest((path, option, name)):
+                    said = self.run_audit(path, "--untrusted", option, f"site/{name}", status=2).stderr
+                    self.assertIn(f"'site/{name}' is a link in a folder of strangers, or lies behind one", said)
+        self.assertIn("'way/rows' is a link", self.run_audit("site", "--untrusted", "--jsonl", "way/rows", status=2).stderr)
+        self.assertEqual((kept.read_text(), os.listdir(secret), (self.folder / "made").exists()), ("", [], False))
+        # One that comes later is none either, and links of the operator's own are.
+        with unittest.mock.patch.object(arguments, "is_among", return_value=False), contextlib.redirect_stderr(io.StringIO()) as said:
+            self.assertEqual(running.main([str(self.site), "--untrusted", "--quiet", "--csv", str(self.site / "rows")]), 3)
+        self.assertIn("Too many levels of symbolic links", said.getvalue())
+        self.assertEqual(kept.read_text(), "")
+        for name in ("mine", "/dev/stdout"):
+            self.run_audit("site", "--untrusted", "--csv", name, status=0)
+        self.assertIn("site/one.ppm", kept.read_text())
+
     def test_over_a_scheduler_too(self):
         os.symlink("/dev/zero", self.site / "one.ppm")
         settings = running.settings_of(arguments.options_of([str(self.site), "--untrusted"]))

@@ -116,6 +116,18 @@ def _is_within(path: str, outer: str) -> bool:
     return path == outer or path.startswith(outer.rstrip("/") + "/")
 
 
+def is_among(name: str, paths: list[str], is_there: bool = True) -> bool:
+    """Whether a place lies in a folder of paths; or else, whether a link of that folder leads from its name to another place."""
+    for folder in (path if os.path.isdir(path) else os.path.dirname(path) or "." for path in paths):
+        place, real = _real(name), os.path.realpath(folder)
+        if _is_within(place, real):
+            if is_there or os.path.islink(place):
+                return True
+        elif not is_there and _is_within(os.path.abspath(name), os.path.abspath(folder)):
+            return True
+    return False
+
+
 def front_of(path: str) -> str:
     """What a folder is called in the names of certificates, where there are several: never `..`, nor `/`, which would lead elsewhere."""
     return (os.path.basename(os.path.realpath(path)) or "root") + "/"

@@ -84,7 +84,8 @@ def _opened(name: str, flags: int) -> BinaryIO:
 
 class Output:
     """Bytes on their way to a file, or to standard output, which is called `-`. What a file had is kept until something is written.
-    With flags, for one that nobody named and that then takes another's place, a link or a pipe that lies there is none.
+    With flags, for one that nobody named and that then takes another's place, or one among strangers, no link or pipe that lies there is
+    one.
     """
 
     def __init__(self, name: str, keeps: bool = False, flags: int = 0) -> None:
@@ -154,8 +155,8 @@ class Sink:
 class Lines(Sink):
     """Rows as lines of JSON. Rows of an earlier run stay where they are, until all are put in order in the end."""
 
-    def __init__(self, name: str, is_resumed: bool) -> None:
-        super().__init__(name, is_resumed)
+    def __init__(self, name: str, is_resumed: bool, flags: int = 0) -> None:
+        super().__init__(name, is_resumed, flags)
         self._name = name
         self._end = 0
         self._order = array("Q")
@@ -229,8 +230,8 @@ def _cut_torn_line(file: BinaryIO, name: str) -> int:
 class Sheet(Sink):
     """Rows for spreadsheets: CSV in UTF-8."""
 
-    def __init__(self, name: str) -> None:
-        super().__init__(name)
+    def __init__(self, name: str, flags: int = 0) -> None:
+        super().__init__(name, flags=flags)
         self._writer = csv.writer(self, lineterminator="\r\n")
         self._writer.writerow(COLUMNS)
 

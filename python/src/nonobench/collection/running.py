@@ -15,7 +15,7 @@ from .._library import version
 from . import certificates
 from .arguments import Options, options_of
 from .earlier import Earlier, content_before, read_row, to_check
-from .finding import Places, find, is_in_share, order_of
+from .finding import Places, find, is_among, is_in_share, order_of
 from .outputs import CLOSED, Failure, Lines, Sheet, Table, hold_streams, kept_folder, lines_of, telling
 from .progress import Progress
 from .rows import Row, printable, row_of, text_of
@@ -162,16 +162,20 @@ class Run:
         """Opens what is written, so that what cannot be is told before anything is done."""
         options = self._options
         if options.jsonl is not None:
-            self._lines = Lines(options.jsonl, options.is_resumed)
+            self._lines = Lines(options.jsonl, options.is_resumed, self._flags(options.jsonl))
             self._sinks.append(self._lines)
         if options.csv is not None:
-            self._sinks.append(Sheet(options.csv))
+            self._sinks.append(Sheet(options.csv, self._flags(options.csv)))
         if options.html is not None:
             from .report import Report
 
             self._sinks.append(Report(options.html, options.title, self._tally))
         if not self._sinks and not options.is_quiet:
             self._sinks.append(Table(self._progress.aside))
+
+    def _flags(self, name: str) -> int:
+        """What an output is opened with: among files of strangers it may have become a link by now."""
+        return os.O_NOFOLLOW if self._options.is_untrusted and name != "-" and is_among(name, self._options.paths) else 0
 
     def _count_files(self) -> None:
         """Counts the files beside the run, so that it can be told how long it takes."""
