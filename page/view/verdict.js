@@ -98,9 +98,13 @@ function differCount({ verdict, picture }) {
   return counted.count;
 }
 
+// Whether a picture is the only one with its clues because nothing is painted.
+const isBlank = ({ verdict, clues }) => verdict.word === 'unique' && clues.rows.every((blocks) => !blocks.length);
+
 // The verdict in a few words beside its title.
 function verdictShort(state) {
   const { word } = state.verdict;
+  if (isBlank(state)) return phrase('view.nothingPainted');
   if (word === 'ambiguous') return phrase('view.countDiffer', { cells: differCount(state) });
   if (word === 'unique') return state.open ? phrase('view.cellsNeedGuessing', { open: state.open, count: state.rows * state.columns }) : phrase('view.noGuessing');
   return '';
@@ -110,6 +114,7 @@ function verdictShort(state) {
 function verdictTexts(state) {
   const { verdict, givens, open } = state;
   const size = state.rows * state.columns;
+  if (isBlank(state)) return [`○ ${phrase('view.blank')}`, phrase('view.blankOneSolution')];
   if (verdict.word === 'unique') {
     const with_ = givens.size ? phrase('view.andGivenCells', { cells: givens.size }) : '';
     return [verdictTitle('unique'), phrase('view.noOtherPictureThese', { with: with_, open: open ? phrase('view.someNeedGuessing', { open, count: size }) : phrase('view.lineLogicSolvesWithout') })];
@@ -124,7 +129,7 @@ function showVerdict(state) {
   if (!state) return;
   const [title, told] = verdictTexts(state);
   const { word } = state.verdict;
-  $('audit').dataset.word = word;
+  $('audit').dataset.word = isBlank(state) ? '' : word;
   $('verdict').textContent = title;
   $('verdict-why').textContent = told;
   $('verdict-short').textContent = verdictShort(state);
