@@ -81,6 +81,18 @@ export function fillClue(element, name, blocks) {
   clueInto(element, name, blocks);
 }
 
+/** Keys in a field that an edge of the panels cuts move nothing: browsers would scroll it into sight, under the pointer. */
+export function keepStill() {
+  const panels = $('panels');
+  const stay = ({ target, key = '' }) => {
+    const { scrollTop } = panels;
+    const [field, room] = [target, panels].map((one) => one.getBoundingClientRect());
+    const isSeen = field.bottom > room.top && field.top < room.bottom;
+    if (isSeen && target.matches('[type=text], [type=number]') && !/^(Tab|Page)/.test(key)) requestAnimationFrame(() => { panels.scrollTop = scrollTop; });
+  };
+  for (const name of ['keydown', 'beforeinput']) panels.addEventListener(name, stay);
+}
+
 /** What is done to rows and columns, in words. */
 export const LINE_TEXTS = {
   row: { before: phrase('view.insertRowAbove'), after: phrase('view.insertRowBelow'), gone: phrase('view.deleteRow') },

@@ -170,18 +170,25 @@ export async function pictureStays({ trial, page }) {
     assert.equal(await isCut(page), false);
 }
 
-/** Strokes and what is said of them move no cell; clues that have no room are told, and a press there shows more. */
+const placeOfMenus = (page) => page.run(() => ['menus', 'quick'].map((id) => document.getElementById(id).getBoundingClientRect().left).join());
+
+/** Strokes, what is said of them, and whether a file has them move no cell and no menu; clues that have no room are told, and a press there shows more. */
 export async function stillPoint(hands) {
     const { page, trial } = hands;
     await hands.press('#new-go');
     await isOpen(page);
-    const before = await placeOfGrid(page);
+    const [before, menus] = [await placeOfGrid(page), await placeOfMenus(page)];
     for (const row of [2, 4, 6]) await hands.stroke([row, 3]);
     await page.run(() => bench.stroke(Array.from({ length: 10 }, (_, at) => `paint 8 ${2 * at + 1} a`)).then(() => true));
     await hands.tool('bucket');
     await hands.stroke([1, 1]);
     await isKept(page);
     assert.equal(await placeOfGrid(page), before, 'nothing moves');
+    assert.match(await trial.text('#title'), /not in a file/);
+    assert.equal(await placeOfMenus(page), menus, 'kept');
+    await page.press('Control+s');
+    await page.until(() => !/not in a file/.test(document.getElementById('title').textContent), 5000 * SLACK);
+    assert.equal(await placeOfMenus(page), menus, 'saved');
     assert.equal(await isCut(page), false, 'ten blocks stand whole');
     const side = await page.run(() => innerWidth) > 1500 ? 120 : 60; // a large window has room for all clues of 60 lines
     await trial.open(ppmOf(noise(side, side, '.abc')), 'long clues');

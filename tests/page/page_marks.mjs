@@ -130,13 +130,18 @@ export async function equalTiles({ page }) {
     assert.equal(new Set(heights).size, 1, heights.join());
 }
 
-/** A second new picture has a name of its own, each colour tells how many cells it has, and where undo ends is said. */
+/** A new picture is blank and not praised, a second has a name of its own, each colour tells how many cells it has, and where undo ends is said. */
 export async function smallPoint(hands) {
     const { page, trial } = hands;
+    const verdict = () => page.run(() => ['verdict', 'verdict-why', 'verdict-heard'].map((id) => document.getElementById(id).textContent));
     await hands.press('#new-go');
     await isOpen(page);
     assert.equal(await page.run(() => bench.name), 'picture');
+    assert.equal(await trial.judged(), 'unique');
+    assert.deepEqual(await verdict(), ['○ Blank', 'Nothing is painted yet. These clues have one solution, the blank picture.', 'Blank.']);
     await hands.stroke([1, 1], [1, 3]);
+    assert.equal(await trial.judged(), 'unique');
+    assert.equal((await verdict())[0], '✓ Unique');
     await page.until(() => document.querySelector('#palette [data-letter="a"]').dataset.cells === '3', 3000 * SLACK);
     assert.match(await page.run(() => document.querySelector('#palette [data-letter="."]').title), /: 297 cells \(key 0\)$/);
     await page.run(async () => { for (let at = 0; at < 400; at++) await bench.stroke([`paint 2 ${(at % 20) + 1} ${at % 40 < 20 ? 'a' : '.'}`]); });
@@ -150,15 +155,30 @@ export async function smallPoint(hands) {
     await page.until(() => bench.name === 'picture 2', 5000 * SLACK);
 }
 
-/** What is said lies over no button that was scrolled into view. An alarm goes once painting goes on; one with a button stays. */
+// The parts of the window that what is said lies over: what is in them is cut at their edges, or stands whole.
+const partsBelowSaid = (page) => page.run(() => {
+    const box = (one) => document.querySelector(one).getBoundingClientRect();
+    const said = box('#said');
+    return ['header', '#tools', '#stage', '#fix', ...(box('#panels').width ? ['#panels'] : ['#audit', '#colours'])].filter((one) => Math.min(box(one).bottom, said.bottom) - Math.max(box(one).top, said.top) > 0.5 && Math.min(box(one).right, said.right) > Math.max(box(one).left, said.left));
+});
+
+/**
+ * What is said lies over nothing that is used; a text that is longer than its room lies over no button that was scrolled into view. An
+ * alarm goes once painting goes on; one with a button stays.
+ */
 export async function messagesCoverNothing({ browser, url, folder }) {
+    const usual = 'The image is shown where the picture is empty. It is not part of the picture, and is not saved.';
     const text = 'a message that takes some lines, since it tells of everything that a file of this kind does not hold: names, signs, locks and texts';
-    for (const [name, size] of Object.entries(SIZES)) {
+    for (const [name, size] of Object.entries({ ...SIZES, tablet: { width: 768, height: 1024 }, lying: { width: 844, height: 390, touch: true } })) {
         const { page, trial } = await fresh(browser, url, folder, `said-${name}`, { size });
         await trial.open(ppmOf(['a.....', '.a....', '......', '...aaa', '...aaa', '...aaa']), 'said');
         await trial.judged();
         await page.run(() => { if (document.getElementById('verdict-open').checkVisibility()) document.getElementById('verdict-open').click(); runAction('fix'); });
         await page.until(() => document.querySelector('#fix-list button') && !searches.running, 30000 * SLACK);
+        for (const kind of ['', 'alarm']) {
+            await page.run((words, one) => { say(words, one); }, usual, kind);
+            assert.deepEqual(await partsBelowSaid(page), [], name);
+        }
         await page.run((words) => { say(words, 'alarm'); }, text);
         const covered = await page.run(() => [...document.querySelectorAll('header button, #work button, #work select')].filter((one) => one.checkVisibility({ visibilityProperty: true }) && !one.closest('#said')).filter((one) => {
             one.scrollIntoView({ block: 'nearest', inline: 'nearest' });
@@ -176,6 +196,34 @@ export async function messagesCoverNothing({ browser, url, folder }) {
         assert.match(await trial.text('#said'), / Do$/, `${name}: it wants an answer`);
         assert.deepEqual(page.faults, []);
         await page.close();
+    }
+}
+
+/** What is typed into a field of a colour moves nothing, also where the panel's edge cuts the field. */
+export async function typingPoint(hands) {
+    const { page } = hands;
+    await hands.press('#new-go');
+    await isOpen(page);
+    if (await page.run(() => document.getElementById('colours-open').checkVisibility())) await hands.press('#colours-open');
+    const spot = (id) => page.run((one) => new Promise((go) => requestAnimationFrame(() => requestAnimationFrame(() => {
+        const { left, top } = document.getElementById(one).getBoundingClientRect();
+        go([left, top]);
+    }))), id);
+    for (const id of ['colour-named', 'ink-name', 'ink-sign']) {
+        if (hands.byKeys) await hands.tabTo(`#${id}`);
+        await page.run((one) => { // in the middle, where the panel is that long
+            const { top, height } = document.getElementById(one).getBoundingClientRect();
+            document.getElementById('panels').scrollTop += top + height / 2 - document.getElementById('panels').getBoundingClientRect().bottom;
+        }, id);
+        const before = await spot(id);
+        const within = before.map((one) => one + 5);
+        if (hands.input === 'mouse') await page.drag([within]);
+        else if (hands.input === 'touch') await page.touch([within]);
+        await page.until((one) => document.activeElement.id === one, 3000 * SLACK, id);
+        for (const key of ['r', 'e', 'ArrowLeft', 'Backspace', 'Delete']) {
+            await page.press(key);
+            assert.deepEqual(await spot(id), before, `${id}: ${key}`);
+        }
     }
 }
 

@@ -12,7 +12,7 @@ import { printPoint } from './page_out.mjs';
 import { alikePoint, comingPoint, contactsPoint, pickingPoint, spritesPoint, tablePoint } from './page_pictures.mjs';
 import { outlinePoint, pensPoint, tracingPoint, wandPoint } from './page_pens.mjs';
 import { stillPoint } from './page_lasting.mjs';
-import { smallPoint } from './page_marks.mjs';
+import { smallPoint, typingPoint } from './page_marks.mjs';
 import { limitsPoint, placesPoint } from './page_repairs.mjs';
 import { linkPoint, offlinePoint, playerPoint, severalPoint } from './page_sharing.mjs';
 import { SIZES, SLACK, noise, ppmOf } from './page_trial.mjs';
@@ -252,7 +252,7 @@ async function wayOut(hands, { own }) {
 const POINTS = {
     'a way in': wayIn, 'a picture into a puzzle': intoPuzzle, 'palette while choosing': choosingPoint, 'verdict while sliding': slidingPoint, 'palette files': palettesPoint,
     'colours told apart': alikePoint, 'a colour of the image': pickingPoint, 'contact sheet': contactsPoint, 'what comes in': comingPoint, sprites: spritesPoint, 'table of files': tablePoint,
-    'small things': smallPoint, 'never lost': neverLost, 'a still canvas': stillPoint, 'searches that stop': stoppable, drawing, 'symmetric pens': pensPoint, 'wand and recolour': wandPoint, 'outline, shadow, nudging': outlinePoint,
+    'small things': smallPoint, 'typing moves nothing': typingPoint, 'never lost': neverLost, 'a still canvas': stillPoint, 'searches that stop': stoppable, drawing, 'symmetric pens': pensPoint, 'wand and recolour': wandPoint, 'outline, shadow, nudging': outlinePoint,
     'tracing an image': tracingPoint, 'large pictures': large, meaning, 'colour-blind check': visionPoint, 'the first example': firstPoint, mending: mendingPoint, 'a grade aimed for': aimPoint, 'place by place': placesPoint, 'what a repair may change': limitsPoint,
     'the solving path': walkingPoint, 'out of the page': wayOut, 'print for books': printPoint, links: linkPoint, 'the player': playerPoint, 'several files': severalPoint,
     offline: offlinePoint, German: germanPoint, French: frenchPoint, 'right to left': mirroredPoint,
