@@ -13,7 +13,7 @@ import { bench } from '../engine/bench.js';
 import { LINE_WORDS } from '../repair/aiming.js';
 import { phrase } from '../texts/phrase.js';
 import { boardOf, limitChoices, showLocks } from './locking.js';
-import { placeText, proposalItem } from './proposals.js';
+import { listProposals, placeText } from './proposals.js';
 import { bySize, ideas, keyOf, mirrorOf, seenOf, sizeOf } from './ranking.js';
 import { setDown } from './select.js';
 import { searches, secondsChosen, verdictView } from './verdict.js';
@@ -121,10 +121,14 @@ async function giveCells() {
   await takeGivens(run.state, run.done);
 }
 
-async function takeGivens(state, { given, isLeast }) {
+// One stroke of commands; says whether it was made: none is once another picture has come than the one that they are for.
+async function isMade(state, lines) {
   setDown();
-  await bench.stroke(given.map((index) => `pin ${placeOf(state, index)}`));
-  sayTaken(state, phrase('view.cellsGivenOneUndo', { cells: given.length, isLeast: isLeast ? phrase('view.noFewerDo') : '' }));
+  return (await bench.stroke((doc) => (sameBenchPart(state, doc) ? lines : []))).length > 0;
+}
+
+async function takeGivens(state, { given, isLeast }) {
+  if (await isMade(state, given.map((index) => `pin ${placeOf(state, index)}`))) sayTaken(state, phrase('view.cellsGivenOneUndo', { cells: given.length, isLeast: isLeast ? phrase('view.noFewerDo') : '' }));
 }
 
 // Lists proposals, while they are found: the smallest and least seen first.
@@ -235,18 +239,19 @@ function foundText(done) {
 // ---- the list
 
 function showFound() {
+  cancelAnimationFrame(fixing.frame);
   fixing.frame = 0;
   if (!$('fix-list')) return;
   showPlaces();
   if (!isOfThis()) {
     preview(null);
-    $('fix-list').replaceChildren();
+    listProposals($('fix-list'), [], HEARS);
     fixSays('');
     return;
   }
   if (![null, fixing.near, ...fixing.found].includes(fixing.shown)) preview(null);
-  const hears = { take, keep, preview, isKept: (one) => fixing.kept.has(one) };
-  $('fix-list').replaceChildren(...groups().map(({ title, items }) => make('section', {}, title && make('h3', {}, title), make('ul', {}, ...items.map((one) => proposalItem(one, hears))))));
+  if ($('fix-list').matches(':active')) fixing.frame = requestAnimationFrame(showFound); // a press ends where it began
+  else listProposals($('fix-list'), groups(), HEARS);
 }
 
 // The places where line solving stalls are marked in the picture, while they are those of the picture.
@@ -290,13 +295,14 @@ const sayTaken = (before, text) => { fixing.taken = { before, unsay: say(text) }
 async function take(one) {
   preview(null);
   if (!one.cells) return takeGivens(one.state, one);
-  setDown();
   const { state, cells, given = [] } = one;
   const paints = cells.map(({ index, colour }) => `paint ${placeOf(state, index)} ${LETTERS[colour]}`);
-  await bench.stroke([...paints, ...given.map((index) => `pin ${placeOf(state, index)}`)]);
+  if (!(await isMade(state, [...paints, ...given.map((index) => `pin ${placeOf(state, index)}`)]))) return;
   const more = given.length ? phrase('view.andGiven', { count: given.length }) : '';
   sayTaken(state, phrase('view.cellsRepaintedOneUndo', { cells: cells.length, more, count: sizeOf(one) }));
 }
+
+const HEARS = { take, keep, preview, isKept: (one) => fixing.kept.has(one) };
 
 /** Shows the proposals with the picture that they are for; while they are shown, another picture gets its own once the hand rests. */
 export function startFixing() {

@@ -1,4 +1,4 @@
-// Proposals as they are shown: the part of the picture that changes, as it will be, large enough to be seen; what takes or keeps one.
+// Proposals as they are shown: the part of the picture that changes, as it will be, large enough to be seen; what takes or keeps one; their list.
 
 import { make } from '../base/elements.js';
 import { gradeName } from '../base/names.js';
@@ -19,6 +19,7 @@ const AROUND = 3; // cells that are shown around those that change
 const LEAST = 9; // cells of a picture's side
 const APART = 8; // rows or columns from which on two changes are seen in pictures of their own
 const MOST_PARTS = 4; // such pictures, in the room of one
+const AIMED = 250; // milliseconds for which a press is still meant for what was there before
 
 const letterAt = ({ picture, columns }, index) => picture[Math.floor(index / columns)][index % columns];
 
@@ -127,12 +128,34 @@ function shortOf({ cells, given, goal, far, open }) {
   return goal === 'unique' && open ? `${counts}, ${phrase('view.guessShort', { cells: open })}` : counts;
 }
 
-/** A proposal as an item of a list: `hears` has `take`, `keep`, `preview`, `isKept`. One that comes to lie under a pointer waits until that moves. */
-export function proposalItem(one, { take, keep, preview, isKept }) {
+const since = new WeakMap(); // of items: when they came to where another was
+
+// A proposal as an item of a list. One that comes to lie under a pointer is shown once that moves, and taken once a hand can have aimed at it.
+function proposalItem(one, { take, keep, preview, isKept }) {
   const show = () => preview(one);
+  const press = ({ detail, target }) => { if (!detail || performance.now() - (since.get(target.closest('li')) ?? 0) > AIMED) take(one); };
   const hide = () => preview(null);
   const text = textOf(one);
-  const button = make('button', { type: 'button', 'aria-label': text, title: text, onclick: () => take(one), onpointermove: show, onfocus: show, onpointerleave: hide, onblur: hide }, make('span', { class: 'parts' }, ...picturesOf(one)), make('span', {}, shortOf(one)));
+  const button = make('button', { type: 'button', 'aria-label': text, title: text, onclick: press, onpointermove: show, onfocus: show, onpointerleave: hide, onblur: hide }, make('span', { class: 'parts' }, ...picturesOf(one)), make('span', {}, shortOf(one)));
   const box = make('input', { type: 'checkbox', checked: isKept(one), 'aria-label': phrase('view.keepNextSearch'), onchange: (event) => keep(one, event.target.checked) });
   return make('li', {}, button, make('label', { title: phrase('view.keepNextSearch') }, box, phrase('view.keep')));
+}
+
+const items = new WeakMap(); // of proposals
+const placeOf = (item) => { const { left, top } = item.getBoundingClientRect(); return `${left} ${top}`; };
+
+/** Lists groups of proposals, where they are others than those that are listed: `hears` has `take`, `keep`, `preview`, `isKept`. */
+export function listProposals(list, groups, hears) {
+  const itemOf = (one) => items.get(one) ?? items.set(one, proposalItem(one, hears)).get(one);
+  const sections = groups.map(({ title, items: ones }) => [title, ...ones.map(itemOf)]);
+  const before = [...list.querySelectorAll('li')];
+  const now = sections.flatMap(([, ...ones]) => ones);
+  const titles = sections.map(([title]) => title).join();
+  if (list.dataset.titles === titles && now.length === before.length && now.every((item, at) => item === before[at])) return;
+  const owners = new Map(before.map((item) => [placeOf(item), item]));
+  const { activeElement } = document;
+  list.dataset.titles = titles;
+  list.replaceChildren(...sections.map(([title, ...ones]) => make('section', {}, title && make('h3', {}, title), make('ul', {}, ...ones))));
+  if (list.contains(activeElement)) /** @type {HTMLElement} */ (activeElement).focus({ preventScroll: true });
+  for (const item of now) if ((owners.get(placeOf(item)) ?? item) !== item) since.set(item, performance.now());
 }

@@ -108,6 +108,7 @@ export async function fixing({ trial, page }) {
     await page.click('#fix-paint');
     await page.until(() => document.querySelectorAll('#fix-list button').length > 0, 10000 * SLACK);
     await page.until(() => !searches.running, 30000 * SLACK);
+    await pause(300); // a press before that may be meant for what was listed before
     await page.click('#fix-list button');
     await trial.settled();
     assert.equal(await trial.judged(), 'unique', 'a repaint from the list makes it unique');

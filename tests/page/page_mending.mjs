@@ -1,5 +1,6 @@
 // Trials of the ways from a picture to a puzzle: repairs of several cells, the grade beside the verdict, the solving path, hints.
 import assert from 'node:assert/strict';
+import { pause } from './page_browser.mjs';
 import { fresh } from './page_hands.mjs';
 import { SIZES, SLACK, ppmOf } from './page_trial.mjs';
 
@@ -11,6 +12,7 @@ const moreOf = async (hands) => { if (await isNarrow(hands.page) && !(await isMo
 const listed = async (page) => {
     await page.until(() => document.querySelectorAll('#fix-list button').length > 0, 20000 * SLACK);
     await page.until(() => !searches.running, 30000 * SLACK);
+    await pause(300); // a press before that may be meant for what was listed before
 };
 const said = (page, wanted) => page.until((text) => new RegExp(text).test(document.getElementById('play-said').textContent), 20000 * SLACK, wanted);
 const differing = (one, two) => [...one.join('')].filter((letter, at) => letter !== two.join('')[at]).length;

@@ -2,6 +2,7 @@
 // where it stands whole; of the path through a large picture; and of two fingers in Play.
 import assert from 'node:assert/strict';
 import { readFileSync } from 'node:fs';
+import { pause } from './page_browser.mjs';
 import { drop, examples, fresh, isOpen } from './page_hands.mjs';
 import { SIZES, SLACK, Trial, ppmOf } from './page_trial.mjs';
 
@@ -25,6 +26,7 @@ const more = async (hands, is) => { if (await isNarrow(hands.page) && await isMo
 const listed = async (page) => {
     await page.until(() => document.querySelectorAll('#fix-list button').length > 0, 20000 * SLACK);
     await page.until(() => !searches.running, 30000 * SLACK);
+    await pause(300); // a press before that may be meant for what was listed before
 };
 const proposals = (page) => page.run(() => [...document.querySelectorAll('#fix-list button')].map((button) => button.ariaLabel));
 const fixSaid = (page, wanted) => page.until((text) => new RegExp(text).test(document.getElementById('fix-said').textContent), 30000 * SLACK, wanted);
@@ -112,7 +114,7 @@ const APART = [...PAIR.slice(0, 2).map((row) => `${row}....`), ...Array(4).fill(
 /** Places that have nothing to do with one another are marked, listed and mended one by one, or all at once. */
 export async function placesPoint(hands) {
     const { page, trial } = hands;
-    const places = (count) => page.until((wanted) => sheet.places.length === wanted && !searches.running, 30000 * SLACK, count);
+    const places = (count) => page.until((wanted) => sheet.places.length === wanted && !searches.running, 30000 * SLACK, count).then(() => listed(page));
     const press = async (group) => {
         await page.run((at) => { for (const one of document.querySelectorAll('[data-chosen]')) delete one.dataset.chosen; document.querySelectorAll('#fix-list section')[at].querySelector('button').dataset.chosen = 1; }, group);
         const before = (await trial.picture()).join();
@@ -138,6 +140,36 @@ export async function placesPoint(hands) {
     await places(2);
     await press(0);
     assert.equal(await trial.judged(), 'unique', 'both at once');
+}
+
+/** A press takes what it is meant for: none that has just come to where another was, and none of a picture that has changed since. */
+export async function pressesAreMeant({ trial, page }) {
+    await page.run(() => setSeconds('30'));
+    await trial.open(ppmOf(APART), 'apart');
+    assert.equal(await trial.judged(), 'ambiguous');
+    await trial.action('fix');
+    const pressed = await page.run((most) => new Promise((go) => {
+        let before = new Map();
+        const hears = new MutationObserver(() => {
+            const buttons = [...document.querySelectorAll('#fix-list button')].map((one) => [JSON.stringify(one.getBoundingClientRect()), one]);
+            const other = buttons.find(([place, { ariaLabel }]) => before.has(place) && before.get(place) !== ariaLabel);
+            before = new Map(buttons.map(([place, { ariaLabel }]) => [place, ariaLabel]));
+            if (!other) return;
+            hears.disconnect();
+            other[1].dispatchEvent(new MouseEvent('click', { detail: 1, bubbles: true }));
+            go(other[1].ariaLabel);
+        });
+        hears.observe(document.getElementById('fix-list'), { childList: true, subtree: true });
+        setTimeout(() => go(''), most);
+    }), 20000 * SLACK);
+    assert.ok(pressed, 'a proposal comes to where another was');
+    await listed(page);
+    assert.deepEqual(await trial.picture(), APART, 'it is not taken');
+    const isThere = await page.run(() => { const [one] = document.querySelectorAll('#fix-list button'); return new Promise((go) => { setTimeout(() => go(one.isConnected), 200); }); });
+    assert.ok(isThere, 'what was found is drawn once');
+    await page.run(() => { for (const section of [...document.querySelectorAll('#fix-list section')].slice(1, 3)) section.querySelector('button').click(); });
+    await trial.settled();
+    assert.equal((await trial.state()).strokes[0], 1, 'the second was for the picture before the first');
 }
 
 /** Where repaints alone do not reach the goal, what comes nearer is listed, and what few given cells end; one undo takes both back. */
