@@ -64,6 +64,10 @@ export function eightBitDoc(doc) {
   return { ...docOf(doc), maxval: 255, colours: doc.maxval === 255 ? doc.colours : doc.colours.map((triple) => eightBits(triple, doc.maxval)) };
 }
 
+/** Whether a document has locked cells or colours, and the document without: they are the state of work on it, not of the puzzle. */
+export const isLocked = ({ locks, inks }) => locks.size > 0 || inks.some((ink) => ink?.locked);
+export const unlocked = (doc) => ({ ...doc, locks: NONE, inks: doc.inks.map(({ locked: _, ...ink }) => ink) });
+
 /** A document as a plain value, which any shelf keeps. */
 export const packedDoc = (doc) => ({ ...docOf(doc), givens: [...doc.givens], locks: [...(doc.locks ?? [])] });
 

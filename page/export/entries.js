@@ -2,12 +2,12 @@
 
 import { gradeName } from '../base/names.js';
 import { sizeText } from '../base/words.js';
-import { lightness, plainHexOf } from '../document/colours.js';
+import { plainHexOf } from '../document/colours.js';
 import { eightBitDoc } from '../document/document.js';
 import { LETTERS } from '../document/limits.js';
+import { namesOf } from '../document/names.js';
 import { hasOneInk, signsOf } from '../draw/papers.js';
 import { phrase } from '../texts/phrase.js';
-import { inkName } from '../view/dress.js';
 
 /** The texts of sheets themselves. */
 export const SHEET_TEXTS = {
@@ -15,24 +15,6 @@ export const SHEET_TEXTS = {
   solution: (title) => phrase('export.solution', { title }),
   foot: (at, count) => `${at} / ${count}`,
 };
-
-// What tells colours of one name apart, the lightest first.
-function toldApart(name, at, count) {
-  if (count === 1) return name;
-  if (count > 2) return `${name} ${at + 1}`;
-  return at ? phrase('export.darker', { name }) : phrase('export.lighter', { name });
-}
-
-/** The names of a document's colours, each another one. */
-export function namesOf(doc) {
-  const { colours } = eightBitDoc(doc);
-  const usual = colours.map((_, at) => inkName(doc, LETTERS[at]));
-  const named = usual.map((name, at) => {
-    const alike = [...usual.keys()].filter((one) => usual[one] === name).sort((one, other) => lightness(colours[other]) - lightness(colours[one]) || one - other);
-    return toldApart(name, alike.indexOf(at), alike.length);
-  });
-  return named.map((name, at) => (named.indexOf(name) === at ? name : `${name} (${LETTERS[at]})`));
-}
 
 /** The colours that are drawn, with what stands for them, and the background where it is not white. */
 export function legendOf(doc, show) {

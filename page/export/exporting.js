@@ -3,8 +3,8 @@
 
 import { $, make, say } from '../base/elements.js';
 import { GRADE_MARK } from '../base/names.js';
-import { bareName, clamp, opening } from '../base/words.js';
-import { docOf, eightBitDoc, sameDoc } from '../document/document.js';
+import { bareName, clamp, cleanName } from '../base/words.js';
+import { docOf, eightBitDoc, sameDoc, unlocked } from '../document/document.js';
 import { canvasPaper } from '../draw/papers.js';
 import { drawSmall } from '../draw/small.js';
 import { bench } from '../engine/bench.js';
@@ -14,7 +14,7 @@ import { writeZip } from '../formats/zip.js';
 import { keep } from '../library/keep.js';
 import { exportAs, saveDownload, saving, showFileName } from '../library/saving.js';
 import { phrase } from '../texts/phrase.js';
-import { addAction, runAction } from '../view/actions.js';
+import { actionButton, actions, addAction } from '../view/actions.js';
 import { openDialog } from '../view/dialogs.js';
 import { nearText, unfitText } from '../view/dress.js';
 import { gradeAtHand, gradeLine } from '../view/grading.js';
@@ -22,6 +22,7 @@ import { asSeen, heard } from '../view/tools.js';
 import { certificateText, secondsChosen } from '../view/verdict.js';
 import { exportPath } from './animation.js';
 import { WARNINGS, atHand, startPrinting } from './printing.js';
+import { startSharing } from './sharing.js';
 
 const MOST_SECONDS = 30; // for what the engine says of a puzzle
 const PNG_SIDE = 1600; // pixels that the longer side of a PNG comes near to
@@ -52,7 +53,7 @@ async function exportEmpty() {
 
 async function exportText(form) {
   await asSeen();
-  await saveDownload(form, warningText());
+  await saveDownload(form, { more: warningText(), forOthers: true });
 }
 
 // The document that is open, and its certificate; null where there is none of that document.
@@ -83,7 +84,7 @@ async function exportForSite() {
   const { doc, text } = found;
   const ground = doc.colours[0].join(',');
   const said = await saidByEngine(doc);
-  const parts = { ppm: ppmTextOf(doc), cert: text, txt: said.text, givens: (text.match(/^given .*\n/gm) ?? []).join(''), background: ground === '255,255,255' ? '' : `${ground}\n` };
+  const parts = { ppm: ppmTextOf(unlocked(doc)), cert: text, txt: said.text, givens: (text.match(/^given .*\n/gm) ?? []).join(''), background: ground === '255,255,255' ? '' : `${ground}\n` };
   const files = Object.entries(parts).filter(([, part]) => part).map(([ending, part]) => ({ name: `${bench.name}.${ending}`, bytes: new TextEncoder().encode(part) }));
   exportAs('zip', writeZip(files), '-site', said.text && !said.fit ? phrase('export.savedUnfit', { why: unfitText(doc, said) }) : '');
 }
@@ -94,13 +95,17 @@ const LONG_FIELDS = ['description', 'note'];
 // A description with the grade as its last line, in place of an earlier one.
 const withGrade = (text) => [...text.split('\n').filter((line) => line && !line.startsWith(GRADE_MARK)), GRADE_MARK + gradeLine()].join('\n');
 
-/** Asks for the texts about the puzzle, which go into its files and on the printed sheet, and for the name of the file. */
+/** Asks for the texts about the puzzle, which go into its files and on the printed sheet, and for its name: the title, unless the user chose another one. */
 async function askAbout() {
   const { term, state: { about } } = bench;
   const field = (name) => (LONG_FIELDS.includes(name) ? make('textarea', { rows: 3, maxlength: '5000' }, about[name] ?? '') : make('input', { type: 'text', value: about[name] ?? '', maxlength: '500' }));
   const fields = Object.keys(ABOUT_FIELDS).map((name) => [name, field(name)]);
   const file = make('input', { type: 'text', value: bench.name, maxlength: '80' });
   const description = fields.find(([name]) => name === 'description')[1];
+  const title = fields[0][1];
+  let isOwn = keep.isNamed;
+  file.addEventListener('input', () => { isOwn = true; });
+  title.addEventListener('input', () => { if (!isOwn) file.value = title.value.trim() ? cleanName(title.value) : bench.name; });
   const addGrade = () => { description.value = withGrade(description.value); };
   const content = make('div', { class: 'rows' }, ...fields.map(([name, input]) => make('label', {}, ABOUT_FIELDS[name], input)), make('label', {}, phrase('export.nameFile'), file));
   if (gradeAtHand()) content.append(make('button', { type: 'button', id: 'about-grade', onclick: addGrade }, phrase('export.putGradeIntoDescription')));
@@ -112,30 +117,33 @@ async function askAbout() {
   const texts = Object.fromEntries(fields.map(([name, input]) => [name, input.value.trim()]).filter(([, text]) => text));
   const without = (doc) => Object.fromEntries(Object.entries(doc.about).filter(([name]) => !(name in ABOUT_FIELDS)));
   await heard(bench.become((doc) => ({ ...doc, about: { ...without(doc), ...texts } })));
-  if (bareName(file.value) !== bench.name) saving.handle = null;
-  bench.name = bareName(file.value);
+  const name = isOwn ? bareName(file.value) : cleanName(file.value);
+  if (name !== bench.name) saving.handle = null;
+  bench.name = name;
+  keep.isNamed = isOwn;
   keep.now();
   showFileName();
 }
 
-/** What the menu File exports and prints. */
+/** What the menu File exports: first for whom it is, then as what. */
 export function startExporting() {
-  addAction({ id: 'about', name: phrase('export.titleAuthor'), place: 'file', group: 'save', run: askAbout });
-  addAction({ id: 'export-xml', name: phrase('export.exportXmlWebPaint'), place: 'file', group: 'export', run: () => exportText('xml') });
-  addAction({ id: 'export-picture', name: phrase('export.exportPicturePng'), place: 'file', group: 'export', run: () => exportPicture(pngCell(bench.state)) });
-  addAction({ id: 'export-cells', name: phrase('export.exportPngPixelCell'), place: 'file', group: 'export', run: () => exportPicture(1) });
-  addAction({ id: 'export-empty', name: phrase('export.exportEmptyPuzzlePng'), place: 'file', group: 'export', run: exportEmpty });
-  addAction({ id: 'export-ppm', name: phrase('export.exportPlainPpm'), place: 'file', group: 'export', run: () => exportText('ppm') });
-  addAction({ id: 'export-non', name: phrase('export.exportNonTwoColours'), place: 'file', group: 'export', can: () => bench.state.colours.length <= 2 || !/[b-o]/.test(bench.state.picture.join('')), run: () => exportText('non') });
-  addAction({ id: 'export-path', name: phrase('export.exportPath'), place: 'file', group: 'export', run: exportPath });
-  addAction({ id: 'certificate', name: phrase('export.exportCertificate'), place: 'file', group: 'export', run: exportCertificate });
-  addAction({ id: 'export-site', name: phrase('export.exportForSite'), place: 'file', group: 'export', run: exportForSite });
+  const add = (id, name, run, more = {}) => addAction({ id, name, place: 'file', group: 'export', run, ...more });
+  add('about', phrase('export.titleAuthor'), askAbout, { group: 'save' });
+  add('export-xml', phrase('export.webpbnXml'), () => exportText('xml'));
+  add('export-site', phrase('export.siteZip'), exportForSite);
   startPrinting();
+  startSharing();
+  add('export-empty', phrase('export.puzzlePng'), exportEmpty);
+  add('export-picture', phrase('export.picturePng'), () => exportPicture(pngCell(bench.state)));
+  add('export-cells', phrase('export.pngPixelCell'), () => exportPicture(1));
+  add('export-path', phrase('export.pathGif'), exportPath);
+  add('certificate', phrase('library.certificate'), exportCertificate);
+  add('export-ppm', phrase('export.plainPpm'), () => exportText('ppm'));
+  add('export-non', phrase('export.nonTwoColours'), () => exportText('non'), { can: () => bench.state.colours.length <= 2 || !/[b-o]/.test(bench.state.picture.join('')) });
 }
 
-/** The panel that saves and exports. */
+/** The panel that saves and exports, by what the menu does. */
 export function showExportPanel() {
-  const button = (id, name) => make('button', { type: 'button', 'data-action': id, onclick: (event) => runAction(id, event) }, name);
-  $('out').replaceChildren(make('h2', {}, phrase('export.saveExport')), make('p', { class: 'group' },
-    button('save', phrase('library.save')), button('export-xml', 'XML'), button('export-empty', phrase('export.puzzlePng')), button('export-picture', phrase('export.picturePng')), button('print', opening(phrase('export.print'))), button('certificate', phrase('library.certificate'))));
+  const buttons = ['save', 'export-xml', 'export-site', 'print', 'share', 'export-empty', 'export-picture', 'certificate'].map((id) => actionButton(actions.get(id)));
+  $('out').replaceChildren(make('h2', {}, phrase('export.saveExport')), make('p', { class: 'group' }, ...buttons));
 }

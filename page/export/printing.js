@@ -56,8 +56,8 @@ function fillPrint(sheets) {
   }));
 }
 
-function saveSvg(sheets) {
-  if (sheets.length === 1) return exportAs('svg', sheets[0].svg, '-print');
+function saveSvg(sheets, isZip) {
+  if (!isZip) return exportAs('svg', sheets[0].svg, '-print');
   const files = sheets.map(({ svg }, at) => ({ name: `${bench.name} ${String(at + 1).padStart(2, '0')}.svg`, bytes: new TextEncoder().encode(svg) }));
   download(writeZip(files), `${bench.name}-print.zip`, SAVE_TYPES.zip.type);
   return say(phrase('export.sheetsSavedPrintZip', { sheets: files.length, name: bench.name }));
@@ -128,13 +128,17 @@ async function printPuzzle() {
   const others = libraryPart(await otherCards());
   const small = make('p', { class: 'faint', id: 'print-small', role: 'status' });
   const content = make('div', { class: 'rows' }, ...rows, others.part, ...warningsOf(own, near), small);
+  const svgName = make('span');
+  const isZip = (sheets) => sheets.length > 1 || others.chosen().length > 0;
   const showSmall = () => {
     const options = readFields(fields);
-    small.textContent = smallOn(sheetsFor([own], options), [own], options);
+    const sheets = sheetsFor([own], options);
+    small.textContent = smallOn(sheets, [own], options);
+    svgName.textContent = isZip(sheets) ? phrase('export.saveSvgs') : phrase('export.saveSvg');
   };
   content.addEventListener('change', showSmall);
   showSmall();
-  const way = await openDialog({ title: phrase('export.print'), content, wide: true, buttons: [{ name: phrase('export.saveSvg'), value: 'svg' }, { name: opening(phrase('export.print')), value: 'print', main: true }] });
+  const way = await openDialog({ title: phrase('export.print'), content, wide: true, buttons: [{ name: svgName, value: 'svg' }, { name: opening(phrase('export.print')), value: 'print', main: true }] });
   if (!way) return;
   Object.assign(chosen, readFields(fields));
   const title = fields.title.value.trim();
@@ -152,14 +156,14 @@ async function printPuzzle() {
   const sheets = sheetsFor(puzzles, chosen);
   const isSmall = smallOn(sheets, puzzles, chosen);
   if (isSmall) say(isSmall, 'alarm');
-  if (way === 'svg') return saveSvg(sheets);
+  if (way === 'svg') return saveSvg(sheets, isZip(sheets));
   fillPrint(sheets);
   globalThis.print();
 }
 
 /** Adds print to the menu File. */
 export function startPrinting() {
-  addAction({ id: 'print', name: opening(phrase('export.print')), key: 'Ctrl+P', place: 'file', group: 'print', run: printPuzzle });
+  addAction({ id: 'print', name: opening(phrase('export.print')), key: 'Ctrl+P', place: 'file', group: 'export', run: printPuzzle });
   // What is opened by the browser's own print, without the dialog, is a sheet too.
   addEventListener('beforeprint', () => {
     if (bench.state && !$('print').children.length) fillPrint(sheetsFor([atHand()], { ...chosen, show: nearText(bench.state) && chosen.show === 'colours' ? 'letters' : chosen.show }));

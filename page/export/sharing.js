@@ -1,7 +1,7 @@
 // Links: the puzzle at hand in an address, to be solved or to be changed. Nothing is sent anywhere.
 
 import { choiceOf, make, say } from '../base/elements.js';
-import { docOf } from '../document/document.js';
+import { docOf, unlocked } from '../document/document.js';
 import { bench } from '../engine/bench.js';
 import { fragmentOf } from '../formats/link.js';
 import { phrase } from '../texts/phrase.js';
@@ -48,7 +48,7 @@ async function share() {
   await asSeen();
   const doc = docOf(bench.state);
   const title = doc.about.title || bench.name;
-  const fragments = { [PLAY]: await fragmentOf(doc, PLAY), [EDIT]: await fragmentOf(doc, EDIT) };
+  const fragments = { [PLAY]: await fragmentOf(unlocked(doc), PLAY), [EDIT]: await fragmentOf(doc, EDIT) };
   const kind = choiceOf({ id: 'share-kind' }, Object.entries(KINDS));
   const address = make('input', { type: 'url', id: 'share-address', value: ownAddress(), placeholder: 'https://example.org/nonobench.html' });
   const field = make('textarea', { id: 'share-link', readonly: true, rows: 4, cols: 60 });

@@ -1,46 +1,35 @@
 // Web Paint-by-Number's XML puzzle sets, written: all that a document has, its colours by their names and signs.
 // The format is Wolter's, https://webpbn.com/pbn_fmt.html; givens and locked cells stand as saved solutions, `?` elsewhere.
 
-import { nameOf, plainHexOf } from '../document/colours.js';
+import { plainHexOf } from '../document/colours.js';
 import { eightBitDoc } from '../document/document.js';
 import { LETTERS } from '../document/limits.js';
+import { XML_WHOLE, namesOf } from '../document/names.js';
 import { readWebpbnImage } from './webpbn_image.js';
 import { xmlText } from './xml.js';
 
 export const WEBPBN_GIVENS = 'givens';
 export const WEBPBN_LOCKS = 'locks';
 export const LOCKED_COLOURS = 'locked colours: ';
+const SIGNS = { ffffff: '.', '000000': 'X' }; // as the format has them from the start
 const NO_SIGNS = '?|\\[]'; // what means something else in an image
 const MORE_SIGNS = '#%*+=o@&$~^:;!0123456789ABCDEFGHIJKLMNOPQRSTUVWXYZpqrstuvwxyz';
 
-// What a colour is called where it has no name or sign of its own. White is `.` and black is `X`, as the format has them from the start.
-function usualInk(hex, triple, at) {
-  if (hex === 'ffffff') return { name: 'white', sign: '.' };
-  if (hex === '000000') return { name: 'black', sign: 'X' };
-  return at === 0 ? { name: 'background', sign: '-' } : { name: nameOf(triple, 255), sign: LETTERS[at] };
-}
-
-/** The colours of a document with 8-bit triples as {hex, name, sign}: its own names and signs, else usual ones; no two are the same. */
-export function inksOf({ colours, inks = [] }) {
-  const names = new Set(inks.map((ink) => ink?.name).filter(Boolean));
+/** The colours of a document with 8-bit triples as {hex, name, sign}: its own signs, else usual ones; no two are the same. */
+export function inksOf(doc) {
+  const { colours, inks = [] } = doc;
+  const names = namesOf(doc, XML_WHOLE);
   const signs = new Set(inks.map((ink) => ink?.sign).filter((sign) => sign && !NO_SIGNS.includes(sign)));
   const given = new Set();
   return colours.map((triple, at) => {
     const hex = plainHexOf(triple);
-    const usual = usualInk(hex, triple, at);
-    const own = inks[at] ?? {};
-    let name = own.name && !given.has(own.name) ? own.name : '';
-    for (let count = 1; !name; count++) {
-      const tried = count === 1 ? usual.name : `${usual.name} ${count}`;
-      if (!names.has(tried)) name = tried;
-    }
-    names.add(name);
-    given.add(name);
-    const isOwn = own.sign && !NO_SIGNS.includes(own.sign) && !given.has(`sign ${own.sign}`);
-    const sign = isOwn ? own.sign : [usual.sign, LETTERS[at], ...MORE_SIGNS].find((one) => !signs.has(one));
+    const own = inks[at]?.sign;
+    const isOwn = own && !NO_SIGNS.includes(own) && !given.has(own);
+    const usual = SIGNS[hex] ?? (at === 0 ? '-' : LETTERS[at]);
+    const sign = isOwn ? own : [usual, LETTERS[at], ...MORE_SIGNS].find((one) => !signs.has(one));
     signs.add(sign);
-    given.add(`sign ${sign}`);
-    return { hex, name, sign };
+    given.add(sign);
+    return { hex, name: names[at], sign };
   });
 }
 

@@ -11,7 +11,7 @@ import { Keeper } from './keeper.js';
 import { newId, recordOf } from './records.js';
 import { claim, openShelf } from './shelf.js';
 
-export const keep = { keeper: null, opening: null, id: null, free: null, untouched: null, when: 0, grade: null, isKept: true, isPaused: false, told: null, isAsked: false, makeRoom: null };
+export const keep = { keeper: null, opening: null, id: null, free: null, untouched: null, when: 0, grade: null, isNamed: false, isKept: true, isPaused: false, told: null, isAsked: false, makeRoom: null };
 
 /** Opens the library, once. */
 keep.ready = (home = globalThis) => {
@@ -80,7 +80,7 @@ keep.now = ({ mayRest = false } = {}) => {
     keep.isAsked = true; // that the browser does not clear it away by itself
     navigator.storage?.persist?.().catch(() => {});
   }
-  const made = () => ({ record: recordOf(bench, id, keep.when), facts: { verdict: bench.state.verdict.word, grade: keep.grade } });
+  const made = () => ({ record: { ...recordOf(bench, id, keep.when), isNamed: keep.isNamed }, facts: { verdict: bench.state.verdict.word, grade: keep.grade } });
   return keep.keeper.note(() => (keep.id === id && bench.term === term && bench.state ? made() : null), mayRest);
 };
 

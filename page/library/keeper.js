@@ -106,9 +106,10 @@ export class Keeper {
     await this.shelf.putAll([[RECORD + record.id, record], [CARD + record.id, card ?? cardOf(record)]]);
   }
 
+  /** Gives a picture a name that its user chose. */
   async rename(id, name) {
     const { record, card } = { record: await this.shelf.get(RECORD + id), card: await this.shelf.get(CARD + id) };
-    await this.restore({ record: { ...record, name }, card: { ...(card ?? cardOf(record)), name } });
+    await this.restore({ record: { ...record, name, isNamed: true }, card: { ...(card ?? cardOf(record)), name } });
   }
 
   /** A copy of a picture, with its strokes, under another name; resolves to its id. */

@@ -14,9 +14,9 @@ import { saving, showFileName } from './saving.js';
 
 /**
  * Opens a document in place of the present one, and keeps it under a name of its own. `id` is that of a record of the library,
- * `strokes` are as the bench has them. Answers whether it is open; what is refused is told.
+ * `strokes` are as the bench has them; `isNamed` tells that its user chose the name. Answers whether it is open; what is refused is told.
  */
-export async function openDoc(doc, { name, isSaved = true, id = null, strokes = undefined, handle = null, form = 'xml', isBlank = false }) {
+export async function openDoc(doc, { name, isSaved = true, id = null, strokes = undefined, handle = null, form = 'xml', isBlank = false, isNamed = handle !== null }) {
   const isLost = bench.state && !keep.isKept && !bench.isSaved;
   if (isLost && !(await confirmDialog(phrase('library.openAnotherPicture'), phrase('library.notBeenSavedBrowser', { name: bench.name }), phrase('library.open')))) return false;
   keep.leave();
@@ -30,6 +30,7 @@ export async function openDoc(doc, { name, isSaved = true, id = null, strokes = 
     keep.isPaused = false;
   }
   Object.assign(saving, { handle, form });
+  keep.isNamed = isNamed;
   await keep.begin(id, isBlank);
   showFileName();
   return true;
@@ -65,8 +66,8 @@ export async function openRecord(id) {
     say(phrase('library.pictureLibraryDamagedCould'), 'alarm');
     return false;
   }
-  const { doc, name, isSaved, strokes } = record;
-  return openDoc(doc, { name, isSaved, id, strokes });
+  const { doc, ...how } = record;
+  return openDoc(doc, how);
 }
 
 const OPEN_FAULTS = {

@@ -64,7 +64,7 @@ export function readRecord(value) {
     if (typeof value.id !== 'string' || ![1, 2].includes(value.version)) return null;
     const doc = unpackedDoc(value.version === 1 ? { ...value.now, about: value.about } : value.doc);
     const [past, future] = value.version === 1 ? [[], []] : [docsOf(doc, value.past).reverse(), docsOf(doc, value.future)];
-    return { id: value.id, name: String(value.name).slice(0, 200), when: Number(value.when) || 0, isSaved: value.isSaved === true, doc, strokes: { past, future } };
+    return { id: value.id, name: String(value.name).slice(0, 200), when: Number(value.when) || 0, isSaved: value.isSaved === true, isNamed: value.isNamed === true, doc, strokes: { past, future } };
   } catch {
     return null;
   }

@@ -4,7 +4,7 @@
 import { $, choiceOf, make, say } from '../base/elements.js';
 import { behindFrame, on } from '../base/events.js';
 import { bareName } from '../base/words.js';
-import { docOf, eightBitDoc } from '../document/document.js';
+import { docOf, eightBitDoc, isLocked, unlocked } from '../document/document.js';
 import { bench } from '../engine/bench.js';
 import { leftOutOfPpm, ppmTextOf } from '../formats/ppm_notes.js';
 import { leavesOut, webpbnText } from '../formats/webpbn.js';
@@ -19,13 +19,19 @@ export const SAVE_TYPES = {
   xml: { type: 'application/xml', ending: '.xml', what: phrase('library.webPaintNumberXml') },
   ppm: { type: 'image/x-portable-pixmap', ending: '.ppm', what: phrase('library.plainPpmPictureRest') },
   non: { type: 'text/plain', ending: '.non', what: phrase('library.nonTwoColourPuzzle') },
-  cert: { type: 'text/plain', ending: '.cert', what: phrase('library.certificate') },
-  svg: { type: 'image/svg+xml', ending: '.svg', what: phrase('library.sheetSvg') },
-  png: { type: 'image/png', ending: '.png', what: phrase('export.picturePng') },
-  gif: { type: 'image/gif', ending: '.gif', what: phrase('library.solvingPath') },
-  zip: { type: 'application/zip', ending: '.zip', what: phrase('library.archive') },
+  cert: { type: 'text/plain', ending: '.cert' },
+  svg: { type: 'image/svg+xml', ending: '.svg' },
+  png: { type: 'image/png', ending: '.png' },
+  gif: { type: 'image/gif', ending: '.gif' },
+  zip: { type: 'application/zip', ending: '.zip' },
 };
 const DOCUMENT_FORMS = ['xml', 'ppm', 'non'];
+
+/** Gives the picture at hand a name that its user chose: no title takes its place. */
+export function named(name) {
+  bench.name = name;
+  keep.isNamed = true;
+}
 
 /** Hands a text or blob to the user as a download. */
 export function download(content, file, type) {
@@ -44,11 +50,12 @@ async function writeHandle(handle, content) {
 const nonHead = ({ title, author, copyright }) => [['title', title], ['by', author], ['copyright', copyright]]
   .filter(([, text]) => text).map(([word, text]) => `${word} "${text.replaceAll('"', '\'').replace(/\s+/g, ' ')}"\n`).join('');
 
-/** The text of the document in one of the forms that hold it, or null, told, where it has none. */
-async function textAs(form) {
+/** The text of the document in one of the forms that hold it, for others without what is locked; or null, told, where it has none. */
+async function textAs(form, forOthers = false) {
   const { state } = bench;
-  if (form === 'ppm') return ppmTextOf(eightBitDoc(state));
-  if (form === 'xml') return webpbnText(state, state.clues);
+  const doc = forOthers ? unlocked(docOf(state)) : state;
+  if (form === 'ppm') return ppmTextOf(eightBitDoc(doc));
+  if (form === 'xml') return webpbnText(doc, state.clues);
   const [answer] = await bench.ask('write non').catch(() => []);
   if (answer?.kind === 'text') return nonHead(state.about) + answer.text;
   say(answer?.name === 'TwoColoursOnly' ? phrase('view.notDone', { meaning: phrase('view.nonPuzzleOneColour') }) : phrase('library.nonTextNotMade'), 'alarm');
@@ -59,7 +66,7 @@ async function textAs(form) {
 function leftOutOfNon(doc) {
   const { colours, inks, about } = eightBitDoc(doc);
   return [
-    String(colours) === '255,255,255,0,0,0' ? '' : phrase('library.colours'), doc.givens.size ? phrase('library.givenCells') : '', doc.locks.size ? phrase('library.lockedCells') : '',
+    String(colours) === '255,255,255,0,0,0' ? '' : phrase('library.colours'), doc.givens.size ? phrase('library.givenCells') : '', isLocked(doc) ? phrase('library.locked') : '',
     inks.some((ink) => ink?.name && !['white', 'black'].includes(ink.name)) ? phrase('library.namesColours') : '',
     ['authorid', 'description', 'id', 'note'].some((name) => about[name]) ? phrase('library.description') : '',
   ].filter(Boolean).join(', ');
@@ -95,12 +102,14 @@ export async function save() {
 }
 
 /** Notes that a file has the document, and tells it; what the file has no place for is told, and is not saved by that. */
-function saved(doc, file, form, more = '') {
-  const without = leftOut(form, doc);
+function saved(doc, file, form, { more = '', forOthers = false } = {}) {
+  const lost = leftOut(form, doc);
+  const locked = forOthers && form !== 'non' && isLocked(doc) ? phrase('library.locked') : '';
+  const without = [lost, locked].filter(Boolean).join(', ');
   if (!without) bench.saved(doc);
   keep.now();
   showFileName();
-  say(without ? phrase('library.savedWithoutXmlKeeps', { file, without }) : phrase('library.saved', { file, more }), without || more ? 'alarm' : '');
+  say(without ? phrase('library.savedWithoutXmlKeeps', { file, without }) + more : phrase('library.saved', { file, more }), lost || more ? 'alarm' : '');
 }
 
 const formOfFile = (name) => (/\.(ppm|pnm)$/i.test(name) ? 'ppm' : /\.non$/i.test(name) ? 'non' : 'xml');
@@ -116,7 +125,7 @@ async function saveByPicker() {
     if (content === null) return false;
     await writeHandle(handle, content);
     Object.assign(saving, { handle, form });
-    bench.name = bareName(handle.name);
+    named(bareName(handle.name));
     saved(doc, handle.name, form);
     return true;
   } catch (fault) {
@@ -124,14 +133,14 @@ async function saveByPicker() {
   }
 }
 
-/** Saves in a form as a download, and tells `more` with it; says whether it did. */
-export async function saveDownload(form, more = '') {
+/** Saves in a form as a download, and tells `more` with it; `forOthers` has nothing that is locked. Says whether it did. */
+export async function saveDownload(form, how = {}) {
   const doc = docOf(bench.state);
   const { type, ending } = SAVE_TYPES[form];
-  const content = await textAs(form);
+  const content = await textAs(form, how.forOthers);
   if (content === null) return false;
   download(content, bench.name + ending, type);
-  saved(doc, bench.name + ending, form, more);
+  saved(doc, bench.name + ending, form, how);
   return true;
 }
 
@@ -144,7 +153,7 @@ export async function saveAs() {
   const form = choiceOf({}, DOCUMENT_FORMS.map((one) => [one, SAVE_TYPES[one].what]), saving.form);
   const content = make('div', { class: 'rows' }, make('label', {}, phrase('view.name'), name), make('label', {}, phrase('library.form'), form));
   if (!(await openDialog({ title: phrase('library.saveAs'), content, buttons: [{ name: phrase('library.save'), value: true, main: true }] }))) return false;
-  bench.name = bareName(name.value);
+  named(bareName(name.value));
   saving.form = form.value;
   return saveDownload(form.value);
 }

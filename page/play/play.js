@@ -4,13 +4,12 @@ import { $, buttonOf, make, withoutGestures } from '../base/elements.js';
 import { tell } from '../base/events.js';
 import { markRadio } from '../base/radios.js';
 import { clamp } from '../base/words.js';
-import { nameOf } from '../document/colours.js';
 import { LETTERS, MOST_CELLS } from '../document/limits.js';
 import { lineCells } from '../document/shapes.js';
 import { bench } from '../engine/bench.js';
 import { phrase } from '../texts/phrase.js';
 import { addAction, runAction } from '../view/actions.js';
-import { dress } from '../view/dress.js';
+import { dress, inkName } from '../view/dress.js';
 import { selection } from '../view/select.js';
 import { asSeen } from '../view/tools.js';
 import { searches } from '../view/verdict.js';
@@ -83,10 +82,10 @@ function playBoard() {
 
 // Colours, the mark of a background cell, and the wipe.
 function playPalette() {
-  const { colours, maxval } = play.state;
+  const { colours } = play.state;
   const choices = [...LETTERS.slice(1, colours.length), '.', '?'];
   $('play-palette').replaceChildren(...choices.map((letter) => {
-    const name = letter === '.' ? phrase('view.background') : letter === '?' ? phrase('play.wipe') : nameOf(colours[LETTERS.indexOf(letter)], maxval);
+    const name = letter === '.' ? phrase('view.background') : letter === '?' ? phrase('play.wipe') : inkName(play.state, letter);
     const sign = { '.': '×', '?': '⌫' }[letter] ?? letter;
     const button = buttonOf(null, sign, () => choosePlay(letter), { role: 'radio', 'data-letter': letter, 'aria-label': name, title: name });
     if (letter !== '?') dress(button, letter, play.state);

@@ -3,13 +3,13 @@
 
 import { $ } from '../base/elements.js';
 import { clamp } from '../base/words.js';
-import { contrastOf, eightBits, lightness, nameOf } from '../document/colours.js';
+import { contrastOf, eightBits, lightness } from '../document/colours.js';
 import { LETTERS } from '../document/limits.js';
 import { coloursOf, drawClue, drawDot, drawGiven, drawRules, edges, wholeFrame } from '../draw/board.js';
 import { Sprites } from '../draw/sprites.js';
 import { CanvasSurface } from '../draw/surface.js';
 import { phrase } from '../texts/phrase.js';
-import { wordOf } from '../view/dress.js';
+import { inkName, wordOf } from '../view/dress.js';
 import { crossedOff } from './crossing.js';
 import { afterPlay, play, playColumn } from './play.js';
 import { drawShown } from './shown.js';
@@ -188,7 +188,7 @@ function drawPlayCell(surface, look, cell) {
   }
 }
 
-const playClueText = (blocks) => blocks.map((block) => `${block.length} ${nameOf(play.state.colours[LETTERS.indexOf(block.letter)], play.state.maxval)}`).join(', ') || phrase('view.emptyClue');
+const playClueText = (blocks) => blocks.map((block) => `${block.length} ${inkName(play.state, block.letter)}`).join(', ') || phrase('view.emptyClue');
 
 /** Takes the cursor to a cell; `told` says it to those who hear the page. */
 export function movePlay(at, told = false) {

@@ -2,10 +2,9 @@
 
 import { $, buttonOf, make } from '../base/elements.js';
 import { clamp } from '../base/words.js';
-import { nameOf } from '../document/colours.js';
-import { LETTERS } from '../document/limits.js';
 import { phrase } from '../texts/phrase.js';
 import { runAction } from '../view/actions.js';
+import { inkName } from '../view/dress.js';
 import { knownIn, stepText } from './hints.js';
 import { Walk, pathOf } from './path.js';
 import { play, playSays } from './play.js';
@@ -26,7 +25,7 @@ export function walkBar() {
     buttonOf('walk-on', '▸', () => goTo(walking.at + 1), { 'aria-label': phrase('play.stepOn') }),
     buttonOf('walk-play', phrase('play.playSteps'), turnPlaying), buttonOf('walk-hardest', phrase('play.hardestStep'), () => goTo(walking.walk.hardest)),
     make('label', {}, make('input', { type: 'checkbox', id: 'walk-heat', onchange: showHeat }), phrase('play.heatMap')),
-    buttonOf('walk-save', 'GIF', () => runAction('export-path'), { title: phrase('export.exportPath'), 'aria-label': phrase('export.exportPath') }),
+    buttonOf('walk-save', 'GIF', () => runAction('export-path'), { title: phrase('export.pathGif'), 'aria-label': phrase('export.pathGif') }),
     buttonOf('walk-end', phrase('play.solveYourself'), endWalk));
 }
 
@@ -56,7 +55,7 @@ function textOf({ line, cells, premises }) {
   if (line !== null) return stepText({ line, cells: cells.map(({ index }) => index), premises });
   const { state } = play;
   const [{ index, letter }] = cells;
-  const colour = letter === '.' ? phrase('view.background') : nameOf(state.colours[LETTERS.indexOf(letter)], state.maxval);
+  const colour = letter === '.' ? phrase('view.background') : inkName(state, letter);
   return phrase('play.suppose', { place: phrase('view.placeOfCell', { value: Math.floor(index / state.columns) + 1, columns: (index % state.columns) + 1 }), colour });
 }
 

@@ -9,7 +9,7 @@ import { bench } from '../engine/bench.js';
 import { exportAll } from '../import/archives.js';
 import { keep } from '../library/keep.js';
 import { openRecord } from '../library/open.js';
-import { showFileName } from '../library/saving.js';
+import { named, showFileName } from '../library/saving.js';
 import { LANGUAGE, phrase } from '../texts/phrase.js';
 import { openDialog } from '../view/dialogs.js';
 
@@ -135,7 +135,7 @@ async function rename(card) {
   const name = cleanName(field.value);
   await keep.keeper.rename(card.id, name);
   if (card.id === keep.id) {
-    bench.name = name;
+    named(name);
     showFileName();
   }
   fillLibrary();

@@ -2,6 +2,7 @@
 
 import { say } from '../base/elements.js';
 import { on } from '../base/events.js';
+import { cleanName } from '../base/words.js';
 import { readFragment } from '../formats/link.js';
 import { faultText, openDoc } from '../library/open.js';
 import { openPlay } from '../play/play.js';
@@ -17,7 +18,7 @@ async function openFragment() {
     document.body.classList.remove('player');
     for (const dialog of openDialogs()) dialog.close();
     document.body.classList.toggle('player', isAlone);
-    if (await openDoc(found.doc, { name: found.doc.about.title || 'shared', isBlank: true }) && isAlone) await openPlay({ isAlone });
+    if (await openDoc(found.doc, { name: cleanName(found.doc.about.title || 'shared'), isBlank: true }) && isAlone) await openPlay({ isAlone });
   } catch (fault) {
     document.body.classList.remove('player');
     say(phrase('start.linkCouldNotOpened', { fault: faultText(fault) }), 'alarm');

@@ -5,6 +5,7 @@ import { bench } from '../engine/bench.js';
 import { phrase } from '../texts/phrase.js';
 
 export const actions = new Map();
+const HEADS = { export: phrase('export.export') }; // of groups in a menu
 const MENUS = { file: phrase('view.file'), edit: phrase('view.edit'), picture: phrase('view.picture'), view: phrase('view.view'), check: phrase('view.check'), help: phrase('view.help') };
 
 /**
@@ -90,7 +91,7 @@ function fillMenu(list, place, button) {
   let group = null;
   for (const action of actions.values()) {
     if (action.place !== place) continue;
-    if (group !== null && group !== action.group) items.push(make('hr', { role: 'separator' }));
+    if (group !== null && group !== action.group) items.push(make('hr', { role: 'separator' }), ...(HEADS[action.group] ? [make('h2', { role: 'presentation' }, HEADS[action.group])] : []));
     ({ group } = action);
     const item = actionButton(action, { role: 'menuitem', tabindex: '-1' });
     if (action.isOn()) item.textContent += ' ✓';

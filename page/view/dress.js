@@ -2,19 +2,17 @@
 
 import { make } from '../base/elements.js';
 import { verdictName } from '../base/names.js';
-import { cssOf, inkOn, nameOf } from '../document/colours.js';
+import { cssOf, inkOn } from '../document/colours.js';
 import { LETTERS } from '../document/limits.js';
+import { namesOf } from '../document/names.js';
 import { nearPairs } from '../document/near.js';
 import { bench } from '../engine/bench.js';
 import { phrase } from '../texts/phrase.js';
 
 export const wordOf = (letter) => (letter === '.' ? phrase('view.background') : letter);
 
-/** A colour's name in a document: its own, else a plain one. */
-export function inkName(doc, letter) {
-  const at = LETTERS.indexOf(letter);
-  return doc.inks?.[at]?.name || nameOf(doc.colours[at], doc.maxval);
-}
+/** A colour's name in a document. */
+export const inkName = (doc, letter) => namesOf(doc)[LETTERS.indexOf(letter)];
 
 /** A colour's letter and name in the open document. */
 export const colourText = (letter) => `${wordOf(letter)}, ${inkName(bench.state, letter)}`;

@@ -1,6 +1,7 @@
 // What a repair may change: by the rule for neighbours, with a symmetry, and without what is locked.
 
 import { $, buttonOf, choiceOf, make } from '../base/elements.js';
+import { unlocked } from '../document/document.js';
 import { placesOfBox } from '../document/regions.js';
 import { bench } from '../engine/bench.js';
 import { boardFields } from '../repair/board.js';
@@ -21,7 +22,7 @@ export function limitChoices(says) {
   return [
     make('p', {}, make('label', {}, rule, phrase('view.onlyNeighboursColourNo'))),
     make('p', {}, make('label', {}, phrase('view.symmetry'), mirror)),
-    make('div', { class: 'group' }, buttonOf('fix-lock', phrase('view.lockAllButSelection'), () => lockOutside(says)), buttonOf('fix-unlock', phrase('view.unlockAll'), unlock)),
+    make('div', { class: 'group' }, buttonOf('fix-lock', phrase('view.lockAllButSelection'), () => lockOutside(says)), buttonOf('fix-unlock', phrase('view.unlockAll'), () => bench.become(unlocked))),
     make('p', { id: 'fix-locks', class: 'faint' }),
   ];
 }
@@ -35,7 +36,6 @@ function lockOutside(says) {
   });
 }
 
-const unlock = () => bench.become((doc) => ({ ...doc, locks: new Set(), inks: doc.inks.map(({ locked: _, ...ink }) => ink) }));
 
 /** Tells how much is locked. */
 export function showLocks() {

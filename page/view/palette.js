@@ -9,13 +9,14 @@ import { hexOf, isAmong, nameOf, tripleOf } from '../document/colours.js';
 import { eightBitDoc } from '../document/document.js';
 import { LETTERS, MOST_COLOURS } from '../document/limits.js';
 import { COLOUR_NAMES, colourNamed } from '../document/named.js';
+import { XML_WHOLE, namesOf } from '../document/names.js';
 import { reordered } from '../document/shapes.js';
 import { bench } from '../engine/bench.js';
 import { inksOf } from '../formats/webpbn.js';
 import { phrase } from '../texts/phrase.js';
 import { addAction } from './actions.js';
 import { openDialog } from './dialogs.js';
-import { colourText, dress, nearText } from './dress.js';
+import { colourText, dress, inkName, nearText } from './dress.js';
 import { setDown } from './select.js';
 import { heard, tools, useColour } from './tools.js';
 
@@ -51,11 +52,11 @@ function markColour() {
   markRadio(palette.row, ({ dataset }) => dataset.letter === tools.colour);
   palette.picker.value = hexOf(colours[LETTERS.indexOf(tools.colour)], maxval);
   const ink = bench.state.inks[LETTERS.indexOf(tools.colour)] ?? {};
-  const usual = inksOf(bench.state)[LETTERS.indexOf(tools.colour)];
+  const { sign } = inksOf(bench.state)[LETTERS.indexOf(tools.colour)];
   if (document.activeElement !== palette.name) palette.name.value = ink.name ?? '';
   if (document.activeElement !== palette.sign) palette.sign.value = ink.sign ?? '';
-  palette.name.placeholder = usual.name;
-  palette.sign.placeholder = usual.sign;
+  palette.name.placeholder = inkName(bench.state, tools.colour);
+  palette.sign.placeholder = sign;
   palette.locked.checked = ink.locked === true;
   tellColours();
 }
@@ -107,8 +108,7 @@ function refuse(text) {
 
 function changeName() {
   const name = palette.name.value.trim();
-  const other = inksOf(bench.state).find((ink, at) => at !== LETTERS.indexOf(tools.colour) && ink.name === name);
-  if (other) return refuse(phrase('view.anotherColourNamed', { name }));
+  if (namesOf(bench.state).some((other, at) => at !== LETTERS.indexOf(tools.colour) && other === name)) return refuse(phrase('view.anotherColourNamed', { name }));
   return changeInk(({ name: before, ...ink }) => (name ? { ...ink, name } : ink));
 }
 
@@ -139,9 +139,9 @@ async function addColour() {
 }
 
 // What the page keeps of a colour that is changed: the usual name of the tone before, as files have it, goes with that tone.
-function inkOfOther(ink, triple) {
-  const { name, ...others } = ink ?? {};
-  return name === nameOf(triple, 255) ? others : ink;
+function inkOfOther(doc, at) {
+  const { name, ...others } = doc.inks[at] ?? {};
+  return [nameOf(doc.colours[at], 255), namesOf({ ...doc, inks: [] }, XML_WHOLE)[at]].includes(name) ? others : doc.inks[at];
 }
 
 function changeByName() {
@@ -161,7 +161,7 @@ async function changeColour(triple) {
   const changed = (old) => {
     const doc = eightBitDoc(old);
     if (at >= doc.colours.length || isAmong(doc.colours, triple)) return null;
-    const inks = doc.inks.map((ink, other) => (other === at ? inkOfOther(ink, doc.colours[at]) : ink));
+    const inks = doc.inks.map((ink, other) => (other === at ? inkOfOther(doc, at) : ink));
     return { ...doc, inks, colours: doc.colours.map((one, other) => (other === at ? triple : one)) };
   };
   return heard(bench.become(changed));

@@ -215,13 +215,13 @@ test('the XML that is written is read back, givens and all', () => {
     assert.deepEqual(cluesOf(doc.picture), clues);
     const text = webpbnText({ ...doc, about: { title: 'A < B & "C"' } }, clues);
     assert.match(text, /<title>A &lt; B &amp; &quot;C&quot;<\/title>/);
-    assert.match(text, /<color name="background" char="-">280000<\/color>/);
+    assert.match(text, /<color name="very dark red" char="-">280000<\/color>/);
     assert.match(text, /<clues type="columns">\n<line><count color="white">1<\/count><\/line>/);
     assert.match(text, /\|\.\.X-\|\n\|-ccX\|/);
     const back = readWebpbn(text).doc;
     assert.ok(sameBenchPart(back, doc));
     assert.equal(back.about.title, 'A < B & "C"');
-    assert.deepEqual(back.inks, [{ name: 'background', sign: '-' }, { name: 'white', sign: '.' }, { name: 'black', sign: 'X' }, { name: 'orange', sign: 'c' }]);
+    assert.deepEqual(back.inks, [{ name: 'very dark red', sign: '-' }, { name: 'white', sign: '.' }, { name: 'black', sign: 'X' }, { name: 'orange', sign: 'c' }]);
     assert.doesNotMatch(webpbnText({ ...doc, givens: new Set() }, clues), /saved/);
 });
 
@@ -325,7 +325,7 @@ test('further puzzles of a set', () => {
 
 test('names and signs of colours: its own, none twice', () => {
     const inks = (colours, own) => inksOf({ colours, inks: own }).map(({ name, sign }) => `${name} ${sign}`);
-    assert.deepEqual(inks([[255, 255, 255], [0, 0, 0], [200, 30, 30], [190, 40, 40]], []), ['white .', 'black X', 'red b', 'red 2 c']);
-    assert.deepEqual(inks([[1, 2, 3], [255, 255, 255]], [{ name: 'white', sign: '.' }]), ['white .', 'white 2 a']);
-    assert.deepEqual(inks([[1, 2, 3], [4, 5, 6]], [{ sign: '?' }, { name: 'background', sign: '-' }]), ['background 2 .', 'background -']);
+    assert.deepEqual(inks([[255, 255, 255], [0, 0, 0], [200, 30, 30], [190, 40, 40]], []), ['white .', 'black X', 'lighter red b', 'darker red c']);
+    assert.deepEqual(inks([[1, 2, 3], [255, 255, 255]], [{ name: 'white', sign: '.' }]), ['white .', 'white (a) a']);
+    assert.deepEqual(inks([[1, 2, 3], [4, 5, 6]], [{ sign: '?' }, { name: 'background', sign: '-' }]), ['black .', 'background -']);
 });

@@ -240,7 +240,7 @@ export async function pdfOfSheets({ browser, url, folder }) {
     for (const [at, { text }] of pages.entries()) assert.match(text, new RegExp(`${at + 1} ?/ ?5`));
     await page.press('Control+p');
     await page.until(() => document.querySelector('#print-show'), 3000 * SLACK);
-    await page.run(() => [...document.querySelectorAll('dialog .buttons button')].find((one) => one.textContent === 'Save as SVG').click());
+    await page.run(() => [...document.querySelectorAll('dialog .buttons button')].find((one) => one.textContent === 'Save the sheets as SVG (zip)').click());
     const { content } = await downloaded(page, own, '.zip');
     const list = execFileSync('unzip', ['-Z1', join(own, 'diagonal-print.zip')], { encoding: 'utf8' }).trim().split('\n');
     assert.deepEqual(list, [1, 2, 3, 4, 5].map((at) => `diagonal 0${at}.svg`));

@@ -5,7 +5,9 @@ import { test } from 'node:test';
 import { cluesOf } from '../../page/test/clues.mjs';
 import '../../page/test/limits.mjs';
 
-const { entryOf, legendOf, namesOf, SHEET_TEXTS } = await import('../../page/export/entries.js');
+const { entryOf, legendOf, SHEET_TEXTS } = await import('../../page/export/entries.js');
+const { inksOf } = await import('../../page/formats/webpbn.js');
+const { namesOf } = await import('../../page/document/names.js');
 const { PAPERS, linesOf, partsOf, sheetsOf } = await import('../../page/export/sheets.js');
 const { tintOf } = await import('../../page/document/colours.js');
 
@@ -133,6 +135,9 @@ test('names of colours in the legend differ', () => {
     assert.deepEqual(namesOf(three), ['white', 'blue 2', 'blue 1', 'blue 3']);
     assert.deepEqual(legendOf(three, 'letters').map(({ sign, text }) => `${sign} ${text}`), ['a blue 2', 'b blue 1', 'c blue 3']);
     assert.deepEqual(namesOf({ ...three, inks: [{}, { name: 'sea' }] }), ['white', 'sea', 'lighter blue', 'darker blue']);
+    const inXml = (doc, whole) => inksOf({ ...doc, inks: whole }).map(({ name }) => name);
+    for (const inks of [[], [{}, { name: 'sea' }], [{}, {}, { name: 'blue' }], [{}, { name: 'blue 1' }, { name: 'blue 1' }]]) assert.deepEqual(inXml(three, inks), namesOf({ ...three, inks }), 'in XML as on paper');
+    assert.deepEqual(namesOf({ ...two, inks: [{}, {}, { name: 'blue' }] }), ['white', 'blue (a)', 'blue', 'red'], 'its own name stays');
     assert.deepEqual(legendOf(CROSS, 'colours'), [], 'black on white needs none');
     assert.deepEqual(legendOf(docOf(['a.'], [[0, 0, 40], [200, 40, 40]]), 'colours').map(({ text }) => text), ['red', 'background: very dark blue']);
 });
