@@ -435,3 +435,36 @@ export async function pathAsGif({ browser, url, folder }) {
     assert.deepEqual(page.faults, []);
     await page.close();
 }
+
+/** What others get: by the title's name, without what is locked, from one part of the menu; one sheet is one SVG; and colours have one name each. */
+export async function othersPoint(hands, { page, trial, own }) {
+    await hands.press('#new-go');
+    await isOpen(page);
+    await page.run(() => bench.become((doc) => ({ ...doc, colours: [[255, 255, 255], [0, 0, 0], [0, 0, 200], [40, 40, 220]], picture: doc.picture.map((row, at) => (at ? row : `abc${row.slice(3)}`)), locks: new Set([25]), inks: [{}, {}, { locked: true }] })));
+    await hands.menu('file', 'about');
+    await page.until(() => document.querySelector('dialog[open] input'), 3000 * SLACK);
+    await hands.fill('dialog[open] label:first-child input', 'No.5: a cat');
+    await hands.press('dialog button.main');
+    await page.until(() => bench.state.about.title === 'No.5: a cat', 5000 * SLACK);
+    await page.until(async () => (await keep.keeper.cards())[0].name === 'No.5  a cat', 5000 * SLACK);
+    await hands.menu('file', 'export-xml');
+    const { name, content } = await downloaded(page, own, '.xml');
+    assert.equal(name, 'No.5  a cat.xml');
+    assert.doesNotMatch(content.toString(), /locks|locked/);
+    assert.match(await said(page), /saved, without locks\. .Save as. keeps all of it, in XML\./);
+    const names = [...content.toString().matchAll(/<color name="([^"]*)"/g)].map(([, one]) => one);
+    assert.deepEqual(names, ['white', 'black', 'darker blue', 'lighter blue']);
+    assert.deepEqual(await page.run(() => [...document.querySelectorAll('#palette button')].map((one) => one.ariaLabel.split(', ')[1])), names);
+    assert.deepEqual(await page.run(() => { document.querySelector('[popovertarget="menu-file"]').click(); const ids = [...document.querySelectorAll('#menu-file h2 ~ button')].map((one) => one.dataset.action); document.getElementById('menu-file').hidePopover(); return ids; }),
+        ['export-xml', 'export-site', 'print', 'share', 'export-empty', 'export-picture', 'export-cells', 'export-path', 'certificate', 'export-ppm', 'export-non']);
+    await hands.menu('file', 'print');
+    await page.until(() => document.querySelector('#print-answers'), 3000 * SLACK);
+    const svg = () => trial.text('dialog .buttons button:nth-child(2)');
+    assert.equal(await svg(), 'Save the sheets as SVG (zip)');
+    await hands.tick('#print-answers');
+    await page.until(() => document.querySelector('dialog .buttons button:nth-child(2)').textContent === 'Save as SVG', 3000 * SLACK);
+    await hands.press('dialog .buttons button:nth-child(2)');
+    const sheet = await downloaded(page, own, '.svg');
+    assert.equal(sheet.name, 'No.5  a cat-print.svg');
+    assert.match(sheet.content.toString(), />darker blue<.*>lighter blue</);
+}

@@ -8,7 +8,7 @@ import { Hands } from './page_inputs.mjs';
 import { choosingPoint, palettesPoint, slidingPoint, visionPoint } from './page_coming.mjs';
 import { frenchPoint, germanPoint, mirroredPoint } from './page_languages.mjs';
 import { aimPoint, firstPoint, mendingPoint, walkingPoint } from './page_mending.mjs';
-import { printPoint } from './page_out.mjs';
+import { othersPoint, printPoint } from './page_out.mjs';
 import { alikePoint, comingPoint, contactsPoint, pickingPoint, spritesPoint, tablePoint } from './page_pictures.mjs';
 import { outlinePoint, pensPoint, tracingPoint, wandPoint } from './page_pens.mjs';
 import { stillPoint } from './page_lasting.mjs';
@@ -254,7 +254,7 @@ const POINTS = {
     'colours told apart': alikePoint, 'a colour of the image': pickingPoint, 'contact sheet': contactsPoint, 'what comes in': comingPoint, sprites: spritesPoint, 'table of files': tablePoint,
     'small things': smallPoint, 'typing moves nothing': typingPoint, 'never lost': neverLost, 'a still canvas': stillPoint, 'searches that stop': stoppable, drawing, 'symmetric pens': pensPoint, 'wand and recolour': wandPoint, 'outline, shadow, nudging': outlinePoint,
     'tracing an image': tracingPoint, 'large pictures': large, meaning, 'colour-blind check': visionPoint, 'the first example': firstPoint, mending: mendingPoint, 'a grade aimed for': aimPoint, 'place by place': placesPoint, 'what a repair may change': limitsPoint,
-    'the solving path': walkingPoint, 'out of the page': wayOut, 'print for books': printPoint, links: linkPoint, 'the player': playerPoint, 'several files': severalPoint,
+    'the solving path': walkingPoint, 'out of the page': wayOut, 'what others get': othersPoint, 'print for books': printPoint, links: linkPoint, 'the player': playerPoint, 'several files': severalPoint,
     offline: offlinePoint, German: germanPoint, French: frenchPoint, 'right to left': mirroredPoint,
 };
 const INPUTS = { small: ['mouse', 'keys', 'touch'], large: ['mouse', 'keys', 'touch'], phone: ['touch', 'keys', 'mouse'] };
