@@ -549,7 +549,7 @@ export const FR = /** @type {const} */ ({
   'library.description': 'sa description',
   'library.solutionsDoNotFit': 'des solutions qui ne conviennent plus à l’image',
   'library.notWritten': '{name} n’a pas été écrit ({message}).',
-  'library.savedWithoutXmlKeeps': '{file} enregistré, sans {without}. « Enregistrer sous » garde tout, en XML.',
+  'library.savedWithoutXmlKeeps': '{file} enregistré, sans {without}. « Enregistrer sous » garde tout, en XML.',
   'library.saved': '{file} enregistré.{more}',
   'library.form': 'Format de fichier',
   'library.saveAs': 'Enregistrer sous',
