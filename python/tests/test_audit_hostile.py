@@ -431,7 +431,7 @@ class Strangers(Case):
         self.assertIn("'way/rows' is a link", self.run_audit("site", "--untrusted", "--jsonl", "way/rows", status=2).stderr)
         self.assertEqual((kept.read_text(), os.listdir(secret), (self.folder / "made").exists()), ("", [], False))
         # One that comes later is none either, and links of the operator's own are.
-        with unittest.mock.patch.object(arguments, "is_among", return_value=False), contextlib.redirect_stderr(io.StringIO()) as said:
+        with unittest.mock.patch.object(arguments, "is_behind_link", return_value=False), contextlib.redirect_stderr(io.StringIO()) as said:
             self.assertEqual(running.main([str(self.site), "--untrusted", "--quiet", "--csv", str(self.site / "rows")]), 3)
         self.assertIn("Too many levels of symbolic links", said.getvalue())
         self.assertEqual(kept.read_text(), "")

@@ -12,7 +12,7 @@ from typing import Optional, Sequence
 
 from .._answers import FLAW_KINDS
 from .._library import version
-from .finding import ENDINGS, SUFFIXES, find, front_of, is_among, unreached
+from .finding import ENDINGS, SUFFIXES, find, front_of, is_behind_link, unreached
 from .readers import ground_of
 
 _ENDINGS = frozenset((*SUFFIXES, ".givens", ".background", *(f".{ending}" for ending in ENDINGS)))
@@ -81,7 +81,7 @@ def options_of(words: list[str]) -> Options:
             parser.error(f"no such file or folder: {path!r}" + (" (a folder of that name is ./merge)" if path == "merge" else ""))
     _refuse_inputs(parser, told)
     for name in (told.jsonl, told.csv, told.html, told.certify, told.publish):
-        if told.is_untrusted and name not in (None, "-") and is_among(name, told.paths, False):
+        if told.is_untrusted and name not in (None, "-") and is_behind_link(name, told.paths):
             parser.error(f"{name!r} is a link in a folder of strangers, or lies behind one")
     nested = unreached(told.paths)
     if nested is not None:

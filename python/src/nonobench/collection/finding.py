@@ -116,15 +116,19 @@ def _is_within(path: str, outer: str) -> bool:
     return path == outer or path.startswith(outer.rstrip("/") + "/")
 
 
-def is_among(name: str, paths: list[str], is_there: bool = True) -> bool:
-    """Whether a place lies in a folder of paths; or else, whether a link of that folder leads from its name to another place."""
-    for folder in (path if os.path.isdir(path) else os.path.dirname(path) or "." for path in paths):
-        place, real = _real(name), os.path.realpath(folder)
-        if _is_within(place, real):
-            if is_there or os.path.islink(place):
-                return True
-        elif not is_there and _is_within(os.path.abspath(name), os.path.abspath(folder)):
+def is_among(name: str, paths: list[str]) -> bool:
+    """Whether a place lies in a folder of paths."""
+    folders = (path if os.path.isdir(path) else os.path.dirname(path) or "." for path in paths)
+    return any(_is_within(_real(name), os.path.realpath(folder)) for folder in folders)
+
+
+def is_behind_link(name: str, paths: list[str]) -> bool:
+    """Whether a place is a link in a folder of paths, or lies behind one."""
+    place, outer = os.path.join(os.getcwd(), name), ""
+    while place != outer:
+        if os.path.islink(place) and is_among(place, paths):
             return True
+        place, outer = os.path.dirname(place), place
     return False
 
 
