@@ -1,12 +1,12 @@
 #!/usr/bin/env python3
 """Tries the longest texts that the program takes, of each hostile kind: comments, zeros, tokens and samples without end; .non texts
 of a million sections or numbers; certificates of nested splits, of idle splits and idle lines, of deep branches, of a million lemmas
-without literals, of one long lemma, and of its uses; sessions without a line end.
+without literals or on a large picture, of one long lemma, and of its uses; sessions without a line end.
 
 For each it prints the instructions per byte (by callgrind, on texts of 64 to 256 KiB; none if valgrind is missing), the seconds,
 and the peak of memory beyond the text (a session keeps no text; if /usr/bin/time is missing, what is below some 15 MiB is that of
 this script). The status is 1 if a text gets a wrong answer, the cost of a byte grows with the text or is above a bound, or the memory
-reaches 64 MiB (256 MiB for certificates with lemmas).
+reaches 64 MiB (72 MiB for certificates with lemmas).
 
 Usage: tests/program/hostile.py [KIND ..]: parts of the names of kinds. PROGRAM names another program than the proved one.
 """
@@ -25,7 +25,7 @@ MEBIBYTE = 1 << 20
 MOST_BYTES = 16 * MEBIBYTE  # the longest input that the program takes
 COUNTED = (1 << 16, 1 << 17, 1 << 18)  # sizes at which instructions are counted
 MOST_OVER = 64 * MEBIBYTE
-MOST_LEMMAS = 256 * MEBIBYTE  # what waits and the lemmas are kept besides the lines
+MOST_LEMMAS = 72 * MEBIBYTE  # a step has eight bytes, and may have two in the text
 MOST_COUNTED = 18_000  # instructions for a byte; a third of it where a line has one step
 PIECE = 1 << 14
 TIME = '/usr/bin/time'
@@ -89,6 +89,9 @@ DEAD_ROOT = lines('part 1 1 .bcdefghijklmno', 'line r 1', 'line c 1', 'line r 2'
 LONG_LEMMA = lines('lemma', *['deny 1 1 a'] * 1024, 'dead r 1', 'part 1 1 a')
 DENSE = lines('P3', f'{LARGE} {LARGE}', '255',
               *(' '.join(str(255 - dense(row, col) * step % 256) for step in (16, 37, 77)) for row in range(LARGE) for col in range(LARGE)))
+# A large blank picture, and the lines that settle it.
+WHITE = lines('P3', f'{LARGE} {LARGE}', '1', *['1 ' * LARGE * 3] * LARGE)
+SETTLED = lines(*(f'line r {at}' for at in range(1, LARGE + 1)))
 # A lemma in which each line but the first row is evaluated anew.
 DENIED = 'deny 1 1 .abcdefghijklmno'
 PLACES = [f'{axis} {at}' for axis in 'rc' for at in range(2, LARGE + 1)]
@@ -189,6 +192,7 @@ KINDS = {
     'lemmas: lines that nothing follows from': lemmas(b'', b'line r 1\n', ENDED),
     'lemmas: a long one, used': cert(b'use 1\n', ENDED, PIXEL, 'nonolemma 1', LONG_LEMMA),
     'lemmas: a long one that ends branches': cert(b'part 1 1 a\ndead l 1\n', ENDED, PIXEL, 'nonolemma 1', LONG_LEMMA),
+    'lemmas: a large picture that is shown': cert(b'lemma\ndone\n', ENDED, WHITE, 'nonolemma 1', SETTLED),
     'lemmas: large lines': cert(lines('lemma', DENIED, *(f'line {place}' for place in PLACES), 'dead r 1'), ENDED, DENSE, 'nonolemma 1'),
     'runs: a long lemma, used': cert(lines('use' + ' 1' * 1000), ENDED, PIXEL, 'nonolemma 2', LONG_LEMMA),
     'runs: large lines': cert(lines('lemma', DENIED, 'line ' + ' '.join(place.replace(' ', '') for place in PLACES), 'dead r 1'), ENDED,
