@@ -48,6 +48,16 @@ export function writeZip(files) {
 
 const damaged = () => new FileFault(phrase('formats.archiveDamaged'));
 
+// The names of files: all UTF-8, or else a letter for each byte, so that two names stay two.
+function namesOf(titles) {
+  const decoded = (...kind) => titles.map((title) => new TextDecoder(...kind).decode(title));
+  try {
+    return decoded('utf-8', { fatal: true, ignoreBOM: true });
+  } catch {
+    return decoded('windows-1252');
+  }
+}
+
 /**
  * The files of a zip by their directory, each `{name, size, read}`: `read()` gives its bytes, or null for what is encrypted or too large,
  * whose size is Infinity.
@@ -59,16 +69,17 @@ export function zipEntries(bytes) {
   if (end < 0) throw damaged();
   const count = view.getUint16(end + 10, true);
   if (count > MOST_ENTRIES) throw new FileFault(phrase('formats.archiveTooManyFiles'));
-  const files = [];
+  const [titles, files] = [[], []];
   for (let at = view.getUint32(end + 16, true), left = count; left > 0; left--) {
     if (at + 46 > bytes.length || view.getUint32(at, true) !== CENTRAL) throw damaged();
     const [title, extra, comment] = [28, 30, 32].map((place) => view.getUint16(at + place, true));
-    const name = new TextDecoder().decode(bytes.subarray(at + 46, at + 46 + title));
+    titles.push(bytes.subarray(at + 46, at + 46 + title));
     const place = at;
-    files.push({ name, size: unpackedSize(view, place), read: () => unpackedEntry(bytes, view, place) });
+    files.push({ size: unpackedSize(view, place), read: () => unpackedEntry(bytes, view, place) });
     at += 46 + title + extra + comment;
   }
-  return files;
+  const names = namesOf(titles);
+  return files.map((file, at) => ({ name: names[at], ...file }));
 }
 
 function unpackedSize(view, at) {

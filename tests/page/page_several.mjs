@@ -250,6 +250,12 @@ test('in an archive, what lies in another folder does not go with a picture', as
     assert.deepEqual([docs.map(({ name, doc }) => [name, givensOf(doc)]), unread], [[['a', []], ['b', []]], ['x/z/a.givens']]);
 });
 
+test('in an archive, names that are no UTF-8 stay apart', async () => {
+    const zip = writeZip([{ name: '~.ppm', bytes: bytesOf(TWO_WAYS) }, { name: '#.givens', bytes: bytesOf('given 1 1\n') }]);
+    const { docs, unread } = await readArchive(zip.map((byte) => ({ 0x7e: 0x84, 0x23: 0x94 })[byte] ?? byte));
+    assert.deepEqual([docs.map(({ doc }) => givensOf(doc)), unread.length], [[[]], 1]);
+});
+
 test('each file of an archive is unpacked by itself: one that is damaged leaves the others, and none is unpacked before its turn', async () => {
     const zip = writeZip(['a.ppm', 'b.ppm'].map((name) => ({ name, bytes: bytesOf(TWO_WAYS) })));
     zip[Buffer.from(zip).lastIndexOf('P3')] ^= 85;
