@@ -28,8 +28,8 @@ MOST_SHOWN = 200
 MOST_OPEN = 500  # connections
 MOST_FILES = 4096  # descriptors: waitress takes up to three for each connection
 MOST_PARTS = 8  # of a form, with what stands before and behind them
-MOST_HEAD = 4096  # bytes of what is said of a part
-BLANKS = re.compile(rb"[ \t]{100}")  # of a request's header, for which waitress takes long; as it does for bodies in small pieces
+MOST_HEAD = 4096  # of what is said of a form or a part
+BLANKS = re.compile(r"\s{100}")  # of a header, for which waitress or Werkzeug takes long; as waitress does for bodies in small pieces
 COMMENTS = re.compile(rb"(?:#[^\r\n]*\s*){1,999}")  # of a picture, some at a time, since each match takes memory
 ODD_CODING = re.compile(rb"charset(?!=\"?utf-?8\b)", re.IGNORECASE)
 PNG = b"\x89PNG\r\n\x1a\n"
@@ -193,10 +193,13 @@ def reason_of(fault, certificate):
     return WORDS.get(fault.name, fault.text) + (f" It seems that {hint}." if hint else "") + (f" ({place})" if " at " in fault.text else "")
 
 
+def takes_long(head):
+    """Whether Werkzeug takes long for a header that has options: its time grows with the square of the length."""
+    return len(head) > MOST_HEAD or bool(BLANKS.search(head))
+
+
 def look_at_form():
-    """Refuses a form before Flask reads it, where that takes long: the time for what is said of a part grows with the square of its
-    length, and so it does for a title in some codings.
-    """
+    """Refuses a form before Flask reads it, where that takes long: for what is said of a part, or for a title in some codings."""
     if (request.content_length or 0) > request.max_content_length:
         abort(413)
     boundary = request.mimetype_params.get("boundary", "")
@@ -204,13 +207,15 @@ def look_at_form():
         abort(400)
     mark = b"--" + boundary.encode()
     heads = [part.partition(b"\r\n\r\n")[0] for part in request.get_data(parse_form_data=False).split(mark, MOST_PARTS)]
-    if len(heads) > MOST_PARTS or any(len(head) > MOST_HEAD or ODD_CODING.search(head) for head in heads):
+    if len(heads) > MOST_PARTS or any(takes_long(head.decode("utf-8", "replace")) or ODD_CODING.search(head) for head in heads):
         abort(400)
 
 
 def files_of_form():
     """The files of a form by their names."""
     try:
+        if takes_long(request.content_type or ""):
+            abort(400)
         if request.mimetype != "multipart/form-data":
             return {}
         look_at_form()
@@ -431,7 +436,7 @@ def bound_connections():
         """A request, the only one of its connection."""
 
         def parse_header(self, header_plus):
-            if BLANKS.search(header_plus):
+            if BLANKS.search(header_plus.decode("latin-1")):
                 raise ParsingError("Invalid header")
             try:
                 super().parse_header(header_plus)

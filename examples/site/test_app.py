@@ -284,13 +284,16 @@ class Site(Case):
             return answer
 
         for head in (b"; a=b" * 300_000, b"; a=b--x" * 200_000, b"\r\na: b" * 300_000, b"\r\nContent-Type: text/plain; charset=hex",
-                     b"\r\nContent-Type: text/plain; charset=utf-8; charset=punycode", b"; filename*=hex''00"):
+                     b"\r\nContent-Type: text/plain; charset=utf-8; charset=punycode", b"; filename*=hex''00",
+                     b";" + b"\f" * 3900 + b";q", ";{};q".format("\u2003" * 1300).encode()):
             with self.subTest(head[:60]):
                 self.assertEqual(send(head, b"a" * 200_000).status_code, 400)
         self.assertEqual(send(b"", b"\r\n--x" * 300_000).status_code, 400)
         self.assertEqual(send(b"", b"a&" * 1_000_000, "application/x-www-form-urlencoded").status_code, 422)
         self.assertEqual(send(b"", b"a" * (3 << 20)).status_code, 413)
         self.assertEqual(send(b"", kind="multipart/form-data; boundary*=hex''00").status_code, 400)
+        for more in (*(f"{sign * 8000};q" for sign in " \f\x1c\x85\xa0"), "a*=b;" * 6000):
+            self.assertEqual(send(b"", kind=f"multipart/form-data; boundary=x;{more}").status_code, 400)
         for mark in ("", "=", "=;", "*0", "=\ud800"):
             self.assertIn(send(b"", kind=f"multipart/form-data; boundary{mark}").status_code, (400, 422))
         self.assertIn("None yet.", self.client.get("/").text)

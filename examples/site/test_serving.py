@@ -219,9 +219,11 @@ class Serving(unittest.TestCase):
         self.assertLess(max(seconds for _, seconds in answers), SECONDS + waited(self.server.pid) - idle)
 
     def test_requests_that_take_waitress_long(self):
-        """A header of blanks, for which its time grows with the square of the length, and a body in pieces of one byte."""
+        """Headers of blanks or options, for which time grows with the square of the length, and a body in pieces of one byte."""
         front = b"POST /puzzles HTTP/1.1\r\nHost: x\r\n"
-        for more, status in ((b"a:" + b" \t" * 15000 + b"x\r\n\r\n", b"400"), (b"Transfer-Encoding: chunked\r\n\r\n" + b"1\r\na\r\n" * 9, b"501")):
+        kind = b"Content-Type: multipart/form-data; boundary=x;%s;q\r\n\r\n"
+        for more, status in ((b"a:" + b" \t" * 15000 + b"x\r\n\r\n", b"400"), (b"Transfer-Encoding: chunked\r\n\r\n" + b"1\r\na\r\n" * 9, b"501"),
+                             (kind % (b"\xa0" * 30000), b"400"), (kind % (b"a*=b;" * 6000), b"400")):
             with self.subTest(status), contextlib.ExitStack() as opened:
                 idle, began = waited(self.server.pid), time.monotonic()
                 for _ in range(20):
