@@ -135,7 +135,9 @@ function orderOf(signs, colours, ground) {
   }
   for (const sign of used) if (!bySign.has(sign)) throw new FileFault(phrase('formats.solutionCellNoColour', { value: sign.slice(0, 2) }));
   const order = [background, ...[...colours.values()].filter((one) => one !== background && (one.declared || (used.has(one.sign) && bySign.get(one.sign) === one)))];
-  return { bySign, order: order.length > MOST_COLOURS ? order.filter((one) => one === background || used.has(one.sign)) : order };
+  const taken = order.length > MOST_COLOURS ? order.filter((one) => one === background || used.has(one.sign)) : order;
+  if (taken.length > MOST_COLOURS) throw new FileFault(phrase('document.puzzleMostColours', { most: MOST_COLOURS }));
+  return { bySign, order: taken };
 }
 
 const BLUES = [...Array(256).keys()];

@@ -523,7 +523,7 @@ def webps():
         ("exif-twice", riff(canvas(8), (b"VP8L", stream), upright, upright), BROKEN), ("scaled", riff(canvas(8), (b"VP8L", stream), (b"EXIF", sized(10, 8, 36, 36))), SCALED),
         ("opacity", riff(canvas(16), (b"ALPH", bytes(9)), (b"VP8L", stream)), LOSSY), ("no-size", riff((b"VP8L", stream[:3])), BROKEN), ("cut", plain[:-9], BROKEN), ("sign", plain[:12], BROKEN), ("more", plain + b"more", pixels),
         ("two", riff((b"VP8L", stream), (b"VP8L", clear_stream)), None), ("unknown", riff(canvas(), (b"ABCD", b"xy"), (b"VP8L", stream)), pixels),
-        ("reserved", riff((b"VP8X", b"\1" + canvas()[1][1:]), (b"VP8L", stream)), BROKEN), ("first", riff((b"VPxX", canvas()[1]), (b"VP8L", stream)), BROKEN), ("canvas-late", riff((b"VP8L", stream), canvas()), BROKEN),
+        ("reserved", riff((b"VP8X", b"\1" + canvas()[1][1:]), (b"VP8L", stream)), BROKEN), ("first", riff((b"VPxX", canvas()[1]), (b"VP8L", stream)), BROKEN), ("canvas-late", riff((b"VP8L", stream), canvas()), BROKEN), ("canvas-empty", riff((b"VP8X", b""), (b"VP8L", stream)), BROKEN),
         ("opacity-unsaid", riff((b"VP8L", clear_stream[:4] + bytes([clear_stream[4] & 0xEF]) + clear_stream[5:])), BROKEN),
         ("bit", plain.replace(b"\x2f", b"\x2e", 1), BROKEN), ("short-riff", plain[:4] + struct.pack("<I", 14) + plain[8:], BROKEN),
         ("odd", odd, pixels), ("odd-riff", odd[:4] + struct.pack("<I", len(odd) - 9) + odd[8:], BROKEN),

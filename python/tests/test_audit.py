@@ -1031,6 +1031,33 @@ class Running(Case):
         rows = self.rows("site/in", "site", "site/one.ppm", "site/in/one.ppm", status=0)
         self.assertEqual(list(rows), ["site/in/one.ppm", "site/one.ppm"])
 
+    def test_paths_that_go_back_behind_a_link(self):
+        """`link/..` is where the system goes, and not the folder that has the link."""
+        self.put("one.ppm", p3(UNIQUE))
+        self.put("in/one.ppm", p3(AMBIGUOUS))
+        self.put("in/deep/two.ppm", p3(AMBIGUOUS))
+        os.symlink("site/in/deep", self.folder / "link")
+        (self.folder / "one.ppm").write_bytes(p3(UNIQUE))
+        real = os.path.realpath(self.site / "in")
+        for path, told in (("link/..", real), ("link/../one.ppm", f"{real}/one.ppm"), (f"{self.folder}/link/../deep/", f"{real}/deep")):
+            self.assertIn(f"{path!r} goes back behind a link: name {told!r}", self.run_audit(path, status=2).stderr)
+        self.assertEqual(list(self.rows("site/in/../in/deep/../one.ppm", "link/./two.ppm", status=1)), ["link/two.ppm", "site/in/one.ppm"])
+
+    def test_folders_are_no_puzzles(self):
+        """A folder that is called like a puzzle changes nothing of what certificates are called."""
+        self.put("set.xml", "<puzzleset>" + webpbn(UNIQUE) + webpbn(UNIQUE) + "</puzzleset>")
+        self.put("one.ppm", p3(UNIQUE))
+        (self.folder / "certs").mkdir()
+        for name in ("set.2.cert", "one.ppm.cert"):
+            (self.folder / "certs" / name).write_text("x")
+        for folder in ("", "set.gif", "set.1.ppm", "set.xml.png", "one.png", "one.ppm.gif"):
+            (self.site / folder).mkdir(exist_ok=True)
+            for paths in (["site"], ["site/one.ppm", "site/set.xml"]):
+                with self.subTest((folder, paths)):
+                    rows = self.rows(*paths, "--certificates", "certs", "--certify", "made", status=1)
+                    self.assertEqual([name for name, row in rows.items() if "certificate" in row], ["site/one.ppm", "site/set.xml#2"])
+                    self.assertEqual(sorted(name.name for name in (self.folder / "made").iterdir()), ["one.cert", "set.2.cert", "set.cert"])
+
     @pytest.mark.since("0.7.0")
     def test_certificates_in_a_folder_that_is_not_there(self):
         self.put("one.ppm", p3(UNIQUE))

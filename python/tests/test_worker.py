@@ -125,7 +125,7 @@ class Workers(unittest.TestCase):
         for bounds in ({"memory": "x"}, {"memory": 1.5}, {"memory": None}, {"seconds": "5"}, {"seconds": None}):
             with self.assertRaises(TypeError):
                 nonobench.Worker(**bounds)
-        for bounds in ({"memory": 0}, {"memory": -1}, {"seconds": 0}, {"seconds": -1}, {"seconds": float("nan")}, {"seconds": 1e300}):
+        for bounds in ({"memory": 0}, {"memory": -1}, {"memory": 1 << 63}, {"seconds": 0}, {"seconds": -1}, {"seconds": float("nan")}, {"seconds": 1e300}):
             with self.assertRaises(ValueError):
                 nonobench.Worker(**bounds)
 

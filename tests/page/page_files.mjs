@@ -201,6 +201,14 @@ test('two declared colours of one sign: which is meant is not known', () => {
     assert.equal(readWebpbn('<puzzle><color name="red" char="X">f00</color><solution><image>|X.|</image></solution></puzzle>').doc.colours[1].join(), '255,0,0', 'black is not declared');
 });
 
+test('more colours than a puzzle may have: those of the picture count, also where many are alike', () => {
+    const colours = Array.from({ length: 300 }, (_, at) => [`c${at}`, String.fromCharCode(0x4e00 + at)]);
+    const declared = colours.map(([name, sign]) => `<color name="${name}" char="${sign}">000</color>`).join('');
+    const puzzle = (used, rows) => `<puzzle>${declared}<solution><image>${Array.from({ length: rows }, (_, row) => `|${colours.slice(row * used, (row + 1) * used).map(([, sign]) => sign).join('')}|`).join('')}</image></solution></puzzle>`;
+    assert.equal(readWebpbn(puzzle(15, 1)).doc.colours.length, 16);
+    for (const rows of [1, 3]) refused(() => readWebpbn(puzzle(100, rows)), /at most 16 colours/);
+});
+
 test('signs in a solution: sets, backslashes, colours that are not declared', () => {
     const text = '<puzzle backgroundcolor="sky"><color name="sky" char="|">9cf</color><color name="x" char="[">123456</color><solution><image>|\\|\\[X| |[X]\\|.|</image></solution></puzzle>';
     const { doc } = readWebpbn(text);

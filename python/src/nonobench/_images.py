@@ -325,7 +325,7 @@ def _webp(data: bytes) -> Pixels:
     _need(not held.keys() & {b"ANIM", b"ANMF"} and not flags & 2, FRAMES)
     _need(b"ICCP" not in held and not flags & 32, PROFILE)
     _need(not held.keys() & {b"VP8 ", b"ALPH"}, LOSSY)
-    _need(not flags & 0xC1 and len(front) in (0, 10))
+    _need(not flags & 0xC1 and len(front) == 10 * (b"VP8X" in held))
     _need(names.count(b"VP8L") == 1 and names.count(b"EXIF") < 2 and names[0] in (b"VP8L", b"VP8X") and b"VP8X" not in names[1:])
     pixels = _webp_stream(held[b"VP8L"], front[4:10], bool(front) and not flags & 16)
     _need_plain_exif(held.get(b"EXIF", b""), pixels.columns, len(pixels.cells) // pixels.columns)

@@ -41,8 +41,8 @@ class Worker(Questions):
             raise ValueError("seconds must be above 0 and finite")
         self._seconds = float(seconds)
         self._memory = operator.index(memory)
-        if self._memory <= 0:
-            raise ValueError("memory must be above 0")
+        if not 0 < self._memory < 1 << 63:
+            raise ValueError("memory must be above 0, and finite")
         self._processor = 0 if processor is None else operator.index(processor)
         if processor is not None and not 0 < self._processor <= _MOST_ALARM:
             raise ValueError("processor must be above 0, and finite")

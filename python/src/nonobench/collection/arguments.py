@@ -79,6 +79,8 @@ def options_of(words: list[str]) -> Options:
     for path in told.paths:
         if not os.path.lexists(path):
             parser.error(f"no such file or folder: {path!r}" + (" (a folder of that name is ./merge)" if path == "merge" else ""))
+        if ".." in path.split("/") and os.path.realpath(os.path.normpath(path)) != os.path.realpath(path):
+            parser.error(f"{path!r} goes back behind a link: name {os.path.realpath(path)!r}")
     _refuse_inputs(parser, told)
     for name in (told.jsonl, told.csv, told.html, told.certify, told.publish):
         if told.is_untrusted and name not in (None, "-") and is_behind_link(name, told.paths):

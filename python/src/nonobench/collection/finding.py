@@ -2,6 +2,7 @@
 
 from __future__ import annotations
 
+import contextlib
 import functools
 import hashlib
 import os
@@ -45,7 +46,7 @@ class Folder(NamedTuple):
     prefix: str  # what the names of its files begin with
     real: str  # what their paths begin with
     front: str  # the same below its PATH
-    names: Names
+    names: Names  # of files
     stems: Counter[str]  # how many puzzles have a name, without its suffix
     numbers: Names  # the names that such names have before a number
     held: Names  # the names in the folder where certificates lie
@@ -154,7 +155,7 @@ def find(paths: list[str], places: Places = Places()) -> Iterator[Found]:
             yield from _below(real, prefix, front_of(path) if several else "", places)
         else:
             folder, real = (os.path.join(os.path.dirname(way), "") for way in (path, real))
-            yield _found(_folder(folder, real, "", _names(real or "."), places), os.path.basename(path))
+            yield _found(_folder(folder, real, "", _names(real or "."), _folders(real or "."), places), os.path.basename(path))
 
 
 def _real(path: str) -> str:
@@ -184,7 +185,7 @@ def _steps(real: str, prefix: str, front: str, places: Places) -> Iterator[Any]:
     except OSError:
         yield Found(real, shown(prefix.rstrip("/") or real or "."), front, (), None, None)
         return
-    folder = _folder(prefix, real, front, frozenset(folders), places)
+    folder = _folder(prefix, real, front, frozenset(folders), frozenset(filter(folders.get, folders)), places)
     for name in sorted(folders, key=shown):
         if folders[name]:
             yield _steps(real + name + "/", prefix + name + "/", front + name + "/", places)
@@ -204,7 +205,15 @@ def _names(folder: str) -> Optional[Names]:
 
 
 @functools.lru_cache(maxsize=4)
-def _folder(prefix: str, real: str, front: str, names: Optional[Names], places: Places) -> Folder:
+def _folders(folder: str) -> Names:
+    """The names of folders in a folder, as far as it can be listed."""
+    with contextlib.suppress(OSError), os.scandir(folder) as entries:
+        return frozenset(entry.name for entry in entries if entry.is_dir(follow_symlinks=False))
+    return NONE
+
+
+@functools.lru_cache(maxsize=4)
+def _folder(prefix: str, real: str, front: str, names: Optional[Names], folders: Names, places: Places) -> Folder:
     held_in, told_in = (real if way is None else os.path.join(way, front) for way in (places.certificates, places.givens))
     beside = NONE if places.is_untrusted else names
     held = beside if places.certificates is None else _names(held_in)
@@ -216,11 +225,12 @@ def _folder(prefix: str, real: str, front: str, names: Optional[Names], places: 
             parts = _NUMBERED.fullmatch(name)
             if parts:
                 numbered.setdefault(parts[1], []).append((int(parts[2]), parts[3].lower(), held_in + name))
-    stems = Counter(stem for stem, suffix in [os.path.splitext(name) for name in names or ()] if suffix.lower() in SUFFIXES)
+    files = (names or NONE) - folders
+    stems = Counter(stem for stem, suffix in map(os.path.splitext, files) if suffix.lower() in SUFFIXES)
     numbers = frozenset(parts[1] for parts in map(_NUMBER.fullmatch, stems) if parts)
     whole = tuple((1, ENDINGS[0], place) for place in unlisted)
     is_apart = places.givens is not None and os.path.realpath(told_in) != os.path.realpath(real)
-    return Folder(prefix, real, front, names or NONE, stems, numbers, held or NONE, held_in, told, told_in, is_apart, numbered, whole)
+    return Folder(prefix, real, front, files, stems, numbers, held or NONE, held_in, told, told_in, is_apart, numbered, whole)
 
 
 def _found(folder: Folder, name: str) -> Found:
