@@ -54,9 +54,10 @@ export function freeName(name, taken) {
 
 /**
  * A text in a table of comma-separated values, as spreadsheets read it. One that they would take for a formula begins with an
- * apostrophe, also where its first sign is a wide or a small one.
+ * apostrophe, also where its first sign is a wide or a small one, and behind a semicolon, which ends a cell where decimals have commas.
  */
 export function valueText(text) {
-  const isFormula = /^[=+\-@]/.test(text.trimStart().normalize('NFKC'));
-  return `"${isFormula ? "'" : ''}${text.replaceAll('"', '""')}"`;
+  const isFormula = (part) => /^[=+\-@]/.test(part.trimStart().normalize('NFKC'));
+  const parts = text.split(';').map((part) => (isFormula(part) ? `'${part}` : part));
+  return `"${parts.join(';').replaceAll('"', '""')}"`;
 }

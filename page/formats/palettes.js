@@ -33,7 +33,7 @@ export function kindOfPalette(text) {
 
 // Three samples and what follows them, in a line with its number from 1.
 function colourOfLine(line, number) {
-  const found = /^\s*(\d{1,3})\s+(\d{1,3})\s+(\d{1,3})(?:\s+(.*))?$/.exec(line);
+  const found = /^(\d{1,3})\s+(\d{1,3})\s+(\d{1,3})(?:\s([^]*))?$/.exec(line.trim());
   const triple = found ? found.slice(1, 4).map(Number) : [];
   if (!found || triple.some((sample) => sample > 255)) throw new PaletteFault('BadColour', number);
   return { triple, name: (found[4] ?? '').trim() };
@@ -44,7 +44,7 @@ function readGpl(lines) {
   const colours = [];
   for (const [at, line] of lines.entries()) {
     if (at === 0 || !line.trim() || line.startsWith('#')) continue;
-    const head = /^(Name|Columns):\s*(.*)$/.exec(line);
+    const head = /^(Name|Columns):([^]*)$/.exec(line);
     if (head?.[1] === 'Name') name = head[2].trim();
     if (!head) colours.push(colourOfLine(line, at + 1));
   }

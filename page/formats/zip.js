@@ -6,6 +6,7 @@ import { inflated, joined } from './deflate.js';
 
 const MOST_ENTRIES = 20000;
 const MOST_ENTRY = 16 * 1024 * 1024; // bytes of one file in an archive
+const MOST_UNPACKED = 512 * 1024 * 1024; // of all that are read
 const [LOCAL, CENTRAL, END] = [0x04034b50, 0x02014b50, 0x06054b50];
 const UTF8 = 0x0800;
 const DATE = 0x21; // the first day that a zip can tell: archives of the same pictures are the same
@@ -78,6 +79,8 @@ export function zipEntries(bytes) {
     files.push({ size: unpackedSize(view, place), read: () => unpackedEntry(bytes, view, place) });
     at += 46 + title + extra + comment;
   }
+  const whole = files.reduce((sum, { size }) => sum + (size < Infinity ? size : 0), 0);
+  if (whole > MOST_UNPACKED) throw new FileFault(phrase('formats.archiveTooManyFiles'));
   const names = namesOf(titles);
   return files.map((file, at) => ({ name: names[at], ...file }));
 }

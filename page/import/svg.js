@@ -9,7 +9,7 @@ const UNITS = { '': 1, px: 1, pt: 4 / 3, pc: 16, in: 96, cm: 96 / 2.54, mm: 9.6 
 
 // A length in pixels; null for one in other units, or none.
 function lengthOf(text) {
-  const [, value, unit] = /^\s*\+?([\d.]+(?:e[+-]?\d+)?)\s*([a-z]*)\s*$/i.exec(text ?? '') ?? [];
+  const [, value, unit] = /^\+?([\d.]+(?:e[+-]?\d+)?)\s*([a-z]*)$/i.exec((text ?? '').trim()) ?? [];
   const length = Number(value) * UNITS[(unit ?? '').toLowerCase()];
   return length > 0 && length < Infinity ? length : null;
 }

@@ -89,7 +89,7 @@ export const DE = /** @type {const} */ ({
   'formats.paletteNoColours': 'sie hat keine Farben',
   'formats.paletteTooMany': 'sie hat mehr als {most} Farben',
   'formats.archiveDamaged': 'Das Archiv ist beschädigt.',
-  'formats.archiveTooManyFiles': 'Das Archiv hat zu viele Dateien.',
+  'formats.archiveTooManyFiles': 'Das Archiv hat zu viele oder zu große Dateien.',
   'formats.moreBytes': 'mehr als {most} Bytes',
   'formats.linkDamaged': 'Der Link ist beschädigt.',
   'formats.linkNoPicture': 'Der Link enthält kein Bild.',

@@ -89,7 +89,7 @@ export const EN = /** @type {const} */ ({
   'formats.paletteNoColours': 'it has no colours',
   'formats.paletteTooMany': 'it has more than {most} colours',
   'formats.archiveDamaged': 'The archive is damaged.',
-  'formats.archiveTooManyFiles': 'The archive has too many files.',
+  'formats.archiveTooManyFiles': 'The archive has too many files, or too large ones.',
   'formats.moreBytes': 'more than {most} bytes',
   'formats.linkDamaged': 'The link is damaged.',
   'formats.linkNoPicture': 'The link has no picture.',

@@ -89,7 +89,7 @@ export const FR = /** @type {const} */ ({
   'formats.paletteNoColours': 'elle n’a aucune couleur',
   'formats.paletteTooMany': 'elle a plus de {most} couleurs',
   'formats.archiveDamaged': 'L’archive est endommagée.',
-  'formats.archiveTooManyFiles': 'L’archive a trop de fichiers.',
+  'formats.archiveTooManyFiles': 'L’archive a trop de fichiers, ou de trop grands.',
   'formats.moreBytes': 'plus de {most} octets',
   'formats.linkDamaged': 'Le lien est endommagé.',
   'formats.linkNoPicture': 'Le lien ne contient pas d’image.',

@@ -92,6 +92,7 @@ test('the size of a drawing', () => {
     const size = (width, height, viewBox) => sizeOfSvg({ width, height, viewBox });
     assert.deepEqual([size('24', '12px'), size('1in', '25.4mm'), size('72pt', '6pc')], [[24, 12], [96, 96], [96, 96]]);
     assert.deepEqual([size(null, null, '0 0 30 60'), size('100%', '100%', '0,0,16,8'), size('90', null, '0 0 30 60'), size(null, '30', '0 0 30 60')], [[30, 60], [16, 8], [90, 180], [15, 30]]);
+    assert.deepEqual(size(`1${' '.repeat(1e6)}!`, '5'), [5, 5], 'at once');
     assert.deepEqual([size(null, null, null), size('100%', '50%', 'x'), size('0', '0', '0 0 0 5')], [[512, 512], [512, 512], [512, 512]]);
 });
 

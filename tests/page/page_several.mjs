@@ -256,6 +256,13 @@ test('in an archive, names that are no UTF-8 stay apart', async () => {
     assert.deepEqual([docs.map(({ doc }) => givensOf(doc)), unread.length], [[[]], 1]);
 });
 
+test('an archive that unpacks to more than 512 MiB is refused before anything is unpacked', async () => {
+    const zip = writeZip(Array.from({ length: 40 }, (_, at) => ({ name: `${at}.xml`, bytes: bytesOf('<puzzle/>') })));
+    const view = new DataView(zip.buffer, zip.byteOffset);
+    for (let at = 0; at < zip.length - 4; at++) if (view.getUint32(at, true) === 0x02014b50) view.setUint32(at + 24, 2 ** 24, true);
+    await assert.rejects(readArchive(zip), /too large/);
+});
+
 test('each file of an archive is unpacked by itself: one that is damaged leaves the others, and none is unpacked before its turn', async () => {
     const zip = writeZip(['a.ppm', 'b.ppm'].map((name) => ({ name, bytes: bytesOf(TWO_WAYS) })));
     zip[Buffer.from(zip).lastIndexOf('P3')] ^= 85;
@@ -340,4 +347,5 @@ test('no text of a table is a formula of a spreadsheet', () => {
     }
     for (const text of ['', '1', 'a=1', "'=1", '\u22121']) assert.equal(valueText(text), `"${text}"`);
     assert.equal(valueText('="'), `"'="""`);
+    assert.equal(valueText('b;=1;2; -3'), `"b;'=1;2;' -3"`);
 });
