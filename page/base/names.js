@@ -4,9 +4,9 @@ import { phrase } from '../texts/phrase.js';
 import { capital } from './words.js';
 
 /** @type {Record<string, import('../texts/phrase.js').PlainPhrase>} */
-const GRADES = { easy: 'base.easy', medium: 'base.medium', hard: 'base.hard', 'very-hard': 'base.veryHard', expert: 'base.expert' };
+const GRADES = { __proto__: null, easy: 'base.easy', medium: 'base.medium', hard: 'base.hard', 'very-hard': 'base.veryHard', expert: 'base.expert' };
 /** @type {Record<string, import('../texts/phrase.js').PlainPhrase>} */
-const VERDICTS = { unique: 'base.unique', ambiguous: 'base.ambiguous', undecided: 'base.undecided' };
+const VERDICTS = { __proto__: null, unique: 'base.unique', ambiguous: 'base.ambiguous', undecided: 'base.undecided' };
 
 // A library of earlier versions has the word with a blank.
 const keyOf = (word) => word?.replace(' ', '-');
@@ -22,7 +22,7 @@ export const verdictPlace = (word) => Object.keys(VERDICTS).indexOf(word);
 export const verdictName = (word) => (VERDICTS[word] ? phrase(VERDICTS[word]) : word);
 
 /** The signs of verdicts, and a verdict with its sign as a title. */
-export const VERDICT_SIGNS = { unique: '✓', ambiguous: '≠', undecided: '?' };
+export const VERDICT_SIGNS = { __proto__: null, unique: '✓', ambiguous: '≠', undecided: '?' };
 export const verdictTitle = (word) => `${VERDICT_SIGNS[word]} ${capital(verdictName(word))}`;
 
 /** What the line of a grade in a description begins with: the same in all languages. */

@@ -3,6 +3,7 @@
 import assert from 'node:assert/strict';
 import { test } from 'node:test';
 import { needsModule, saidLine, workers } from '../../page/test/worker.mjs';
+import { gradeName, verdictTitle } from '../../page/base/names.js';
 import { baseOf } from '../../page/document/cover.js';
 import { docOf, emptyDoc, packedDoc, sameDoc } from '../../page/document/document.js';
 import { Client } from '../../page/engine/client.js';
@@ -10,7 +11,7 @@ import { crcOf, writeZip } from '../../page/formats/zip.js';
 import { readZip } from '../../page/test/zips.mjs';
 import { archiveOf, readArchive } from '../../page/import/archives.js';
 import { Keeper } from '../../page/library/keeper.js';
-import { cardOf, readRecord, recordOf, recordOfDoc } from '../../page/library/records.js';
+import { cardOf, readCard, readRecord, recordOf, recordOfDoc } from '../../page/library/records.js';
 import { claim, localShelf, memoryShelf, openShelf } from '../../page/library/shelf.js';
 
 class Full extends Error {
@@ -66,6 +67,8 @@ test('of strokes that take much room the last ones are kept', () => {
 test('damaged records are none, and damaged strokes leave the document', () => {
     const good = json(recordOf(benchOf(painted(emptyDoc(3, 2), 0), [emptyDoc(3, 2)]), 'x'));
     assert.equal(readRecord(good).strokes.past.length, 1);
+    const odd = readCard({ ...cardOf(good), verdict: 'constructor', grade: 'constructor', when: -Infinity });
+    assert.deepEqual([odd.when, gradeName(odd.grade), typeof verdictTitle(odd.verdict)], [0, 'constructor', 'string'], 'a card with other words and no time is shown');
     for (const wrong of [null, 'x', {}, { ...good, version: 3 }, { ...good, doc: { ...good.doc, picture: ['z..', '...'] } }, { ...good, doc: null }, { ...good, id: 3 }]) assert.equal(readRecord(wrong), null);
     for (const past of [null, 'x', [{ rows: [[9, '...']] }], [{ rows: [[0, 'zzz']] }], [{ whole: {} }], [null]]) {
         const read = readRecord({ ...good, past });
