@@ -12,6 +12,7 @@ const ROOT = fileURLToPath(new URL('../..', import.meta.url));
 const DOCS = join(ROOT, 'docs');
 const MOST_MS = 60000; // for a search
 const SETTLED_MS = 2000; // until a dialog has its verdict
+const TAKEN_MS = 300; // a press just after a proposal came is refused
 
 const SHOTS = {
     mended: { width: 420, height: 560, touch: true, take: mended },
@@ -40,6 +41,7 @@ async function mended({ trial, page }) {
     await shoot(page, 'ambiguous');
     await page.run(() => runAction('fix'));
     await page.until(() => !searches.running && document.querySelector('#fix-list button') !== null, MOST_MS);
+    await pause(TAKEN_MS);
     await page.click('#fix-list button');
     await page.until(() => bench.state.verdict.word === 'unique' && document.getElementById('said').textContent !== '', MOST_MS);
     await page.run(() => { for (const id of ['fix-close', 'said']) document.getElementById(id).click(); });
