@@ -246,8 +246,7 @@ function showFound() {
   if (!isOfThis()) {
     preview(null);
     listProposals($('fix-list'), [], HEARS);
-    fixSays('');
-    return;
+    return fixSays('');
   }
   if (![null, fixing.near, ...fixing.found].includes(fixing.shown)) preview(null);
   if ($('fix-list').matches(':active')) fixing.frame = requestAnimationFrame(showFound); // a press ends where it began
@@ -273,10 +272,7 @@ function groups() {
   return [all, ...apart, others].filter(({ items }) => items.length);
 }
 
-function keep(one, is) {
-  if (is) fixing.kept.add(one);
-  else fixing.kept.delete(one);
-}
+const keep = (one, is) => (is ? fixing.kept.add(one) : fixing.kept.delete(one));
 
 /** Shows a proposal on the sheet, with a frame around each of its cells, or takes that back. */
 function preview(one) {
