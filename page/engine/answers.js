@@ -111,9 +111,7 @@ function readAxis(reader, letter, count) {
   return clues;
 }
 
-function readClues(reader, size) {
-  return { rows: readAxis(reader, 'r', size?.rows), columns: readAxis(reader, 'c', size?.columns) };
-}
+const readClues = (reader, size) => ({ rows: readAxis(reader, 'r', size?.rows), columns: readAxis(reader, 'c', size?.columns) });
 
 function readColours(reader) {
   const [count, maxval] = numbers(reader.match(COLOURS, 'the colours'), 1);

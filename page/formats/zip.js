@@ -52,11 +52,7 @@ const damaged = () => new FileFault(phrase('formats.archiveDamaged'));
 // The names of files: all UTF-8, or else a letter for each byte, so that two names stay two.
 function namesOf(titles) {
   const decoded = (...kind) => titles.map((title) => new TextDecoder(...kind).decode(title));
-  try {
-    return decoded('utf-8', { fatal: true, ignoreBOM: true });
-  } catch {
-    return decoded('windows-1252');
-  }
+  try { return decoded('utf-8', { fatal: true, ignoreBOM: true }); } catch { return decoded('windows-1252'); }
 }
 
 /**

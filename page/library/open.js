@@ -66,8 +66,7 @@ export async function openRecord(id) {
     say(phrase('library.pictureLibraryDamagedCould'), 'alarm');
     return false;
   }
-  const { doc, ...how } = record;
-  return openDoc(doc, how);
+  return openDoc(record.doc, record);
 }
 
 const OPEN_FAULTS = {

@@ -36,7 +36,6 @@ function lockOutside(says) {
   });
 }
 
-
 /** Tells how much is locked. */
 export function showLocks() {
   const { state } = bench;

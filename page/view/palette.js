@@ -20,7 +20,6 @@ import { colourText, dress, inkName, nearText } from './dress.js';
 import { setDown } from './select.js';
 import { heard, tools, useColour } from './tools.js';
 
-
 const palette = {
   row: make('div', { id: 'palette', role: 'radiogroup', 'aria-label': phrase('view.colourLabel') }),
   text: make('p', { id: 'colour-text', class: 'faint' }),

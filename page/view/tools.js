@@ -141,9 +141,7 @@ export function dropDrag() {
   sheet.drawMarks();
 }
 
-export function paintCells(cells, letter = tools.colour) {
-  return paintPlaces(new Set(cells.map(indexAt)), letter);
-}
+export const paintCells = (cells, letter = tools.colour) => paintPlaces(new Set(cells.map(indexAt)), letter);
 
 /** Places in one colour, shown until it is answered. */
 export function paintPlaces(places, letter) {

@@ -2,7 +2,6 @@
 
 from __future__ import annotations
 
-import contextlib
 import functools
 import hashlib
 import os
@@ -155,7 +154,7 @@ def find(paths: list[str], places: Places = Places()) -> Iterator[Found]:
             yield from _below(real, prefix, front_of(path) if several else "", places)
         else:
             folder, real = (os.path.join(os.path.dirname(way), "") for way in (path, real))
-            yield _found(_folder(folder, real, "", _names(real or "."), _folders(real or "."), places), os.path.basename(path))
+            yield _found(_folder(folder, real, "", _listed(real), places), os.path.basename(path))
 
 
 def _real(path: str) -> str:
@@ -185,7 +184,7 @@ def _steps(real: str, prefix: str, front: str, places: Places) -> Iterator[Any]:
     except OSError:
         yield Found(real, shown(prefix.rstrip("/") or real or "."), front, (), None, None)
         return
-    folder = _folder(prefix, real, front, frozenset(folders), frozenset(filter(folders.get, folders)), places)
+    folder = _folder(prefix, real, front, frozenset(folders.items()), places)
     for name in sorted(folders, key=shown):
         if folders[name]:
             yield _steps(real + name + "/", prefix + name + "/", front + name + "/", places)
@@ -194,30 +193,28 @@ def _steps(real: str, prefix: str, front: str, places: Places) -> Iterator[Any]:
 
 
 @functools.lru_cache(maxsize=4)
-def _names(folder: str) -> Optional[Names]:
-    """The names in a folder, of which there are none where it is missing; nothing where it cannot be listed."""
+def _listed(folder: str) -> Optional[frozenset[tuple[str, bool]]]:
+    """The names in a folder, each with whether it is a folder's: none where the folder is missing, nothing where it cannot be listed."""
     try:
-        return frozenset(os.listdir(folder))
+        with os.scandir(folder or ".") as entries:
+            return frozenset((entry.name, entry.is_dir(follow_symlinks=False)) for entry in entries)
     except (FileNotFoundError, NotADirectoryError):
-        return NONE
+        return frozenset()
     except OSError:
         return None
 
 
-@functools.lru_cache(maxsize=4)
-def _folders(folder: str) -> Names:
-    """The names of folders in a folder, as far as it can be listed."""
-    with contextlib.suppress(OSError), os.scandir(folder) as entries:
-        return frozenset(entry.name for entry in entries if entry.is_dir(follow_symlinks=False))
-    return NONE
+def _names(listed: Optional[frozenset[tuple[str, bool]]]) -> Optional[Names]:
+    return None if listed is None else frozenset(name for name, _ in listed)
 
 
 @functools.lru_cache(maxsize=4)
-def _folder(prefix: str, real: str, front: str, names: Optional[Names], folders: Names, places: Places) -> Folder:
+def _folder(prefix: str, real: str, front: str, listed: Optional[frozenset[tuple[str, bool]]], places: Places) -> Folder:
+    names = _names(listed)
     held_in, told_in = (real if way is None else os.path.join(way, front) for way in (places.certificates, places.givens))
     beside = NONE if places.is_untrusted else names
-    held = beside if places.certificates is None else _names(held_in)
-    told = beside if places.givens is None else _names(told_in)
+    held = beside if places.certificates is None else _names(_listed(held_in))
+    told = beside if places.givens is None else _names(_listed(told_in))
     unlisted = [place or "." for place, listed in ((real, names), (held_in, held)) if listed is None]
     numbered: dict[str, list[Named]] = {}
     if any(name.lower().endswith(".xml") for name in names or ()):
@@ -225,7 +222,7 @@ def _folder(prefix: str, real: str, front: str, names: Optional[Names], folders:
             parts = _NUMBERED.fullmatch(name)
             if parts:
                 numbered.setdefault(parts[1], []).append((int(parts[2]), parts[3].lower(), held_in + name))
-    files = (names or NONE) - folders
+    files = frozenset(name for name, is_folder in listed or () if not is_folder)
     stems = Counter(stem for stem, suffix in map(os.path.splitext, files) if suffix.lower() in SUFFIXES)
     numbers = frozenset(parts[1] for parts in map(_NUMBER.fullmatch, stems) if parts)
     whole = tuple((1, ENDINGS[0], place) for place in unlisted)
