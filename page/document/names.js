@@ -27,6 +27,7 @@ export function namesOf({ colours, maxval = 255, inks = [] }, whole = WHOLE) {
     if (!name) continue;
     const alike = [...plain.keys()].filter((one) => plain[one] === name).sort((one, other) => lightness(triples[other]) - lightness(triples[one]) || one - other);
     let told = toldApart(name, alike.indexOf(at), alike.length);
+    if (!whole[hexes[at]] && Object.values(whole).includes(told) && names.includes(told)) told = phrase(told === WHOLE.ffffff ? 'document.darker' : 'document.lighter', { name });
     while (names.includes(told)) told = `${told} (${LETTERS[at]})`;
     names[at] = told;
   }

@@ -310,7 +310,7 @@ export async function givensAndColours({ browser, url, folder }) {
     }, canvas, x, y, side);
     const { at, cell } = await page.run(() => ({ at: [[0, 0], [0, 2], [1, 1]].map(([row, col]) => [sheet.geometry.x(col), sheet.geometry.y(row)]), cell: sheet.geometry.cell }));
     for (const [x, y] of at) assert.equal(await diamond('.cells', x, y, cell), '255,255,255');
-    assert.match(await trial.text('#near'), /“black” \(a\) and “black” \(b\)|the background and “white” \(c\)/);
+    assert.match(await trial.text('#near'), /the background and “darker white” \(c\); “black” \(a\) and “lighter black” \(b\)/);
     await page.run(() => { window.print = () => {}; });
     await page.run(() => document.querySelector('[data-action="export-empty"]').click());
     await page.until(() => /cannot tell the clues apart/.test(document.body.textContent), 3000 * SLACK);

@@ -138,6 +138,7 @@ test('names of colours in the legend differ', () => {
     const inXml = (doc, whole) => inksOf({ ...doc, inks: whole }).map(({ name }) => name);
     for (const inks of [[], [{}, { name: 'sea' }], [{}, {}, { name: 'blue' }], [{}, { name: 'blue 1' }, { name: 'blue 1' }]]) assert.deepEqual(inXml(three, inks), namesOf({ ...three, inks }), 'in XML as on paper');
     assert.deepEqual(namesOf({ ...two, inks: [{}, {}, { name: 'blue' }] }), ['white', 'blue (a)', 'blue', 'red'], 'its own name stays');
+    assert.deepEqual(namesOf(docOf(['abc'], [[255, 255, 255], [0, 0, 0], [12, 12, 12], [250, 250, 250]])), ['white', 'black', 'lighter black', 'darker white'], 'near white and near black');
     assert.deepEqual(legendOf(CROSS, 'colours'), [], 'black on white needs none');
     assert.deepEqual(legendOf(docOf(['a.'], [[0, 0, 40], [200, 40, 40]]), 'colours').map(({ text }) => text), ['red', 'background: very dark blue']);
 });
