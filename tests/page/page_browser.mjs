@@ -164,7 +164,7 @@ export class Page {
             const parts = name === '+' ? ['+'] : name.split('+');
             const key = parts.pop();
             const modifiers = parts.reduce((sum, one) => sum | MODIFIERS[one], 0);
-            const [code, number, text] = NAMED[key] ?? [key.length === 1 && /[a-z]/i.test(key) ? `Key${key.toUpperCase()}` : '', key.toUpperCase().charCodeAt(0), key];
+            const [code, number, text] = NAMED[key] ?? [key.length === 1 && /[a-z]/i.test(key) ? `Key${key.toUpperCase()}` : '', /\w/.test(key) ? key.toUpperCase().charCodeAt(0) : 0, key]; // the number of '.' would be that of Delete
             const what = { key, code, windowsVirtualKeyCode: number, modifiers };
             await this.send('Input.dispatchKeyEvent', { type: text && !(modifiers & 7) ? 'keyDown' : 'rawKeyDown', text: modifiers & 7 ? undefined : text, ...what });
             await this.send('Input.dispatchKeyEvent', { type: 'keyUp', ...what });
