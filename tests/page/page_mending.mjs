@@ -147,13 +147,13 @@ export async function repairsOfSeveralCells({ trial, page }) {
     assert.deepEqual(await trial.picture(), before);
 }
 
-/** Where two colours have one name, a proposal has their letters, too. */
+/** Two colours that are called white have names of their own in a proposal. */
 export async function sameNamesToldApart({ trial, page }) {
     await trial.open(ppmOf(PAIR, { '.': '255 255 255', a: '250 250 250' }), 'whites');
     assert.equal(await trial.judged(), 'ambiguous');
     await trial.action('fix');
     await listed(page);
-    assert.match(await page.run(() => document.querySelector('#fix-list button').ariaLabel), /^1 cell: row [12], column [12]: the background to “white” \(a\)/);
+    assert.match(await page.run(() => document.querySelector('#fix-list button').ariaLabel), /^1 cell: row [12], column [12]: white to darker white/);
 }
 
 export async function repairsHeedLocks({ trial, page }) {
@@ -225,7 +225,7 @@ export async function gradeBeside({ trial, page }) {
     assert.equal(await trial.text('#publish'), 'yes');
     await trial.open(ppmOf(['.a.', 'aa.', '...'], { '.': '255 255 255', a: '250 250 250' }), 'whites');
     await trial.judged();
-    await page.until(() => document.getElementById('publish').textContent === 'no: the background and “white” (a) look alike', 20000 * SLACK);
+    await page.until(() => document.getElementById('publish').textContent === 'no: the background and “darker white” (a) look alike', 20000 * SLACK);
     await trial.open(ppmOf(GUESS), 'guess');
     await trial.judged();
     await graded('very hard (8 open cells, 1 split, depth 1;');

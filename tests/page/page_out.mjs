@@ -466,5 +466,5 @@ export async function othersPoint(hands, { page, trial, own }) {
     await hands.press('dialog .buttons button:nth-child(2)');
     const sheet = await downloaded(page, own, '.svg');
     assert.equal(sheet.name, 'No.5  a cat-print.svg');
-    assert.match(sheet.content.toString(), />darker blue<.*>lighter blue</);
+    assert.match(sheet.content.toString(), />darker blue<[^]*>lighter blue</);
 }
