@@ -283,7 +283,7 @@ export async function titlesKeepGrades({ trial, page }) {
     await titled('T');
     await page.until(() => bench.state.about.title === 'T', 5000 * SLACK);
     await page.run(() => keep.keeper.hurry());
-    await card('one easy');
+    await card('T easy');
     await page.run(() => { runAction('about'); });
     await opened('two');
     await titled('U');
