@@ -249,7 +249,7 @@ function showFound() {
     return fixSays('');
   }
   if (![null, fixing.near, ...fixing.found].includes(fixing.shown)) preview(null);
-  if ($('fix-list').matches(':active')) fixing.frame = requestAnimationFrame(showFound); // a press ends where it began
+  if ($('fix-list').querySelector('li :active')) fixing.frame = requestAnimationFrame(showFound); // a press ends where it began
   else listProposals($('fix-list'), groups(), HEARS);
 }
 
