@@ -28,7 +28,7 @@ MOST_SHOWN = 200
 MOST_OPEN = 500  # connections
 MOST_FILES = 4096  # descriptors: waitress takes up to three for each connection
 MOST_PARTS = 8  # of a form, with what stands before and behind them
-MOST_HEAD = 4096  # of what is said of a form or a part
+MOST_HEAD = 4096  # of what is said of a form, and of its parts
 BLANKS = re.compile(r"\s{100}")  # of a header, for which waitress or Werkzeug takes long; as waitress does for bodies in small pieces
 COMMENTS = re.compile(rb"(?:#[^\r\n]*\s*){1,999}")  # of a picture, some at a time, since each match takes memory
 ODD_CODING = re.compile(rb"charset(?!=\"?utf-?8\b)", re.IGNORECASE)
@@ -206,8 +206,9 @@ def look_at_form():
     if boundary is None:  # of `boundary` without `=`
         abort(400)
     mark = b"--" + boundary.encode()
-    heads = [part.partition(b"\r\n\r\n")[0] for part in request.get_data(parse_form_data=False).split(mark, MOST_PARTS)]
-    if len(heads) > MOST_PARTS or any(takes_long(head.decode("utf-8", "replace")) or ODD_CODING.search(head) for head in heads):
+    # All that Werkzeug may take for heads, and more: it ends them sooner, and passes over empty lines in front of them.
+    heads = [part.lstrip().partition(b"\r\n\r\n")[0] for part in request.get_data(parse_form_data=False).split(mark, MOST_PARTS)]
+    if len(heads) > MOST_PARTS or takes_long(b"".join(heads).decode("utf-8", "replace")) or any(map(ODD_CODING.search, heads)):
         abort(400)
 
 

@@ -288,6 +288,9 @@ class Site(Case):
                      b";" + b"\f" * 3900 + b";q", ";{};q".format("\u2003" * 1300).encode()):
             with self.subTest(head[:60]):
                 self.assertEqual(send(head, b"a" * 200_000).status_code, 400)
+        for gap in (b"\r\n", b" \t\r\n", b"\r\n\r\n", b"\n", b"\r", b"\x0b\r\n\x0c"):
+            self.assertEqual(send(b"", b"a\r\n--x" + gap + b"\r\n" + front[5:] + b";" + b"\f" * 8000 + b";q\r\n\r\nx").status_code, 400)
+        self.assertEqual(send(b"", b"a\r\n--x\r\n" + front[5:] + b"; q=--x" * 6 + b"; q=" + b"--x;" * 2 + b"a=b;" * 900).status_code, 400)
         self.assertEqual(send(b"", b"\r\n--x" * 300_000).status_code, 400)
         self.assertEqual(send(b"", b"a&" * 1_000_000, "application/x-www-form-urlencoded").status_code, 422)
         self.assertEqual(send(b"", b"a" * (3 << 20)).status_code, 413)
