@@ -48,9 +48,9 @@ export function freeName(name, taken) {
 
 /**
  * A text in a table of comma-separated values, as spreadsheets read it. One that they would take for a formula begins with an
- * apostrophe, also where its first sign is a wide or a small one, and behind a semicolon, which ends a cell where decimals have commas.
+ * apostrophe, also where its first sign is a wide or a small one, and behind quotes, or a semicolon, which may end a cell.
  */
 export function valueText(text) {
-  const parts = text.split(';').map((part) => (/^[=+\-@]/.test(part.trimStart().normalize('NFKC')) ? `'${part}` : part));
+  const parts = text.split(';').map((part) => (/^[=+\-@]/.test(part.replaceAll('"', ' ').trimStart().normalize('NFKC')) ? `'${part}` : part));
   return `"${parts.join(';').replaceAll('"', '""')}"`;
 }

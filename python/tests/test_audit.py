@@ -492,7 +492,7 @@ class Running(Case):
             cells = csv_cells({"file": "one.ppm", "title": title})
             self.assertEqual(cells[2], "'" + printable(title))
         # Some spreadsheets take a semicolon for the end of a cell.
-        for title, plain in (("a;=1", "a;'=1"), ("a; +1;;-1", "a;' +1;;'-1"), ("=1;\uff1d1", "'=1;'\uff1d1")):
+        for title, plain in (("a;=1", "a;'=1"), ("a; +1;;-1", "a;' +1;;'-1"), ("=1;\uff1d1", "'=1;'\uff1d1"), ('a;"=1"', "a;'\"=1\"")):
             self.assertEqual(csv_cells({"file": "one.ppm", "title": title})[2], plain)
         for title in ("1", "a=1", "a;1", "'=1", "\u22121", "\uff11"):
             self.assertEqual(csv_cells({"file": "one.ppm", "title": title})[2], title)

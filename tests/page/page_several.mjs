@@ -347,5 +347,5 @@ test('no text of a table is a formula of a spreadsheet', () => {
     }
     for (const text of ['', '1', 'a=1', "'=1", '\u22121']) assert.equal(valueText(text), `"${text}"`);
     assert.equal(valueText('="'), `"'="""`);
-    assert.equal(valueText('b;=1;2; -3'), `"b;'=1;2;' -3"`);
+    assert.equal(valueText('b;=1;2; -3; "=4'), `"b;'=1;2;' -3;' ""=4"`);
 });

@@ -175,7 +175,7 @@ def printable(text: str) -> str:
 
 def csv_cells(row: Row) -> list[Any]:
     """The cells of a row in the order of COLUMNS. A text that a spreadsheet would take for a formula begins with an apostrophe, also
-    where its first sign is a wide or a small one, and behind a semicolon, which ends a cell where decimals have commas.
+    where its first sign is a wide or a small one, and behind quotes and a semicolon, which ends a cell where decimals have commas.
     """
     cells: Row = {**row, "flaws": "; ".join(flaw_words(row)), "certificate": certificate_words(row)}
     cells.update({f"grade_{name}": figure for name, figure in row.get("figures", {}).items()})
@@ -191,4 +191,4 @@ def _plain(cell: Any) -> Any:
 
 
 def _no_formula(text: str) -> str:
-    return "'" + text if unicodedata.normalize("NFKC", text.lstrip()).startswith(("=", "+", "-", "@")) else text
+    return "'" + text if unicodedata.normalize("NFKC", text.replace('"', " ").lstrip()).startswith(("=", "+", "-", "@")) else text
