@@ -11,7 +11,7 @@ import { givenCorners } from '../draw/given.js';
 import { smallPicture } from '../draw/small.js';
 import { LINE_WORDS } from '../repair/aiming.js';
 import { phrase } from '../texts/phrase.js';
-import { inkName, letterName } from './dress.js';
+import { inkName } from './dress.js';
 
 const MOST_NAMED = 3; // cells that are named one by one
 const SIDE = 96; // pixels of a picture
@@ -107,9 +107,7 @@ function leftOf({ goal, far, open }) {
 function paintedText({ state, cells }) {
   if (cells.length > 1) return `${phrase('view.cells', { cells: cells.length })}: ${namedOf(state, cells.map(({ index }) => index))}`;
   const [{ index, colour }] = cells;
-  const ends = [letterAt(state, index), LETTERS[colour]];
-  const names = ends.map((letter) => inkName(state, letter));
-  const [from, to] = names[0] === names[1] ? ends.map((letter) => letterName(state, letter)) : names;
+  const [from, to] = [letterAt(state, index), LETTERS[colour]].map((letter) => inkName(state, letter));
   return `${phrase('view.oneCell', { place: placeText(state, index) })}${from}${phrase('view.to')}${to}`;
 }
 
