@@ -1216,6 +1216,13 @@ class Again(Case):
         self.put("set.givens", "")
         self.rows("site", "--allow", "9", "--resume", status=1)
 
+    @pytest.mark.since("0.7.0")
+    def test_resume_minds_the_bound_of_a_given_that_may_be_needless(self):
+        self.put("one.ppm", p3_of_letters(["aa..a..", ".aaa.aa", "...a.aa", ".aa.aa.", ".aa..a.", ".aaa.a.", "..aaaaa"]))
+        self.put("one.givens", "given 1 1\n")
+        self.assertEqual(self.rows("site", "--allow", "0", status=0)["site/one.ppm"]["unknown"], [1, 1])
+        self.assertEqual(self.rows("site", "--allow", "50000", "--resume", status=1)["site/one.ppm"]["flaws"], ["given 1 1"])
+
     def test_resume_after_a_run_that_was_stopped_within_a_file(self):
         self.put("set.xml", "<puzzleset>" + webpbn(UNIQUE) * 2 + "</puzzleset>")
         self.rows("site", "--allow", "9", status=0)

@@ -80,7 +80,7 @@ def content_before(rows: list[tuple[int, Row]], made: str, limit: str, to: Optio
     for _, row in rows:
         if row.get("made") != made or "note" in row or "missing" in row:
             return ""
-        if row["verdict"] == "undecided" and row.get("limit") != limit:
+        if (row["verdict"] == "undecided" or "unknown" in row) and row.get("limit") != limit:
             return ""
         if row.get("error", "").startswith("out of memory"):
             return ""

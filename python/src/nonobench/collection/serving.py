@@ -261,7 +261,7 @@ class Judging:
         if self._settings.has_times:
             row["seconds"] = round(task.spent + time.perf_counter() - about.begun, 6)
         row.update(content=about.content, sha256=about.sha256, made=self._settings.made)
-        if row["verdict"] == "undecided":
+        if row["verdict"] == "undecided" or "unknown" in row:
             row["limit"] = self._settings.limit
         self._answers.put(task.number, kind, row["verdict"], text_of(row), certificate)
 
