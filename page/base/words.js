@@ -46,10 +46,7 @@ export function freeName(name, taken) {
   }
 }
 
-/**
- * A text in a table of comma-separated values, as spreadsheets read it. One that they would take for a formula begins with an
- * apostrophe, also where its first sign is a wide or a small one, and behind quotes, or a semicolon, which may end a cell.
- */
+/** A text in a table of comma-separated values. What spreadsheets take for a formula, perhaps behind a semicolon, begins with an apostrophe. */
 export function valueText(text) {
   const parts = text.split(';').map((part) => (/^[=+\-@]/.test(part.replaceAll('"', ' ').trimStart().normalize('NFKC')) ? `'${part}` : part));
   return `"${parts.join(';').replaceAll('"', '""')}"`;

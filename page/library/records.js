@@ -82,8 +82,7 @@ export function readCard(value) {
   try {
     if (typeof value.id !== 'string') return null;
     const text = (one) => (typeof one === 'string' ? one.slice(0, 80) : null);
-    const time = new Date(value.when).getTime() || 0; // 0 for what is no time
-    return { ...value, name: String(value.name).slice(0, 200), when: time, size: Number(value.size) || 0, verdict: text(value.verdict), grade: text(value.grade), doc: unpackedDoc(value.doc) };
+    return { ...value, name: String(value.name).slice(0, 200), when: new Date(value.when).getTime() || 0, size: Number(value.size) || 0, verdict: text(value.verdict), grade: text(value.grade), doc: unpackedDoc(value.doc) };
   } catch {
     return null;
   }

@@ -169,6 +169,13 @@ def test_files_of_a_picture_that_is_called_as_another_one_with_its_suffix(site, 
     assert checked("site", "--givens", "ours") == (1, ["site/one.ppm.cert: certificate UnpublishedGiven at line 2"])
 
 
+def test_a_folder_that_cannot_be_searched_is_not_empty(site, checked, tmp_path):
+    pair(site / "sub", "one", CROSS, ONE)
+    (tmp_path / "ours").mkdir()
+    (tmp_path / "ours" / "sub").symlink_to("sub")
+    assert checked("site", "--givens", "ours") == (3, ["site/sub/one.cert: its givens: this is a link"])
+
+
 def test_givens_and_backgrounds_of_the_site_and_not_of_strangers(site, checked, tmp_path):
     # By a magenta background, which no cell has, the white cells are coloured too, and the cross has one solution.
     filled = "nonocert 1\nline r 1\nline r 2\ndone\n"

@@ -7,6 +7,7 @@ nothing but regular files is read.
 from __future__ import annotations
 
 import argparse
+import errno
 import itertools
 import os
 import queue
@@ -114,11 +115,20 @@ class Site:
         if self._published is None:
             return None
         # Beside pictures, a file that is called after the whole name is that of the picture with this name and the suffix.
-        is_other = self._published == self._folder and os.path.lexists(os.path.join(self._folder, f"{stem}.ppm.ppm"))
+        is_other = self._published == self._folder and not _is_missing(os.path.join(self._folder, f"{stem}.ppm.ppm"))
         whole = stem if is_other else f"{stem}.ppm"
         paths = [os.path.join(self._published, name) for name in finding.called_beside(whole, stem, f".{ending}")]
-        path = next(filter(os.path.lexists, paths), None)
+        path = next(itertools.filterfalse(_is_missing, paths), None)
         return None if path is None else _read(f"its {ending}: ", path, most)
+
+
+def _is_missing(path: str) -> bool:
+    """Whether nothing is there. Where that cannot be told, it cannot be read either."""
+    try:
+        os.lstat(path)
+        return False
+    except OSError as error:
+        return error.errno in (errno.ENOENT, errno.ENOTDIR, errno.ENAMETOOLONG)
 
 
 def _read(whose: str, path: str, most: int) -> bytes:
