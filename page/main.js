@@ -104,15 +104,8 @@ function keepOffline() {
 
 function hearBench() {
   on('opened', () => {
-    document.body.classList.remove('starting');
-    $('start').hidden = true;
     Object.assign(cursor, { row: 0, col: 0 });
     gridCell().focus({ preventScroll: true }); // what was used on the start screen is gone: the arrows go on here
-  });
-  on('closed', () => {
-    document.body.classList.add('starting');
-    $('work').hidden = true;
-    $('start').hidden = false;
   });
   on('shown', () => {
     for (const id of ['undo', 'redo']) $('quick').querySelector(`[data-action="${id}"]`).disabled = !actions.get(id).can();

@@ -55,9 +55,9 @@ export class Bench {
       const state = await openedIn(engine, base, page);
       this.engine?.end();
       for (const item of this.queue.splice(0)) item.resolve([]);
-      const docs = [...strokes.past, docOf(state), ...strokes.future];
+      const docs = [...strokes.past, docOf(state), ...strokes.future].map((doc) => ({ ...doc, about: state.about }));
       const made = docs.slice(1).map((after, at) => ({ lines: [], live: false, before: docs[at], after }));
-      const [past, future] = [made.slice(0, strokes.past.length), made.slice(strokes.past.length).reverse()];
+      const [past, future] = [made.slice(0, strokes.past.length), made.slice(strokes.past.length).reverse()].map((all) => all.filter(({ before, after }) => !sameDoc(before, after)));
       Object.assign(this, { engine, state, name, past, future, isCut: past.length >= MOST_STROKES, running: false, term: {}, savedDoc: isSaved ? docOf(state) : null, searched: null });
     } catch (fault) {
       engine.end();
@@ -67,14 +67,6 @@ export class Bench {
     this.show();
     this.run();
     return this.state;
-  }
-
-  close() {
-    this.engine?.end();
-    for (const item of this.queue.splice(0)) item.resolve([]);
-    Object.assign(this, { engine: null, state: null, past: [], future: [], running: false, term: {}, savedDoc: null });
-    tell('busy', false);
-    tell('closed', null);
   }
 
   // ---- strokes
@@ -101,7 +93,7 @@ export class Bench {
     return this.put({ way: 'new', make, cells });
   }
 
-  /** Makes the document another one, or what a function makes of it (null: nothing), as one stroke: by commands where they can, else it is opened anew. */
+  /** Makes the document another one, or what a function makes of it (null: nothing), as one stroke: by commands where they can, else it is opened anew. Of texts about the puzzle alone it is none. */
   become(doc, cells = null) {
     const make = typeof doc === 'function' ? doc : () => doc;
     const made = this.isIdle ? make(docOf(this.state)) : null;
@@ -223,10 +215,10 @@ export class Bench {
   }
 
   async sendBecome(item) {
+    const doc = docOf(item.make(docOf(this.state)) ?? this.state);
+    this.state = { ...this.state, about: doc.about }; // which no undo takes back
     const before = docOf(this.state);
-    const made = item.make(before);
-    const doc = made && docOf(made);
-    if (!doc || sameDoc(doc, before)) return [];
+    if (sameDoc(doc, before)) return [];
     const lines = linesTo(before, doc, MOST_PAINTED);
     if (lines?.length) return this.sendLines(lines, before, pageOf(doc));
     await this.makeDoc(doc);
@@ -257,7 +249,7 @@ export class Bench {
     const isUndo = item.way === 'undo';
     const stroke = (isUndo ? this.past : this.future).at(-1);
     if (!stroke) return [{ kind: 'refused', name: isUndo ? 'UndoEmpty' : 'RedoEmpty' }];
-    const doc = isUndo ? stroke.before : stroke.after;
+    const doc = { ...(isUndo ? stroke.before : stroke.after), about: this.state.about };
     if (stroke.live && stroke.lines.length) {
       const { report, verdict } = await this.sent(stroke.lines.map(() => item.way), item.way);
       this.state = stateOf(report, verdict, this.state, pageOf(doc));

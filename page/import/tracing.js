@@ -125,5 +125,4 @@ export function startTracing() {
   addAction({ id: 'trace', name: phrase('import.traceImage'), place: 'view', group: 'trace', run: chooseImage });
   addAction({ id: 'trace-end', name: phrase('import.removeTracedImage'), place: 'view', group: 'trace', run: endTracing, can: () => sheet.underlay !== null });
   on('opened', endTracing);
-  on('closed', endTracing);
 }

@@ -316,5 +316,4 @@ export function startFixing() {
     if (isFixing() && !isOfThis() && mayFix()) fixing.waits = setTimeout(findAgain, REST);
     else if (isFixing() && isOfThis()) fixSays(fixing.said);
   });
-  on('closed', closeFix);
 }

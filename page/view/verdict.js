@@ -224,7 +224,6 @@ export function startVerdict() {
     { id: 'hatching', name: phrase('view.showOpenCellsThose'), key: 'h', run: nextHatching },
   ]) addAction({ place: 'check', ...action });
   on('stroke', () => searches.strokeBegun());
-  on('closed', () => searches.shown(null));
   on('opened', () => { verdictView.hatching = null; });
   on('fixing', (is) => {
     if (is && $('audit').classList.contains('open')) turnVerdictMore(); // on a small screen it would cover the proposals

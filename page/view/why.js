@@ -69,7 +69,6 @@ export function startWhy() {
     forgetWhy();
     forgetReason();
   });
-  on('closed', forgetWhy);
 }
 
 /** Puts the place of reasons into the panel of the cell. */

@@ -187,8 +187,7 @@ test('a document that is opened while another one waits is the one that counts',
   await bench.stroke(['paint 2 2 b']);
   while (bench.running) await new Promise((go) => setImmediate(go));
   assert.deepEqual([bench.state.picture, bench.past.length], [['..', '.b'], 1]);
-  bench.close();
-  assert.deepEqual([bench.state, await bench.stroke(['paint 1 1 a'])], [null, []]);
+  assert.deepEqual(await new Bench(() => null).stroke(['paint 1 1 a']), [], 'nothing is open');
 });
 
 test('a text that no session writes is not taken', async () => {
@@ -236,22 +235,33 @@ test('what was made another document is kept, too', async () => {
   assert.deepEqual(again.state.picture, ['....', '....', '....']);
 });
 
-test('texts, names, signs and locks are under undo, and count for what is saved', async () => {
+test('names, signs and locks are under undo, texts about the puzzle are not, and all count for what is saved', async () => {
   const { bench } = await opened();
   bench.saved(docOf(bench.state));
   assert.equal(bench.isSaved, true);
-  await bench.become((doc) => ({ ...doc, about: { title: 'Tree' } }));
-  assert.deepEqual([bench.isSaved, bench.state.about.title, bench.past.length], [false, 'Tree', 1]);
   await bench.become((doc) => ({ ...doc, inks: [{}, { name: 'bark', sign: 'b' }] }));
   await bench.stroke(['paint 1 1 a']);
-  assert.deepEqual([bench.state.about.title, bench.state.inks[1].name], ['Tree', 'bark']);
   await bench.undo();
+  await bench.become((doc) => ({ ...doc, about: { title: 'Tree' } }));
+  const facts = () => [bench.state.picture[0], bench.state.inks[1]?.name ?? '', bench.state.about.title ?? '', bench.past.length, bench.future.length, bench.isSaved];
+  assert.deepEqual(facts(), ['....', 'bark', 'Tree', 1, 1, false], 'no stroke, and what can be made again stays');
   await bench.undo();
-  assert.deepEqual([bench.state.inks, bench.state.about.title], [[], 'Tree']);
-  await bench.undo();
-  assert.deepEqual([bench.isSaved, bench.state.about], [true, {}]);
-  for (let turn = 0; turn < 3; turn++) await bench.redo();
-  assert.deepEqual([bench.state.picture[0], bench.state.inks[1].name, bench.isSaved], ['a...', 'bark', false]);
+  assert.deepEqual(facts(), ['....', '', 'Tree', 0, 2, false]);
+  for (let turn = 0; turn < 2; turn++) await bench.redo();
+  assert.deepEqual(facts(), ['a...', 'bark', 'Tree', 2, 0, false]);
+  await bench.become((doc) => ({ ...doc, about: {} }));
+  for (let turn = 0; turn < 2; turn++) await bench.undo();
+  assert.deepEqual(facts(), ['....', '', '', 0, 2, true]);
+});
+
+test('of strokes of earlier versions those that changed texts alone are none', async () => {
+  const made = new Bench(() => new Client(workers()()));
+  const titled = { ...docOf(empty(3, 4)), about: { title: 'Tree' } };
+  const now = { ...titled, picture: ['a...', '....', '....'] };
+  await made.open(baseOf(now), { page: pageOf(now), strokes: { past: [docOf(empty(3, 4)), titled], future: [{ ...now, about: {} }, empty(3, 4)] } });
+  assert.deepEqual([made.past.length, made.future.length], [1, 1]);
+  await made.undo();
+  assert.deepEqual([made.state.picture[0], made.state.about.title], ['....', 'Tree']);
 });
 
 test('locked cells go with their lines, as given ones do', async () => {
