@@ -11,15 +11,31 @@ import { Keeper } from './keeper.js';
 import { newId, recordOf } from './records.js';
 import { claim, openShelf } from './shelf.js';
 
-export const keep = { keeper: null, opening: null, id: null, free: null, untouched: null, when: 0, grade: null, isNamed: false, isKept: true, isPaused: false, told: null, isAsked: false, makeRoom: null };
+export const keep = { keeper: null, opening: null, id: null, free: null, untouched: null, when: 0, grade: null, isNamed: false, isKept: true, isPaused: false, told: null, isAsked: false, makeRoom: null, names: null };
 
 /** Opens the library, once. */
 keep.ready = (home = globalThis) => {
   keep.opening ??= openShelf(home).then((shelf) => {
     keep.keeper = new Keeper(shelf, keep.said);
+    keep.names = home.BroadcastChannel ? Object.assign(new home.BroadcastChannel('nonobench:names'), { onmessage: ({ data: { id, name } }) => keep.named(name, id) }) : null;
     return keep.keeper;
   });
   return keep.opening;
+};
+
+/** Renames a picture of the library, also where it is open, here or in another tab: there the next stroke would keep the old name. */
+keep.rename = async (id, name) => {
+  keep.named(name, id);
+  await keep.keeper.rename(id, name);
+  keep.names?.postMessage({ id, name });
+};
+
+/** Gives the picture at hand, if it is that of an id, a name that its user chose: no title takes its place. */
+keep.named = (name, id = keep.id) => {
+  if (id !== keep.id) return;
+  bench.name = name;
+  keep.isNamed = true;
+  keep.now();
 };
 
 const REASONS = { full: phrase('library.browsersStorageFull'), none: phrase('library.browserKeepsNothingPage'), refused: phrase('library.browsersStorageDoesNot') };

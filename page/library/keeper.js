@@ -106,10 +106,10 @@ export class Keeper {
     await this.shelf.putAll([[RECORD + record.id, record], [CARD + record.id, card ?? cardOf(record)]]);
   }
 
-  /** Gives a picture a name that its user chose. */
+  /** Gives a picture a name that its user chose; what is kept of it meanwhile stays. */
   async rename(id, name) {
-    const { record, card } = { record: await this.shelf.get(RECORD + id), card: await this.shelf.get(CARD + id) };
-    await this.restore({ record: { ...record, name, isNamed: true }, card: { ...(card ?? cardOf(record)), name } });
+    const keys = [RECORD + id, CARD + id];
+    await this.shelf.change(keys, ([record, card]) => (record ? [[keys[0], { ...record, name, isNamed: true }], [keys[1], { ...(card ?? cardOf(record)), name }]] : []));
   }
 
   /** A copy of a picture, with its strokes, under another name; resolves to its id. */

@@ -27,12 +27,6 @@ export const SAVE_TYPES = {
 };
 const DOCUMENT_FORMS = ['xml', 'ppm', 'non'];
 
-/** Gives the picture at hand a name that its user chose: no title takes its place. */
-export function named(name) {
-  bench.name = name;
-  keep.isNamed = true;
-}
-
 /** Hands a text or blob to the user as a download. */
 export function download(content, file, type) {
   const link = make('a', { href: URL.createObjectURL(content instanceof Blob ? content : new Blob([content], { type })), download: file });
@@ -125,7 +119,7 @@ async function saveByPicker() {
     if (content === null) return false;
     await writeHandle(handle, content);
     Object.assign(saving, { handle, form });
-    named(bareName(handle.name));
+    keep.named(bareName(handle.name));
     saved(doc, handle.name, form);
     return true;
   } catch (fault) {
@@ -153,7 +147,7 @@ export async function saveAs() {
   const form = choiceOf({}, DOCUMENT_FORMS.map((one) => [one, SAVE_TYPES[one].what]), saving.form);
   const content = make('div', { class: 'rows' }, make('label', {}, phrase('view.name'), name), make('label', {}, phrase('library.form'), form));
   if (!(await openDialog({ title: phrase('library.saveAs'), content, buttons: [{ name: phrase('library.save'), value: true, main: true }] }))) return false;
-  named(bareName(name.value));
+  keep.named(bareName(name.value));
   saving.form = form.value;
   return saveDownload(form.value);
 }
@@ -187,7 +181,7 @@ export function startSaving() {
   });
   on('judged', () => { if (!keep.isPaused) keep.now({ mayRest: true }); });
   on('graded', (grade) => { if (grade && !keep.isPaused) keep.graded(grade.word); });
-  for (const name of ['opened', 'kept', 'closed']) on(name, showFileName); // of another picture at once
+  for (const name of ['opened', 'kept']) on(name, showFileName); // of another picture at once
   addEventListener('beforeunload', (event) => {
     if (!bench.state || bench.isSaved || !saving.asks) return;
     event.preventDefault();

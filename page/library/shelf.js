@@ -1,5 +1,6 @@
 // Where the browser keeps things: a shelf of named values, over IndexedDB, else localStorage, else memory alone.
-// Each shelf has `get`, `put`, `putAll`, `drop` and `keys`, which answer promises; `lasts` tells whether a reload finds it again.
+// Each shelf has `get`, `change`, `put`, `putAll`, `drop` and `keys`, which answer promises; `lasts` tells whether a reload finds it again.
+// `change(keys, f)` puts the entries that `f` makes of the values of some keys: nothing comes between.
 
 const SHELF_NAME = 'nonobench';
 const SHELF_WAIT = 15000; // milliseconds for a database that does not open: on a busy machine the first opening takes seconds
@@ -8,6 +9,9 @@ const settledRequest = (request) => new Promise((resolve, reject) => {
   request.onsuccess = () => resolve(request.result);
   request.onerror = () => reject(request.error);
 });
+
+// `put` and `putAll` are changes that ask for no value.
+const withPuts = (shelf) => ({ ...shelf, put: (key, value) => shelf.change([], () => [[key, value]]), putAll: (entries) => shelf.change([], () => entries) });
 
 function openDatabase(factory) {
   const request = factory.open(SHELF_NAME, 1);
@@ -31,14 +35,18 @@ async function indexedShelf(factory) {
     transaction.onabort = transaction.onerror = () => reject(transaction.error ?? new Error('not kept'));
     act(transaction.objectStore('kept'));
   });
-  return {
+  return withPuts({
     lasts: true,
     get: (key) => settledRequest(store('readonly').get(key)),
-    put: (key, value) => write((kept) => kept.put(value, key)),
-    putAll: (entries) => write((kept) => { for (const [key, value] of entries) kept.put(value, key); }),
+    change: (keys, f) => write((kept) => {
+      const asked = keys.map((key) => kept.get(key));
+      const put = () => { for (const [key, value] of f(asked.map((one) => one.result))) kept.put(value, key); };
+      if (asked.length) asked.at(-1).onsuccess = put; // the others have succeeded before it
+      else put();
+    }),
     drop: (...keys) => write((kept) => { for (const key of keys) kept.delete(key); }),
     keys: () => settledRequest(store('readonly').getAllKeys()),
-  };
+  });
 }
 
 export function localShelf(storage) {
@@ -46,14 +54,12 @@ export function localShelf(storage) {
   storage.setItem(probe, '1');
   storage.removeItem(probe);
   const own = (key) => `${SHELF_NAME}:${key}`;
-  return {
+  const read = (key) => JSON.parse(storage.getItem(own(key)) ?? 'null') ?? undefined;
+  return withPuts({
     lasts: true,
-    get: async (key) => {
-      const text = storage.getItem(own(key));
-      return text === null ? undefined : JSON.parse(text);
-    },
-    put: async (key, value) => storage.setItem(own(key), JSON.stringify(value)),
-    putAll: async (entries) => {
+    get: async (key) => read(key),
+    change: async (keys, f) => {
+      const entries = f(keys.map(read));
       const before = entries.map(([key]) => [own(key), storage.getItem(own(key))]);
       try {
         for (const [key, value] of entries) storage.setItem(own(key), JSON.stringify(value));
@@ -65,19 +71,19 @@ export function localShelf(storage) {
     },
     drop: async (...keys) => { for (const key of keys) storage.removeItem(own(key)); },
     keys: async () => Array.from({ length: storage.length }, (_, at) => storage.key(at)).filter((key) => key.startsWith(own(''))).map((key) => key.slice(own('').length)),
-  };
+  });
 }
 
 export function memoryShelf() {
   const kept = new Map();
-  return {
+  const read = (key) => (kept.has(key) ? JSON.parse(kept.get(key)) : undefined);
+  return withPuts({
     lasts: false,
-    get: async (key) => (kept.has(key) ? JSON.parse(kept.get(key)) : undefined),
-    put: async (key, value) => { kept.set(key, JSON.stringify(value)); },
-    putAll: async (entries) => { for (const [key, value] of entries) kept.set(key, JSON.stringify(value)); },
+    get: async (key) => read(key),
+    change: async (keys, f) => { for (const [key, value] of f(keys.map(read))) kept.set(key, JSON.stringify(value)); },
     drop: async (...keys) => { for (const key of keys) kept.delete(key); },
     keys: async () => [...kept.keys()],
-  };
+  });
 }
 
 /** The best shelf that the browser has; `home` is the window. Never fails. */

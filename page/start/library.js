@@ -9,8 +9,8 @@ import { bench } from '../engine/bench.js';
 import { exportAll } from '../import/archives.js';
 import { keep } from '../library/keep.js';
 import { openRecord } from '../library/open.js';
-import { named, showFileName } from '../library/saving.js';
 import { LANGUAGE, phrase } from '../texts/phrase.js';
+import { menuKey } from '../view/actions.js';
 import { openDialog } from '../view/dialogs.js';
 
 const [MINUTE, HOUR, DAY] = [60000, 3600000, 86400000];
@@ -114,12 +114,7 @@ function menuOf(card, isOpen) {
   const item = (name, run) => make('button', { type: 'button', role: 'menuitem', onclick: () => { list.hidePopover(); run(); } }, name);
   list.append(item(opening(phrase('start.rename')), () => rename(card)), item(phrase('start.duplicate'), () => duplicate(card)), ...(isOpen ? [] : [item(phrase('view.delete'), () => remove([card]))]));
   list.addEventListener('toggle', (event) => { if (event.newState === 'open') list.querySelector('button').focus(); });
-  list.addEventListener('keydown', (event) => {
-    const items = [...list.children];
-    const way = { ArrowDown: 1, ArrowUp: -1 }[event.key];
-    if (way) items.at((items.indexOf(document.activeElement) + way) % items.length).focus();
-    if (way) event.preventDefault();
-  });
+  list.addEventListener('keydown', (event) => menuKey(event, list, button));
   button.addEventListener('click', () => {
     list.showPopover();
     const box = button.getBoundingClientRect();
@@ -132,12 +127,7 @@ function menuOf(card, isOpen) {
 async function rename(card) {
   const field = make('input', { type: 'text', value: card.name, maxlength: '80', 'aria-label': phrase('view.name') });
   if (!(await openDialog({ title: phrase('start.rename'), content: field, buttons: [{ name: phrase('start.rename'), value: true, main: true }] }))) return;
-  const name = cleanName(field.value);
-  await keep.keeper.rename(card.id, name);
-  if (card.id === keep.id) {
-    named(name);
-    showFileName();
-  }
+  await keep.rename(card.id, cleanName(field.value));
   fillLibrary();
 }
 

@@ -107,7 +107,8 @@ function fillMenu(list, place, button) {
   list.style.top = `${box.bottom + 4}px`;
 }
 
-function menuKey(event, list, button) {
+/** Hears the keys of a menu: arrows go to its entries, Escape back to its button. */
+export function menuKey(event, list, button) {
   const way = { ArrowDown: 1, ArrowUp: -1 }[event.key];
   if (event.key === 'Escape' || event.key === 'Tab') {
     list.hidePopover();

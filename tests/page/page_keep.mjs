@@ -161,6 +161,20 @@ test('pictures are renamed, copied, taken away and brought back', async () => {
     assert.equal((await keeper.cards()).length, 2);
 });
 
+test('a name takes no stroke back that is kept meanwhile', async () => {
+    const later = (shelf) => ({ ...shelf, get: (key) => shelf.get(key).then((value) => new Promise((go) => { setTimeout(go, 5, value); })) });
+    for (const shelf of [memoryShelf(), localShelf(storageOf(9000))]) {
+        const keeper = new Keeper(later(shelf), () => {});
+        await keeper.put(recordOf(benchOf(emptyDoc(3, 2)), 'a', 1));
+        const named = keeper.rename('a', 'leaf');
+        await keeper.put(recordOf(benchOf(painted(emptyDoc(3, 2), 0), [], [], { name: 'leaf' }), 'a', 2));
+        await named;
+        assert.deepEqual([(await keeper.record('a')).name, (await keeper.record('a')).doc.picture[0]], ['leaf', 'a..']);
+        await keeper.rename('gone', 'x');
+        assert.equal((await keeper.cards()).length, 1, 'what another tab took away stays away');
+    }
+});
+
 test('a card that is missing or damaged is made of its record', async () => {
     const keeper = new Keeper(memoryShelf(), () => {});
     await keeper.put(record('a', 1), { verdict: 'unique' });

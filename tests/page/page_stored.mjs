@@ -88,6 +88,28 @@ export async function tabsApart({ browser, page, trial, url, folder }) {
     await other.page.close();
 }
 
+/** A picture that is renamed in one tab while another one has it open keeps that name, and what is painted there. */
+export async function renamedElsewhere({ browser, page, trial, url, folder }) {
+    await clean(page);
+    await page.click('#new-go');
+    await isOpen(page);
+    await trial.drag([[2, 2]]);
+    await isKept(page);
+    const other = await Trial.start(browser, url, folder);
+    await other.page.until(() => document.querySelector('#kept .kept'), 5000 * SLACK);
+    await other.page.click('#library .tile-more button');
+    await other.page.run(() => document.querySelector('#library [role=menuitem]').click());
+    await other.page.press('Control+a', ...'leaf', 'Enter');
+    await other.page.until(() => document.querySelector('#library b')?.textContent === 'leaf', 5000 * SLACK);
+    await page.run(() => new Promise((go) => { setTimeout(go, 500); }));
+    assert.match(await trial.text('#title'), /^leaf/);
+    await trial.drag([[5, 5]]);
+    await isKept(page);
+    const found = await page.run(async () => (await keep.keeper.cards()).map(({ name, doc }) => [name, doc.picture.join('').replaceAll('.', '').length]));
+    assert.deepEqual(found, [['leaf', 2]]);
+    await other.page.close();
+}
+
 /** Where there is no database, the browser's local storage keeps the work; where there is neither, that is told. */
 export async function otherShelves({ browser, url, folder }) {
     const hidden = (name) => `Object.defineProperty(window, '${name}', { get() { throw new DOMException('hidden', 'SecurityError'); } });`;
