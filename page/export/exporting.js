@@ -13,6 +13,7 @@ import { ppmTextOf } from '../formats/ppm_notes.js';
 import { writeZip } from '../formats/zip.js';
 import { keep } from '../library/keep.js';
 import { exportAs, saveDownload, saving, showFileName } from '../library/saving.js';
+import { keepChoice, keptChoice } from '../texts/language.js';
 import { phrase } from '../texts/phrase.js';
 import { actionButton, actions, addAction } from '../view/actions.js';
 import { openDialog } from '../view/dialogs.js';
@@ -91,6 +92,7 @@ async function exportForSite() {
 
 const ABOUT_FIELDS = { title: phrase('export.title'), author: phrase('export.author'), copyright: phrase('export.copyright'), description: phrase('export.description'), note: phrase('export.note') };
 const LONG_FIELDS = ['description', 'note'];
+const AUTHOR = 'nonobench-author'; // as it was typed last
 
 // A description with the grade as its last line, in place of an earlier one.
 const withGrade = (text) => [...text.split('\n').filter((line) => line && !line.startsWith(GRADE_MARK)), GRADE_MARK + gradeLine()].join('\n');
@@ -98,23 +100,22 @@ const withGrade = (text) => [...text.split('\n').filter((line) => line && !line.
 /** Asks for the texts about the puzzle, which go into its files and on the printed sheet, and for its name: the title, unless the user chose another one. */
 async function askAbout() {
   const { term, state: { about } } = bench;
-  const field = (name) => (LONG_FIELDS.includes(name) ? make('textarea', { rows: 3, maxlength: '5000' }, about[name] ?? '') : make('input', { type: 'text', value: about[name] ?? '', maxlength: '500' }));
-  const fields = Object.keys(ABOUT_FIELDS).map((name) => [name, field(name)]);
+  const isNew = !Object.keys(ABOUT_FIELDS).some((name) => about[name]);
+  const shown = { ...about, author: (isNew ? keptChoice(AUTHOR) : about.author) ?? '' };
+  const field = (name) => (LONG_FIELDS.includes(name) ? make('textarea', { rows: 3, maxlength: '5000' }, shown[name] ?? '') : make('input', { type: 'text', value: shown[name] ?? '', maxlength: '500' }));
+  const fields = Object.fromEntries(Object.keys(ABOUT_FIELDS).map((name) => [name, field(name)]));
+  const { title, description } = fields;
   const file = make('input', { type: 'text', value: bench.name, maxlength: '80' });
-  const description = fields.find(([name]) => name === 'description')[1];
-  const title = fields[0][1];
   let isOwn = keep.isNamed;
   file.addEventListener('input', () => { isOwn = true; });
   title.addEventListener('input', () => { if (!isOwn) file.value = title.value.trim() ? cleanName(title.value) : bench.name; });
   const addGrade = () => { description.value = withGrade(description.value); };
-  const content = make('div', { class: 'rows' }, ...fields.map(([name, input]) => make('label', {}, ABOUT_FIELDS[name], input)), make('label', {}, phrase('export.nameFile'), file));
+  const content = make('div', { class: 'rows' }, ...Object.entries(fields).map(([name, input]) => make('label', {}, ABOUT_FIELDS[name], input)), make('label', {}, phrase('export.nameFile'), file));
   if (gradeAtHand()) content.append(make('button', { type: 'button', id: 'about-grade', onclick: addGrade }, phrase('export.putGradeIntoDescription')));
   if (!(await openDialog({ title: phrase('export.aboutPuzzle'), content, buttons: [{ name: 'OK', value: true, main: true }] }))) return;
-  if (bench.term !== term) {
-    say(phrase('export.otherPictureOpened'), 'alarm');
-    return;
-  }
-  const texts = Object.fromEntries(fields.map(([name, input]) => [name, input.value.trim()]).filter(([, text]) => text));
+  if (bench.term !== term) return void say(phrase('export.otherPictureOpened'), 'alarm');
+  const texts = Object.fromEntries(Object.entries(fields).map(([name, input]) => [name, input.value.trim()]).filter(([, text]) => text));
+  if ((texts.author ?? '') !== shown.author) keepChoice(AUTHOR, texts.author ?? '');
   const without = (doc) => Object.fromEntries(Object.entries(doc.about).filter(([name]) => !(name in ABOUT_FIELDS)));
   await heard(bench.become((doc) => ({ ...doc, about: { ...without(doc), ...texts } })));
   const name = isOwn ? bareName(file.value) : cleanName(file.value);

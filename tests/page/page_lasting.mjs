@@ -73,7 +73,7 @@ export async function makesRoom({ browser, url, folder }) {
     await page.close();
 }
 
-/** Texts about the puzzle, names, signs and locks are part of the document: unsaved once they change, under undo, and kept. */
+/** Texts about the puzzle, names, signs and locks are part of the document: unsaved once they change, and kept; all but texts are under undo. */
 export async function textsAreKept({ browser, url, folder }) {
     const { page, trial } = await fresh(browser, url, folder, 'texts');
     await clean(page);
@@ -100,10 +100,31 @@ export async function textsAreKept({ browser, url, folder }) {
     await isOpen(page);
     const now = () => page.run(() => [bench.state.about.title ?? '', bench.state.inks[2]?.name ?? '', bench.state.locks.size]);
     assert.deepEqual(await now(), ['Tree', 'leaf', 3]);
-    for (const wanted of [['Tree', 'leaf', 0], ['Tree', '', 0], ['', '', 0]]) {
-        await trial.press('Control+z');
+    for (const [key, wanted] of [['Control+z', ['Tree', 'leaf', 0]], ['Control+z', ['Tree', '', 0]], ['Control+z', ['Tree', '', 0]], ['Control+y', ['Tree', 'leaf', 0]], ['Control+y', ['Tree', 'leaf', 3]]]) {
+        await trial.press(key);
         assert.deepEqual(await now(), wanted);
     }
+    await page.close();
+}
+
+/** A picture without texts is proposed the author that was typed last, until that is cleared. */
+export async function authorProposed({ browser, url, folder }) {
+    const { page } = await fresh(browser, url, folder, 'author');
+    await clean(page);
+    let count = 0;
+    const about = async (...keys) => {
+        await page.run((text) => takeFile(new File([text], 'author.ppm')).then(() => true), ppmOf([`.${'a'.repeat(++count)}`]));
+        await menu(page, 'about');
+        await page.until(() => document.querySelector('dialog[open] input'), 3000 * SLACK);
+        const { value } = await page.run(() => ({ value: document.querySelectorAll('dialog[open] input')[1].value }));
+        await page.press(...keys, 'Enter');
+        await page.until(() => !document.querySelector('dialog[open]') && !bench.queue.length, 3000 * SLACK);
+        return [value, await page.run(() => bench.state.about)];
+    };
+    assert.deepEqual(await about('Tab', ...'Jan'), ['', { author: 'Jan' }]);
+    assert.deepEqual(await about(...'Tree'), ['Jan', { title: 'Tree', author: 'Jan' }]);
+    assert.deepEqual(await about('Tab', 'Control+a', 'Backspace'), ['Jan', {}]);
+    assert.deepEqual(await about(), ['', {}]);
     await page.close();
 }
 
