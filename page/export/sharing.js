@@ -4,6 +4,7 @@ import { choiceOf, make, say } from '../base/elements.js';
 import { docOf, unlocked } from '../document/document.js';
 import { bench } from '../engine/bench.js';
 import { fragmentOf } from '../formats/link.js';
+import { keepChoice, keptChoice } from '../texts/language.js';
 import { phrase } from '../texts/phrase.js';
 import { addAction } from '../view/actions.js';
 import { openDialog } from '../view/dialogs.js';
@@ -11,16 +12,17 @@ import { asSeen } from '../view/tools.js';
 import { WARNINGS } from './printing.js';
 
 const LONG = 2000; // characters; some programs cut longer links
+const ADDRESS = 'nonobench-address'; // where the page is published, as it was typed last
 const [PLAY, EDIT, FRAME] = ['play', 'edit', 'frame'];
 const KINDS = { [PLAY]: phrase('export.solve'), [EDIT]: phrase('export.edit'), [FRAME]: phrase('export.htmlSite') };
 const ownAddress = () => (/^https?:$/.test(location.protocol) ? location.href.split('#')[0] : '');
 
 const attributeOf = (text) => text.replaceAll('&', '&amp;').replaceAll('"', '&quot;').replaceAll('<', '&lt;');
 
-/** What is handed out: the link itself, or the HTML of a frame that shows it. */
-function linkText(kind, address, fragment, title) {
+/** What is handed out: the link itself, or the HTML of a frame that shows it, whose title gives nothing away. */
+function linkText(kind, address, fragment) {
   if (kind !== FRAME) return address + fragment;
-  return `<iframe src="${attributeOf(address + fragment)}" title="${attributeOf(title)}" width="600" height="600"></iframe>`;
+  return `<iframe src="${attributeOf(address + fragment)}" title="${attributeOf(phrase('play.puzzle'))}" width="600" height="600"></iframe>`;
 }
 
 // What a link does not tell by itself.
@@ -47,22 +49,24 @@ async function copied(field) {
 async function share() {
   await asSeen();
   const doc = docOf(bench.state);
-  const title = doc.about.title || bench.name;
   const fragments = { [PLAY]: await fragmentOf(unlocked(doc), PLAY), [EDIT]: await fragmentOf(doc, EDIT) };
   const kind = choiceOf({ id: 'share-kind' }, Object.entries(KINDS));
-  const address = make('input', { type: 'url', id: 'share-address', value: ownAddress(), placeholder: 'https://example.org/nonobench.html' });
+  const address = make('input', { type: 'url', id: 'share-address', value: keptChoice(ADDRESS) || ownAddress(), placeholder: 'https://example.org/nonobench.html' });
   const field = make('textarea', { id: 'share-link', readonly: true, rows: 4, cols: 60 });
   const note = make('p', { id: 'share-note', class: 'faint', role: 'status' });
   const fill = () => {
     const base = address.value.trim() || location.href.split('#')[0];
-    field.value = linkText(kind.value, base, fragments[kind.value === EDIT ? EDIT : PLAY], title);
+    field.value = linkText(kind.value, base, fragments[kind.value === EDIT ? EDIT : PLAY]);
     note.textContent = notesOn(kind.value, address.value.trim(), field.value.length);
   };
   kind.addEventListener('change', fill);
+  address.addEventListener('input', () => keepChoice(ADDRESS, address.value.trim()));
   address.addEventListener('input', fill);
-  fill();
+  note.textContent = notesOn(PLAY, '', LONG + 1);
   const content = make('div', { class: 'rows' }, make('label', {}, phrase('export.linkKind'), kind), make('label', {}, phrase('export.addressPage'), address), make('label', {}, phrase('export.linkField'), field), note);
-  await openDialog({ title: phrase('export.share'), content, buttons: [{ name: phrase('export.copy'), value: true, main: true, test: () => copied(field) }] });
+  openDialog({ title: phrase('export.share'), content, buttons: [{ name: phrase('export.copy'), value: true, main: true, test: () => copied(field) }] });
+  note.style.minHeight = `${note.offsetHeight}px`; // room for all that it can say: the button below stays
+  fill();
 }
 
 /** Adds sharing to the menu File. */
