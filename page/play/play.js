@@ -32,7 +32,7 @@ export async function openPlay({ isAlone = false } = {}) {
   else Object.assign(play, { state, marks: marksOf(state), letter: state.colours.length > 1 ? 'a' : '.', past: [], future: [], wrong: new Set(), at: { row: 0, col: 0 }, drag: null, isSolved: false, shown: null, heat: null, hint: null });
   searches.stop();
   const dialog = make('dialog', { id: 'play-room', 'aria-label': phrase('play.play') });
-  dialog.append(playBar(), walkBar(), make('p', { id: 'play-said', role: 'status' }), playBoard(), make('div', { id: 'play-palette', role: 'radiogroup', 'aria-label': phrase('view.colourLabel') }));
+  dialog.append(playBar(), walkBar(), make('p', { id: 'play-said', role: 'status' }), playBoard(), make('div', { id: 'play-palette', role: 'radiogroup', 'aria-label': phrase('view.colourLabel') }), make('p', { id: 'play-credit', class: 'faint', hidden: !(state.about.title || state.about.author) }));
   dialog.addEventListener('close', () => {
     endWalk();
     dialog.remove();
@@ -149,6 +149,8 @@ export function afterPlay() {
     tell('solved', null);
   } else if (!solved) playSays('');
   play.isSolved = solved;
+  const { title, author } = play.state.about;
+  $('play-credit').textContent = [solved && title, author && phrase('export.by', { author })].filter(Boolean).join(', '); // a title may tell what it is
   $('play-undo').disabled = !play.past.length;
   $('play-redo').disabled = !play.future.length;
   drawStroke();

@@ -3,8 +3,10 @@
 import { say } from '../base/elements.js';
 import { on } from '../base/events.js';
 import { cleanName } from '../base/words.js';
+import { bench } from '../engine/bench.js';
 import { readFragment } from '../formats/link.js';
 import { faultText, openDoc } from '../library/open.js';
+import { showFileName } from '../library/saving.js';
 import { openPlay } from '../play/play.js';
 import { phrase } from '../texts/phrase.js';
 import { openDialogs } from '../view/dialogs.js';
@@ -18,22 +20,25 @@ async function openFragment() {
     document.body.classList.remove('player');
     for (const dialog of openDialogs()) dialog.close();
     document.body.classList.toggle('player', isAlone);
-    if (await openDoc(found.doc, { name: cleanName(found.doc.about.title || 'shared'), isBlank: true }) && isAlone) await openPlay({ isAlone });
+    const name = isAlone ? phrase('play.puzzle') : found.doc.about.title || 'shared';
+    if (await openDoc(found.doc, { name: cleanName(name), isBlank: true }) && isAlone) await openPlay({ isAlone });
   } catch (fault) {
     document.body.classList.remove('player');
     say(phrase('start.linkCouldNotOpened', { fault: faultText(fault) }), 'alarm');
   }
 }
 
-// The site that has the page in a frame hears that its puzzle is solved.
-function tellSite() {
+// The tab of the player gets the title now, which could have given the picture away, and the site that has the page in a frame hears it.
+function hearSolved() {
+  if (document.body.classList.contains('player')) bench.name = cleanName(bench.state.about.title || bench.name);
+  showFileName();
   if (window.parent !== window) window.parent.postMessage({ nonobench: 'solved' }, '*');
 }
 
 /** Opens the link that the page was called by, and those that follow in the same tab, each once the one before it is open. */
 export function startLinked() {
   let opened = openFragment();
-  on('solved', tellSite);
+  on('solved', hearSolved);
   addEventListener('hashchange', () => { opened = opened.then(openFragment); });
   return opened;
 }

@@ -66,8 +66,11 @@ export async function linkPoint(hands, { page, trial }) {
 /** A link to play shows the player alone: there is no way to the editor, and Escape does not close it. */
 export async function playerPoint(hands, { page, trial }) {
     await trial.open(ppmOf(ONE_WAY), 'little');
+    await page.run(() => bench.become((doc) => ({ ...doc, about: { title: 'Goose', author: 'Jan' } })));
     await opened(page, await linkOf(hands, 'play'));
     await inPlay(page);
+    const told = () => page.run(() => [document.title, document.getElementById('play-credit').textContent]);
+    assert.deepEqual(await told(), ['Puzzle – nonobench', 'by Jan'], 'nothing gives the picture away');
     await page.press('Escape', 'Escape');
     assert.ok(await page.run(() => document.getElementById('play-room')?.open));
     assert.equal(await page.run(() => document.getElementById('play-close').checkVisibility()), false);
@@ -75,6 +78,7 @@ export async function playerPoint(hands, { page, trial }) {
     await hands.mark('a', [[1, 1]]);
     await hands.mark('b', [[2, 2], [3, 1], [3, 2]]);
     assert.match(await trial.text('#play-said'), /^Solved/);
+    assert.deepEqual(await told(), ['Goose – nonobench', 'Goose, by Jan']);
     assert.deepEqual(await page.run(() => [bench.state.picture, bench.past.length]), [ONE_WAY, 0]);
 }
 
@@ -109,8 +113,47 @@ export async function linkNotes({ browser, url, folder }) {
     assert.match(await linkShown(page), /^https:\/\/example\.org\/p\.html\?a&b#play=/);
     assert.doesNotMatch(await trial.text('#share-note'), /from a file/);
     await choose(page, '#share-kind', 'frame');
-    assert.match(await linkShown(page), /^<iframe src="https:\/\/example\.org\/p\.html\?a&amp;b#play=[A-Za-z0-9_-]+" title="&quot;>&lt;b>x" width="600" height="600"><\/iframe>$/);
+    assert.match(await linkShown(page), /^<iframe src="https:\/\/example\.org\/p\.html\?a&amp;b#play=[A-Za-z0-9_-]+" title="Puzzle" width="600" height="600"><\/iframe>$/);
     await page.close();
+}
+
+/** Nothing that is typed or chosen moves the button that copies, what is typed is there the next time, and what was said goes. */
+export async function shareStays({ browser, url, folder }) {
+    for (const [name, size] of Object.entries(SIZES)) {
+        const { page, trial } = await fresh(browser, url, folder, `share-${name}`, { size });
+        await trial.open(ppmOf(TWO_WAYS), 'two');
+        await trial.judged();
+        const address = async () => {
+            await menu(page, 'share');
+            await page.until(() => document.getElementById('share-link'), 3000 * SLACK);
+            await page.run(() => document.getElementById('share-address').select());
+            return page.run(() => document.getElementById('share-address').value);
+        };
+        const place = () => page.run(() => document.querySelector('dialog button.main').getBoundingClientRect().top);
+        assert.equal(await address(), '', name);
+        const before = await place();
+        for (const kind of ['edit', 'frame', 'play']) {
+            await choose(page, '#share-kind', kind);
+            assert.equal(await place(), before, `${name}: ${kind}`);
+        }
+        await page.press(...'http://a.org/p');
+        assert.equal(await place(), before, `${name}: typed`);
+        await page.press('Escape');
+        await closedDialog(page);
+        assert.equal(await address(), 'http://a.org/p', name);
+        await page.press('Backspace');
+        assert.equal(await place(), before, `${name}: cleared`);
+        await page.run(() => {
+            window.told = [];
+            new MutationObserver(() => window.told.push(document.getElementById('said').textContent)).observe(document.getElementById('said'), { childList: true });
+        });
+        await page.click('dialog button.main');
+        await closedDialog(page);
+        assert.equal(await address(), '', `${name}: no address any more`);
+        await page.press('Escape');
+        await page.until(() => window.told.join('|') === 'The link was copied.|', 9000 * SLACK);
+        await page.close();
+    }
 }
 
 // Writes files to a folder; gives their paths.
