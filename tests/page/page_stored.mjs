@@ -36,7 +36,7 @@ export async function kept({ browser, page, trial, url, folder }) {
     await again.page.close();
 }
 
-/** A damaged record is left out, and one whose strokes are damaged gives its picture. */
+/** A damaged record is left out, one whose strokes are damaged gives its picture, and a damaged card hides none. */
 export async function damaged({ page, trial }) {
     await clean(page);
     await page.click('#new-go');
@@ -49,6 +49,8 @@ export async function damaged({ page, trial }) {
         const record = await shelf.get(key);
         await shelf.put('work:bad', { version: 2, id: 'bad', doc: { rows: 1e9 } });
         await shelf.put(key, { ...record, past: [{ rows: [[99, 'x']] }] });
+        const card = key.replace('work:', 'card:');
+        await shelf.put(card, { ...await shelf.get(card), verdict: 'constructor', grade: 'constructor', when: -Infinity });
     });
     await trial.load();
     await page.until(() => document.querySelector('#kept .kept'), 5000 * SLACK);
