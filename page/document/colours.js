@@ -1,6 +1,4 @@
-// Colours as the screen has them, and plain names for those who do not see them.
-
-import { phrase } from '../texts/phrase.js';
+// Colours as the screen has them.
 
 /** A triple as eight-bit samples. */
 export const eightBits = (triple, maxval) => triple.map((sample) => Math.round((sample * 255) / maxval));
@@ -12,36 +10,6 @@ export const tripleOf = (hex) => [1, 3, 5].map((at) => parseInt(hex.slice(at, at
 export function inkOn(triple, maxval) {
   const [red, green, blue] = eightBits(triple, maxval).map((sample) => LIGHT_OF[sample]);
   return 0.2126 * red + 0.7152 * green + 0.0722 * blue > 0.18 ? '#000' : '#fff';
-}
-
-/**
- * Hues by their ends, in degrees; one has no name of its own.
- * @type {{ end: number, name?: import('../texts/phrase.js').PlainPhrase }[]}
- */
-const HUES = [{ end: 14, name: 'document.red' }, { end: 42 }, { end: 68, name: 'document.yellow' }, { end: 165, name: 'document.green' }, { end: 200, name: 'document.cyan' },
-  { end: 258, name: 'document.blue' }, { end: 292, name: 'document.purple' }, { end: 344, name: 'document.pink' }, { end: 361, name: 'document.red' }];
-
-// Least lightness, from 0 to 1, of what is very light, light, plain and dark; what is below them all is very dark.
-const GREY_STEPS = [0.8, 0.6, 0.4, 0.22];
-const HUE_STEPS = [0.88, 0.75, 0.28, 0.15];
-const shadedName = (name, step) => [phrase('document.veryLight', { name }), phrase('document.light', { name }), name, phrase('document.dark', { name }), phrase('document.veryDark', { name })][step];
-const stepOf = (light, steps) => steps.filter((least) => light < least).length;
-
-function greyName(light) {
-  if (light > 0.93) return phrase('document.white');
-  if (light < 0.12) return phrase('document.black');
-  return shadedName(phrase('document.grey'), stepOf(light, GREY_STEPS));
-}
-
-/** A plain name for a colour. */
-export function nameOf(triple, maxval) {
-  const [red, green, blue] = eightBits(triple, maxval);
-  const [most, least] = [Math.max(red, green, blue), Math.min(red, green, blue)];
-  const light = (most + least) / 510;
-  if (most - least < 24) return greyName(light);
-  const turn = most === red ? (green - blue) / (most - least) : most === green ? 2 + (blue - red) / (most - least) : 4 + (red - green) / (most - least);
-  const hue = (turn * 60 + 360) % 360;
-  return shadedName(phrase(HUES.find(({ end }) => hue < end).name ?? (light < 0.42 ? 'document.brown' : 'document.orange')), stepOf(light, HUE_STEPS));
 }
 
 /** Whether two triples are the same, and whether one is among others. */

@@ -1,12 +1,39 @@
 // What the colours of a document are called: the same in the palette, in what the page says, in files and on paper.
 
 import { phrase } from '../texts/phrase.js';
-import { eightBits, lightness, nameOf, plainHexOf } from './colours.js';
+import { eightBits, lightness, oklabOf, plainHexOf, tripleOf } from './colours.js';
 import { LETTERS } from './limits.js';
 
 /** White and black as Web Paint-by-Number's XML has them from the start. */
 export const XML_WHOLE = { ffffff: 'white', '000000': 'black' };
-const WHOLE = { ffffff: phrase('document.white'), '000000': phrase('document.black') };
+
+// Colours as people say them: very light / light / plain / dark / very dark ones of each hue, in the order in which the texts name the hues.
+const SHADES = {
+  white: '//ffffff,fafaf5', black: '//000000,121212', grey: 'e8e8e8/c8c8c8,b0b4b8/8c8c8c,708090/5c5c5c/2e2e2e', red: '/ff7070/f01818,e5192f,ff4038/a51212/3c0808',
+  maroon: '//800010,7a0020', brown: '/b87c3c,c08850/8b4a1c,a0522d,993608,795548,c8662a/4a2c18/24140a', beige: '//f5ead0,ffdfbc,f5deb3,f7efe4', tan: '//d8b488,e4b070,c8a880',
+  salmon: '//fa8072,e9967a,d86060', orange: '/ffb866,f4a460,ffa068/ff9500,ff7a18,ff5a1c/cc5500', gold: '//ffcc10,e0b020,ffd700/b8860b', yellow: 'ffffdc/fff59a/ffff10,ffec27',
+  khaki: '//f0e68c,bdb76b,cccc98', olive: '/a8a850,c4c410/808000,7a8020/4b5320,3a3a08', lime: '/d8f888/a8e020,80ff20,c8dc30',
+  green: 'd8f8d8/98f098,a0d8a0/0c9a30,10e040,00ff30,228b22,408a50,58b858/0a5018,1e4830/062008', turquoise: '/a8f0e4/40d8c8,40e0b8', teal: '/70b0b0/008585,1a9a94/0a4c50/082428',
+  cyan: 'd8ffff/a0f4f8/00f4ff,00d8e8', blue: 'dceafc/a0d0f0,88b8f0/2060f0,0000ff,10a0ff,4880b8/16389a,204878/060830', navy: '//00007c,1a1e5c,1d2b53',
+  purple: '/c090e0,ccacd0,9898d0/800080,663399,7a3fd0,6a5acd,806098/4a1a70,503060/200830', lavender: '//d8d0f8,e6e6fa', magenta: '/ff98ff/ff00ff,d810b0',
+  pink: 'ffe4ec/ffb8c8/ff70b0,ff2f92,e080a0/c03878,a84870',
+};
+const NAMES = phrase('document.hues').split(', ');
+const WHOLE = { ffffff: NAMES[0], '000000': NAMES[1] };
+const shadedName = (name, step) => [phrase('document.veryLight', { name }), phrase('document.light', { name }), name, phrase('document.dark', { name }), phrase('document.veryDark', { name })][step];
+
+// What has a name, in Oklab: made when it is first asked for.
+let known = null;
+const knownColours = () => Object.values(SHADES).flatMap((shades, at) => shades.split('/').flatMap((hexes, step) => hexes.split(',').filter(Boolean)
+  .map((hex) => ({ name: shadedName(NAMES[at], step), lab: oklabOf(...tripleOf(`#${hex}`)) }))));
+
+/** A plain name for a colour: that of the known one that it looks most like; hue and chroma count more than lightness. */
+export function nameOf(triple, maxval) {
+  const [light, green, blue] = oklabOf(...eightBits(triple, maxval));
+  known ??= knownColours();
+  const far = ({ lab }) => (lab[0] - light) ** 2 + 2.5 * ((lab[1] - green) ** 2 + (lab[2] - blue) ** 2);
+  return known.reduce((best, one) => (far(one) < far(best) ? one : best)).name;
+}
 
 // What tells colours of one name apart, the lightest first.
 function toldApart(name, at, count) {

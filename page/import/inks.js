@@ -4,9 +4,10 @@
 import { make } from '../base/elements.js';
 import { markRadio, radioGroup } from '../base/radios.js';
 import { capital } from '../base/words.js';
-import { hexOf, isAmong, isSame, nameOf, tripleOf } from '../document/colours.js';
+import { hexOf, isAmong, isSame, tripleOf } from '../document/colours.js';
 import { LETTERS } from '../document/limits.js';
 import { colourNamed } from '../document/named.js';
+import { nameOf } from '../document/names.js';
 import { mergedNumbers } from '../document/near.js';
 import { readPalette } from '../formats/palettes.js';
 import { LANGUAGE, phrase } from '../texts/phrase.js';

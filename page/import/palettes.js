@@ -3,9 +3,10 @@
 
 import { choiceOf, chooseFiles, make, say } from '../base/elements.js';
 import { cleanName, opening } from '../base/words.js';
-import { hexOf, isAmong, nameOf } from '../document/colours.js';
+import { hexOf, isAmong } from '../document/colours.js';
 import { eightBitDoc } from '../document/document.js';
 import { LETTERS, MOST_COLOURS } from '../document/limits.js';
+import { nameOf } from '../document/names.js';
 import { bench } from '../engine/bench.js';
 import { paletteText, readPalette } from '../formats/palettes.js';
 import { download } from '../library/saving.js';

@@ -3,7 +3,7 @@
 import { make } from '../base/elements.js';
 import { gradeName, gradePlace, verdictName, verdictPlace } from '../base/names.js';
 import { sizeText } from '../base/words.js';
-import { nameOf } from '../document/colours.js';
+import { nameOf } from '../document/names.js';
 import { smallPicture } from '../draw/small.js';
 import { gradeIn } from '../engine/assessing.js';
 import { faultText } from '../library/open.js';

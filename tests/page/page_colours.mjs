@@ -5,9 +5,13 @@ import { test } from 'node:test';
 import '../../page/test/limits.mjs';
 import { emptyDoc } from '../../page/document/document.js';
 import { COLOUR_NAMES, colourNamed } from '../../page/document/named.js';
+import { nameOf } from '../../page/document/names.js';
 import { clashesWith, seenWith } from '../../page/document/vision.js';
 import { PaletteFault, kindOfPalette, paletteText, readPalette } from '../../page/formats/palettes.js';
 import { withMore, withNearest } from '../../page/import/palettes.js';
+import { DE } from '../../page/texts/de.js';
+import { EN } from '../../page/texts/en.js';
+import { FR } from '../../page/texts/fr.js';
 
 const GPL = 'GIMP Palette\nName: Sea\nColumns: 3\n# a comment\n  0   0 128\tnavy blue\n255 255 255\tUntitled\n 70 130 180\n';
 const PAL = 'JASC-PAL\r\n0100\r\n2\r\n0 0 128\r\n255 255 255\r\n';
@@ -81,4 +85,43 @@ test('colours that look alike to some are named, and only those', () => {
     assert.deepEqual(clashesWith({ ...doc, picture: ['accd.'] }, 'deutan'), [], 'of colours that no cell has nothing is said');
     const near = { ...doc, colours: [[255, 255, 255], [200, 40, 40], [204, 42, 40], [40, 60, 220], [0, 0, 0]] };
     for (const kind of ['protan', 'deutan', 'tritan']) assert.deepEqual(clashesWith(near, kind), [], 'what looks alike to all is said elsewhere');
+});
+
+// Colours by what people who draw call them, by hand: those of CSS, skin, and the palettes of PICO-8, Material Design and Tango.
+const CALLED = `
+    8b4513 saddlebrown: brown; a0522d sienna: brown; d2691e chocolate: brown|dark orange; cd853f peru: light brown; d2b48c tan: tan; deb887 burlywood: tan; f5deb3 wheat: beige;
+    f5f5dc beige: beige; faf0e6 linen: beige|white; ffe4c4 bisque: beige; ffdab9 peachpuff: beige; f4a460 sandybrown: light orange; daa520 goldenrod: gold|dark gold;
+    b8860b darkgoldenrod: dark gold; ffd700 gold: gold; ffa500 orange: orange; ff8c00 darkorange: orange; ff7f50 coral: salmon|orange; ff6347 tomato: red|orange;
+    ff4500 orangered: red|orange; fa8072 salmon: salmon; ffa07a lightsalmon: salmon|light orange; e9967a darksalmon: salmon; cd5c5c indianred: red|salmon|dark salmon;
+    f0e68c khaki: khaki; bdb76b darkkhaki: khaki|dark khaki; 808000 olive: olive; 556b2f darkolivegreen: dark olive|dark green|olive; 6b8e23 olivedrab: olive|green;
+    000080 navy: navy; 191970 midnightblue: navy; 00008b darkblue: navy; 008080 teal: teal; 008b8b darkcyan: teal; 800000 maroon: maroon; 8b0000 darkred: maroon|dark red;
+    b22222 firebrick: red|dark red; dc143c crimson: red; ff0000 red: red; ffc0cb pink: pink|light pink; ffb6c1 lightpink: pink|light pink; ff69b4 hotpink: pink;
+    ff1493 deeppink: pink|magenta; ff00ff magenta: magenta; 800080 purple: purple; 8b008b darkmagenta: purple; 4b0082 indigo: purple|dark purple; 663399 rebeccapurple: purple;
+    8a2be2 blueviolet: purple; 9370db mediumpurple: purple|light purple; dda0dd plum: light purple; d8bfd8 thistle: light purple;
+    e6e6fa lavender: lavender|very light purple|very light blue; 87ceeb skyblue: light blue; add8e6 lightblue: light blue; 00bfff deepskyblue: blue|light blue;
+    1e90ff dodgerblue: blue; 4169e1 royalblue: blue; 4682b4 steelblue: blue; 0000ff blue: blue; 0000cd mediumblue: blue|dark blue; 40e0d0 turquoise: turquoise;
+    48d1cc mediumturquoise: turquoise; 20b2aa lightseagreen: teal|turquoise; 00ffff cyan: cyan; e0ffff lightcyan: very light cyan|light cyan; ffff00 yellow: yellow;
+    ffffe0 lightyellow: very light yellow; fffacd lemonchiffon: very light yellow|light yellow|beige; 00ff00 lime: green|lime; 7cfc00 lawngreen: lime|green;
+    adff2f greenyellow: lime; 9acd32 yellowgreen: lime; 32cd32 limegreen: green; 008000 green: green; 228b22 forestgreen: green; 2e8b57 seagreen: green;
+    3cb371 mediumseagreen: green; 006400 darkgreen: dark green; 90ee90 lightgreen: light green; 98fb98 palegreen: light green; 708090 slategray: grey; 808080 gray: grey;
+    696969 dimgray: dark grey|grey; c0c0c0 silver: light grey; dcdcdc gainsboro: light grey|very light grey; 000000 black: black; ffffff white: white;
+    ffccaa peach: beige|light orange; 4b5320 moss: dark olive|dark green; b7410e rust: brown|dark orange; cc7722 ochre: light brown|dark gold|dark orange;
+    4b2e1e darkbrown: dark brown; 6f4e37 coffee: brown; fffdd0 cream: very light yellow|beige; e1ad01 mustard: gold|dark gold; 98ff98 mint: light green; 800020 burgundy: maroon;
+    9c3b2f brick: brown|dark red; c8a2c8 lilac: light purple; 014d4e darkteal: dark teal`;
+const CALLED_MORE = {
+    'brown|dark brown': '653700', 'beige': 'ffdbac', 'tan|light orange': 'f1c27d', 'tan': 'e0ac69 e9b96e', 'light brown': 'c68642', 'brown': '8d5524 ab5236 795548 8f5902',
+    'navy': '1d2b53', 'purple|dark purple|maroon|dark pink': '7e2553', 'green': '008751 00e436 4e9a06', 'dark grey|grey': '5f574f', 'light grey': 'c2c3c7',
+    'white|beige': 'fff1e8', 'red|pink': 'ff004d', 'orange': 'ffa300 ff5722', 'yellow': 'ffec27', 'blue|light blue': '29adff', 'purple|grey|light purple': '83769c',
+    'pink': 'ff77a8', 'dark brown': '3e2723', 'grey|blue': '607d8b', 'gold': 'ffc107', 'lime': 'cddc39', 'gold|dark gold|olive': 'c4a000', 'dark orange|brown': 'ce5c00',
+    'light brown|dark gold': 'c17d11', 'blue|dark blue': '204a87', 'purple|dark purple': '5c3566', 'dark red': 'a40000', 'very dark grey|dark grey': '2e3436',
+    'very dark grey': '2d2d2d',
+};
+
+test('colours are called as people who draw call them', () => {
+    const tripleOf = (hex) => [0, 2, 4].map((at) => parseInt(hex.slice(at, at + 2), 16));
+    const wanted = [...CALLED.matchAll(/([0-9a-f]{6}) [a-z]+: ([^;]+)/g)].map(([, hex, names]) => [hex, names.trim()]);
+    const more = Object.entries(CALLED_MORE).flatMap(([names, hexes]) => hexes.split(' ').map((hex) => [hex, names]));
+    assert.ok(wanted.length > 90 && more.length > 30);
+    assert.deepEqual([...wanted, ...more].map(([hex, names]) => [hex, nameOf(tripleOf(hex), 255), names]).filter(([, is, names]) => !names.split('|').includes(is)), []);
+    for (const table of [EN, DE, FR]) assert.equal(new Set(table['document.hues'].split(', ')).size, 25, 'each language has a name for each');
 });

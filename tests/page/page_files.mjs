@@ -229,7 +229,7 @@ test('the XML that is written is read back, givens and all', () => {
     const back = readWebpbn(text).doc;
     assert.ok(sameBenchPart(back, doc));
     assert.equal(back.about.title, 'A < B & "C"');
-    assert.deepEqual(back.inks, [{ name: 'very dark red', sign: '-' }, { name: 'white', sign: '.' }, { name: 'black', sign: 'X' }, { name: 'orange', sign: 'c' }]);
+    assert.deepEqual(back.inks, [{ name: 'very dark red', sign: '-' }, { name: 'white', sign: '.' }, { name: 'black', sign: 'X' }, { name: 'brown', sign: 'c' }]);
     assert.doesNotMatch(webpbnText({ ...doc, givens: new Set() }, clues), /saved/);
 });
 
@@ -333,7 +333,7 @@ test('further puzzles of a set', () => {
 
 test('names and signs of colours: its own, none twice', () => {
     const inks = (colours, own) => inksOf({ colours, inks: own }).map(({ name, sign }) => `${name} ${sign}`);
-    assert.deepEqual(inks([[255, 255, 255], [0, 0, 0], [200, 30, 30], [190, 40, 40]], []), ['white .', 'black X', 'lighter red b', 'darker red c']);
+    assert.deepEqual(inks([[255, 255, 255], [0, 0, 0], [210, 30, 30], [200, 30, 30]], []), ['white .', 'black X', 'lighter red b', 'darker red c']);
     assert.deepEqual(inks([[1, 2, 3], [255, 255, 255]], [{ name: 'white', sign: '.' }]), ['white .', 'white (a) a']);
     assert.deepEqual(inks([[1, 2, 3], [4, 5, 6]], [{ sign: '?' }, { name: 'background', sign: '-' }]), ['black .', 'background -']);
 });

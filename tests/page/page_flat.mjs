@@ -3,7 +3,7 @@
 import assert from 'node:assert/strict';
 import { test } from 'node:test';
 import '../../page/test/limits.mjs';
-import { nameOf } from '../../page/document/colours.js';
+import { nameOf } from '../../page/document/names.js';
 import { mergedNumbers, nearPairs } from '../../page/document/near.js';
 import { docsFor, sizesFor } from '../../page/import/contacts.js';
 import { countFlat } from '../../page/import/flat.js';

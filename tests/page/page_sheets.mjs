@@ -131,7 +131,7 @@ test('blocks with letters or signs stand apart, with one digit or three', () => 
 test('names of colours in the legend differ', () => {
     const two = docOf(['abc'], [[255, 255, 255], [0, 0, 200], [40, 40, 220], [200, 0, 0]]);
     assert.deepEqual(namesOf(two), ['white', 'darker blue', 'lighter blue', 'red']);
-    const three = docOf(['abc'], [[255, 255, 255], [0, 0, 200], [40, 40, 220], [10, 10, 180]]);
+    const three = docOf(['abc'], [[255, 255, 255], [0, 0, 210], [40, 40, 230], [10, 10, 200]]);
     assert.deepEqual(namesOf(three), ['white', 'blue 2', 'blue 1', 'blue 3']);
     assert.deepEqual(legendOf(three, 'letters').map(({ sign, text }) => `${sign} ${text}`), ['a blue 2', 'b blue 1', 'c blue 3']);
     assert.deepEqual(namesOf({ ...three, inks: [{}, { name: 'sea' }] }), ['white', 'sea', 'lighter blue', 'darker blue']);

@@ -75,7 +75,7 @@ test('each language has the texts of English, in its order, with the same places
 });
 
 // Words that are the same in another language.
-const SAME_FRENCH = ['export.webpbnXml', 'document.orange', 'document.cyan', 'base.expert', 'base.unique', 'view.commit', 'view.guide', 'view.keyCtrl', 'view.rectangle', 'play.pause', 'import.gimpGpl',
+const SAME_FRENCH = ['export.webpbnXml', 'base.expert', 'base.unique', 'view.commit', 'view.guide', 'view.keyCtrl', 'view.rectangle', 'play.pause', 'import.gimpGpl',
     'import.jascPal', 'import.verdict', 'export.usLetter'];
 const SAME = ['export.webpbnXml', 'view.name', 'play.pause', 'library.form', 'import.dithering', 'import.palette', 'import.gimpGpl', 'import.jascPal',
     'export.copyright', 'export.usLetter', 'export.linkField', 'main.start'];
