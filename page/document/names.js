@@ -29,9 +29,9 @@ const knownColours = () => Object.values(SHADES).flatMap((shades, at) => shades.
 
 /** A plain name for a colour: that of the known one that it looks most like; hue and chroma count more than lightness. */
 export function nameOf(triple, maxval) {
-  const [light, green, blue] = oklabOf(...eightBits(triple, maxval));
+  const [light, red, yellow] = oklabOf(...eightBits(triple, maxval));
   known ??= knownColours();
-  const far = ({ lab }) => (lab[0] - light) ** 2 + 2.5 * ((lab[1] - green) ** 2 + (lab[2] - blue) ** 2);
+  const far = ({ lab }) => (lab[0] - light) ** 2 + 2.5 * ((lab[1] - red) ** 2 + (lab[2] - yellow) ** 2);
   return known.reduce((best, one) => (far(one) < far(best) ? one : best)).name;
 }
 

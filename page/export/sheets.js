@@ -14,7 +14,7 @@ export const GRIDS = { 1: [1, 1], 2: [1, 2], 4: [2, 2], 6: [2, 3] };
 /** From more rows or columns on a puzzle goes over several sheets. */
 export const MOST_LINES = 60;
 
-const MOST_CELL = 10; // millimetres
+const MOST_CELL = 12; // millimetres
 const ANSWER_CELL = 5;
 const GAP = 8; // between puzzles of a sheet
 const FOOT = 6; // for the number of a sheet

@@ -34,7 +34,7 @@ const MOST_WORKED = 480; // pixels a side that the dialog works on; a larger par
 const MOST_MIDDLE = 960; // pixels a side of a copy of the image
 const SLOW_MS = 40; // where the last preview took longer, a sketch comes first
 const SKETCH_REST = 150; // milliseconds without a change before the preview follows a sketch
-const SHOWN_SIDE = 320; // pixels of the two pictures in the dialog
+const shownSide = () => (matchMedia('(min-width: 1500px) and (min-height: 900px)').matches ? 480 : 320); // pixels of the two pictures in the dialog
 const MOST_SPECK = 12;
 const AROUND = 0.008; // of a photo's longer side: how far around a click its colour is a mean
 
@@ -54,7 +54,7 @@ class Importing {
     this.inks = new Inks(() => this.change('inks'), () => { this.colours.value = Math.max(2, Number(this.colours.value) - 1); });
     this.judging = new Judging((found) => { this.verdict.textContent = judgedText(found); });
     this.alike = new Alike(() => this.inks.merge());
-    this.source = new Source(image, this.middle.canvas, SHOWN_SIDE, { take: (part) => this.take(part), pick: (place) => this.pick(place) });
+    this.source = new Source(image, this.middle.canvas, shownSide(), { take: (part) => this.take(part), pick: (place) => this.pick(place) });
     this.doc = null;
     this.isWaiting = false; // for the document of the last change
     this.isSheet = false; // that is to be cut into several puzzles
@@ -266,7 +266,7 @@ class Importing {
   }
 
   draw() {
-    drawSmall(this.preview, this.doc, SHOWN_SIDE);
+    drawSmall(this.preview, this.doc, this.source.most);
     this.source.draw(this.crop);
     this.inks.show(this.doc);
     this.alike.show(this.doc);

@@ -393,6 +393,7 @@ export const DE = /** @type {const} */ ({
   'view.publishYes': 'geeignet',
   'view.publishNo': 'nicht geeignet',
   'view.publishNoAs': 'nicht geeignet: {flaws}',
+  'view.flawOthers': 'nicht eindeutig („{fix}“ hilft)',
   'view.flawBlank': 'kein Feld hat eine Farbe',
   'view.flawBackground': 'kein Feld hat den Hintergrund',
   'view.flawGiven': '{place} muss nicht vorgegeben sein',

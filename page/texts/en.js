@@ -393,6 +393,7 @@ export const EN = /** @type {const} */ ({
   'view.publishYes': 'yes',
   'view.publishNo': 'no',
   'view.publishNoAs': 'no: {flaws}',
+  'view.flawOthers': 'not unique (“{fix}” mends it)',
   'view.flawBlank': 'no cell has a colour',
   'view.flawBackground': 'no cell has the background',
   'view.flawGiven': '{place} need not be given',

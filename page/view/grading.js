@@ -35,10 +35,16 @@ function figuresText({ open, grade: { rounds, evaluations, wait, splits, depth }
   return open ? phrase('view.cellsGuessSplitsDepth', { open, splits, depth, lines }) : lines;
 }
 
+// Whether it is fit to be published: an ambiguous puzzle is not, before anything else is known of it.
+function publishText(said) {
+  if (said) return fitText(bench.state, said);
+  return bench.state?.verdict.word === 'ambiguous' ? phrase('view.publishNoAs', { flaws: phrase('view.flawOthers', { fix: phrase('view.fixTitle') }) }) : '–';
+}
+
 function showGrade() {
   const [said, grade] = [saidAtHand(), gradeAtHand()];
   $('grade').textContent = grade ? `${gradeName(grade.word)} (${figuresText(said)})` : '–';
-  $('publish').textContent = said ? fitText(bench.state, said) : '–';
+  $('publish').textContent = publishText(said);
   $('publish-do').hidden = !said?.fit;
 }
 

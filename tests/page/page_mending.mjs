@@ -231,7 +231,7 @@ export async function gradeBeside({ trial, page }) {
     await graded('very hard (8 open cells, 1 split, depth 1;');
     await trial.open(ppmOf(PAIR), 'pair');
     assert.equal(await trial.judged(), 'ambiguous');
-    assert.deepEqual([await trial.text('#grade'), await trial.text('#publish')], ['–', '–'], 'no grade without one solution');
+    assert.deepEqual([await trial.text('#grade'), await trial.text('#publish')], ['–', 'no: not unique (“Fix it” mends it)'], 'no grade without one solution');
     for (const [rows, background, flaw] of [[['..', '..'], '255,255,255', 'no: no cell has a colour'], [['aa', 'aa'], '255,255,0', 'no: no cell has the background']]) {
         await page.run((text, ground) => bench.open({ text, format: 'ppm', background: ground, lines: [] }, { name: 'flat' }).then(() => true), ppmOf(rows), background);
         await page.until((text) => document.getElementById('publish').textContent === text, 20000 * SLACK, flaw);

@@ -2,6 +2,7 @@
 // large enough. Each is a test of the runner tests/page/page_test.mjs.
 import assert from 'node:assert/strict';
 import { pause } from './page_browser.mjs';
+import { hard } from './page_hands.mjs';
 import { SLACK, Trial, noise, ppmOf } from './page_trial.mjs';
 
 const UPRIGHT = [[390, 844], [360, 640]];
@@ -112,6 +113,37 @@ export async function lyingPhone({ browser, url, folder }) {
         await page.touch([await trial.cell(1, 1), await trial.cell(1, 3)]);
         await trial.settled();
         assert.notDeepEqual(await trial.picture(), before, `${where}: one finger paints`);
+        assert.deepEqual(page.faults, []);
+        await page.close();
+    }
+}
+
+/** All colours stand within their panel, on tablets and on phones that lie; there, what runs covers neither the picture nor the panel's end. */
+export async function withinThePanel({ browser, url, folder }) {
+    for (const size of [[768, 1024], [1000, 700], ...LYING]) {
+        const where = size.join(' by ');
+        const trial = await start(browser, url, folder, size);
+        const { page } = trial;
+        await trial.open(hard(), 'hard');
+        await page.run(() => bench.become((doc) => ({ ...doc, colours: Array.from({ length: 16 }, (_, at) => [at * 15, 255 - at * 15, (at * 77) % 256]) })).then(() => true));
+        await page.run(() => setSeconds(''));
+        await page.until(() => document.querySelectorAll('#palette button').length === 16 && !document.getElementById('task').hidden, 20000 * SLACK);
+        const out = await page.run(() => {
+            const panel = document.querySelector('aside');
+            const wide = panel.getBoundingClientRect().left + panel.clientWidth;
+            return [panel.scrollWidth - panel.clientWidth, ...[...document.querySelectorAll('#palette button')].map((one) => one.getBoundingClientRect().right - wide)].filter((more) => more > 0);
+        });
+        assert.deepEqual(out, [], where);
+        const [over, below] = await page.run(() => {
+            const panel = document.querySelector('aside');
+            panel.scrollTop = panel.scrollHeight;
+            const [task, stage] = ['task', 'stage'].map((id) => document.getElementById(id).getBoundingClientRect());
+            const ends = [...panel.querySelectorAll('button, input, select')].filter((one) => one.checkVisibility()).map((one) => one.getBoundingClientRect().bottom);
+            return [stage.bottom > task.top && stage.right > task.left, Math.max(...ends) - task.top];
+        });
+        assert.ok(!over && below <= 0, `${where}: ${over}, ${below}`);
+        await page.shot(`${folder}/panel-${size[0]}.png`);
+        await page.run(() => { setSeconds('5'); searches.stop(); });
         assert.deepEqual(page.faults, []);
         await page.close();
     }

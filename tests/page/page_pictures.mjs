@@ -237,7 +237,7 @@ export async function manyPictures({ browser, url, folder }) {
     await page.close();
 }
 
-/** The dialog needs no scrolling in a small window; on a phone what is told is whole. */
+/** The dialog needs no scrolling in a window, and has larger pictures in a large one; on a phone what is told is whole. */
 export async function dialogFits({ browser, url, folder }) {
     for (const [name, size] of Object.entries(SIZES)) {
         const { page } = await fresh(browser, url, folder, `fits-${name}`, { size });
@@ -246,7 +246,7 @@ export async function dialogFits({ browser, url, folder }) {
         await facts(page, '6 colours');
         await judged(page);
         await page.shot(`${folder}/import-${name}.png`);
-        const { high, seen, cut } = await page.run(() => {
+        const { high, seen, cut, sides } = await page.run(() => {
             const dialog = document.querySelector('dialog[open]');
             const inside = dialog.getBoundingClientRect();
             const cutOff = [...document.querySelectorAll('#import-facts, #import-verdict, #import-near, #import-merge')].filter((one) => {
@@ -254,10 +254,12 @@ export async function dialogFits({ browser, url, folder }) {
                 const around = one.closest('.pictures').getBoundingClientRect();
                 return box.height === 0 || box.bottom > Math.min(inside.bottom, around.bottom) + 1 || box.right > inside.right || one.scrollHeight > one.clientHeight + 2;
             });
-            return { high: dialog.scrollHeight, seen: dialog.clientHeight, cut: cutOff.map((one) => one.id) };
+            const sides = [...dialog.querySelectorAll('.pictures canvas')].map((one) => Math.max(one.clientWidth, one.clientHeight));
+            return { high: dialog.scrollHeight, seen: dialog.clientHeight, cut: cutOff.map((one) => one.id), sides };
         });
         assert.deepEqual(cut, [], name);
         if (name !== 'phone') assert.ok(high <= seen, `${name}: ${high} in ${seen}`);
+        if (name !== 'phone') assert.ok(Math.min(...sides) >= { small: 280, large: 460 }[name], `${name}: ${sides}`);
         await page.close();
     }
 }

@@ -72,12 +72,12 @@ test('several colours: each block is a frame of its colour around a light tint, 
     const yellow = [['#ffdc00', '#8a8a8a'], ['#ffee82', '#ffdc00']];
     const boxes = rectsOf(sheet).filter(({ stroke, width }) => stroke !== undefined && width > 3);
     assert.deepEqual(boxes.map(({ fill, stroke }) => [fill, stroke]), [...blue, ...yellow, ...yellow, ...blue], 'the row from its cells outward, then the columns');
-    // Cells have 10 mm, blocks 8.8, frames 0.13 of that, 1.144, and edges 0.25; a line lies within its box, so the rectangle is smaller by it.
-    assert.deepEqual(boxes.slice(0, 3).map(({ width, height, 'stroke-width': weight }) => [width, height, weight]), [[7.66, 7.66, 1.14], [8.55, 8.55, 0.25], [7.16, 7.16, 1.14]]);
-    // The yellow is one cell to the left of the blue. The middle of a frame is 0.572 from the side of its box, that of an edge 0.125, and
-    // of the frame within it 0.25 + 0.572.
+    // Cells have 12 mm, blocks 10.56, frames 0.13 of that, 1.3728, and edges 0.3; a line lies within its box, so the rectangle is smaller by it.
+    assert.deepEqual(boxes.slice(0, 3).map(({ width, height, 'stroke-width': weight }) => [width, height, weight]), [[9.19, 9.19, 1.37], [10.26, 10.26, 0.3], [8.59, 8.59, 1.37]]);
+    // The yellow is one cell to the left of the blue. The middle of a frame is 0.6864 from the side of its box, that of an edge 0.15, and
+    // of the frame within it 0.3 + 0.6864.
     const [one, outer, inner] = boxes.map(({ x }) => x);
-    assert.ok(Math.abs(outer + 10 - one - (0.125 - 0.572)) < 0.02 && Math.abs(inner + 10 - one - 0.25) < 0.02, `${one}, ${outer}, ${inner}`);
+    assert.ok(Math.abs(outer + 12 - one - (0.15 - 0.6864)) < 0.02 && Math.abs(inner + 12 - one - 0.3) < 0.02, `${one}, ${outer}, ${inner}`);
     // The legend has the colours themselves.
     assert.deepEqual(rectsOf(sheet).filter(({ stroke }) => stroke === '#555').map(({ fill }) => fill), ['#ffdc00', '#000078']);
 });
@@ -196,7 +196,7 @@ test('above 60 lines a puzzle goes over several sheets, with a map of them', () 
 
 test('the smallest cell of a sheet is told', () => {
     const [alone, several] = [sheets([CROSS])[0].cell, sheets([docOf(Array(60).fill('a'.repeat(60)), BLACK)], { paper: 'a5', perSheet: 6, answers: true })];
-    assert.equal(alone, 10);
+    assert.equal(alone, 12);
     assert.ok(several[0].cell > 0.7 && several[0].cell < 0.75, String(several[0].cell)); // a third of 180 mm, less title and gaps, for 61 cells
     assert.equal(several[1].cell, null, 'of solutions it does not matter');
 });
