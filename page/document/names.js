@@ -27,12 +27,21 @@ let known = null;
 const knownColours = () => Object.values(SHADES).flatMap((shades, at) => shades.split('/').flatMap((hexes, step) => hexes.split(',').filter(Boolean)
   .map((hex) => ({ name: shadedName(NAMES[at], step), lab: oklabOf(...tripleOf(`#${hex}`)) }))));
 
-/** A plain name for a colour: that of the known one that it looks most like; hue and chroma count more than lightness. */
-export function nameOf(triple, maxval) {
-  const [light, red, yellow] = oklabOf(...eightBits(triple, maxval));
+// The name of the known colour that looks most like one; hue and chroma count more than lightness.
+function nearestName([light, red, yellow]) {
   known ??= knownColours();
   const far = ({ lab }) => (lab[0] - light) ** 2 + 2.5 * ((lab[1] - red) ** 2 + (lab[2] - yellow) ** 2);
   return known.reduce((best, one) => (far(one) < far(best) ? one : best)).name;
+}
+
+const named = new Map(); // what was asked for, by samples
+
+/** A plain name for a colour. */
+export function nameOf(triple, maxval) {
+  const samples = eightBits(triple, maxval);
+  const key = samples.join();
+  if (!named.has(key)) named.set(key, nearestName(oklabOf(...samples)));
+  return named.get(key);
 }
 
 // What tells colours of one name apart, the lightest first.

@@ -259,7 +259,7 @@ export async function dialogFits({ browser, url, folder }) {
         });
         assert.deepEqual(cut, [], name);
         if (name !== 'phone') assert.ok(high <= seen, `${name}: ${high} in ${seen}`);
-        if (name !== 'phone') assert.ok(Math.min(...sides) >= { small: 280, large: 460 }[name], `${name}: ${sides}`);
+        if (name !== 'phone') assert.ok(sides[1] >= { small: 280, large: 460 }[name], `${name}: ${sides}`);
         await page.close();
     }
 }
