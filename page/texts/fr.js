@@ -393,7 +393,7 @@ export const FR = /** @type {const} */ ({
   'view.publishYes': 'oui',
   'view.publishNo': 'non',
   'view.publishNoAs': 'non : {flaws}',
-  'view.flawOthers': 'pas unique («\u00a0{fix}\u00a0» y remédie)',
+  'view.flawOthers': 'pas unique (« {fix} » y remédie)',
   'view.flawBlank': 'aucune case n’a de couleur',
   'view.flawBackground': 'aucune case n’a le fond',
   'view.flawGiven': '{place} n’a pas besoin d’être donnée',
