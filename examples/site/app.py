@@ -19,19 +19,28 @@ import unicodedata
 from collections import Counter, deque
 
 import nonobench
-from flask import Flask, abort, g, jsonify, redirect, render_template, request, url_for
+from flask import Flask, Response, abort, g, jsonify, redirect, render_template, request, url_for
 from jinja2 import DictLoader
+from markupsafe import Markup
 from werkzeug.exceptions import HTTPException
 
 MOST_TITLE = 100
 MOST_SHOWN = 200
 MOST_OPEN = 500  # connections
 MOST_FILES = 4096  # descriptors: waitress takes up to three for each connection
+MOST_PICTURE = 1 << 18  # bytes
+MOST_GIVEN = 1000  # cells
 MOST_PARTS = 8  # of a form, with what stands before and behind them
-MOST_HEAD = 4096  # of what is said of a form, and of its parts
-BLANKS = re.compile(r"\s{100}")  # of a header, for which waitress or Werkzeug takes long; as waitress does for bodies in small pieces
+MOST_HEAD = 1000  # bytes of a title, and of what is said of a part, that are looked at
+
+# All that Flask gets to see of a request's headers, and how it looks: for others, Werkzeug may take long.
+HEADERS = {"CONTENT_LENGTH", "CONTENT_TYPE", "HTTP_ACCEPT", "HTTP_HOST"}
+PLAIN = re.compile("[ -~]{,300}")
+BLANKS = re.compile(rb"[ \t]{100}")  # of a header, for which waitress takes long; as it does for bodies in small pieces
+# A form, and the name of a part, as browsers and programs write them.
+KIND = re.compile(r"""multipart/form-data; ?boundary="?([\w'()+,./:=?-]{1,70})"?""", re.ASCII | re.IGNORECASE)
+PART = re.compile(rb'\r\n(?i:content-disposition: ?form-data; ?name)="?(title|picture|certificate)[";\r]')
 COMMENTS = re.compile(rb"(?:#[^\r\n]*\s*){1,999}")  # of a picture, some at a time, since each match takes memory
-ODD_CODING = re.compile(rb"charset(?!=\"?utf-?8\b)", re.IGNORECASE)
 PNG = b"\x89PNG\r\n\x1a\n"
 WHITE = (255, 255, 255)
 
@@ -39,8 +48,8 @@ WHITE = (255, 255, 255)
 UNSEEN = {"Cc", "Cf", "Cn", "Co", "Cs"}
 JOINERS = "\u200c\u200d"
 
-# Letters and a sign that show nothing: fillers of Hangul, and the empty cell of Braille.
-BLANK = dict.fromkeys(map(ord, "\u115f\u1160\u2800\u3164\uffa0"), " ")
+# Letters and signs that show nothing: fillers of Hangul, empty cells of Braille and hieroglyphs, place holders, a note without a head.
+BLANK = dict.fromkeys(map(ord, "\u115f\u1160\u2800\u3164\uffa0\ufffc\U00013441\U00013442\U0001d159"), " ")
 
 # `shown` is the sum of the picture as it is shown: what makes two puzzles one, whatever cells are given.
 TABLE = """
@@ -106,14 +115,8 @@ FORM = PAGE + """{% if reason %}<p class="refused">{{ reason }}</p>{% endif %}
 <label>Picture, one cell per pixel (PNG, or PPM as P3 text) <input type="file" name="picture" required></label>
 <label>Certificate <input type="file" name="certificate" required></label><button>Check and publish</button></form>"""
 
-PUZZLE = PAGE + """{% macro clue(blocks) %}{% for length, letter in blocks %}<span style="{{ inks[letter] }}">{{ length }}</span>
-{%- else %}<span>0</span>{% endfor %}{% endmacro %}
-<table><thead><tr><th></th>{% for blocks in columns %}<th>{{ clue(blocks) }}</th>{% endfor %}</tr></thead>
-<tbody>{% for blocks in rows %}{% set row = loop.index %}<tr><th>{{ clue(blocks) }}</th>{% for _ in columns %}
-{%- set given = givens.get((row, loop.index)) %}
-<td{% if given %} class="given" style="{{ given.style }}">{{ given.mark }}{% else %}>{% endif %}</td>{% endfor %}</tr>{% endfor %}
-</tbody></table><p>It has one solution{% if givens %} with the {{ givens|length }} framed
-{{ "cell that is" if givens|length == 1 else "cells that are" }} given (×: it stays empty){% endif %}: this was proved when it was uploaded.</p>"""
+PUZZLE = PAGE + """{{ table }}<p>It has one solution{% if givens %} with the {{ givens }} framed
+{{ "cell that is" if givens == 1 else "cells that are" }} given (×: it stays empty){% endif %}: this was proved when it was uploaded.</p>"""
 PAGES = DictLoader({"list.html": LIST, "form.html": FORM, "puzzle.html": PUZZLE})
 
 
@@ -127,6 +130,8 @@ class Refused(Exception):
 
 def picture_of(file):
     """A picture as a P3 text: a PNG as browsers show it, a cell for each pixel. Everything else is left as it is."""
+    if len(file) > MOST_PICTURE:
+        raise Refused(f"The picture has more than {MOST_PICTURE >> 10} KiB.", 413)
     if not file.startswith(PNG):
         return file
     try:
@@ -143,8 +148,8 @@ class Picture:
     """
 
     def __init__(self, file):
-        # A number may have any length; Python would read no more than some thousands of digits.
-        words = [int(word.lstrip(b"0") or b"0") for word in COMMENTS.sub(b" ", file[2:]).split()]
+        # A number may have any length, but is at most 65535.
+        words = [int(word[-5:]) for word in COMMENTS.sub(b" ", file[2:]).split()]
         self.columns, self.rows, maxval = words[:3]
         exact = list(zip(words[3::3], words[4::3], words[5::3]))
         self.palette = {triple: nonobench.colour_shown(triple, maxval) for triple in dict.fromkeys([(maxval,) * 3, *exact])}
@@ -193,41 +198,41 @@ def reason_of(fault, certificate):
     return WORDS.get(fault.name, fault.text) + (f" It seems that {hint}." if hint else "") + (f" ({place})" if " at " in fault.text else "")
 
 
-def takes_long(head):
-    """Whether Werkzeug takes long for a header that has options: its time grows with the square of the length."""
-    return len(head) > MOST_HEAD or bool(BLANKS.search(head))
+def plain(application):
+    """A WSGI application that gets the headers which the site reads, where they are short and of plain signs, and no others."""
+
+    def answer(environ, start):
+        for name in [name for name in environ if name.startswith(("CONTENT_", "HTTP_"))]:
+            if name not in HEADERS or not PLAIN.fullmatch(environ[name]):
+                del environ[name]
+        return application(environ, start)
+
+    return answer
 
 
-def look_at_form():
-    """Refuses a form before Flask reads it, where that takes long: for what is said of a part, or for a title in some codings."""
-    if (request.content_length or 0) > request.max_content_length:
+def fields_of_form():
+    """The fields of the form that was sent, by their names. Werkzeug would take long for some that are made for that."""
+    kind = KIND.fullmatch(request.headers.get("Content-Type", ""))
+    if kind is None:
+        return {}
+    sent = request.stream.read(request.max_content_length + 1)
+    if len(sent) > request.max_content_length:
         abort(413)
-    boundary = request.mimetype_params.get("boundary", "")
-    if boundary is None:  # of `boundary` without `=`
+    parts = (b"\r\n" + sent).split(b"\r\n--" + kind[1].encode(), MOST_PARTS)
+    if len(parts) > MOST_PARTS:
         abort(400)
-    mark = b"--" + boundary.encode()
-    # All that Werkzeug may take for heads, and more: it ends them sooner, and passes over empty lines in front of them.
-    heads = [part.lstrip().partition(b"\r\n\r\n")[0] for part in request.get_data(parse_form_data=False).split(mark, MOST_PARTS)]
-    if len(heads) > MOST_PARTS or takes_long(b"".join(heads).decode("utf-8", "replace")) or any(map(ODD_CODING.search, heads)):
-        abort(400)
-
-
-def files_of_form():
-    """The files of a form by their names."""
-    try:
-        if takes_long(request.content_type or ""):
-            abort(400)
-        if request.mimetype != "multipart/form-data":
-            return {}
-        look_at_form()
-        return request.files
-    except (LookupError, UnicodeError):  # a parameter is in a coding that Python does not have, or not in the one that it names
-        abort(400)
+    fields = {}
+    for part in parts:
+        head, _, text = part.partition(b"\r\n\r\n")
+        if name := PART.search(head[:MOST_HEAD] + b"\r"):
+            fields.setdefault(name[1].decode(), text)
+    return fields
 
 
 def wants_json():
-    """Whether a client asks for JSON before a page."""
-    return request.accept_mimetypes.best_match(["text/html", "application/json"]) == "application/json"
+    """Whether a client asks for JSON, and for no page."""
+    accepted = request.headers.get("Accept", "")
+    return "application/json" in accepted and "text/html" not in accepted
 
 
 def ink_of(triple):
@@ -239,8 +244,24 @@ def ink_of(triple):
 
 def given_of(triple):
     """How a given cell looks. Each has a frame and a mark, whatever its colour: a cross where it stays empty."""
-    is_empty = tuple(triple) == WHITE
-    return {"style": ink_of(triple), "mark": "\N{MULTIPLICATION SIGN}" if is_empty else "\N{BLACK CIRCLE}"}
+    mark = "\N{MULTIPLICATION SIGN}" if triple == WHITE else "\N{BLACK CIRCLE}"
+    return f'<td class="given" style="{ink_of(triple)}">{mark}</td>'
+
+
+def table_of(puzzle):
+    """The table of a puzzle, with nothing that a stranger wrote. A template takes long for thousands of cells."""
+    inks = {letter: ink_of(triple) for letter, triple in puzzle["colours"].items()}
+    looks = {triple: given_of(triple) for triple in {tuple(triple) for _, _, triple in puzzle["givens"]}}
+    cells = [["<td></td>"] * len(puzzle["columns"]) for _ in puzzle["rows"]]
+    for row, column, triple in puzzle["givens"]:
+        cells[row - 1][column - 1] = looks[tuple(triple)]
+    top, left = (
+        ["".join(f'<span style="{inks[letter]}">{length}</span>' for length, letter in blocks) or "<span>0</span>" for blocks in puzzle[lines]]
+        for lines in ("columns", "rows")
+    )
+    head = "".join(f"<th>{clue}</th>" for clue in top)
+    body = "\n".join(f"<tr><th>{clue}</th>{''.join(line)}</tr>" for clue, line in zip(left, cells))
+    return Markup(f"<table><thead><tr><th></th>{head}</tr></thead>\n<tbody>{body}</tbody></table>")
 
 
 class Site:
@@ -272,6 +293,8 @@ class Site:
 
     def proved(self, file, certificate):
         """A picture that is fit to be published by its certificate, and what is published of it: with the givens that this names."""
+        if certificate.count(b"\ngiven ") > MOST_GIVEN:
+            raise Refused(f"The certificate gives more than {MOST_GIVEN} cells.")
         try:
             with self.worker() as worker:
                 said = worker.assess(file, certificate, published=nonobench.ANY_GIVEN)
@@ -289,7 +312,7 @@ class Site:
     def database(self):
         """The connection of this request."""
         if "database" not in g:
-            g.database = sqlite3.connect(self.config["DATABASE"], timeout=60)
+            g.database = sqlite3.connect(self.config["DATABASE"], timeout=10)
             g.database.row_factory = sqlite3.Row
             g.database.execute(TABLE)
         return g.database
@@ -297,10 +320,11 @@ class Site:
     def store(self, title, file, certificate):
         """Stores a puzzle that is proved, and answers its number."""
         picture, puzzle = self.proved(file, certificate)
+        shown = picture.sum()
         with self.database() as database:
-            if not database.execute(PUBLISH, (title, file, certificate, puzzle, picture.sum())).rowcount:
+            if not database.execute(PUBLISH, (title, file, certificate, puzzle, shown)).rowcount:
                 raise Refused("This puzzle is already here, with as few given cells.", 409)
-            return database.execute("SELECT id FROM published WHERE shown = ?", (picture.sum(),)).fetchone()["id"]
+            return database.execute("SELECT id FROM published WHERE shown = ?", (shown,)).fetchone()["id"]
 
 
 def guard(app):
@@ -325,6 +349,11 @@ def guard(app):
         if wants_json():
             return jsonify(refused=str(error)), error.status
         return render_template("form.html", title="Not published", reason=str(error)), error.status
+
+    @app.errorhandler(sqlite3.OperationalError)
+    def cannot_store(error):
+        app.logger.error("the database: %s", error)
+        return refuse(Refused("The site cannot use its database now. Try again later.", 503))
 
     @app.errorhandler(HTTPException)
     def fail(error):
@@ -351,12 +380,10 @@ def add_pages(app, site):
 
     @app.post("/puzzles")
     def take():
-        sent = files_of_form()
-        files = [sent.get(name) for name in ("picture", "certificate")]
-        if not all(files):
+        title, picture, certificate = map(fields_of_form().get, ("title", "picture", "certificate"))
+        if picture is None or certificate is None:
             raise Refused("Choose a picture and a certificate.")
-        picture, certificate = (file.read() for file in files)
-        number = site.store(title_of(request.form.get("title", "")), picture_of(picture), certificate)
+        number = site.store(title_of((title or b"")[:MOST_HEAD].decode("utf-8", "ignore")), picture_of(picture), certificate)
         address = url_for("puzzle", number=number)
         if wants_json():
             return jsonify(number=number, address=address), 201, {"Location": address}
@@ -369,20 +396,18 @@ def add_pages(app, site):
             found = site.database().execute("SELECT title, puzzle FROM published WHERE id = ?", (int(number),)).fetchone()
         if found is None:
             abort(404)
-        puzzle = json.loads(found["puzzle"])
+        title, puzzle = found
         if wants_json():
-            return jsonify(number=int(number), title=found["title"], **puzzle)
-        return render_template(
-            "puzzle.html", title=found["title"], rows=puzzle["rows"], columns=puzzle["columns"],
-            inks={letter: ink_of(triple) for letter, triple in puzzle["colours"].items()},
-            givens={(row, column): given_of(triple) for row, column, triple in puzzle["givens"]},
-        )
+            return Response(f'{{"number": {number}, "title": {json.dumps(title)}, {puzzle[1:]}', mimetype="application/json")
+        puzzle = json.loads(puzzle)
+        return render_template("puzzle.html", title=title, table=table_of(puzzle), givens=len(puzzle["givens"]))
 
 
 def create_app(**config):
     """The site. DATABASE is its file, SECONDS and MEMORY (bytes) bound a check, WORKERS is how many run at once."""
-    app = Flask(__name__)
+    app = Flask(__name__, static_folder=None)
     app.jinja_loader = PAGES
+    app.wsgi_app = plain(app.wsgi_app)
     app.config.update(
         DATABASE=os.environ.get("SITE_DATABASE", "puzzles.sqlite"), SECONDS=5.0, MEMORY=1 << 30, WORKERS=2,
         MAX_CONTENT_LENGTH=2 << 20,
@@ -437,7 +462,7 @@ def bound_connections():
         """A request, the only one of its connection."""
 
         def parse_header(self, header_plus):
-            if BLANKS.search(header_plus.decode("latin-1")):
+            if BLANKS.search(header_plus):
                 raise ParsingError("Invalid header")
             try:
                 super().parse_header(header_plus)
@@ -477,8 +502,8 @@ def main():
     logging.getLogger("waitress.queue").setLevel(logging.ERROR)
     server = waitress.create_server(
         app, listen=os.environ.get("SITE_LISTEN", "127.0.0.1:5000"), threads=8, connection_limit=1000, asyncore_use_poll=True,
-        channel_timeout=30, max_request_header_size=1 << 15, max_request_body_size=2 * app.config["MAX_CONTENT_LENGTH"],
-        inbuf_overflow=1 << 16, ident=None,
+        channel_timeout=30, max_request_header_size=1 << 13, max_request_body_size=2 * app.config["MAX_CONTENT_LENGTH"],
+        inbuf_overflow=1 << 16, outbuf_overflow=1 << 16, ident=None,
     )
     server.task_dispatcher.queue = Turns()
     logging.basicConfig()
