@@ -30,9 +30,8 @@ MOST_OPEN = 500  # connections
 MOST_FILES = 4096  # descriptors: waitress takes up to three for each connection
 MOST_PICTURE = 1 << 18  # bytes
 MOST_GIVEN = 1000  # cells
-MOST_PARTS = 8  # of a form, with what stands before and behind them
+MOST_PARTS = 8  # of a form that are looked at
 MOST_HEAD = 1000  # bytes of a title, and of what is said of a part, that are looked at
-
 # All that Flask gets to see of a request's headers, and how it looks: for others, Werkzeug may take long.
 HEADERS = {"CONTENT_LENGTH", "CONTENT_TYPE", "HTTP_ACCEPT", "HTTP_HOST"}
 PLAIN = re.compile("[ -~]{,300}")
@@ -47,7 +46,6 @@ WHITE = (255, 255, 255)
 # The categories of characters that no title has, but for the joiners that some languages and emoji are written with.
 UNSEEN = {"Cc", "Cf", "Cn", "Co", "Cs"}
 JOINERS = "\u200c\u200d"
-
 # Letters and signs that show nothing: fillers of Hangul, empty cells of Braille and hieroglyphs, place holders, a note without a head.
 BLANK = dict.fromkeys(map(ord, "\u115f\u1160\u2800\u3164\uffa0\ufffc\U00013441\U00013442\U0001d159"), " ")
 
@@ -200,14 +198,10 @@ def reason_of(fault, certificate):
 
 def plain(application):
     """A WSGI application that gets the headers which the site reads, where they are short and of plain signs, and no others."""
-
-    def answer(environ, start):
-        for name in [name for name in environ if name.startswith(("CONTENT_", "HTTP_"))]:
-            if name not in HEADERS or not PLAIN.fullmatch(environ[name]):
-                del environ[name]
-        return application(environ, start)
-
-    return answer
+    return lambda environ, start: application({
+        name: value for name, value in environ.items()
+        if not name.startswith(("CONTENT_", "HTTP_")) or name in HEADERS and PLAIN.fullmatch(value)
+    }, start)
 
 
 def fields_of_form():
@@ -217,16 +211,10 @@ def fields_of_form():
         return {}
     sent = request.stream.read(request.max_content_length + 1)
     if len(sent) > request.max_content_length:
-        abort(413)
+        raise Refused(f"The files have more than {request.max_content_length >> 20} MiB.", 413)
     parts = (b"\r\n" + sent).split(b"\r\n--" + kind[1].encode(), MOST_PARTS)
-    if len(parts) > MOST_PARTS:
-        abort(400)
-    fields = {}
-    for part in parts:
-        head, _, text = part.partition(b"\r\n\r\n")
-        if name := PART.search(head[:MOST_HEAD] + b"\r"):
-            fields.setdefault(name[1].decode(), text)
-    return fields
+    pairs = [(PART.search(head[:MOST_HEAD] + b"\r"), text) for head, _, text in (part.partition(b"\r\n\r\n") for part in parts)]
+    return {name[1].decode(): text for name, text in pairs if name}
 
 
 def wants_json():
@@ -255,10 +243,8 @@ def table_of(puzzle):
     cells = [["<td></td>"] * len(puzzle["columns"]) for _ in puzzle["rows"]]
     for row, column, triple in puzzle["givens"]:
         cells[row - 1][column - 1] = looks[tuple(triple)]
-    top, left = (
-        ["".join(f'<span style="{inks[letter]}">{length}</span>' for length, letter in blocks) or "<span>0</span>" for blocks in puzzle[lines]]
-        for lines in ("columns", "rows")
-    )
+    top, left = (["".join(f'<span style="{inks[letter]}">{length}</span>' for length, letter in blocks) or "<span>0</span>"
+                  for blocks in puzzle[lines]] for lines in ("columns", "rows"))
     head = "".join(f"<th>{clue}</th>" for clue in top)
     body = "\n".join(f"<tr><th>{clue}</th>{''.join(line)}</tr>" for clue, line in zip(left, cells))
     return Markup(f"<table><thead><tr><th></th>{head}</tr></thead>\n<tbody>{body}</tbody></table>")
@@ -337,9 +323,7 @@ def guard(app):
 
     @app.after_request
     def restrict(response):
-        response.headers["Content-Security-Policy"] = (
-            "default-src 'none'; style-src 'unsafe-inline'; form-action 'self'; frame-ancestors 'none'; base-uri 'none'"
-        )
+        response.headers["Content-Security-Policy"] = "default-src 'none'; style-src 'unsafe-inline'; form-action 'self'; frame-ancestors 'none'; base-uri 'none'"
         response.headers["X-Content-Type-Options"] = "nosniff"
         response.headers["Vary"] = "Accept"
         return response
@@ -358,10 +342,6 @@ def guard(app):
     @app.errorhandler(HTTPException)
     def fail(error):
         return (jsonify(refused=error.name), error.code) if wants_json() else error
-
-    @app.errorhandler(413)
-    def too_long(_error):
-        return refuse(Refused(f"The files have more than {app.config['MAX_CONTENT_LENGTH'] >> 20} MiB.", 413))
 
 
 def add_pages(app, site):
@@ -391,9 +371,8 @@ def add_pages(app, site):
 
     @app.get("/puzzles/<number>")
     def puzzle(number):
-        found = None
-        if re.fullmatch("[1-9][0-9]{0,17}", number):  # fewer digits than the database's numbers and Python's have
-            found = site.database().execute("SELECT title, puzzle FROM published WHERE id = ?", (int(number),)).fetchone()
+        wanted = int(number) if re.fullmatch("[1-9][0-9]{0,17}", number) else 0  # fewer digits than the database's numbers have
+        found = site.database().execute("SELECT title, puzzle FROM published WHERE id = ?", (wanted,)).fetchone()
         if found is None:
             abort(404)
         title, puzzle = found
@@ -408,10 +387,8 @@ def create_app(**config):
     app = Flask(__name__, static_folder=None)
     app.jinja_loader = PAGES
     app.wsgi_app = plain(app.wsgi_app)
-    app.config.update(
-        DATABASE=os.environ.get("SITE_DATABASE", "puzzles.sqlite"), SECONDS=5.0, MEMORY=1 << 30, WORKERS=2,
-        MAX_CONTENT_LENGTH=2 << 20,
-    )
+    app.config.update(SECONDS=5.0, MEMORY=1 << 30, WORKERS=2, MAX_CONTENT_LENGTH=2 << 20)
+    app.config.update(DATABASE=os.environ.get("SITE_DATABASE", "puzzles.sqlite"))
     app.config.update(config)
     site = app.extensions["puzzles"] = Site(app.config)
     guard(app)

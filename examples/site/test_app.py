@@ -302,7 +302,7 @@ class Site(Case):
         for more in ("x;" + options.decode(), "x;" + "a*=b;" * 6000, "", "*=hex''00", "*0=x", "\ud800", "x" * 71):
             self.assertEqual(send(b"", kind=f"multipart/form-data; boundary={more}"), 422)
         self.assertEqual(send(b"", b"a&" * 1_000_000, "application/x-www-form-urlencoded"), 422)
-        self.assertEqual(send(b"", b"\r\n--x" * 300_000), 400)
+        self.assertEqual(send(b"", b"\r\n--x" * 300_000), 422)
         self.assertEqual(send(b"", b"a" * (3 << 20)), 413)
         self.assertLess(sum(spent), 5)
 
