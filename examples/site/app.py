@@ -480,7 +480,7 @@ def main():
     server = waitress.create_server(
         app, listen=os.environ.get("SITE_LISTEN", "127.0.0.1:5000"), threads=8, connection_limit=1000, asyncore_use_poll=True,
         channel_timeout=30, max_request_header_size=1 << 13, max_request_body_size=2 * app.config["MAX_CONTENT_LENGTH"],
-        inbuf_overflow=1 << 16, outbuf_overflow=1 << 16, ident=None,
+        inbuf_overflow=1 << 16, ident=None,
     )
     server.task_dispatcher.queue = Turns()
     logging.basicConfig()

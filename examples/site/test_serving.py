@@ -188,18 +188,6 @@ class Serving(unittest.TestCase):
         # Less than a fifth of what they sent is held.
         self.assertLess(sum(map(peak, family(self.server.pid))), 100 << 10)
 
-    def test_slow_readers_take_little_memory(self):
-        """Of a large page, most waits in files."""
-        cells = " ".join(("0 0 0", "255 0 0", "0 0 255")[(at % 85 + at // 85) % 3] for at in range(80 * 85))
-        picture = f"P3 85 80 255 {cells}\n".encode()
-        self.assertEqual(self.bring(form(picture, nonobench.certify(picture)))[0], 303)
-        with contextlib.ExitStack() as opened:
-            clients = [opened.enter_context(socket.create_connection(("127.0.0.1", self.port), STARTING)) for _ in range(200)]
-            for client in clients:
-                client.sendall(b"GET /puzzles/1 HTTP/1.1\r\nHost: x\r\n\r\n")
-            length = min(int(client.recv(300).split(b"Content-Length: ")[1].split()[0]) for client in clients)
-        self.assertLess(sum(map(peak, family(self.server.pid))), length * 200 >> 10)
-
     def test_who_opens_many_connections_shuts_nobody_out(self):
         """Those that are silent make room for others, also where each has a file of what it sent."""
         resource.setrlimit(resource.RLIMIT_NOFILE, (4096, resource.getrlimit(resource.RLIMIT_NOFILE)[1]))
