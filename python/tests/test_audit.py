@@ -12,6 +12,7 @@ import os
 import re
 import signal
 import sys
+import time
 import types
 import unittest
 import unittest.mock
@@ -810,6 +811,20 @@ class Running(Case):
             self.assertEqual(hand.since > 5.0, is_further)
 
     @pytest.mark.since("0.7.0")
+    def test_a_second_look_is_short(self):
+        """A puzzle that had its time is looked at for a tenth more, and a second."""
+        task = serving.Task(0, "one.ppm", "one.ppm", (), None, None, None, "", 1, serving.FULL)
+        for mode, seconds, quiet, is_late in (
+            (serving.FULL, 10.0, 9.9, False), (serving.FULL, 10.0, 10.5, True), (serving.GLANCE, 10.0, 1.9, False), (serving.GLANCE, 10.0, 2.5, True),
+            (serving.GLANCE, 0.2, 1.0, True), (serving.FULL, None, 1e9, False),
+        ):
+            pool = workers.Pool(None, 1, seconds)
+            hand = types.SimpleNamespace(tasks=deque([task._replace(mode=mode)]), is_ready=True, since=time.monotonic() - quiet)
+            pool._hands.append(hand)
+            with self.subTest((mode, quiet)), unittest.mock.patch.object(pool, "_end", side_effect=lambda *_: [1]):
+                self.assertEqual(len(list(pool._end_late())), is_late)
+
+    @pytest.mark.since("0.7.0")
     def test_a_grade_that_does_not_come_takes_neither_note_nor_certificate(self):
         said = '{"file":"one.ppm","verdict":"unique","lines":7,"note":"its certificate was not written: x","seconds":1.5}'
         task = serving.Task(0, "one.ppm", "one.ppm", (), None, None, None, "", 1, serving.FULL)
@@ -835,7 +850,7 @@ class Running(Case):
         self.rows("site", "--certify", "certs", status=0)
         self.assertEqual(sorted(place.name for place in (self.folder / "certs").iterdir()), [
             "a.pgm.cert", "a.ppm.cert", "a.ppm.ppm.cert", "b.ppm.cert", "b.xml.2.cert", "b.xml.2.ppm.cert", "b.xml.cert", "c.2.cert", "c.cert",
-            "set.2.cert", "set.xml.2.cert", "set.xml.cert", "set.xml.xml.2.cert", "set.xml.xml.cert",
+            "set.2.ppm.cert", "set.xml.2.cert", "set.xml.cert", "set.xml.xml.2.cert", "set.xml.xml.cert",
         ])
         rows = self.rows("site", "--certificates", "certs", status=0)
         self.assertEqual([row["certificate"] for row in rows.values()], [{"accepted": True}] * 14)
@@ -1057,6 +1072,24 @@ class Running(Case):
                     rows = self.rows(*paths, "--certificates", "certs", "--certify", "made", status=1)
                     self.assertEqual([name for name, row in rows.items() if "certificate" in row], ["site/one.ppm", "site/set.xml#2"])
                     self.assertEqual(sorted(name.name for name in (self.folder / "made").iterdir()), ["one.cert", "set.2.cert", "set.cert"])
+
+    @pytest.mark.since("0.7.0")
+    def test_folders_that_are_called_like_what_is_written(self):
+        """No process is first: what a puzzle would be called, where a folder is, it never is."""
+        for name in ("a.ppm", "a.cert/z.ppm", "b.png", "b.ppm/z.ppm", "c.ppm", "c.cert/z.ppm", "c.ppm.givens/z.ppm", "d.ppm", "e.2.ppm", "e.xml.2.givens/z.ppm"):
+            self.put(name, p3(UNIQUE))
+        self.put("e.xml", "<puzzleset>" + webpbn(UNIQUE) * 2 + "</puzzleset>")
+        os.mkdir(self.site / "d.background")
+        lost = "a folder among the puzzles has its name"
+        for out, more in (("out", []), ("more", ["--jobs", "1"])):
+            rows = self.rows("site", "--untrusted", "--certify", out, "--ppm", out, *more, status=3)
+            note = f"its picture was not written: {lost}; its certificate was not written: {lost}"
+            self.assertEqual({name.removeprefix("site/"): row["note"] for name, row in rows.items() if "note" in row}, dict.fromkeys(
+                ("c.ppm", "e.xml#1", "e.xml#2"), note))
+            self.assertEqual(sorted(str(place.relative_to(self.folder / out)) for place in (self.folder / out).rglob("*.cert") if place.is_file()), [
+                "a.cert/z.cert", "a.ppm.cert", "b.png.cert", "b.ppm/z.cert", "c.cert/z.cert", "c.ppm.givens/z.cert", "d.ppm.cert",
+                "e.2.ppm.cert", "e.xml.2.givens/z.cert",
+            ])
 
     @pytest.mark.since("0.7.0")
     def test_certificates_in_a_folder_that_is_not_there(self):
@@ -1513,14 +1546,18 @@ class Again(Case):
         run = running.Run(arguments.Options([], jsonl=str(place), is_quiet=True))
         run._open()
         run._kept = {at: running.Kept((), None) for at in range(3)}
+        # What nobody asked for is not told.
+        stray = [workers.Answer(at, True, verdict, text) for at, verdict in ((1, "error"), (7, "same"), (8, "unique"))]
         with self.assertRaisesRegex(running.Failure, "no rows: 2$"):
-            run._take_all(iter([workers.Answer(1, True, "error", text)]))
+            run._take_all(iter([workers.Answer(1, True, "error", text), *stray]))
         run._close(False)
         self.assertEqual(place.read_text(), text + "\n")
 
     def test_what_is_counted_is_of_one_kind(self):
         run = running.Run(arguments.Options(["site"], is_quiet=True))
-        run._take_all(iter([workers.Answer(1, True, "unique", "{}"), workers.Answer(2, False, "ambiguous", "{}")]))
+        run._kept = {at: running.Kept((), None) for at in (1, 2)}
+        with self.assertRaisesRegex(running.Failure, "no rows: 1$"):
+            run._take_all(iter([workers.Answer(1, True, "unique", '{"verdict":"unique"}'), workers.Answer(2, False, "ambiguous", "{}")]))
         run._progress._total = 3
         self.assertRegex(run._progress._line(), r"^1 of 3 files, .*; unique 1, ambiguous 1$")
 

@@ -21,7 +21,7 @@ from pathlib import Path
 
 sys.path.insert(0, str(Path(__file__).resolve().parent))
 import pytest  # noqa: E402
-from audit_parts import AMBIGUOUS, PATIENCE, ROOT, UNIQUE, Case, chequered, eventually, p3, webpbn  # noqa: E402
+from audit_parts import AMBIGUOUS, CERT, PATIENCE, ROOT, UNIQUE, Case, chequered, eventually, p3, webpbn  # noqa: E402
 from odd_images import BITS, FRAMES, GAMMA, SMALL, odd_images  # noqa: E402
 from processes import children, seen  # noqa: E402
 from test_audit import p3_of_letters  # noqa: E402
@@ -412,6 +412,41 @@ class Strangers(Case):
         (mine / "one.ppm.ppm.givens").write_text("given 2 2\n")
         rows = self.rows_of("site", "--givens", "mine", "--untrusted")
         self.assertEqual([rows[name]["givens"] for name in ("one.ppm", "one.ppm.ppm")], [[[1, 1]], [[2, 2]]])
+
+    def test_strangers_do_not_say_which_certificates_of_the_operators_count(self):
+        """In a folder of their own names alone tell: those after the whole name come first, for each puzzle."""
+        self.put("one.ppm", p3(UNIQUE))
+        self.put("set.xml", "<puzzleset>" + webpbn(UNIQUE) * 2 + "</puzzleset>")
+        mine = self.folder / "mine"
+        mine.mkdir()
+        for name in ("one.cert", "set.cert", "set.1.CERT", "set.2.cert", "set.3.proof"):
+            (mine / name).write_text("x")
+        others = "one.png", "one.ppm.png", "one.ppm.ppm", "set.ppm", "set.2.ppm", "set.1.gif", "set.xml.ppm", "set.xml.2.ppm", "set.xml.xml", "set.2.xml", "set.png/"
+        places = finding.Places(str(mine), None, True)
+
+        def held():
+            finding._listed.cache_clear()
+            finding._folder.cache_clear()
+            found = [one for paths in (["site"], ["site/one.ppm", "site/set.xml"]) for one in finding.find(paths, places)]
+            return [[(of, os.path.basename(way)) for of, way in one.beside] for one in found if one.name in ("site/one.ppm", "site/set.xml")]
+
+        self.addCleanup(os.chdir, os.getcwd())
+        os.chdir(self.folder)
+        numbered = [(2, "set.2.cert"), (3, "set.3.proof")]
+        for wanted in ([[(1, "one.cert")], [(1, "set.cert"), (1, "set.1.CERT"), *numbered]], [[(1, "one.ppm.CERT")], [(1, "set.xml.1.cert"), *numbered]]):
+            for other in ("", *others):
+                place = self.put(other, p3(UNIQUE)) if other.strip("/") == other != "" else self.site / other
+                place.mkdir(exist_ok=True) if other[-1:] == "/" else None
+                with self.subTest((other, wanted)):
+                    self.assertEqual(held(), wanted * 2)
+                if other:
+                    place.rmdir() if place.is_dir() else place.unlink()
+            for name in ("one.ppm.CERT", "set.xml.1.cert"):
+                (mine / name).write_text(CERT)
+        (mine / "one.ppm.CERT").unlink()
+        self.put("set.ppm", p3(UNIQUE))
+        rows = self.rows_of("site", "--certificates", "mine", "--untrusted", status=1)
+        self.assertEqual([rows[name]["certificate"]["accepted"] for name in ("one.ppm", "set.xml#1", "set.xml#2")], [False, True, False])
 
     def test_outputs_go_through_no_link_of_strangers(self):
         self.put("one.ppm", p3(UNIQUE))

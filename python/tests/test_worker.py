@@ -381,6 +381,8 @@ class Folders(unittest.TestCase):
         library = nonobench._library.PATH
         with tempfile.TemporaryDirectory() as folder, tempfile.TemporaryDirectory() as other:
             Path(folder, "named.so").symlink_to(library)
+            Path(folder, "in").mkdir()
+            Path(other, "link").symlink_to(Path(folder, "in"))
             Path(other, "named.so").write_bytes(b"no library")
             program = textwrap.dedent(f"""
                 import os, sys
@@ -390,9 +392,10 @@ class Folders(unittest.TestCase):
                 with nonobench.Worker(seconds=300) as worker:
                     print(worker.clues({DIAGONAL!r}), end="")
             """)
-            run = subprocess.run([sys.executable, "-I", "-c", program], cwd=folder, capture_output=True, text=True, check=False,
-                                 env={**os.environ, "NONOBENCH_LIBRARY": "./named.so"})
-            self.assertEqual((run.stdout, run.stderr), (str(nonobench.clues(DIAGONAL)), ""))
+            for begun, named in ((folder, "./named.so"), (other, "link/../named.so")):
+                run = subprocess.run([sys.executable, "-I", "-c", program], cwd=begun, capture_output=True, text=True, check=False,
+                                     env={**os.environ, "NONOBENCH_LIBRARY": named})
+                self.assertEqual((run.stdout, run.stderr), (str(nonobench.clues(DIAGONAL)), ""))
 
 
 if __name__ == "__main__":

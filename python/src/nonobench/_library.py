@@ -29,7 +29,7 @@ def _path() -> str:
     named = os.environ.get("NONOBENCH_LIBRARY")
     if named:
         # A name without a slash is looked for by the system.
-        return os.path.abspath(named) if os.sep in named else named
+        return os.path.realpath(named) if os.sep in named else named
     checkout = os.path.dirname(os.path.dirname(os.path.dirname(FOLDER)))
     return next(filter(os.path.isfile, (os.path.join(FOLDER, NAME), os.path.join(checkout, "c", "out", NAME))), NAME)
 

@@ -11,6 +11,7 @@ import errno
 import itertools
 import os
 import queue
+import stat
 import sys
 import traceback
 from concurrent.futures import ThreadPoolExecutor
@@ -115,18 +116,17 @@ class Site:
         if self._published is None:
             return None
         # Beside pictures, a file that is called after the whole name is that of the picture with this name and the suffix.
-        is_other = self._published == self._folder and not _is_missing(os.path.join(self._folder, f"{stem}.ppm.ppm"))
+        is_other = self._published == self._folder and not _is_missing(os.path.join(self._folder, f"{stem}.ppm.ppm"), True)
         whole = stem if is_other else f"{stem}.ppm"
         paths = [os.path.join(self._published, name) for name in finding.called_beside(whole, stem, f".{ending}")]
         path = next(itertools.filterfalse(_is_missing, paths), None)
         return None if path is None else _read(f"its {ending}: ", path, most)
 
 
-def _is_missing(path: str) -> bool:
-    """Whether nothing is there. Where that cannot be told, it cannot be read either."""
+def _is_missing(path: str, is_picture: bool = False) -> bool:
+    """Whether nothing is there; for a picture also whether a folder is. Where that cannot be told, it cannot be read either."""
     try:
-        os.lstat(path)
-        return False
+        return stat.S_ISDIR(os.lstat(path).st_mode) and is_picture
     except OSError as error:
         return error.errno in (errno.ENOENT, errno.ENOTDIR, errno.ENAMETOOLONG)
 

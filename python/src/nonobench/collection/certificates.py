@@ -11,6 +11,7 @@ from typing import TYPE_CHECKING, Optional
 from .._answers import Assessment, fault_of, givens_of
 from .._hints import hint_of
 from .._serve import write as write_all
+from .finding import NO_NAME
 from .judging import Desk
 from .puzzles import Puzzle, Unreadable, one_line
 from .readers import bytes_of
@@ -87,7 +88,7 @@ def publish(puzzle: Puzzle, name: str) -> str:
     if all(_lies(f"{name}.{ending}", data) for ending, data in parts.items()):
         return ""
     for ending in reversed(parts):
-        with contextlib.suppress(OSError):
+        with contextlib.suppress(OSError, ValueError):
             os.unlink(f"{name}.{ending}")
     return next(filter(None, (_put("picture", f"{name}.{ending}", data) for ending, data in parts.items() if data)), "")
 
@@ -100,6 +101,8 @@ def _lies(path: str, data: bytes) -> bool:
 
 
 def _put(word: str, path: str, data: bytes) -> str:
+    if NO_NAME in path:
+        return f"{unwritten(word)}: a folder among the puzzles has its name"
     try:
         try:
             _write_new(path, data)

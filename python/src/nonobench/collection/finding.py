@@ -13,6 +13,8 @@ ENDINGS = ("cert", "proof")  # of certificates: the second is an older one, and 
 SUFFIXES = frozenset((".ppm", ".pgm", ".pbm", ".pnm", ".png", ".gif", ".bmp", ".webp", ".non", ".xml"))
 Names = frozenset[str]
 NONE: Names = frozenset()
+MADE = (".cert", ".ppm", ".givens", ".background")  # what an audit writes, below a folder of the same shape
+NO_NAME = "\0"  # in what nothing is written to, since folders have its names
 Named = tuple[int, str, str]  # a certificate: the puzzle of the file that it is for, from 1; how its name ends; its path
 _NUMBER = re.compile(r"(.+)\.[1-9][0-9]{0,5}", re.DOTALL)
 _LIKE_BYTES = re.compile(rb"\\(?=x(?:[89a-f][0-9a-f]|5c))")
@@ -48,11 +50,13 @@ class Folder(NamedTuple):
     names: Names  # of files
     stems: Counter[str]  # how many puzzles have a name, without its suffix
     numbers: Names  # the names that such names have before a number
+    taken: Names  # what no certificate or picture is called: folders are, or a puzzle of a file with several may be
     held: Names  # the names in the folder where certificates lie
     held_in: str
+    is_held_apart: bool  # whether that is another folder than that of the puzzles
     told: Optional[Names]  # the names where givens and backgrounds lie; nothing where they cannot be listed
     told_in: str
-    is_apart: bool  # whether that is another folder than that of the puzzles
+    is_apart: bool  # the same of that
     numbered: dict[str, list[Named]]  # those of files with several puzzles
     unlisted: tuple[Named, ...]  # a folder that cannot be listed stands for what lies there: it cannot be read either
 
@@ -223,25 +227,37 @@ def _folder(prefix: str, real: str, front: str, listed: Optional[frozenset[tuple
             if parts:
                 numbered.setdefault(parts[1], []).append((int(parts[2]), parts[3].lower(), held_in + name))
     files = frozenset(name for name, is_folder in listed or () if not is_folder)
-    stems = Counter(stem for stem, suffix in map(os.path.splitext, files) if suffix.lower() in SUFFIXES)
-    numbers = frozenset(parts[1] for parts in map(_NUMBER.fullmatch, stems) if parts)
+    puzzles = [(stem, suffix.lower()) for stem, suffix in map(os.path.splitext, files) if suffix.lower() in SUFFIXES]
+    stems, sets = Counter(stem for stem, _ in puzzles), {stem for stem, suffix in puzzles if suffix == ".xml"}
+    ofs = {parts[0]: parts[1] for parts in map(_NUMBER.fullmatch, stems) if parts}
+    folders = {os.path.splitext(name)[0] for name in (names or NONE) - files if name.endswith(MADE)}
+    taken = folders.union(parts[1] for parts in map(_NUMBER.fullmatch, folders) if parts)
+    taken.update(stem for stem, of in ofs.items() if of in sets)
     whole = tuple((1, ENDINGS[0], place) for place in unlisted)
-    is_apart = places.givens is not None and os.path.realpath(told_in) != os.path.realpath(real)
-    return Folder(prefix, real, front, files, stems, numbers, held or NONE, held_in, told, told_in, is_apart, numbered, whole)
+    is_held_apart, is_apart = (
+        way is not None and os.path.realpath(place) != os.path.realpath(real)
+        for way, place in ((places.certificates, held_in), (places.givens, told_in))
+    )
+    return Folder(
+        prefix, real, front, files, stems, frozenset(ofs.values()), frozenset(taken), held or NONE, held_in, is_held_apart, told, told_in,
+        is_apart, numbered, whole,
+    )
 
 
 def _found(folder: Folder, name: str) -> Found:
     stem, suffix = os.path.splitext(name)
     is_only = _is_only(folder, stem, suffix.lower())
-    called = stem if is_only else name
+    called = next((way for way in ([stem] if is_only else []) + [name] if way not in folder.taken), name + NO_NAME)
     # A file that is called after the whole name is that of the puzzle with this name and a suffix, where there is one.
     whole = stem if folder.stems[name] else name
     beside = list(folder.unlisted)
-    for ending in ENDINGS:
+    for ending in ENDINGS if not folder.is_held_apart else ():
         # What is called after the name alone may belong to the other puzzle of that name.
         places = _named(whole if is_only else name, stem, f".{ending}", folder.held, folder.held_in)
         beside += [(1, ending, place) for place in places[: None if is_only else 1]]
-    if suffix.lower() == ".xml":
+    if folder.is_held_apart:
+        beside += _held_apart(folder, name, stem)
+    elif suffix.lower() == ".xml":
         own = folder.numbered.get(name, [])
         # What is numbered after the name alone may belong to another puzzle, or to another file of several.
         others = folder.numbered.get(stem, []) if folder.stems[stem] == 1 and not _is_puzzle(folder, stem) else []
@@ -254,6 +270,19 @@ def _found(folder: Folder, name: str) -> Found:
     read = tuple((of, place) for of, ending, place in beside if ending == ENDINGS[0] or of not in newer)
     unread = tuple(place for of, ending, place in beside if ending != ENDINGS[0] and of in newer)
     return Found(folder.real + name, shown(folder.prefix + name), folder.front + called, read, givens, background, unread)
+
+
+def _held_apart(folder: Folder, name: str, stem: str) -> list[Named]:
+    """The certificates in a folder of their own, where names alone tell, and not what strangers have: those of each puzzle that are
+    called after the whole name, else after the stem.
+    """
+    found: list[Named] = []
+    for way in (name, stem):
+        have = {one[:2] for one in found}
+        held = [(1, ending, place) for ending in ENDINGS for place in _named(way, way, f".{ending}", folder.held, folder.held_in)]
+        held += sorted(folder.numbered.get(way, [])) if name.lower().endswith(".xml") else []
+        found += [one for one in held if one[:2] not in have]
+    return found
 
 
 def _is_only(folder: Folder, stem: str, suffix: str) -> bool:

@@ -248,7 +248,8 @@ class Run:
         for answer in answers:
             if answer is None:
                 self._tick()
-                continue
+            if answer is None or answer.number in self._complete or answer.number not in self._kept:
+                continue  # also what nobody asked for
             self._waiting.setdefault(answer.number, []).append(answer)
             self._size += len(answer.text) + len(answer.certificate)
             told = [verdict for _, verdict in self._kept[answer.number].rows] if answer.verdict == "same" else [answer.verdict]

@@ -173,12 +173,17 @@ class Pool:
             if not hand.is_ready:
                 if quiet > STARTING:
                     yield from self._end(hand, "")
-            elif hand.tasks and self._seconds is not None and (quiet > self._seconds + SLACK or self._is_over(hand.tasks[0])):
+            elif hand.tasks and self._seconds is not None and (quiet > self._bound(hand.tasks[0]) or self._is_over(hand.tasks[0])):
                 yield from self._end(hand, f"no answer within {self._seconds:g} seconds")
             elif len(hand.tasks) > 1 and quiet > STUCK:
                 hand.is_left = True
                 while len(hand.tasks) > 1:
                     self._again.appendleft(hand.tasks.pop())
+
+    def _bound(self, task: Task) -> float:
+        """The seconds that a puzzle has. One that has had them all is looked at in a few more."""
+        seconds = self._seconds or 0.0
+        return SLACK + (seconds if task.mode == FULL else min(seconds, 1.0 + seconds / 10))
 
     def _replace(self, hand: Hand) -> int:
         status = hand.status()
