@@ -19,24 +19,8 @@ child must not call the library; use `Worker` there, which starts a new program.
 """
 
 from ._answers import (
-    Assessment,
-    Audit,
-    Block,
-    CertificateFault,
-    Clues,
-    Fault,
-    Flaw,
-    Given,
-    GivensFault,
-    Grade,
-    ImageFault,
-    LengthFault,
-    PictureFault,
-    Proved,
-    Result,
-    Ruling,
-    UnpublishedGiven,
-    Verdict,
+    Assessment, Audit, Block, CertificateFault, Clues, Fault, Flaw, Given, GivensFault, Grade, ImageFault, LengthFault, PictureFault,
+    Proved, Result, Ruling, UnpublishedGiven, Verdict,
 )
 from ._calls import ANY_GIVEN, assess, audit, certify, check, clues, picture_of, prove, verdict, verify
 from ._hints import hint_of

@@ -6,22 +6,8 @@ import operator
 from typing import Iterable, Optional, Union
 
 from ._answers import (
-    Assessment,
-    Audit,
-    Clues,
-    Fault,
-    GivensFault,
-    LengthFault,
-    Proved,
-    Result,
-    Verdict,
-    assessment_of,
-    clues_of,
-    fault_of,
-    givens_of,
-    proved_of,
-    result_of,
-    verdict_of,
+    Assessment, Audit, Clues, Fault, GivensFault, LengthFault, Proved, Result, Verdict, assessment_of, clues_of, fault_of, givens_of,
+    proved_of, result_of, verdict_of,
 )
 from ._library import DONE, MEMORY, OPTIONS
 from ._serve import ASSESS, CHECK, PROVE, PUBLISHED, SESSION, answer
@@ -79,13 +65,8 @@ class Questions:
         return proved_of(self._ask(PROVE, bytes_of(picture), background, b"")[0])
 
     def assess(
-        self,
-        puzzle: Bytes,
-        certificate: Optional[Bytes] = None,
-        background: Optional[Colour] = None,
-        published: Published = (),
-        allowance: Optional[int] = None,
-        non: bool = False,
+        self, puzzle: Bytes, certificate: Optional[Bytes] = None, background: Optional[Colour] = None, published: Published = (),
+        allowance: Optional[int] = None, non: bool = False,
     ) -> Assessment:
         """Whether a puzzle is fit to be published: its verdict, its grade and its flaws. It is a P3 text, or (`non`) a .non text.
 

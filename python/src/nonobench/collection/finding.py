@@ -234,14 +234,9 @@ def _folder(prefix: str, real: str, front: str, listed: Optional[frozenset[tuple
     taken = folders.union(parts[1] for parts in map(_NUMBER.fullmatch, folders) if parts)
     taken.update(stem for stem, of in ofs.items() if of in sets)
     whole = tuple((1, ENDINGS[0], place) for place in unlisted)
-    is_held_apart, is_apart = (
-        way is not None and os.path.realpath(place) != os.path.realpath(real)
-        for way, place in ((places.certificates, held_in), (places.givens, told_in))
-    )
-    return Folder(
-        prefix, real, front, files, stems, frozenset(ofs.values()), frozenset(taken), held or NONE, held_in, is_held_apart, told, told_in,
-        is_apart, numbered, whole,
-    )
+    apart = [way is not None and os.path.realpath(place) != os.path.realpath(real) for way, place in zip(places[:2], (held_in, told_in))]
+    kinds = stems, frozenset(ofs.values()), frozenset(taken)
+    return Folder(prefix, real, front, files, *kinds, held or NONE, held_in, apart[0], told, told_in, apart[1], numbered, whole)
 
 
 def _found(folder: Folder, name: str) -> Found:
