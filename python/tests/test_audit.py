@@ -825,6 +825,22 @@ class Running(Case):
                 self.assertEqual(len(list(pool._end_late())), is_late)
 
     @pytest.mark.since("0.7.0")
+    def test_a_second_look_that_is_too_short_hides_no_puzzles(self):
+        """What follows is known of the first try; and behind the last puzzle of a file nothing does."""
+        task = serving.Task(0, "set.xml", "set.xml", (), None, None, None, "", 2, serving.FULL)
+        for more in ("more", ""):
+            pool = workers.Pool(types.SimpleNamespace(limit="9 s"), 0, 9.0)
+            hand = types.SimpleNamespace(tasks=deque([task]), known=None, reached=0, has_more=False)
+            self.assertEqual(list(pool._hear(hand, 0, "at", "2", more, "")), [])
+            self.assertEqual(list(pool._blame(hand, task, "late", True)), [])
+            (glance,) = pool._again
+            pool._again.clear()
+            (answer,) = pool._blame(types.SimpleNamespace(known=None, reached=0, has_more=False), glance, "late", True)
+            row = json.loads(answer.text)
+            self.assertEqual((glance.mode, row["puzzle"], row.get("more", False), answer.is_last), (serving.GLANCE, 2, more != "", more == ""))
+            self.assertEqual([(after.start, after.mode, after.has_more) for after in pool._again], [(3, serving.FULL, False)] if more else [])
+
+    @pytest.mark.since("0.7.0")
     def test_a_grade_that_does_not_come_takes_neither_note_nor_certificate(self):
         said = '{"file":"one.ppm","verdict":"unique","lines":7,"note":"its certificate was not written: x","seconds":1.5}'
         task = serving.Task(0, "one.ppm", "one.ppm", (), None, None, None, "", 1, serving.FULL)

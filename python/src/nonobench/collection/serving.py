@@ -64,6 +64,7 @@ class Task(NamedTuple):
     kept: tuple[tuple[int, str, File], ...] = ()  # rows to be checked again: number, text where it has one solution, certificate
     spent: float = 0.0  # the seconds of a try that took too long
     used: float = 0.0  # the seconds that the puzzles before took
+    has_more: bool = False  # whether that try came to know of puzzles behind this one
 
 
 def serve(memory: int) -> None:
@@ -120,8 +121,8 @@ class Answers:
 
         `more` and `last` are rows of a file; `same` and `none` say that its rows are as they were, or that there are no more.
         `known` is a row before its certificate or its grade is made: instead of a certificate it has the kind of the row to come, and
-        what follows is the certificate that goes back. `at` is the puzzle that is begun where a file has several, `bye` says that
-        the process ends and has begun no other task, `ready` that it begins.
+        what follows is the certificate that goes back. `at` is the puzzle that is begun where a file has several, with a text where more
+        follow. `bye` says that the process ends and has begun no other task, `ready` that it begins.
         """
         self._waiting.append(framed(number, *(word.encode("ascii") for word in (kind, verdict, text, certificate))))
         if not self._some.is_set():  # which takes no lock
@@ -194,7 +195,7 @@ class Judging:
                 continue
             front: Row = {"file": task.name}
             if has_more or number > 1:
-                self._answers.put(task.number, "at", str(number))
+                self._answers.put(task.number, "at", str(number), "more" if has_more else "")
                 front["puzzle"] = number
             if has_more:
                 front["more"] = True

@@ -50,6 +50,7 @@ class Hand(Child):
         self.quiet = 0.0  # seconds before this one that no puzzle was charged for
         self.cost = PACK_SECONDS  # seconds of a file, about
         self.reached = 0  # the puzzle of the first task's file that is being judged, where the file has several
+        self.has_more = False  # whether others follow it
         self.known: Optional[tuple[str, str]] = None  # the row of the puzzle whose certificate or grade is being made, and what goes with it
         self.send(0, marshal.dumps(tuple(settings)))
 
@@ -144,7 +145,7 @@ class Pool:
         if not hand.tasks or number != hand.tasks[0].number:
             return
         if kind == "at":
-            hand.reached = int(verdict)
+            hand.reached, hand.has_more = int(verdict), text != ""
         elif kind == "known":
             hand.known = text, certificate
         elif kind == "bye":
@@ -155,13 +156,13 @@ class Pool:
 
     def _take(self, hand: Hand, task: Task, answer: Answer) -> Iterator[Answer]:
         """Takes the answer to the first task of a process."""
-        hand.known, hand.reached = None, 0
+        hand.known, hand.reached, hand.has_more = None, 0, False
         used, hand.quiet = task.used + hand.quiet, 0.0
         yield answer
         if answer.is_last or task.mode == GLANCE:
             hand.tasks.popleft()
             if not answer.is_last:
-                self._again.appendleft(task._replace(start=task.start + 1, mode=FULL, spent=0.0, used=used))
+                self._again.appendleft(task._replace(start=task.start + 1, mode=FULL, spent=0.0, used=used, has_more=False))
         else:
             hand.tasks[0] = task._replace(start=json.loads(answer.text)["puzzle"] + 1, used=used)
 
@@ -230,12 +231,12 @@ class Pool:
                 row["seconds"] = self._seconds
             yield from self._give_up(task, row, kind == "more", certificate)
         elif is_late and task.mode == FULL:
-            self._again.appendleft(task._replace(mode=GLANCE, before="", spent=self._seconds or 0.0))
+            self._again.appendleft(task._replace(mode=GLANCE, before="", spent=self._seconds or 0.0, has_more=hand.has_more))
         elif not is_late and (task.number, task.start) not in self._died:
             self._died.add((task.number, task.start))
             self._again.appendleft(task)
         else:
-            has_more = hand.reached == task.start
+            has_more = hand.has_more or task.has_more
             row = {"file": task.name}
             if has_more or task.start > 1:
                 row["puzzle"] = task.start
@@ -248,4 +249,4 @@ class Pool:
         """Tells the row of a puzzle whose process is gone. The puzzles after it are still to come."""
         yield Answer(task.number, not has_more, row["verdict"], text_of(row), certificate)
         if has_more:
-            self._again.appendleft(task._replace(start=row["puzzle"] + 1, mode=FULL, spent=0.0))
+            self._again.appendleft(task._replace(start=row["puzzle"] + 1, mode=FULL, spent=0.0, has_more=False))
