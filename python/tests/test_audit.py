@@ -812,10 +812,10 @@ class Running(Case):
 
     @pytest.mark.since("0.7.0")
     def test_a_second_look_is_short(self):
-        """A puzzle that had its time is looked at for a tenth more, and a second."""
+        """A puzzle that had its time is looked at for a twentieth more, and two seconds."""
         task = serving.Task(0, "one.ppm", "one.ppm", (), None, None, None, "", 1, serving.FULL)
         for mode, seconds, quiet, is_late in (
-            (serving.FULL, 10.0, 9.9, False), (serving.FULL, 10.0, 10.5, True), (serving.GLANCE, 10.0, 1.9, False), (serving.GLANCE, 10.0, 2.5, True),
+            (serving.FULL, 10.0, 9.9, False), (serving.FULL, 10.0, 10.5, True), (serving.GLANCE, 10.0, 2.4, False), (serving.GLANCE, 10.0, 3.0, True),
             (serving.GLANCE, 0.2, 1.0, True), (serving.FULL, None, 1e9, False),
         ):
             pool = workers.Pool(None, 1, seconds)

@@ -184,7 +184,7 @@ class Pool:
     def _bound(self, task: Task) -> float:
         """The seconds that a puzzle has. One that has had them all is looked at in a few more."""
         seconds = self._seconds or 0.0
-        return SLACK + (seconds if task.mode == FULL else min(seconds, 1.0 + seconds / 10))
+        return SLACK + (seconds if task.mode == FULL else min(seconds, 2.0 + seconds / 20))
 
     def _replace(self, hand: Hand) -> int:
         status = hand.status()
