@@ -231,7 +231,7 @@ def _folder(prefix: str, real: str, front: str, listed: Optional[frozenset[tuple
     stems, sets = Counter(stem for stem, _ in puzzles), {stem for stem, suffix in puzzles if suffix == ".xml"}
     ofs = {parts[0]: parts[1] for parts in map(_NUMBER.fullmatch, stems) if parts}
     folders = {os.path.splitext(name)[0] for name in (names or NONE) - files if name.endswith(MADE)}
-    taken = folders.union(parts[1] for parts in map(_NUMBER.fullmatch, folders) if parts)
+    taken = folders.union(parts[1] for parts in map(_NUMBER.fullmatch, folders) if parts and parts[0] != f"{parts[1]}.1")
     taken.update(stem for stem, of in ofs.items() if of in sets)
     whole = tuple((1, ENDINGS[0], place) for place in unlisted)
     apart = [way is not None and os.path.realpath(place) != os.path.realpath(real) for way, place in zip(places[:2], (held_in, told_in))]
