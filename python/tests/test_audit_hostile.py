@@ -654,6 +654,19 @@ class Outputs(Case):
                 self.assertIn("nonobench-audit: /dev/full: No space left on device", done.stderr)
                 self.assertNotIn("Traceback", done.stderr)
 
+    def test_messages_that_cannot_be_written_change_no_status(self):
+        full_rows = ["site/one.ppm", "--jsonl", "/dev/full"]
+        for words, status in ((["site/one.ppm"], 0), (["site"], 1), (["no-such"], 2), (["--no-such"], 2), (full_rows, 3)):
+            with self.subTest(words), open("/dev/full", "wb") as full:
+                done = subprocess.run(self.words(*words), cwd=self.folder, env=self.env(), stdout=subprocess.DEVNULL, stderr=full)
+                self.assertEqual(done.returncode, status)
+
+    def test_a_summary_that_cannot_be_written(self):
+        with open("/dev/full", "wb") as full:
+            words = self.words("site/one.ppm", "--html", "report.html")
+            done = subprocess.run(words, cwd=self.folder, env=self.env(), stdout=full, stderr=subprocess.PIPE, text=True)
+        self.assertEqual((done.returncode, done.stderr), (3, "nonobench-audit: standard output: No space left on device\n"))
+
     def test_rows_on_standard_output_that_is_a_file(self):
         place = os.path.join(self.folder, "rows")
         with open(place, "wb") as rows:

@@ -55,11 +55,11 @@ def pair(site, name, picture=DIAGONAL, certificate=DIAGONAL_CERT, ending="cert",
             (site / f"{name}.{end}").write_text(text)
 
 
-def started(stdout, encoding="utf-8"):
+def started(stdout, encoding="utf-8", stderr=subprocess.PIPE, more=("--quiet",)):
     """Runs it in a process of its own."""
     env = {**os.environ, "PYTHONPATH": str(Path(nonobench.__file__).resolve().parent.parent), "PYTHONIOENCODING": encoding}
-    words = [sys.executable, "-m", "nonobench.check_site", "site", "--quiet"]
-    return subprocess.run(words, stdout=stdout, stderr=subprocess.PIPE, encoding=encoding, timeout=PATIENCE, env=env, check=False)
+    words = [sys.executable, "-m", "nonobench.check_site", "site", *more]
+    return subprocess.run(words, stdout=stdout, stderr=stderr, encoding=encoding, timeout=PATIENCE, env=env, check=False)
 
 
 def test_all_is_accepted(site, capsys):
@@ -424,6 +424,13 @@ def test_other_failures_have_status_3(site, checked, monkeypatch, capsys):
     monkeypatch.setattr(nonobench.Worker, "assess", lambda *words: 1 / 0)
     assert check_site.main(["site"]) == 3
     assert "ZeroDivisionError" in capsys.readouterr().err
+
+
+def test_messages_that_cannot_be_written_change_no_status(site):
+    pair(site, "one")
+    with open("/dev/full", "w") as full:
+        assert started(stdout=subprocess.PIPE, stderr=full, more=()).returncode == 0
+        assert started(stdout=subprocess.PIPE, stderr=full, more=("--no-such",)).returncode == 2
 
 
 def test_outputs_that_cannot_be_written_or_have_few_signs(site):

@@ -122,6 +122,17 @@ class Answers(unittest.TestCase):
     def test_check(self):
         result = nonobench.check(DIAGONAL, GIVEN, published=[(1, 1)])
         self.assertEqual(result.givens, (Given(1, 1),))
+
+        class Longer(bytes):
+            """Bytes that tell another length."""
+
+            def __bytes__(self):
+                return self
+
+            def __len__(self):
+                return 1 << 20
+
+        self.assertEqual(nonobench.check(Longer(DIAGONAL), Longer(GIVEN), published=[(1, 1)]), result)
         said = nonobench.check(bytearray(DIAGONAL), memoryview(GIVEN), published=iter([(2, 2), [1, 1]]))
         self.assertEqual(str(said), "certificate accepted, givens 1\n")
         with self.assertRaises(UnpublishedGiven) as caught:

@@ -252,6 +252,34 @@ class Interrupts(unittest.TestCase):
             with self.assertRaisesRegex(TimeoutError, "^the handler's own$"):
                 worker.clues(DIAGONAL)
 
+    def test_a_handler_asks_while_a_call_waits(self):
+        answers = []
+        with nonobench.Worker(seconds=300) as worker:
+            worker.clues(DIAGONAL)
+            pid = worker._process.pid
+            os.kill(pid, signal.SIGSTOP)
+
+            def ask(*_):
+                answers.append(worker.clues(DIAGONAL))
+                os.kill(pid, signal.SIGCONT)
+
+            signal.signal(signal.SIGALRM, ask)
+            signal.setitimer(signal.ITIMER_REAL, 0.2)
+            answers.append(worker.clues(DIAGONAL))
+        self.assertEqual(answers, [nonobench.clues(DIAGONAL)] * 2)
+
+    def test_a_handler_closes_while_a_call_waits(self):
+        with nonobench.Worker(seconds=300) as worker:
+            worker.clues(DIAGONAL)
+            pid = worker._process.pid
+            os.kill(pid, signal.SIGSTOP)
+            signal.signal(signal.SIGALRM, lambda *_: worker.close())
+            signal.setitimer(signal.ITIMER_REAL, 0.2)
+            with self.assertRaisesRegex(RuntimeError, "closed while it was asked"):
+                worker.clues(DIAGONAL)
+            self.assertFalse(is_running(pid))
+            self.assertEqual(worker.clues(DIAGONAL), nonobench.clues(DIAGONAL))
+
     def test_what_a_handler_raises_while_the_process_is_looked_at_is_raised(self):
         def late(*_):
             raise TimeoutError("the handler's own")

@@ -162,7 +162,7 @@ def bytes_of(file: Bytes) -> bytes:
     """The bytes of a file, not too many of them."""
     if not isinstance(file, (bytes, bytearray, memoryview)):
         raise TypeError(f"expected bytes, not {type(file).__name__}")
-    held = bytes(file)
+    held = bytes(memoryview(file))  # a subclass may tell another length
     if len(held) > MOST_BYTES:
         raise LengthFault("TooLong", MOST_BYTES, "input too long")
     return held

@@ -55,8 +55,9 @@ class Worker(Questions):
     def _begin(self) -> None:
         """Begins without a process: also in a child that was forked, which must neither ask nor end its parent's."""
         self._owner = os.getpid()
-        self._lock = threading.Lock()
+        self._lock = threading.RLock()  # a signal's handler may call while a call of its thread waits
         self._process: Optional[_Process] = None
+        self._asked: Optional[_Process] = None
 
     def __enter__(self) -> Worker:
         return self
@@ -65,31 +66,37 @@ class Worker(Questions):
         self.close()
 
     def close(self) -> None:
-        """Ends the process. The next call starts another one."""
+        """Ends the process. The next call starts another one. In a signal's handler it ends the call that waits: RuntimeError."""
         if self._owner != os.getpid():
             self._begin()
         with self._lock:
-            process, self._process = self._process, None
-            if process:
-                process.end()
+            for process in (self._process, self._asked):
+                if process:
+                    process.end()
+            self._process = None
 
     def _answer(self, kind: int, *files: bytes) -> tuple[int, list[bytes]]:
         if self._owner != os.getpid():
             self._begin()
         with self._lock:
             # The process is this call's alone until its answer has been read whole. Whatever is raised before, it never goes back.
-            process, self._process = self._process, None
+            process, self._process, before = self._process, None, self._asked
             try:
                 if not process or not process.is_waiting():
                     process = uninterrupted(lambda: _Process(self._memory))
+                self._asked = process
                 self._number += 1
                 answer = process.ask(self._number, kind, files, self._seconds, self._processor)
             except BaseException as error:
                 if process:
+                    if isinstance(error, OSError) and not process.end.alive:
+                        raise RuntimeError("the worker was closed while it was asked") from error
                     process.end()
                     if isinstance(error, EOFError):
                         raise process.why() from error
                 raise
+            finally:
+                self._asked = before
             self._process = process
             return answer
 

@@ -6,12 +6,13 @@ import contextlib
 import csv
 import errno
 import fcntl
+import io
 import os
 import stat
 import sys
 import time
 from array import array
-from typing import BinaryIO, Callable, ContextManager, Iterator, Union
+from typing import Any, BinaryIO, Callable, ContextManager, Iterator, Union
 
 from .rows import COLUMNS, HEAD, Row, csv_cells, table_line
 
@@ -71,6 +72,19 @@ def hold_streams() -> None:
         except OSError:
             os.set_inheritable(os.open(os.devnull, os.O_RDONLY), True)
     sys.stdout, sys.stderr = (stream or open(os.devnull, "w", encoding="utf-8") for stream in (sys.stdout, sys.stderr))
+    if sys.stderr is sys.__stderr__:
+        messages = io.BufferedWriter(_Messages(2, "w", closefd=False))
+        sys.stderr = io.TextIOWrapper(messages, sys.stderr.encoding, "backslashreplace", line_buffering=True)
+
+
+class _Messages(io.FileIO):
+    """Standard error: what it does not take, as on a full disk, is lost, and changes no status."""
+
+    def write(self, data: Any) -> int:
+        try:
+            return super().write(data) or 0
+        except OSError:
+            return len(data)
 
 
 def _opened(name: str, flags: int) -> BinaryIO:

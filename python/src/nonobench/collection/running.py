@@ -329,5 +329,9 @@ class Run:
         if table is not None:
             table.say("\n" + summary)
             table.close(is_whole)
-        else:
-            print(summary)
+            return
+        try:
+            print(summary, flush=True)
+        except OSError as error:
+            sys.stdout = open(os.devnull, "w")  # it is not tried again
+            raise Failure(f"standard output: {error.strerror}") from error
