@@ -1232,6 +1232,20 @@ class Again(Case):
         self.assertTrue((self.folder / "certs" / "2" / "002.cert").exists())
 
     @pytest.mark.since("0.7.0")
+    def test_rows_in_order_keep_their_file(self):
+        """Its mode, and the link to it."""
+        self.put("m.ppm", p3(UNIQUE))
+        self.run_audit("site", "--jsonl", "kept", "--html", "report", status=0)
+        for name in ("kept", "report"):
+            (self.folder / name).chmod(0o600)
+        (self.folder / "rows").symlink_to("kept")
+        self.put("a.ppm", p3(UNIQUE))
+        self.run_audit("site", "--jsonl", "rows", "--html", "report", "--resume", status=0)
+        self.assertTrue((self.folder / "rows").is_symlink())
+        self.assertEqual(list(self.read("kept")), ["site/a.ppm", "site/m.ppm"])
+        for name in ("kept", "report"):
+            self.assertEqual((self.folder / name).stat().st_mode & 0o777, 0o600)
+
     def test_resume_minds_what_lies_beside(self):
         refused = {"accepted": False, "why": "certificate NotDone at line 2"}
         self.put("one.ppm", p3(UNIQUE))

@@ -177,6 +177,25 @@ def test_a_folder_that_cannot_be_searched_is_not_empty(site, checked, tmp_path):
     assert checked("site", "--givens", "ours") == (3, ["site/sub/one.cert: its givens: this is a link"])
 
 
+def test_a_path_that_is_too_long_is_not_nothing(site, checked, tmp_path, monkeypatch):
+    deep = Path(*["d" * 200] * 18)  # below the site its names are short enough, and below the other folder they are not
+    room = 4070 - len(bytes(site)) - len(bytes(deep))
+    stem = deep / ("d" * (room // 2)) / ("e" * (room - room // 2 - len("//.cert")))
+    ours = tmp_path / ("o" * 60)
+    for base, what in ((site, {"ppm": CROSS, "cert": ONE}), (ours, {"background": "255,0,255"})):
+        base.mkdir(exist_ok=True)
+        monkeypatch.chdir(base)
+        for part in stem.parent.parts:
+            os.mkdir(part)
+            os.chdir(part)
+        for ending, text in what.items():
+            Path(f"{stem.name}.{ending}").write_text(text)
+    monkeypatch.chdir(tmp_path)
+    assert checked("site")[0] == 1
+    status, lines = checked("site", "--givens", ours.name)
+    assert status == 3 and lines[0].endswith(": its givens: File name too long")
+
+
 def test_givens_and_backgrounds_of_the_site_and_not_of_strangers(site, checked, tmp_path):
     # By a magenta background, which no cell has, the white cells are coloured too, and the cross has one solution.
     filled = "nonocert 1\nline r 1\nline r 2\ndone\n"

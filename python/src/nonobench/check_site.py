@@ -30,6 +30,7 @@ from .worker import Worker
 ACCEPTED, REFUSED, WRONG, UNREAD = range(4)  # the exit statuses; WRONG is that of wrong arguments
 INTERRUPTED = 130
 ENDINGS = tuple(f".{ending}" for ending in finding.ENDINGS)  # of certificates
+MOST_NAME = 255  # bytes: no file is called by more
 MOST_BACKGROUND = 64  # bytes
 PACK = 64  # certificates that wait for a worker, for each one
 
@@ -128,7 +129,8 @@ def _is_missing(path: str, is_picture: bool = False) -> bool:
     try:
         return stat.S_ISDIR(os.lstat(path).st_mode) and is_picture
     except OSError as error:
-        return error.errno in (errno.ENOENT, errno.ENOTDIR, errno.ENAMETOOLONG)
+        is_no_name = error.errno == errno.ENAMETOOLONG and len(os.fsencode(os.path.basename(path))) > MOST_NAME
+        return is_no_name or error.errno in (errno.ENOENT, errno.ENOTDIR)
 
 
 def _read(whose: str, path: str, most: int) -> bytes:

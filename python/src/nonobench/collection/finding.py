@@ -65,7 +65,7 @@ def shown(path: str) -> str:
     """A path in letters: bytes that are no UTF-8 stand as \\xNN. So does a backslash of a name that looks so: no two files are called
     alike.
     """
-    return _LIKE_BYTES.sub(rb"\\x5c", path.encode("utf-8", "surrogateescape")).decode("utf-8", "backslashreplace")
+    return _LIKE_BYTES.sub(rb"\\x5c", os.fsencode(path)).decode("utf-8", "backslashreplace")
 
 
 def order_of(name: str) -> str:

@@ -142,6 +142,11 @@ class Output:
             while data:
                 data = data[self.file.write(data) :]
 
+    def take_mode_of(self, name: str) -> None:
+        """Lets those alone read the file who can read one, whose place it is to take."""
+        with contextlib.suppress(FileNotFoundError):
+            os.fchmod(self.file.fileno(), stat.S_IMODE(os.stat(name).st_mode))
+
     def close(self) -> None:
         """Writes what waits, and lets others write."""
         try:
@@ -171,7 +176,7 @@ class Lines(Sink):
 
     def __init__(self, name: str, is_resumed: bool, flags: int = 0) -> None:
         super().__init__(name, is_resumed, flags)
-        self._name = name
+        self._name = name if flags else os.path.realpath(name)
         self._end = 0
         self._order = array("Q")
         self.has_places = name != "-" and is_regular(self._output.file)  # where rows can be put in order in the end
@@ -213,6 +218,7 @@ class Lines(Sink):
                     lines.seek(place)
                     new.put(lines.readline())
             new.flush()
+            new.take_mode_of(self._name)
             os.replace(new.name, self._name)
 
 

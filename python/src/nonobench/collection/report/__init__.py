@@ -71,6 +71,7 @@ class Report(Sink):
         for chunk in iter(lambda: self._rows.read(1 << 20), b""):
             self._output.put(chunk)
         self._output.put(back.encode("utf-8"))
+        self._output.take_mode_of(self._name)
         self._output.close()
 
     def _figures(self) -> dict[str, Any]:
