@@ -116,6 +116,8 @@ class Output:
                 raise Failure(f"{name}: this is not a file")
             if is_regular(self.file):  # a device such as /dev/null may have several runs
                 locked(name, self.file)
+                if not os.path.samestat(os.stat(name), os.fstat(self.file.fileno())):  # put in its place since
+                    raise Failure(f"{name}: another run writes to it")
                 self._is_old = not keeps
 
     def _empty(self) -> None:
