@@ -299,38 +299,77 @@ uint32_t nonobench_audit(const void *picture, size_t size, const char *backgroun
     return status;
 }
 
+/* Reads the numbers behind a word with which a line begins, as many as there are places for. A line that begins otherwise leaves
+ * them. Nothing is allocated, as sscanf does on Windows. */
+static void read_numbers(const char *line, const char *word, uint64_t *numbers, int count) {
+    size_t length = strlen(word);
+    if (strncmp(line, word, length) != 0) return;
+    for (line += length; count > 0 && *line == ' '; count--) {
+        uint64_t number = 0;
+        for (line++; *line >= '0' && *line <= '9'; line++) number = 10 * number + (uint64_t)(*line - '0');
+        *numbers++ = number;
+    }
+}
+
+static void read_place(const char *line, const char *word, nonobench_place *place) {
+    uint64_t numbers[] = {place->row, place->column};
+    read_numbers(line, word, numbers, 2);
+    *place = (nonobench_place){(uint32_t)numbers[0], (uint32_t)numbers[1]};
+}
+
+static void read_count(const char *line, const char *word, uint32_t *count) {
+    uint64_t number = *count;
+    read_numbers(line, word, &number, 1);
+    *count = (uint32_t)number;
+}
+
 /* Reads the line of a grade. */
 static void read_grade(const char *line, nonobench_assessment *found) {
-    static const char *const WORDS[] = {"", "unknown", "easy", "medium", "hard", "very-hard", "expert"};
-    char word[10] = "";
-    sscanf(line, "grade %9s %" SCNu64 " %" SCNu64 " %" SCNu64 " %" SCNu64 " %" SCNu64, word, &found->rounds, &found->evaluations,
-           &found->wait, &found->splits, &found->depth);
+    static const char *const WORDS[] = {"",           "grade unknown",   "grade easy",  "grade medium",
+                                        "grade hard", "grade very-hard", "grade expert"};
+    uint64_t numbers[5] = {0};
     for (int grade = NONOBENCH_UNKNOWN; grade <= NONOBENCH_EXPERT; grade++) {
-        if (strcmp(word, WORDS[grade]) == 0) found->grade = (nonobench_grade)grade;
+        size_t length = strlen(WORDS[grade]);
+        if (strncmp(line, WORDS[grade], length) != 0 || (line[length] != ' ' && line[length] != 0)) continue;
+        found->grade = (nonobench_grade)grade;
+        read_numbers(line, WORDS[grade], numbers, 5);
     }
+    found->rounds = numbers[0];
+    found->evaluations = numbers[1];
+    found->wait = numbers[2];
+    found->splits = numbers[3];
+    found->depth = numbers[4];
 }
 
 /* Reads the line of a flaw. */
 static void read_flaw(const char *line, nonobench_assessment *found) {
+    static const char ALIKE[] = "flaw alike ";
     char *pair = found->alike[found->alike_count < NONOBENCH_MOST_ALIKE ? found->alike_count : 0];
     if (strcmp(line, "flaw blank") == 0) found->is_blank = true;
     if (strcmp(line, "flaw background") == 0) found->lacks_background = true;
-    sscanf(line, "flaw given %" SCNu32 " %" SCNu32, &found->given.row, &found->given.column);
-    sscanf(line, "flaw spare %" SCNu32 " %" SCNu32, &found->spare.row, &found->spare.column);
-    if (sscanf(line, "flaw alike %c %c", &pair[0], &pair[1]) == 2) found->alike_count++;
+    read_place(line, "flaw given", &found->given);
+    read_place(line, "flaw spare", &found->spare);
+    if (strncmp(line, ALIKE, strlen(ALIKE)) == 0 && strlen(line) == strlen(ALIKE) + 3) {
+        pair[0] = line[strlen(ALIKE)];
+        pair[1] = line[strlen(ALIKE) + 2];
+        found->alike_count++;
+    }
 }
 
 /* Reads a line of an assessment. No row of a picture is like one. */
 static void read_assessed(const char *line, nonobench_assessment *found) {
     static const char *const RULINGS[] = {"undecided", "unique", "ambiguous"};
+    nonobench_place size = {found->rows, found->columns};
     for (int ruling = 0; ruling < 3; ruling++) {
         if (strcmp(line, RULINGS[ruling]) == 0) found->ruling = (nonobench_ruling)ruling;
     }
-    sscanf(line, "size %" SCNu32 " %" SCNu32, &found->rows, &found->columns);
-    sscanf(line, "colours %" SCNu32, &found->colours);
-    sscanf(line, "givens %" SCNu32, &found->givens);
-    sscanf(line, "open %" SCNu32, &found->open);
-    sscanf(line, "unknown given %" SCNu32 " %" SCNu32, &found->unknown.row, &found->unknown.column);
+    read_place(line, "size", &size);
+    found->rows = size.row;
+    found->columns = size.column;
+    read_count(line, "colours", &found->colours);
+    read_count(line, "givens", &found->givens);
+    read_count(line, "open", &found->open);
+    read_place(line, "unknown given", &found->unknown);
     if (strncmp(line, "grade ", 6) == 0) read_grade(line, found);
     if (strncmp(line, "flaw ", 5) == 0) read_flaw(line, found);
     found->is_fit = strcmp(line, "fit") == 0;
