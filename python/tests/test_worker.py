@@ -273,7 +273,12 @@ class Interrupts(unittest.TestCase):
             worker.clues(DIAGONAL)
             pid = worker._process.pid
             os.kill(pid, signal.SIGSTOP)
-            signal.signal(signal.SIGALRM, lambda *_: worker.close())
+
+            def close(*_):
+                worker.close()
+                self.addCleanup(os.close, os.open(os.devnull, os.O_RDONLY))  # where a number is free, this has it
+
+            signal.signal(signal.SIGALRM, close)
             signal.setitimer(signal.ITIMER_REAL, 0.2)
             with self.assertRaisesRegex(RuntimeError, "closed while it was asked"):
                 worker.clues(DIAGONAL)

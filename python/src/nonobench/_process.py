@@ -77,6 +77,7 @@ class Child:
         with theirs:
             self._process = subprocess.Popen(words, stdin=theirs.fileno(), stdout=subprocess.DEVNULL, env=env, **more)
         self.pid = self._process.pid
+        self.is_stopped = False
         self.end = weakref.finalize(self, _end, self._process, self._stream, os.getpid())
 
     @property
@@ -138,6 +139,11 @@ class Child:
             found.append((number, [bytes(self._come[at : at + size]) for at, size in zip(places, sizes)]))
             del self._come[:end]
         return found
+
+    def stop(self) -> None:
+        """Ends the process. Its stream stays open, so that who waits for it is told."""
+        self.is_stopped = True
+        self._process.kill()
 
     def status(self) -> int:
         """Ends the process, and answers its status."""

@@ -70,10 +70,11 @@ class Worker(Questions):
         if self._owner != os.getpid():
             self._begin()
         with self._lock:
-            for process in (self._process, self._asked):
-                if process:
-                    process.end()
-            self._process = None
+            process, self._process = self._process, None
+            if process:
+                process.end()
+            if self._asked:
+                self._asked.stop()
 
     def _answer(self, kind: int, *files: bytes) -> tuple[int, list[bytes]]:
         if self._owner != os.getpid():
@@ -89,8 +90,6 @@ class Worker(Questions):
                 answer = process.ask(self._number, kind, files, self._seconds, self._processor)
             except BaseException as error:
                 if process:
-                    if isinstance(error, OSError) and not process.end.alive:
-                        raise RuntimeError("the worker was closed while it was asked") from error
                     process.end()
                     if isinstance(error, EOFError):
                         raise process.why() from error
@@ -109,6 +108,8 @@ class _Process(Child):
 
     def why(self) -> Exception:
         """What is told of a process that ended in the middle of a question: by status 1 Python tells what its program raised."""
+        if self.is_stopped:
+            return RuntimeError("the worker was closed while it was asked")
         if self.status() == 1:
             return RuntimeError("the worker's program failed; it says why on standard error")
         if self.status() == -signal.SIGXCPU:
