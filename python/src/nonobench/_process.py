@@ -94,7 +94,7 @@ class Child:
         try:
             self._stream.recv(1, socket.MSG_PEEK)
         except BlockingIOError:
-            return not self._come
+            return not self._come and not self.is_stopped
         except ConnectionError:  # and no other error of the system: a signal's handler may raise one of its own here
             pass
         return False
