@@ -95,8 +95,9 @@ class Child:
             self._stream.recv(1, socket.MSG_PEEK)
         except BlockingIOError:
             return not self._come and not self.is_stopped
-        except ConnectionError:  # and no other error of the system: a signal's handler may raise one of its own here
-            pass
+        except OSError as error:  # where the stream is open no other error of the system: a signal's handler may raise one of its own here
+            if self.end.alive and not isinstance(error, ConnectionError):
+                raise
         return False
 
     def send(self, number: int, *parts: bytes) -> None:
