@@ -50,7 +50,11 @@ export function docOfNotes(text, image) {
   const { width: columns, height: rows, data } = image;
   let cells = '';
   for (let at = 0; at < data.length; at += 4) cells += LETTERS[numbers.get((data[at] << 16) | (data[at + 1] << 8) | data[at + 2])] ?? '?';
-  const places = (what) => words(what).map((word) => word.split(',').map(Number)).map(([row, col]) => (row - 1) * columns + col - 1);
+  const places = (what) => words(what).map((word) => {
+    const [row, col] = /^\d{1,3},\d{1,3}$/.test(word) ? word.split(',').map(Number) : [0, 0];
+    if (row < 1 || row > rows || col < 1 || col > columns) throw new RangeError(word);
+    return (row - 1) * columns + col - 1;
+  });
   const picture = Array.from({ length: rows }, (_, row) => cells.slice(row * columns, (row + 1) * columns));
   try {
     const value = (name) => (notes.has(name) ? JSON.parse(notes.get(name)[0]) : undefined);

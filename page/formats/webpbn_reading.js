@@ -173,7 +173,7 @@ function checkClues({ picture }, clues, letterOf) {
 
 // The cells of a saved solution that are not `?`.
 function placesOfSigns(saved, signs, fault) {
-  if (saved.length !== signs.length) throw new FileFault(phrase('formats.savedCellsAnotherSize'));
+  if (!sameValue(saved.map((row) => row.length), signs.map((row) => row.length))) throw new FileFault(phrase('formats.savedCellsAnotherSize'));
   return saved.flatMap((row, r) => row.flatMap((sign, c) => {
     if (sign === '?') return [];
     if (sign !== signs[r][c]) throw new FileFault(fault);

@@ -74,8 +74,15 @@ test('the notes of a P3 text bring back background, palette and givens', () => {
     assert.deepEqual(packedDoc(read(text)), packedDoc(doc));
     assert.equal(read(text.replace('4,5,6', '4,5,7')), null);
     assert.equal(read(text.replace('4,5,6', '1,2,3')), null);
-    assert.equal(read(text.replace('2,2', '2,3')), null);
+    for (const place of ['2,3', '1,4', '1,3', '0,4', '3,-1', '2,2,2', '0x2,2', '1,2.0']) assert.equal(read(text.replace('2,2', place)), null);
     assert.equal(read('P3 1 1 255 0 0 0\n'), null);
+});
+
+test('the given cells of XML have the size of the picture', () => {
+    const saved = (givens) => readWebpbn('<puzzle><color name="white" char=".">fff</color><color name="black" char="X">000</color><solution><image>|X.X| |.X.|</image></solution>'
+        + `<solution type="saved" id="givens"><image>${givens}</image></solution></puzzle>`);
+    assert.deepEqual([...saved('|???| |.??|').doc.givens], [3]);
+    for (const givens of ['|???|', '|??| |.?|', '|???| |.|', '|?| |.??|', '|????| |.???|', '|???| |.????|']) refused(() => saved(givens), /saved cells have a different size/);
 });
 
 test('what no bench would open', () => {
