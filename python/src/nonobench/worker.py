@@ -66,7 +66,7 @@ class Worker(Questions):
         self.close()
 
     def close(self) -> None:
-        """Ends the process. The next call starts another one. In a signal's handler it ends the call that waits: RuntimeError."""
+        """Ends the process. The next call starts another one. In a signal's handler it ends the call that it interrupted: RuntimeError."""
         if self._owner != os.getpid():
             self._begin()
         with self._lock:
