@@ -3,18 +3,19 @@
 import { HOLE, boxAround, shapeOf } from '../document/regions.js';
 import { isPossible } from '../document/symmetry.js';
 
+/** Draws a line that is seen on any colour: white, and then less wide in an ink, which may be dashed. `widths` and `dash` are in pixels of the page. */
+export function drawTwice(pen, scale, widths, { ink, dash = [] }, stroke) {
+  for (const [strokeStyle, wide, dashes] of [['#fff', widths[0], []], [ink, widths[1], dash]]) {
+    Object.assign(pen, { strokeStyle, lineWidth: wide * scale }).setLineDash(dashes.map((one) => one * scale));
+    stroke();
+  }
+  pen.setLineDash([]);
+}
+
 function ringAround(pen, sheet, row, col, ink, dash, grow) {
   const { geometry: at } = sheet;
-  const box = [at.x(col) - grow, at.y(row) - grow, at.cell + 2 * grow, at.cell + 2 * grow];
-  pen.setLineDash([]);
-  pen.lineWidth = 4.5 * at.scale;
-  pen.strokeStyle = '#fff';
-  pen.strokeRect(...box);
-  pen.lineWidth = 2.5 * at.scale;
-  pen.strokeStyle = ink;
-  pen.setLineDash(dash.map((one) => one * at.scale));
-  pen.strokeRect(...box);
-  pen.setLineDash([]);
+  const side = at.cell + 2 * grow;
+  drawTwice(pen, at.scale, [4.5, 2.5], { ink, dash }, () => pen.strokeRect(at.x(col) - grow, at.y(row) - grow, side, side));
 }
 
 // The line of a reason, its premises and the cell that was asked about.
@@ -47,18 +48,7 @@ function edgesOf(path, at, { top, left }, shape) {
   }
 }
 
-// A dashed line that is seen on any colour.
-function drawDashed(pen, sheet, path) {
-  const { scale } = sheet.geometry;
-  pen.lineWidth = 3.5 * scale;
-  pen.strokeStyle = '#fff';
-  pen.stroke(path);
-  pen.lineWidth = 2 * scale;
-  pen.strokeStyle = sheet.inks.accent;
-  pen.setLineDash([5 * scale, 3 * scale]);
-  pen.stroke(path);
-  pen.setLineDash([]);
-}
+const drawDashed = (pen, sheet, path) => drawTwice(pen, sheet.geometry.scale, [3.5, 2], { ink: sheet.inks.accent, dash: [5, 3] }, () => pen.stroke(path));
 
 function drawBox(pen, sheet, box) {
   const { geometry: at } = sheet;
@@ -75,11 +65,7 @@ function drawPlaces(pen, sheet) {
     const box = boxAround(new Set(cells), state.columns);
     const path = new Path2D();
     edgesOf(path, at, box, shapeOf(new Set(cells), box, state.picture));
-    for (const [ink, wide] of [['#fff', 5], [sheet.inks.alarm, 2.5]]) {
-      pen.strokeStyle = ink;
-      pen.lineWidth = wide * at.scale;
-      pen.stroke(path);
-    }
+    drawTwice(pen, at.scale, [5, 2.5], { ink: sheet.inks.alarm }, () => pen.stroke(path));
     if (places.length < 2) return;
     const [x, y, size] = [at.x(cells[0] % state.columns), at.y(Math.floor(cells[0] / state.columns)), 8 * at.scale];
     pen.fillStyle = sheet.inks.alarm;

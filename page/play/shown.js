@@ -1,5 +1,6 @@
 // What a hint or a step of the solving path shows over the field: its line, the cells it settles, the cells it uses, and the heat map.
 
+import { drawTwice } from '../draw/marks.js';
 import { play } from './play.js';
 
 const NEW = '#d9730d';
@@ -12,13 +13,7 @@ export const heatOf = (round, most) => (round < 0 ? GUESS : `hsl(${210 - (200 * 
 function ring(pen, index, ink, breadth, dash) {
   const { side, state } = play;
   const [x, y] = [(index % state.columns) * side, Math.floor(index / state.columns) * side];
-  for (const [colour, wide, dashes] of [['#fff', breadth + 2, []], [ink, breadth, dash]]) {
-    pen.setLineDash(dashes);
-    pen.strokeStyle = colour;
-    pen.lineWidth = wide;
-    pen.strokeRect(x + 2, y + 2, side - 3, side - 3);
-  }
-  pen.setLineDash([]);
+  drawTwice(pen, 1, [breadth + 2, breadth], { ink, dash }, () => pen.strokeRect(x + 2, y + 2, side - 3, side - 3));
 }
 
 function drawHeat(pen, rounds) {

@@ -4,6 +4,7 @@ import { make, say, withoutGestures } from '../base/elements.js';
 import { on } from '../base/events.js';
 import { eightBits } from '../document/colours.js';
 import { LETTERS } from '../document/limits.js';
+import { drawTwice } from '../draw/marks.js';
 import { sheet } from '../draw/sheet.js';
 import { bench } from '../engine/bench.js';
 import { phrase } from '../texts/phrase.js';
@@ -28,12 +29,7 @@ function drawMinimap() {
   minimap.image ??= minimapImage(pen);
   pen.putImageData(minimap.image, 0, 0);
   const { top, left, bottom, right } = at.seen();
-  pen.strokeStyle = '#fff';
-  pen.lineWidth = 3;
-  pen.strokeRect(left + 0.5, top + 0.5, right - left, bottom - top);
-  pen.strokeStyle = sheet.inks.accent;
-  pen.lineWidth = 1.5;
-  pen.strokeRect(left + 0.5, top + 0.5, right - left, bottom - top);
+  drawTwice(pen, 1, [3, 1.5], { ink: sheet.inks.accent }, () => pen.strokeRect(left + 0.5, top + 0.5, right - left, bottom - top));
 }
 
 function minimapImage(pen) {

@@ -8,6 +8,7 @@ import { LETTERS } from '../document/limits.js';
 import { boxAround } from '../document/regions.js';
 import { cutOut } from '../document/shapes.js';
 import { givenCorners } from '../draw/given.js';
+import { drawTwice } from '../draw/marks.js';
 import { smallPicture } from '../draw/small.js';
 import { LINE_WORDS } from '../repair/aiming.js';
 import { phrase } from '../texts/phrase.js';
@@ -53,11 +54,7 @@ function drawChanges(canvas, { state, cells = [], given = [] }, box) {
     const [x, y] = at(index);
     const colour = state.colours[LETTERS.indexOf(letterAt(state, index))];
     shape([[x + side, y + side * 0.4], [x + side, y + side], [x + side * 0.4, y + side]], cssOf(colour, state.maxval));
-    for (const [ink, wide] of [['#fff', 3.5], ['#c8321e', 2]]) {
-      pen.strokeStyle = ink;
-      pen.lineWidth = wide;
-      pen.strokeRect(x - 0.5, y - 0.5, side + 1, side + 1);
-    }
+    drawTwice(pen, 1, [3.5, 2], { ink: '#c8321e' }, () => pen.strokeRect(x - 0.5, y - 0.5, side + 1, side + 1));
   }
   for (const index of given) {
     shape(givenCorners(...at(index), side * 2), '#1a1a1a');
