@@ -48,6 +48,12 @@ export function svgPart(name, attributes, ...children) {
  */
 export const withoutGestures = (element) => element.addEventListener('touchstart', (event) => event.preventDefault(), { passive: false });
 
+/** The point between two pointers that are down, and how `far` they are apart. */
+export function spanOf(pointers) {
+  const [one, other] = pointers.values();
+  return { x: (one.x + other.x) / 2, y: (one.y + other.y) / 2, far: Math.hypot(one.x - other.x, one.y - other.y) };
+}
+
 const said = { timer: 0, count: 0, stays: false, from: 0 };
 const READ = 4000; // milliseconds in which a message is read
 

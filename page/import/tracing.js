@@ -1,6 +1,6 @@
 // Tracing: an image that is chosen lies under the picture, with a panel for its opacity, size and place.
 
-import { $, chooseFiles, make, say, withoutGestures } from '../base/elements.js';
+import { $, chooseFiles, make, say, spanOf, withoutGestures } from '../base/elements.js';
 import { on } from '../base/events.js';
 import { clamp } from '../base/words.js';
 import { FileFault } from '../document/limits.js';
@@ -77,7 +77,7 @@ function hearMoves(underlay) {
   const { element } = underlay;
   const pointers = new Map();
   withoutGestures(element);
-  const apart = () => { const [one, other] = [...pointers.values()]; return Math.max(1, Math.hypot(one.x - other.x, one.y - other.y)); };
+  const apart = () => Math.max(1, spanOf(pointers).far);
   element.addEventListener('pointerdown', (event) => {
     event.stopPropagation();
     element.setPointerCapture(event.pointerId);

@@ -1,6 +1,6 @@
 // Play: the empty puzzle as a solver gets it. Marks are the player's own and change nothing of the picture.
 
-import { $, buttonOf, make, withoutGestures } from '../base/elements.js';
+import { $, buttonOf, make, spanOf, withoutGestures } from '../base/elements.js';
 import { tell } from '../base/events.js';
 import { markRadio } from '../base/radios.js';
 import { clamp } from '../base/words.js';
@@ -213,22 +213,16 @@ function endPlay() {
 }
 
 const playFingers = new Map();
-// How far two fingers are apart, and the point between them.
-function spanOfFingers() {
-  const [one, other] = [...playFingers.values()];
-  const middle = [(one.clientX + other.clientX) / 2, (one.clientY + other.clientY) / 2];
-  return { apart: Math.hypot(one.clientX - other.clientX, one.clientY - other.clientY), middle };
-}
 let pinched = 0; // pixels between two fingers at the last step of the zoom
 
 // Two fingers that go apart, or together, zoom a step each time that their distance is another one.
 function pinchPlay() {
-  const { apart, middle } = spanOfFingers();
-  if (pinched === 0 || apart === 0) pinched = apart;
-  const way = apart > pinched * 1.2 ? 1 : apart < pinched / 1.2 ? -1 : 0;
+  const { x, y, far } = spanOf(playFingers);
+  if (pinched === 0 || far === 0) pinched = far;
+  const way = far > pinched * 1.2 ? 1 : far < pinched / 1.2 ? -1 : 0;
   if (way === 0) return;
-  pinched = apart;
-  zoomPlay(way, middle);
+  pinched = far;
+  zoomPlay(way, [x, y]);
 }
 
 function endFinger(event) {

@@ -1,7 +1,7 @@
 // Pointers over the sheet: one paints, two pan and pinch, the wheel zooms, Space or the middle button pans, the right button
 // or Alt takes the colour of a cell, and a clue that is dragged to another one exchanges the two lines.
 
-import { withoutGestures } from '../base/elements.js';
+import { spanOf, withoutGestures } from '../base/elements.js';
 import { tell } from '../base/events.js';
 import { sheet } from '../draw/sheet.js';
 import { bench } from '../engine/bench.js';
@@ -18,11 +18,6 @@ const wheel = { rolled: 0, when: 0 };
 const NOTCH = 40; // pixels of rolling for one step: a wheel sends more at once, a pad for two fingers less but often
 
 const placeOfEvent = (event) => ({ x: event.clientX, y: event.clientY });
-
-function twoFingers() {
-  const [one, other] = [...pointers.values()];
-  return { x: (one.x + other.x) / 2, y: (one.y + other.y) / 2, far: Math.hypot(one.x - other.x, one.y - other.y) };
-}
 
 function panBy(dx, dy) {
   const { geometry } = sheet;
@@ -59,7 +54,7 @@ function wheelStep({ deltaY, deltaMode, ctrlKey, timeStamp }) {
 }
 
 function pinchTo() {
-  const now = twoFingers();
+  const now = spanOf(pointers);
   panBy(pinch.x - now.x, pinch.y - now.y);
   const wanted = (pinch.cell * now.far) / Math.max(1, pinch.from);
   if (Math.abs(wanted - sheet.geometry.cell) >= 1) zoomAt(wanted, now.x, now.y);
@@ -76,7 +71,7 @@ function pointerDown(event) {
     dropDrag();
     sheet.hold(null);
     tell('pointed', null);
-    const at = twoFingers();
+    const at = spanOf(pointers);
     pinch = { ...at, from: at.far, cell: sheet.geometry.cell };
     return;
   }
