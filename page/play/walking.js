@@ -124,17 +124,12 @@ const KEYS = { ArrowLeft: -1, ArrowRight: 1, PageUp: -10, PageDown: 10 };
 /** Takes a key of the path; answers whether it was one. */
 export function walkKey(event) {
   if (!isWalking()) return false;
-  if (event.target === $('walk-at')) return event.key in KEYS ? step(event.key) : false;
-  if (event.key in KEYS) return step(event.key);
-  if (event.key === 'Home') goTo(0);
+  if (event.key in KEYS) goTo(walking.at + KEYS[event.key]);
+  else if (event.target === $('walk-at')) return false;
+  else if (event.key === 'Home') goTo(0);
   else if (event.key === 'End') goTo(walking.walk.steps.length);
   else if (event.key === ' ' && event.target === $('play-field')) turnPlaying();
   else if (event.key === 'h' && walking.isKnown) goTo(walking.walk.hardest);
   else return false;
-  return true;
-}
-
-function step(key) {
-  goTo(walking.at + KEYS[key]);
   return true;
 }
