@@ -21,15 +21,8 @@ const FAR = 5; // cells that a selection is moved by with Shift
 const SHIFTS = [{ key: 'ArrowUp', name: phrase('view.shiftUp'), down: -1 }, { key: 'ArrowDown', name: phrase('view.shiftDown'), down: 1 }, { key: 'ArrowLeft', name: phrase('view.shiftLeft'), across: -1 }, { key: 'ArrowRight', name: phrase('view.shiftRight'), across: 1 }];
 
 async function undoStroke() {
-  if (dropSelectionMove()) return;
+  if (selection.rows) return void dropSelection(); // what floats is dropped by the first undo
   if (await heard(bench.undo()) && bench.isCut && !bench.past.length) say(phrase('view.undoEnds', { strokes: MOST_STROKES }));
-}
-
-// What floats is dropped by the first undo.
-function dropSelectionMove() {
-  if (!selection.rows) return false;
-  dropSelection();
-  return true;
 }
 
 export function addEditActions() {

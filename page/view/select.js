@@ -110,16 +110,11 @@ export function setDown() {
 // What is selected lies in a document.
 function clipSelection(doc) {
   const { box, shape } = selection;
-  selection.box = clipBox(box, doc);
-  if (!selection.box) selection.shape = null;
-  if (!selection.shape) return;
-  const { top, left, bottom, right } = selection.box;
-  selection.shape = shape.slice(top - box.top, bottom - box.top + 1).map((row) => row.slice(left - box.left, right - box.left + 1));
-}
-
-function clipBox(box, doc) {
-  const clipped = { top: Math.max(0, box.top), left: Math.max(0, box.left), bottom: Math.min(doc.rows - 1, box.bottom), right: Math.min(doc.columns - 1, box.right) };
-  return clipped.top > clipped.bottom || clipped.left > clipped.right ? null : clipped;
+  const [top, left] = [Math.max(0, box.top), Math.max(0, box.left)];
+  const [bottom, right] = [Math.min(doc.rows - 1, box.bottom), Math.min(doc.columns - 1, box.right)];
+  if (top > bottom || left > right) return void Object.assign(selection, { box: null, shape: null });
+  selection.box = { top, left, bottom, right };
+  selection.shape = shape && shape.slice(top - box.top, bottom - box.top + 1).map((row) => row.slice(left - box.left, right - box.left + 1));
 }
 
 // Behind a stroke to another size what is selected lies in the picture still, and what floats is shown on it.
