@@ -21,9 +21,6 @@ const CERTIFICATE = [
   phrase('view.exportFileExportCertificate'),
   phrase('view.checkOneHereOpen'),
 ];
-const KEEPING = [
-  phrase('view.yourPicturesStayLibrary'),
-];
 
 const part = (title, ...content) => make('section', {}, make('h3', {}, title), ...content);
 const paragraphs = (texts) => texts.map((text) => make('p', {}, text));
@@ -39,7 +36,7 @@ function showGuide() {
   const tour = make('ol', {}, ...TOUR.map(([what, how]) => make('li', {}, make('b', {}, what), ` ${how}`)));
   openDialog({
     title: phrase('view.guide'), wide: true, buttons: [{ name: phrase('view.close'), value: null, main: true }],
-    content: make('div', { class: 'help' }, part(phrase('view.shortTour'), tour), part(phrase('view.whatCertificate'), ...paragraphs(CERTIFICATE)), part(phrase('view.whereYourPictures'), ...paragraphs(KEEPING)), part(phrase('view.page'), make('p', { id: 'version' }, versionText()))),
+    content: make('div', { class: 'help' }, part(phrase('view.shortTour'), tour), part(phrase('view.whatCertificate'), ...paragraphs(CERTIFICATE)), part(phrase('view.whereYourPictures'), make('p', {}, phrase('view.yourPicturesStayLibrary'))), part(phrase('view.page'), make('p', { id: 'version' }, versionText()))),
   });
 }
 
