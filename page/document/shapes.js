@@ -6,11 +6,8 @@ import { LETTERS, MOST_CELLS } from './limits.js';
 /** The places (row, column) on the way from one cell to another. */
 export function lineCells(from, to) {
   const steps = Math.max(Math.abs(to.row - from.row), Math.abs(to.col - from.col), 1);
-  const cells = [];
-  for (let step = 0; step <= steps; step++) {
-    cells.push({ row: Math.round(from.row + ((to.row - from.row) * step) / steps), col: Math.round(from.col + ((to.col - from.col) * step) / steps) });
-  }
-  return cells;
+  const along = (one, other, step) => Math.round(one + ((other - one) * step) / steps);
+  return Array.from({ length: steps + 1 }, (_, step) => ({ row: along(from.row, to.row, step), col: along(from.col, to.col, step) }));
 }
 
 /** A rectangle with its edges in order. */

@@ -104,10 +104,7 @@ export function alongDrag(at) {
   } else sheet.preview(new Map([...drag.touched].map((index) => [index, drag.letter])));
 }
 
-function cellsOfShape(tool, from, to) {
-  if (tool === 'line') return lineCells(from, to);
-  return boxCells(boxOf(from, to), tool === 'rectangle');
-}
+const cellsOfShape = (tool, from, to) => (tool === 'line' ? lineCells(from, to) : boxCells(boxOf(from, to), tool === 'rectangle'));
 
 /** Ends a drag and sends its stroke. */
 export function endDrag() {
