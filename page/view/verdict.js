@@ -229,19 +229,15 @@ export function startVerdict() {
     if (is && $('audit').classList.contains('open')) turnVerdictMore(); // on a small screen it would cover the proposals
     showHatching(bench.state);
   });
-  on('shown', (state) => {
-    verdictView.ended = null;
-    searches.shown(state);
-    showVerdict(state);
-    showHatching(state);
-    sayVerdict(state);
-  });
-  on('judged', (state) => {
-    searches.judged(state);
-    showVerdict(state);
-    showHatching(state);
-    sayVerdict(state);
-  });
+  on('shown', () => { verdictView.ended = null; });
+  for (const name of /** @type {['shown', 'judged']} */ (['shown', 'judged'])) {
+    on(name, (state) => {
+      searches[name](state);
+      showVerdict(state);
+      showHatching(state);
+      sayVerdict(state);
+    });
+  }
 }
 
 /** Fills the panel. */
