@@ -85,20 +85,20 @@ function libraryPart(cards) {
 }
 
 function printFields(near, graded) {
-  const check = (id, checked, text) => [make('input', { type: 'checkbox', id, checked }), text];
+  const tick = (id, checked) => make('input', { type: 'checkbox', id, checked });
   const fields = {
     title: make('input', { type: 'text', id: 'print-title', value: bench.state.about.title || bench.name, maxlength: '200' }),
-    paper: choice('print-paper', PAPER_NAMES, chosen.paper), wide: make('input', { type: 'checkbox', id: 'print-wide', checked: chosen.isWide }),
+    paper: choice('print-paper', PAPER_NAMES, chosen.paper), wide: tick('print-wide', chosen.isWide),
     margin: make('input', { type: 'number', id: 'print-margin', min: MARGINS[0], max: MARGINS[1], value: chosen.margin }),
     perSheet: choice('print-count', Object.fromEntries(Object.keys(GRIDS).map((count) => [count, count])), chosen.perSheet),
     show: choice('print-show', SHOWN, near && chosen.show === 'colours' ? 'letters' : chosen.show),
+    answers: tick('print-answers', chosen.answers), grade: tick('print-grade', chosen.hasGrade),
   };
   if (near) fields.show.querySelector('[value="colours"]').disabled = true;
-  const [answers, answersText] = check('print-answers', chosen.answers, phrase('export.solutionsEnd'));
-  const [grade, gradeText] = check('print-grade', chosen.hasGrade, graded ? phrase('export.gradeField', { word: gradeName(graded.word) }) : phrase('export.gradeWhereOneKnown'));
+  const gradeText = graded ? phrase('export.gradeField', { word: gradeName(graded.word) }) : phrase('export.gradeWhereOneKnown');
   const rows = [make('label', {}, phrase('export.sheetTitle'), fields.title), make('div', { class: 'group apart' }, make('label', {}, phrase('export.paper'), fields.paper), make('label', {}, fields.wide, phrase('export.landscape')), make('label', {}, phrase('export.marginMm'), fields.margin)),
-    make('div', { class: 'group apart' }, make('label', {}, phrase('export.puzzlesSheet'), fields.perSheet), make('label', {}, phrase('export.coloursShown'), fields.show)), make('label', {}, answers, answersText), make('label', {}, grade, gradeText)];
-  return { fields: { ...fields, answers, grade }, rows };
+    make('div', { class: 'group apart' }, make('label', {}, phrase('export.puzzlesSheet'), fields.perSheet), make('label', {}, phrase('export.coloursShown'), fields.show)), make('label', {}, fields.answers, phrase('export.solutionsEnd')), make('label', {}, fields.grade, gradeText)];
+  return { fields, rows };
 }
 
 function readFields({ paper, wide, margin, perSheet, show, answers, grade }) {
