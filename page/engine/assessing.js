@@ -3,7 +3,7 @@
 import { LETTERS } from '../document/limits.js';
 
 /** A document as a P3 text without notes, and the letters that its colours have there: the background, and the others as they appear. */
-function plainOf({ rows, columns, maxval, colours, picture }) {
+export function plainOf({ rows, columns, maxval, colours, picture }) {
   const flat = picture.join('');
   const letters = [...new Set(`.${flat}`)];
   const triples = [...flat].map((letter) => colours[LETTERS.indexOf(letter)].join(' '));

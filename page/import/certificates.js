@@ -2,7 +2,7 @@
 
 import { say } from '../base/elements.js';
 import { columnOf, rowOf } from '../document/document.js';
-import { LETTERS } from '../document/limits.js';
+import { plainOf } from '../engine/assessing.js';
 import { bench } from '../engine/bench.js';
 import { startEngine } from '../engine/client.js';
 import { phrase } from '../texts/phrase.js';
@@ -12,17 +12,11 @@ const STRANGE = phrase('import.countsCellsPuzzleDoes');
 // What an editor did to a certificate, by a word of what web/nonobench.mjs says of it.
 const HINTS = [['CR LF', phrase('import.linesEndCrLf')], ['UTF-16', phrase('import.isUtf16')], ['mark', phrase('import.hasByteOrderMark')]];
 
-/** The picture of a document as a P3 text, cell by cell. */
-function pictureText({ rows, columns, maxval, colours, picture }) {
-  const cells = picture.flatMap((row) => [...row].map((letter) => colours[LETTERS.indexOf(letter)].join(' ')));
-  return `P3\n${columns} ${rows}\n${maxval}\n${cells.join('\n')}\n`;
-}
-
 /** What a check says of a certificate, a text or bytes, and a document: a sentence, and whether it proves the puzzle. */
 export async function checkedCertificate(certificate, doc, engine = startEngine()) {
   try {
     const givens = [...doc.givens].map((place) => [rowOf(doc, place) + 1, columnOf(doc, place) + 1]);
-    const { accepted, text, hint } = await engine.check(pictureText(doc), certificate, { background: doc.colours[0].join(','), givens });
+    const { accepted, text, hint } = await engine.check(plainOf(doc).text, certificate, { background: doc.colours[0].join(','), givens });
     if (accepted) return { proves: true, text: phrase('import.provesPictureOnlySolution', { count: doc.givens.size ? phrase('import.givenCells') : '' }) };
     if (text.includes('UnpublishedGiven')) return { proves: false, text: STRANGE };
     const [, why] = HINTS.find(([word]) => hint.includes(word)) ?? [];
