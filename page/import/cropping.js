@@ -3,6 +3,7 @@
 
 import { make, withoutGestures } from '../base/elements.js';
 import { clamp } from '../base/words.js';
+import { drawTwice } from '../draw/marks.js';
 import { penOf } from '../draw/small.js';
 import { phrase } from '../texts/phrase.js';
 
@@ -97,14 +98,12 @@ export class Source {
     pen.strokeRect(crop.x * by + 0.5, crop.y * by + 0.5, crop.width * by - 1, crop.height * by - 1);
     if (document.activeElement === this.canvas && this.canvas.matches(':focus-visible')) this.drawPlace(pen, by);
   }
+
   // A ring around the place of the keys, black in white, so that it is seen on every colour.
   drawPlace(pen, by) {
     const [x, y] = this.place.map((at) => (at + 0.5) * by);
-    for (const [wide, colour] of [[5, '#fff'], [2, '#000']]) {
-      Object.assign(pen, { lineWidth: wide, strokeStyle: colour });
-      pen.beginPath();
-      pen.arc(x, y, 7, 0, 7);
-      pen.stroke();
-    }
+    pen.beginPath();
+    pen.arc(x, y, 7, 0, 7);
+    drawTwice(pen, 1, [5, 2], { ink: '#000' }, () => pen.stroke());
   }
 }

@@ -8,12 +8,9 @@ import { runAction } from './actions.js';
 
 const LEAST_ROOM = 48; // the page's pixels of the corner's width
 
-const note = make('button', { type: 'button', id: 'cut', hidden: true, onclick: showMore });
-
 // Fit makes room for clues; where it has, or cells are too small for numbers, larger cells do.
-function showMore() {
-  runAction(sheet.geometry.isFitted ? 'zoom-in' : 'fit');
-}
+const showMore = () => runAction(sheet.geometry.isFitted ? 'zoom-in' : 'fit');
+const note = make('button', { type: 'button', id: 'cut', hidden: true, onclick: showMore });
 
 function showCut() {
   const { geometry: at, strips } = sheet;

@@ -20,11 +20,8 @@ export function openDialog({ title, content = '', buttons = [{ name: 'OK', value
     let chosen = null;
     const press = async (button) => {
       wrong.textContent = '';
-      const fault = await button.test?.();
-      if (fault) {
-        wrong.textContent = fault;
-        return;
-      }
+      wrong.textContent = (await button.test?.()) || '';
+      if (wrong.textContent) return;
       chosen = typeof button.value === 'function' ? button.value() : button.value;
       dialog.close();
     };
