@@ -28,8 +28,7 @@ class Tally:
     def put(self, row: Row) -> None:
         """Counts a row."""
         self.verdicts[row["verdict"]] += 1
-        for flaw in flaws_of(row, self.allowed):
-            self.flaws[flaw] += 1
+        self.flaws.update(flaws_of(row, self.allowed))
         for counts, name in ((self.grades, "grade"), (self._missing, "missing")):
             if name in row:
                 counts[row[name]] += 1
