@@ -43,11 +43,6 @@ export function serve(scope, load) {
     mix: (fields, told) => mix(onBoard(fields), { found: (found) => told({ found }) }),
     aim: (fields, told) => aim({ ...onBoard(fields), path: () => fallsOf(say, fields.board), grade: grading(engine, fields.board) }, { found: (found) => told({ found }) }),
     assess: ({ puzzle, options }) => engine.assess(puzzle, options),
-    close() {
-      opened?.close();
-      opened = null;
-      return true;
-    },
   };
   const say = (lines) => opened.say(lines.map((line) => `${line}\n`).join(''));
   const onBoard = (fields) => ({ ...fields, board: new Board(fields.board), say });
