@@ -5,7 +5,7 @@
 //     checker.check(picture, certificate, {givens: [[1, 1]]})    // {accepted, status, text, givens}
 //     checker.flaws(picture, {background: '0,0,0'})              // such as ['blank', 'alike a b']
 //     checker.version                                            // as `nonobench --version` prints it after the name
-import { backgroundOf, checkedOf, Fault, inputOf, own, publishedOf } from './nonobench.mjs';
+import { backgroundOf, checkedOf, Fault, inputOf, own, publishedOf, Runs } from './nonobench.mjs';
 
 export { Fault };
 
@@ -36,7 +36,7 @@ const textOf = (out) => decoder.decode(out.subarray(0, out.indexOf(0)));
 /** An instance of the module with its memory. It keeps nothing between calls. */
 class Checker {
   #calls;
-  #hasEnded = false;
+  #runs = new Runs();
 
   constructor(instance) {
     this.#calls = instance.exports;
@@ -94,7 +94,7 @@ class Checker {
   // Calls with files, a background and some room, all in one block of the module's memory: the status, and what was put out.
   #lend(files, samples, room, call) {
     const size = files.reduce((sum, bytes) => sum + bytes.length, FRONT + room);
-    const block = this.#run(() => this.#calls.malloc(BigInt(size)));
+    const block = this.#runs.of(() => this.#calls.malloc(BigInt(size)));
     if (block === 0n) this.#refuse(MEMORY);
     try {
       const at = Number(block), lent = [];
@@ -105,21 +105,10 @@ class Checker {
         lent.push(next, bytes.length);
         next += bytes.length;
       }
-      const status = this.#run(() => call(...[...lent, at, samples.length, at + FRONT, room].map(BigInt)));
+      const status = this.#runs.of(() => call(...[...lent, at, samples.length, at + FRONT, room].map(BigInt)));
       return { status, out: new Uint8Array(this.#calls.memory.buffer, at + FRONT, room).slice() };
     } finally {
-      if (!this.#hasEnded) this.#calls.free(block);
-    }
-  }
-
-  // Runs a call of the module. A trap leaves its memory as it was in mid-call, so nothing is called after it.
-  #run(call) {
-    if (this.#hasEnded) throw new Fault('ended', 'the module has ended');
-    try {
-      return call();
-    } catch (error) {
-      this.#hasEnded = true;
-      throw new Fault('ended', `the module has ended: ${error.message}`);
+      if (!this.#runs.hasEnded) this.#calls.free(block);
     }
   }
 }

@@ -162,11 +162,27 @@ export function readAssessment(text) {
   };
 }
 
+// Runs calls of a module. A trap leaves its memory as it was in mid-call, so nothing is called after it.
+class Runs {
+  hasEnded = false;
+
+  of(call) {
+    if (this.hasEnded) throw new Fault('ended', 'the module has ended');
+    try {
+      return call();
+    } catch (error) {
+      if (error instanceof Fault) throw error;
+      this.hasEnded = true;
+      throw new Fault('ended', `the module has ended: ${error.message}`);
+    }
+  }
+}
+
 /** An instance of the module with its memory. Each has benches of its own. */
 class Engine {
   #calls;
   #cell; // that of the desk for calls without a bench
-  #hasEnded = false;
+  #runs = new Runs();
   // Ends the desks of benches that nobody holds any more.
   #dropped = new FinalizationRegistry((cell) => this.#end(cell));
 
@@ -269,7 +285,7 @@ class Engine {
   // Ends the desk of a bench.
   #close(cell, bench) {
     this.#dropped.unregister(bench);
-    this.#run(() => this.#end(cell));
+    this.#runs.of(() => this.#end(cell));
   }
 
   /** The version of the module, as the program prints it after its name. */
@@ -290,14 +306,14 @@ class Engine {
   // A new desk, in a cell with room for a handle.
   #desk() {
     const cell = this.#room(16);
-    if (this.#run(() => this.#calls.nonobench_start(cell)) === DONE) return cell;
+    if (this.#runs.of(() => this.#calls.nonobench_start(cell)) === DONE) return cell;
     this.#give(cell);
     throw new Fault('memory', 'memory');
   }
 
   // Ends a desk with what is open on it, and gives its cell back.
   #end(cell) {
-    if (this.#hasEnded) return;
+    if (this.#runs.hasEnded) return;
     this.#calls.nonobench_end(new DataView(this.#calls.memory.buffer).getBigUint64(Number(cell), true));
     this.#calls.free(cell);
   }
@@ -320,7 +336,7 @@ class Engine {
     for (let room = ROOM; ;) {
       const out = this.#room(room);
       try {
-        const size = Number(this.#run(() => call(out, BigInt(room))));
+        const size = Number(this.#runs.of(() => call(out, BigInt(room))));
         if (size <= room) return decoder.decode(new Uint8Array(this.#calls.memory.buffer, Number(out), size));
         room = size;
       } finally {
@@ -338,32 +354,20 @@ class Engine {
         new Uint8Array(this.#calls.memory.buffer, Number(at), bytes.length).set(bytes);
         lent.push({ at, size: BigInt(bytes.length) });
       }
-      return this.#run(() => call(lent));
+      return this.#runs.of(() => call(lent));
     } finally {
       for (const { at } of lent) this.#give(at);
     }
   }
 
   #room(size) {
-    const at = this.#run(() => this.#calls.malloc(BigInt(size)));
+    const at = this.#runs.of(() => this.#calls.malloc(BigInt(size)));
     if (at === 0n) throw new Fault('memory', 'memory');
     return at;
   }
 
   #give(at) {
-    if (!this.#hasEnded) this.#calls.free(at);
-  }
-
-  // Runs a call of the module. A trap leaves its memory as it was in mid-call, so nothing is called after it.
-  #run(call) {
-    if (this.#hasEnded) throw new Fault('ended', 'the module has ended');
-    try {
-      return call();
-    } catch (error) {
-      if (error instanceof Fault) throw error;
-      this.#hasEnded = true;
-      throw new Fault('ended', `the module has ended: ${error.message}`);
-    }
+    if (!this.#runs.hasEnded) this.#calls.free(at);
   }
 }
 
@@ -408,4 +412,4 @@ export async function load(bytes) {
 }
 
 // What web/check.mjs takes over.
-export { backgroundOf, checkedOf, inputOf, own, publishedOf };
+export { backgroundOf, checkedOf, inputOf, own, publishedOf, Runs };
