@@ -56,11 +56,6 @@ async function keepAll(rows) {
 
 const csvOf = (rows) => new TextEncoder().encode(`\ufeff${valuesText(rows)}\r\n`);
 
-function exportRows(rows, all) {
-  const report = { name: 'report.csv', bytes: csvOf(all) };
-  return saveArchive(rows, { file: 'nonobench puzzles.zip', text: phrase('import.picturesSavedNonobenchPuzzles', { pictures: rows.length }), others: [report] });
-}
-
 // Opens the row that was chosen, and closes the table by that.
 function hearRow(row, dialogOf) {
   const open = async () => {
@@ -163,6 +158,9 @@ export async function showRows(rows, notes = []) {
   table.end();
   await judged;
   if (way === 'library') await keepAll(puzzles);
-  if (way === 'zip') await exportRows(puzzles, rows);
+  if (way === 'zip') {
+    const report = { name: 'report.csv', bytes: csvOf(rows) };
+    await saveArchive(puzzles, { file: 'nonobench puzzles.zip', text: phrase('import.picturesSavedNonobenchPuzzles', { pictures: puzzles.length }), others: [report] });
+  }
   return true;
 }
