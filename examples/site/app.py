@@ -6,7 +6,6 @@ Nothing that comes in is trusted: sizes are bounded before anything is read, nam
 a process that is ended where it takes too long, and what is shown is escaped.
 """
 
-import contextlib
 import hashlib
 import json
 import logging
@@ -30,15 +29,15 @@ MOST_OPEN = 500  # connections
 MOST_FILES = 4096  # descriptors: waitress takes up to three for each connection
 MOST_PICTURE = 1 << 18  # bytes
 MOST_GIVEN = 1000  # cells
-MOST_PARTS = 8  # of a form that are looked at
+MOST_PARTS = 8  # of a form
 MOST_HEAD = 1000  # bytes of a title, and of what is said of a part, that are looked at
 # All that Flask gets to see of a request's headers, and how it looks: for others, Werkzeug may take long.
 HEADERS = {"CONTENT_LENGTH", "CONTENT_TYPE", "HTTP_ACCEPT", "HTTP_HOST"}
-PLAIN = re.compile("[ -~]{,300}")
+PLAIN = re.compile("[\t -~]{,300}")
 BLANKS = re.compile(rb"[ \t]{100}")  # of a header, for which waitress takes long; as it does for bodies in small pieces
-# A form, and the name of a part, as browsers and programs write them.
-KIND = re.compile(r"""multipart/form-data; ?boundary="?([\w'()+,./:=?-]{1,70})"?""", re.ASCII | re.IGNORECASE)
-PART = re.compile(rb'\r\n(?i:content-disposition: ?form-data; ?name)="?(title|picture|certificate)[";\r]')
+# What is said of a part of a form, and an option of a header.
+PART = re.compile(r"(?:\r\n.+)*?\r\ncontent-disposition:[ \t]*form-data(;.+)", re.IGNORECASE)
+OPTION = re.compile(r';[ \t]*([\w*-]+)=("[^"]*"|[^\s";]*)')
 COMMENTS = re.compile(rb"(?:#[^\r\n]*\s*){1,999}")  # of a picture, some at a time, since each match takes memory
 PNG = b"\x89PNG\r\n\x1a\n"
 WHITE = (255, 255, 255)
@@ -204,17 +203,27 @@ def plain(application):
     }, start)
 
 
+def option(header, wanted):
+    """The first option of a header that is called so, or an empty text."""
+    return next((text.strip('"') for name, text in OPTION.findall(header) if name.lower() == wanted), "")
+
+
 def fields_of_form():
     """The fields of the form that was sent, by their names. Werkzeug would take long for some that are made for that."""
-    kind = KIND.fullmatch(request.headers.get("Content-Type", ""))
-    if kind is None:
-        return {}
+    edge = option(request.headers.get("Content-Type", ""), "boundary")
     sent = request.stream.read(request.max_content_length + 1)
     if len(sent) > request.max_content_length:
         raise Refused(f"The files have more than {request.max_content_length >> 20} MiB.", 413)
-    parts = (b"\r\n" + sent).split(b"\r\n--" + kind[1].encode(), MOST_PARTS)
-    pairs = [(PART.search(head[:MOST_HEAD] + b"\r"), text) for head, _, text in (part.partition(b"\r\n\r\n") for part in parts)]
-    return {name[1].decode(): text for name, text in pairs if name}
+    before, *parts = (b"\r\n" + sent).split(b"\r\n--" + edge.encode(), MOST_PARTS + 1)
+    fields = {}
+    for part in parts[:-1]:
+        head, blank, text = part.partition(b"\r\n\r\n")
+        said = PART.match(head[:MOST_HEAD].decode("latin-1"))
+        if blank and said and (name := option(said[1], "name")):
+            fields[name] = text
+    if not edge or before.strip(b"\r\n") or parts[-1:] not in ([b"--"], [b"--\r\n"]) or len(fields) < len(parts) - 1:
+        raise Refused(f"The form cannot be read. Send it as a browser does, as multipart/form-data with at most {MOST_PARTS} fields, each once.", 400)
+    return fields
 
 
 def wants_json():
@@ -259,38 +268,22 @@ class Site:
         for _ in range(config["WORKERS"]):
             self.workers.put(nonobench.Worker(seconds=config["SECONDS"], memory=config["MEMORY"]))
 
-    @contextlib.contextmanager
-    def worker(self):
-        """A worker that nobody else asks."""
-        try:
-            worker = self.workers.get(timeout=self.config["SECONDS"])
-        except queue.Empty:
-            raise Refused("The site is busy. Try again later.", 503) from None
-        try:
-            yield worker
-        finally:
-            self.workers.put(worker)
-
-    def close(self):
-        """Ends the workers that nobody asks."""
-        with contextlib.suppress(queue.Empty):
-            while True:
-                self.workers.get_nowait().close()
-
     def proved(self, file, certificate):
         """A picture that is fit to be published by its certificate, and what is published of it: with the givens that this names."""
         if certificate.count(b"\ngiven ") > MOST_GIVEN:
             raise Refused(f"The certificate gives more than {MOST_GIVEN} cells.")
+        worker = self.workers.get()
         try:
-            with self.worker() as worker:
-                said = worker.assess(file, certificate, published=nonobench.ANY_GIVEN)
-                clues = worker.clues(file)
+            said = worker.assess(file, certificate, published=nonobench.ANY_GIVEN)
+            clues = worker.clues(file)
         except nonobench.Fault as fault:
             raise Refused(reason_of(fault, certificate)) from fault
         except TimeoutError as error:
             raise Refused(f"The check took more than {self.config['SECONDS']:g} seconds.") from error
         except MemoryError as error:
             raise Refused("The check took too much memory.", 503) from error
+        finally:
+            self.workers.put(worker)
         picture = Picture(file)
         refuse_unfit(picture, said)
         return picture, puzzle_of(picture, clues, said.named)
@@ -397,9 +390,7 @@ def create_app(**config):
 
 
 def to_close(channels):
-    """Which of many connections makes room: of the address that has the most, the one that has been silent for the longest. One that
-    waits for its answer comes last.
-    """
+    """Which connection makes room: of the address that has the most, the longest silent one; one that waits for its answer comes last."""
     counts = Counter(channel.addr[0] for channel in channels)
     return min(channels, key=lambda channel: (-counts[channel.addr[0]], bool(channel.requests), channel.last_activity))
 
@@ -427,10 +418,16 @@ class Turns:
         return channel
 
 
+def take_turns(pages, workers):
+    """Lets the addresses take turns for the threads of waitress. Uploads get others, as many as there are workers to wait for."""
+    uploads, add_page = type(pages)(), pages.add_task
+    pages.queue, uploads.queue = Turns(), Turns()
+    uploads.set_thread_count(workers)
+    pages.add_task = lambda channel: (uploads.add_task if getattr(channel.requests[0], "command", "") == "POST" else add_page)(channel)
+
+
 def bound_connections():
-    """Lets waitress close a connection where there are too many, so that nobody who opens many shuts out the others, and after one
-    answer.
-    """
+    """Lets waitress close a connection after one answer, and where there are too many, so that who opens many shuts nobody out."""
     from waitress.channel import HTTPChannel
     from waitress.parser import HTTPRequestParser, ParsingError, TransferEncodingNotImplemented
     from waitress.server import BaseWSGIServer
@@ -482,7 +479,7 @@ def main():
         channel_timeout=30, max_request_header_size=1 << 13, max_request_body_size=2 * app.config["MAX_CONTENT_LENGTH"],
         inbuf_overflow=1 << 16, ident=None,
     )
-    server.task_dispatcher.queue = Turns()
+    take_turns(server.task_dispatcher, app.config["WORKERS"])
     logging.basicConfig()
     server.print_listen("Serving on http://{}:{}")
     server.run()

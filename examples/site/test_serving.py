@@ -24,6 +24,7 @@ from pathlib import Path
 import nonobench
 
 HERE = Path(__file__).resolve().parent
+DIAGONAL = (HERE.parent / "diagonal.ppm").read_bytes()
 SECONDS = 5
 MOST_KIB = 512 << 10
 STARTING = 300  # seconds that anything may take on a busy machine
@@ -136,10 +137,10 @@ class Serving(unittest.TestCase):
         with urllib.request.urlopen(f"http://127.0.0.1:{self.port}/", timeout=STARTING) as answer:
             return answer.read().count(b"<li ")
 
-    def bring(self, body):
+    def bring(self, body, address="127.0.0.1"):
         """The status of an upload, and the seconds until it is answered."""
         began = time.monotonic()
-        connection = http.client.HTTPConnection("127.0.0.1", self.port, timeout=STARTING)
+        connection = http.client.HTTPConnection("127.0.0.1", self.port, STARTING, (address, 0))
         connection.request("POST", "/puzzles", body, {"Content-Type": f"multipart/form-data; boundary={EDGE}"})
         status = connection.getresponse().status
         connection.close()
@@ -218,12 +219,29 @@ class Serving(unittest.TestCase):
         self.assertEqual(Counter(status for status, _ in answers), {303: 200})
         self.assertLess(max(seconds for _, seconds in answers), SECONDS + waited(self.server.pid) - idle)
 
+    def test_who_uploads_much_shuts_nobody_out_of_the_workers(self):
+        """30 uploads at a time of another address, each of which takes as long as a check may."""
+        certificate = b"nonolemma 2\nlemma\ndeny 1 1 a\n%sline r1\ndead c 2\nline r1 r2 c1 c2\n%s"
+        slow = form(DIAGONAL, certificate % (b"deny 1 1 b\n" * 1023, (b"use" + b" 1" * 1000 + b"\n") * 1000))
+        until = threading.Event()
+
+        def crowd():
+            with contextlib.suppress(OSError, http.client.HTTPException):  # the server is killed at last
+                while not until.is_set():
+                    self.bring(slow, "127.0.0.2")
+
+        self.addCleanup(until.set)
+        for _ in range(30):
+            threading.Thread(target=crowd, daemon=True).start()
+        time.sleep(SECONDS)
+        self.assertEqual([self.bring(form(*pair))[0] for pair in pairs(4)], [303] * 4)
+
     def test_requests_that_take_waitress_long(self):
         """Headers of blanks or options, for which time grows with the square of the length, and a body in pieces of one byte."""
         front = b"POST /puzzles HTTP/1.1\r\nHost: x\r\n"
         kind = b"Content-Type: multipart/form-data; boundary=x;%s;q\r\n\r\n"
         for more, status in ((b"a:" + b" \t" * 4000 + b"x\r\n\r\n", b"400"), (b"Transfer-Encoding: chunked\r\n\r\n" + b"1\r\na\r\n" * 9, b"501"),
-                             (b"a: b\r\n" * 2000 + b"\r\n", b"431"), (kind % (b"\xa0" * 8000), b"422"), (kind % (b";x*=" * 1900 + b"'"), b"422")):
+                             (b"a: b\r\n" * 2000 + b"\r\n", b"431"), (kind % (b"\xa0" * 8000), b"400"), (kind % (b";x*=" * 1900 + b"'"), b"400")):
             with self.subTest(status), contextlib.ExitStack() as opened:
                 idle, began = waited(self.server.pid), time.monotonic()
                 for _ in range(20):
