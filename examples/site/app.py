@@ -431,6 +431,7 @@ def bound_connections():
     from waitress.channel import HTTPChannel
     from waitress.parser import HTTPRequestParser, ParsingError, TransferEncodingNotImplemented
     from waitress.server import BaseWSGIServer
+    from waitress.utilities import BadRequest
 
     class Request(HTTPRequestParser):
         """A request, the only one of its connection."""
@@ -448,7 +449,9 @@ def bound_connections():
 
         def received(self, data):
             taken = super().received(data)
-            return len(data) if self.completed and not self.empty else taken  # what comes behind it is not read
+            if self.empty:  # blank lines, of which waitress reads any number, and slowly
+                self.empty, self.error = False, BadRequest("Blank lines")
+            return len(data) if self.completed else taken  # what comes behind it is not read
 
     class Channel(HTTPChannel):
         """A connection, for which another one may have to go."""

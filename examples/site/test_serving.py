@@ -251,9 +251,19 @@ class Serving(unittest.TestCase):
                 self.assertEqual(client.recv(1 << 16).split()[1], status)
                 self.assertLess(time.monotonic() - began, SECONDS + waited(self.server.pid) - idle)
 
+    def test_blank_lines_are_no_request(self):
+        spent = processor(self.server.pid)
+        for count in (1, *[1 << 18] * 8):
+            with socket.create_connection(("127.0.0.1", self.port), timeout=STARTING) as client:
+                with contextlib.suppress(OSError):  # it is closed meanwhile
+                    client.sendall(b"\r\n\r\n" * count)
+                    client.shutdown(socket.SHUT_WR)
+                    self.assertIn(b" 400 ", client.recv(1 << 16).split(b"\r\n")[0])
+        self.assertLess(processor(self.server.pid) - spent, SECONDS / 2)
+
     def test_a_connection_has_one_request(self):
         with socket.create_connection(("127.0.0.1", self.port), timeout=STARTING) as client:
-            client.sendall(b"\r\n\r\nGET /new HTTP/1.1\r\nHost: x\r\n\r\n" * 9)
+            client.sendall(b"\r\nGET /new HTTP/1.1\r\nHost: x\r\n\r\n" * 9)
             said = b"".join(iter(lambda: client.recv(1 << 16), b""))
         self.assertEqual(said.count(b"HTTP/1.1 200 OK"), 1)
         self.assertIn(b"\r\nConnection: close\r\n", said)
