@@ -29,7 +29,7 @@ function filesFor(named, stems, name, ending) {
 function unitOf(file, named, stems) {
   const [givens, background, ...others] = ['givens', 'background', 'cert', 'proof', 'txt'].map((ending) => filesFor(named, stems, file.name, ending));
   const beside = [...givens.slice(0, 1), ...background.slice(0, 1), ...others.flat()];
-  const isClear = !beside.length || [file, ...beside].every(({ name }) => named.get(name).length === 1);
+  const isClear = !beside.length || [file, ...beside].every(({ name, isDirectory }) => !isDirectory && named.get(name).length === 1);
   return { file, givens: givens[0], background: background[0], beside, fault: isClear ? '' : phrase('import.severalOfName') };
 }
 
@@ -39,12 +39,12 @@ function unitOf(file, named, stems) {
  */
 export function grouped(files) {
   const named = new Map();
-  for (const file of files) if (!file.isDirectory) named.set(file.name, [...(named.get(file.name) ?? []), file]);
+  for (const file of files) if (!file.isDirectory || BESIDE.test(file.name)) named.set(file.name, [...(named.get(file.name) ?? []), file]);
   const isOfSet = ({ name }) => NUMBERED.test(name) && ['', '.xml', '.XML'].some((ending) => named.has(name.replace(NUMBERED, ending)));
   const stems = new Set(files.filter(isPicture).map(({ name }) => stemOf(name)));
   const all = files.filter((file) => !isBeside(file)).map((file) => (isPicture(file) ? unitOf(file, named, stems) : { file, beside: [] }));
   const used = new Set(all.flatMap(({ beside }) => beside));
-  const units = all.filter(({ file }) => !used.has(file));
+  const units = all.filter(({ file }) => file.isDirectory || !used.has(file));
   const alone = files.filter((file) => isBeside(file) && !used.has(file) && !isOfSet(file));
   return [...units, ...alone.map((file) => ({ file, beside: [], fault: phrase('import.noPictureGoes') }))];
 }

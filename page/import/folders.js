@@ -16,7 +16,7 @@ async function entriesOf(folder) {
 }
 
 const isShown = (file) => !file.name.startsWith('.');
-const fileOf = (entry) => entry && new Promise((resolve, reject) => entry.file(resolve, reject));
+const fileOf = (entry) => entry?.file && new Promise((resolve, reject) => entry.file(resolve, reject));
 
 // Each folder is grouped by itself: the files of a name in one have nothing to do with those in another.
 async function unitsOf(folder) {

@@ -217,9 +217,9 @@ test('folders: their files in the order of names, each with the background besid
     assert.deepEqual(shown, [['a.ppm', '0,0,0'], ['b.ppm', '255,255,255'], ['c.ppm', '255,255,255']]);
 });
 
-test('a folder that is called as a file beside a picture is a folder', async () => {
+test('a folder that is called as a file beside a picture is opened, and the picture is refused, as nonobench-audit does', async () => {
     const units = await unitsIn([entryOf('one', { 'a.givens': { 'b.ppm': TWO_WAYS }, 'a.ppm': TWO_WAYS, 'b.ppm': { 'c.ppm': TWO_WAYS }, 'b.cert': '' })], [null]);
-    assert.deepEqual(units.map(({ file, fault }) => [file.name, Boolean(fault)]), [['b.ppm', false], ['a.ppm', false], ['c.ppm', false], ['b.cert', true]]);
+    assert.deepEqual(units.map(({ file, fault }) => [file.name, Boolean(fault)]), [['b.ppm', false], ['a.ppm', true], ['c.ppm', false], ['b.cert', true]]);
 });
 
 test('folders of many files: none is cut off from its picture', async () => {
