@@ -26,7 +26,7 @@ from odd_images import BITS, FRAMES, GAMMA, SMALL, odd_images  # noqa: E402
 from processes import children, seen  # noqa: E402
 from test_audit import p3_of_letters  # noqa: E402
 
-from nonobench.collection import arguments, cluster, finding, outputs, readers, running, serving, workers  # noqa: E402
+from nonobench.collection import arguments, certificates, cluster, finding, outputs, readers, running, serving, workers  # noqa: E402
 from nonobench.collection.outputs import Failure, Output  # noqa: E402
 
 SIGN = b"\x89PNG\r\n\x1a\n"
@@ -123,7 +123,7 @@ class Files(Case):
             with self.subTest(ending):
                 rows = self.rows("site", status=3)
                 self.assertEqual({name.removeprefix("site/"): row.get("error") for name, row in rows.items()}, {
-                    "folder.ppm": "its certificate: this folder is not read", "gone.ppm": "its certificate: No such file or directory",
+                    "folder.ppm": None, "gone.ppm": "its certificate: No such file or directory",
                     "long.ppm": "its certificate: more than 16777216 bytes", "most.ppm": None, "zeros.ppm": "its certificate: this is not a file",
                 })
                 self.assertEqual(rows["site/most.ppm"]["certificate"], {"accepted": False, "why": "certificate NotCert at line 1"})
@@ -388,7 +388,8 @@ class Strangers(Case):
         # The folder itself may be a link: that is the operator's.
         os.symlink("told", self.folder / "mine")
         (self.folder / "told" / "one.givens").write_text("given 1 1\n")
-        self.assertEqual(self.rows_of("site", "--givens", "mine", "--untrusted")["one.ppm"]["givens"], [[1, 1]])
+        for paths in (["site"], ["site", "site/one.ppm"], ["site", "./site/"]):  # the same files, and thus the same place
+            self.assertEqual(self.rows_of(*paths, "--givens", "mine", "--untrusted")["one.ppm"]["givens"], [[1, 1]])
 
     def test_strangers_do_not_say_whose_givens_are_the_operators(self):
         """Beside puzzles `one.ppm.givens` is that of a puzzle `one.ppm.png`. In a folder of their own, names alone tell."""
@@ -419,7 +420,7 @@ class Strangers(Case):
         self.put("set.xml", "<puzzleset>" + webpbn(UNIQUE) * 2 + "</puzzleset>")
         mine = self.folder / "mine"
         mine.mkdir()
-        for name in ("one.cert", "set.cert", "set.1.CERT", "set.2.cert", "set.3.proof"):
+        for name in ("one.Cert", "set.cert", "set.1.CERT", "set.2.cert", "set.3.proof"):
             (mine / name).write_text("x")
         others = "one.png", "one.ppm.png", "one.ppm.ppm", "set.ppm", "set.2.ppm", "set.1.gif", "set.xml.ppm", "set.xml.2.ppm", "set.xml.xml", "set.2.xml", "set.png/"
         places = finding.Places(str(mine), None, True)
@@ -433,7 +434,7 @@ class Strangers(Case):
         self.addCleanup(os.chdir, os.getcwd())
         os.chdir(self.folder)
         numbered = [(2, "set.2.cert"), (3, "set.3.proof")]
-        for wanted in ([[(1, "one.cert")], [(1, "set.cert"), (1, "set.1.CERT"), *numbered]], [[(1, "one.ppm.CERT")], [(1, "set.xml.1.cert"), *numbered]]):
+        for wanted in ([[(1, "one.Cert")], [(1, "set.cert"), (1, "set.1.CERT"), *numbered]], [[(1, "one.ppm.CERT")], [(1, "set.xml.1.cert"), *numbered]]):
             for other in ("", *others):
                 place = self.put(other, p3(UNIQUE)) if other.strip("/") == other != "" else self.site / other
                 place.mkdir(exist_ok=True) if other[-1:] == "/" else None
@@ -447,6 +448,33 @@ class Strangers(Case):
         self.put("set.ppm", p3(UNIQUE))
         rows = self.rows_of("site", "--certificates", "mine", "--untrusted", status=1)
         self.assertEqual([rows[name]["certificate"]["accepted"] for name in ("one.ppm", "set.xml#1", "set.xml#2")], [False, True, False])
+
+    def test_each_puzzle_has_its_own_certificates_alone(self):
+        """Those that were written of it, in a folder of their own and beside the puzzles, whatever puzzles and folders are called."""
+        self.addCleanup(os.chdir, os.getcwd())
+        os.chdir(self.folder)
+
+        def puzzles(place):
+            finding._listed.cache_clear()
+            finding._folder.cache_clear()
+            found = finding.find([f"site/{at}"], finding.Places(place))
+            return {f"{one.path}#{of}": (one, of) for one in found for of in range(1, 3 if one.path.endswith(".xml") else 2)}
+
+        for at, (names, without) in enumerate((
+            ("book.xml book.2.xml", ""), ("a.xml a.xml.ppm a.3.ppm/z.ppm", ""), ("a.xml a.1.cert/z.ppm a.2.cert/z.ppm", ""), ("a.ppm a.cert/z.ppm", "a.ppm"),
+            ("a.ppm a.xml a.xml.gif", "a.xml.gif"), ("a.ppm a.gif a.ppm.xml", "a.ppm.xml"), ("a.xml a.givens/z.ppm a.xml.2.gif", "a.xml.2.gif"),
+            ("a.xml a.ppm a.xml.xml", "a.xml.xml"), ("a.ppm a.ppm.ppm a.3.ppm a.3.ppm.xml", ""),
+        )):
+            for name in names.split():
+                self.put(f"{at}/{name}", "")
+            called = {name: certificates.numbered_name(one.stem, of) for name, (one, of) in puzzles(None).items() if os.path.basename(one.path) != without}
+            for place in (f"certs/{at}", f"site/{at}"):
+                for name, stem in called.items():
+                    os.makedirs(os.path.dirname(f"{place}/{stem}"), exist_ok=True)
+                    Path(f"{place}/{stem}.cert").write_text(name)
+                read = {name: [Path(way).read_text() for number, way in one.beside if number == of] for name, (one, of) in puzzles(place).items()}
+                with self.subTest(names, place=place):
+                    self.assertEqual(read, {name: [name] if name in called else [] for name in read})
 
     def test_outputs_go_through_no_link_of_strangers(self):
         self.put("one.ppm", p3(UNIQUE))
@@ -495,7 +523,8 @@ class Strangers(Case):
     def test_rows_that_no_output_could_show(self):
         """Givens of a picture without a size, and numbers that are larger than any that is printed."""
         row = {"file": "a", "verdict": "error", "error": "x"}
-        for more, why in (({"givens": [[1, 1]]}, "the field 'rows' is missing"), ({"seconds": 10**400}, "the field 'seconds' is wrong"), ({"seconds": 1e300}, "the field 'seconds' is wrong")):
+        for more, why in (({"givens": [[1, 1]]}, "the field 'rows' is missing"), ({"seconds": 10**400}, "the field 'seconds' is wrong"), ({"seconds": 1e300}, "the field 'seconds' is wrong"),
+                          ({"more": True}, "the field 'puzzle' is missing"), ({"file": "a\0b"}, "the field 'file' is wrong")):
             (self.folder / "rows").write_text(json.dumps({**row, **more}) + "\n")
             for words in ([], ["--html", "report.html"]):
                 with self.subTest((more, words)):
@@ -601,9 +630,10 @@ class Names(Case):
     def test_paths_whose_puzzles_would_be_called_alike(self):
         for name in ("x/SET.xml", "x2/SET.xml", "y/SET.2.xml"):
             self.put(name, "<puzzleset>" + webpbn(UNIQUE) * 3 + "</puzzleset>")
-        for name in ("x2/SET.ppm", "y/SET.3.ppm", "y/SET.xml.ppm", "y/SET.03.ppm", "y/SET.xml.2.ppm"):
+        for name in ("x/a.ppm", "x/b.cert/z.ppm", "y/a.cert/z.ppm", "y/b.ppm/z.ppm", "y/SET.4.givens/z.ppm", "x2/SET.ppm", "y/SET.3.ppm", "y/SET.xml.ppm", "y/SET.03.ppm", "y/SET.xml.2.ppm"):
             self.put(name, p3(UNIQUE))
         for names, status in (("x/SET.xml y/SET.3.ppm", 2), ("y/SET.3.ppm x/SET.xml", 2), ("x/SET.xml y/SET.2.xml", 2), ("x2/SET.xml y/SET.xml.ppm", 2),
+                              ("x/a.ppm y/a.cert", 2), ("y/a.cert x/a.ppm", 2), ("x/SET.xml y/SET.4.givens", 2), ("x/b.cert y/b.ppm", 0),
                               ("x2/SET.xml y/SET.xml.2.ppm", 2), ("x/SET.xml y/SET.03.ppm", 0), ("x2/SET.xml y/SET.3.ppm", 0), ("x/SET.xml site/x/../x/SET.xml", 0)):
             with self.subTest(names):
                 paths = [name if name.startswith("site") else f"site/{name}" for name in names.split()]

@@ -68,7 +68,7 @@ class Site:
         self.unread: list[str] = []  # those of the older ending with a certificate beside them
 
     def certificates(self) -> list[str]:
-        """The certificates of a share, in order, below their folder. What is called so and is no file is among them.
+        """The certificates of a share, in order, below their folder. What is called so and is no folder is among them.
 
         One with the older ending .proof counts where no .cert stands beside it, and is told otherwise.
         """
@@ -79,8 +79,10 @@ class Site:
             try:
                 with os.scandir(place) as entries:
                     for entry in entries:
-                        waiting += [entry.path] if entry.is_dir(follow_symlinks=False) else []
-                        found += [entry.path] if entry.name.lower().endswith(ENDINGS) else []
+                        if entry.is_dir(follow_symlinks=False):
+                            waiting.append(entry.path)
+                        elif entry.name.lower().endswith(ENDINGS):
+                            found.append(entry.path)
             except OSError as error:
                 self.unsearched.append(Answer(os.path.join(place, ""), UNREAD, error.strerror))
         newer = {os.path.splitext(file)[0] for file in found if file.lower().endswith(ENDINGS[0])}

@@ -12,7 +12,7 @@ from typing import Optional, Sequence
 
 from .._answers import FLAW_KINDS
 from .._library import version
-from .finding import ENDINGS, SUFFIXES, find, front_of, is_behind_link, unreached
+from .finding import ENDINGS, MADE, SUFFIXES, find, front_of, is_behind_link, unreached
 from .readers import ground_of
 
 _ENDINGS = frozenset((*SUFFIXES, ".givens", ".background", *(f".{ending}" for ending in ENDINGS)))
@@ -188,16 +188,20 @@ def _refuse_twins(parser: argparse.ArgumentParser, paths: list[str], option: str
         numbered = re.fullmatch(r"(.+)\.[1-9][0-9]*", name, re.DOTALL)
         of = seen.get(numbered[1], path) if numbered else path
         other = of if of.lower().endswith(".xml") and of != path else seen[name]
-        if other != path:
+        if other != path and not (name[-1:] != "/" and os.path.isdir(path) and os.path.isdir(other)):
             parser.error(f"--{option} would give {other!r} and {path!r} the same names")
 
 
 def _names_of(path: str, option: str) -> list[str]:
-    """What certificates of a path are called, or the folder of several. What is read may be called after the whole name of a file."""
+    """What certificates of a path are called, or the folder of several, which may be called like one that is written. What is read may
+    be called after the whole name of a file.
+    """
+    is_written = option in ("certify", "ppm")
     if os.path.isdir(path):
-        return [front_of(path)]
+        stem, ending = os.path.splitext(front_of(path)[:-1])
+        return [front_of(path), *([stem] if is_written and ending in MADE else [])]
     name = os.path.basename(path)
-    return [next(find([path])).stem] if option in ("certify", "ppm") else [name, os.path.splitext(name)[0]]
+    return [next(find([path])).stem] if is_written else [name, os.path.splitext(name)[0]]
 
 
 def _refuse_publishing(parser: argparse.ArgumentParser, told: argparse.Namespace) -> None:

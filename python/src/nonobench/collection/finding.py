@@ -16,9 +16,8 @@ NONE: Names = frozenset()
 MADE = (".cert", ".ppm", ".givens", ".background")  # what an audit writes, below a folder of the same shape
 NO_NAME = "\0"  # in what nothing is written to, since folders have its names
 Named = tuple[int, str, str]  # a certificate: the puzzle of the file that it is for, from 1; how its name ends; its path
-_NUMBER = re.compile(r"(.+)\.[1-9][0-9]{0,5}", re.DOTALL)
+_NUMBER = re.compile(r"(.+)\.([1-9][0-9]{0,5})", re.DOTALL)
 _LIKE_BYTES = re.compile(rb"\\(?=x(?:[89a-f][0-9a-f]|5c))")
-_NUMBERED = re.compile(rf"(.+)\.([1-9][0-9]{{0,5}})\.({'|'.join(ENDINGS)})", re.DOTALL | re.IGNORECASE)
 
 
 class Places(NamedTuple):
@@ -49,15 +48,14 @@ class Folder(NamedTuple):
     front: str  # the same below its PATH
     names: Names  # of files
     stems: Counter[str]  # how many puzzles have a name, without its suffix
+    sets: Names  # those of files with several puzzles
     numbers: Names  # the names that such names have before a number
     taken: Names  # what no certificate or picture is called: folders are, or a puzzle of a file with several may be
-    held: Names  # the names in the folder where certificates lie
-    held_in: str
+    held: dict[str, list[Named]]  # the certificates by names without endings, and by those without numbers and with / behind
     is_held_apart: bool  # whether that is another folder than that of the puzzles
     told: Optional[Names]  # the names where givens and backgrounds lie; nothing where they cannot be listed
     told_in: str
     is_apart: bool  # the same of that
-    numbered: dict[str, list[Named]]  # those of files with several puzzles
     unlisted: tuple[Named, ...]  # a folder that cannot be listed stands for what lies there: it cannot be read either
 
 
@@ -147,15 +145,15 @@ def find(paths: list[str], places: Places = Places()) -> Iterator[Found]:
     Folders that links lead to are not searched, nor is what is hidden. What is named by a path itself is, but in a collection of
     strangers: there a link is a file that cannot be read.
     """
-    several = len(paths) > 1
+    outer = without_nested(paths)
     if places.is_untrusted:
         certificates, givens = (way and os.path.realpath(way) for way in places[:2])
         places = Places(certificates, givens, True)
-    for path in without_nested(paths):
+    for path in outer:
         real = _real(path) if places.is_untrusted else path
         if os.path.isdir(path) and not (places.is_untrusted and os.path.islink(real)):
             prefix, real = ("" if way == "." else os.path.join(way, "") for way in (path, real))
-            yield from _below(real, prefix, front_of(path) if several else "", places)
+            yield from _below(real, prefix, front_of(path) if len(outer) > 1 else "", places)
         else:
             folder, real = (os.path.join(os.path.dirname(way), "") for way in (path, real))
             yield _found(_folder(folder, real, "", _listed(real), places), os.path.basename(path))
@@ -208,25 +206,26 @@ def _listed(folder: str) -> Optional[frozenset[tuple[str, bool]]]:
         return None
 
 
-def _names(listed: Optional[frozenset[tuple[str, bool]]]) -> Optional[Names]:
-    return None if listed is None else frozenset(name for name, _ in listed)
+def _names(listed: Optional[frozenset[tuple[str, bool]]], is_of_folders: bool = True) -> Optional[Names]:
+    return None if listed is None else frozenset(name for name, is_folder in listed if is_of_folders or not is_folder)
 
 
 @functools.lru_cache(maxsize=4)
 def _folder(prefix: str, real: str, front: str, listed: Optional[frozenset[tuple[str, bool]]], places: Places) -> Folder:
     names = _names(listed)
     held_in, told_in = (real if way is None else os.path.join(way, front) for way in (places.certificates, places.givens))
-    beside = NONE if places.is_untrusted else names
-    held = beside if places.certificates is None else _names(_listed(held_in))
-    told = beside if places.givens is None else _names(_listed(told_in))
+    beside = frozenset() if places.is_untrusted else listed
+    held = _names(beside if places.certificates is None else _listed(held_in), False)
+    told = _names(beside if places.givens is None else _listed(told_in))
     unlisted = [place or "." for place, listed in ((real, names), (held_in, held)) if listed is None]
-    numbered: dict[str, list[Named]] = {}
-    if any(name.lower().endswith(".xml") for name in names or ()):
-        for name in held or ():
-            parts = _NUMBERED.fullmatch(name)
-            if parts:
-                numbered.setdefault(parts[1], []).append((int(parts[2]), parts[3].lower(), held_in + name))
-    files = frozenset(name for name, is_folder in listed or () if not is_folder)
+    certificates: dict[str, list[Named]] = {}
+    for called, ending, name in ((*os.path.splitext(name), name) for name in sorted(held or ())):
+        number = _NUMBER.fullmatch(called)
+        if ending[1:].lower() in ENDINGS:
+            certificates.setdefault(called, []).append((1, ending[1:].lower(), held_in + name))
+        if ending[1:].lower() in ENDINGS and number:
+            certificates.setdefault(number[1] + "/", []).append((int(number[2]), ending[1:].lower(), held_in + name))
+    files = _names(listed, False) or NONE
     puzzles = [(stem, suffix.lower()) for stem, suffix in map(os.path.splitext, files) if suffix.lower() in SUFFIXES]
     stems, sets = Counter(stem for stem, _ in puzzles), {stem for stem, suffix in puzzles if suffix == ".xml"}
     ofs = {parts[0]: parts[1] for parts in map(_NUMBER.fullmatch, stems) if parts}
@@ -235,29 +234,17 @@ def _folder(prefix: str, real: str, front: str, listed: Optional[frozenset[tuple
     taken.update(stem for stem, of in ofs.items() if of in sets)
     whole = tuple((1, ENDINGS[0], place) for place in unlisted)
     apart = [way is not None and os.path.realpath(place) != os.path.realpath(real) for way, place in zip(places[:2], (held_in, told_in))]
-    kinds = stems, frozenset(ofs.values()), frozenset(taken)
-    return Folder(prefix, real, front, files, *kinds, held or NONE, held_in, apart[0], told, told_in, apart[1], numbered, whole)
+    kinds = stems, frozenset(sets), frozenset(ofs.values()), frozenset(taken)
+    return Folder(prefix, real, front, files, *kinds, certificates, apart[0], told, told_in, apart[1], whole)
 
 
 def _found(folder: Folder, name: str) -> Found:
-    stem, suffix = os.path.splitext(name)
-    is_only = _is_only(folder, stem, suffix.lower())
-    called = next((way for way in ([stem] if is_only else []) + [name] if way not in folder.taken), name + NO_NAME)
-    # A file that is called after the whole name is that of the puzzle with this name and a suffix, where there is one.
-    whole = stem if folder.stems[name] else name
-    beside = list(folder.unlisted)
-    for ending in ENDINGS if not folder.is_held_apart else ():
-        # What is called after the name alone may belong to the other puzzle of that name.
-        places = _named(whole if is_only else name, stem, f".{ending}", folder.held, folder.held_in)
-        beside += [(1, ending, place) for place in places[: None if is_only else 1]]
-    if folder.is_held_apart:
-        beside += _held_apart(folder, name, stem)
-    elif suffix.lower() == ".xml":
-        own = folder.numbered.get(name, [])
-        # What is numbered after the name alone may belong to another puzzle, or to another file of several.
-        others = folder.numbered.get(stem, []) if folder.stems[stem] == 1 and not _is_puzzle(folder, stem) else []
-        beside += sorted([*own, *(other for other in others if f"{stem}.{other[0]}" not in folder.stems)] if not is_only else others)
-    told, of = folder.told or NONE, name if folder.is_apart else whole  # strangers do not say whose files the operator's are
+    stem = os.path.splitext(name)[0]
+    called = stem if _is_own(folder, name) else name if name not in folder.taken else name + NO_NAME
+    beside = [*folder.unlisted, *_certificates(folder, name, stem)]
+    # What is called after the whole name is that of the puzzle with this name and a suffix, where there is one. But strangers do not say
+    # whose files the operator's are.
+    told, of = folder.told or NONE, stem if folder.stems[name] and not folder.is_apart else name
     givens, background = (next(iter(_named(of, stem, end, told, folder.told_in)), None) for end in (".givens", ".background"))
     if folder.told is None:
         givens = folder.told_in or "."
@@ -267,27 +254,43 @@ def _found(folder: Folder, name: str) -> Found:
     return Found(folder.real + name, shown(folder.prefix + name), folder.front + called, read, givens, background, unread)
 
 
-def _held_apart(folder: Folder, name: str, stem: str) -> list[Named]:
-    """The certificates in a folder of their own, where names alone tell, and not what strangers have: those of each puzzle that are
-    called after the whole name, else after the stem.
+def _certificates(folder: Folder, name: str, stem: str) -> list[Named]:
+    """The certificates of each puzzle of a file: those after its whole name, else those after the stem. Beside puzzles both, where the
+    stem is its own.
     """
     found: list[Named] = []
+    is_both = not folder.is_held_apart and _is_own(folder, name)
     for way in (name, stem):
-        have = {one[:2] for one in found}
-        held = [(1, ending, place) for ending in ENDINGS for place in _named(way, way, f".{ending}", folder.held, folder.held_in)]
-        held += sorted(folder.numbered.get(way, [])) if name.lower().endswith(".xml") else []
-        found += [one for one in held if one[:2] not in have]
+        have = {one[:2] for one in found if not is_both}
+        held = [one for key in ((way, way + "/") if name.lower().endswith(".xml") else (way,)) for one in sorted(folder.held.get(key, ()))]
+        found += [one for one in held if one[:2] not in have and not _is_others(folder, name, os.path.splitext(os.path.basename(one[2]))[0])]
     return found
 
 
-def _is_only(folder: Folder, stem: str, suffix: str) -> bool:
-    """Whether no other puzzle's certificate could have the name that a puzzle's has, if it is called after its stem."""
-    if folder.stems[stem] != (suffix in SUFFIXES):
+def _is_others(folder: Folder, name: str, called: str) -> bool:
+    """Whether a certificate that a puzzle's could be called like is another's: of that with this whole name, but beside puzzles of that
+    with this stem, if the former has its stem for itself.
+    """
+    whole, number = _whole(folder, called), _NUMBER.fullmatch(called)
+    if folder.is_held_apart or not whole:
+        return whole not in ("", name) or not folder.is_held_apart and called != os.path.splitext(name)[0] and folder.stems[called] > 0
+    is_stem = folder.stems[called] > 0 or number is not None and number[1] in folder.sets
+    return (whole == name) == (is_stem and _is_own(folder, whole))
+
+
+def _is_own(folder: Folder, name: str) -> bool:
+    """Whether a puzzle's certificate may be called after its stem: no other puzzle's could be called so, and no folder is."""
+    stem, suffix = os.path.splitext(name)
+    if folder.stems[stem] != (suffix.lower() in SUFFIXES) or stem in folder.taken or _whole(folder, stem):
         return False
-    if suffix == ".xml" and stem in folder.numbers:
-        return False
-    of = _NUMBER.fullmatch(stem)
-    return not any(_is_puzzle(folder, whole) for whole in (stem, of[1] if of else ""))
+    return suffix.lower() != ".xml" or stem not in folder.numbers
+
+
+def _whole(folder: Folder, called: str) -> str:
+    """The file after whose whole name a certificate is called; nothing where there is none."""
+    number = _NUMBER.fullmatch(called)
+    of = number[1] if number and number[1].lower().endswith(".xml") else ""
+    return next((name for name in (called, of) if _is_puzzle(folder, name)), "")
 
 
 def _is_puzzle(folder: Folder, name: str) -> bool:

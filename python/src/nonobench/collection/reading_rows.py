@@ -55,6 +55,7 @@ def _compare(row: Row) -> None:
         wanted += _SHOWN
     wanted += ["error"] if verdict == "error" else ["other"] if verdict == "ambiguous" else ["figures"] if "grade" in row else []
     wanted += ["fit"] if "rows" in row else []
+    wanted += ["puzzle"] if "more" in row else []
     for name in wanted:
         _need(name in row, f"the field {name!r} is missing")
     for name in ("grade", "figures", "lines"):
@@ -120,7 +121,8 @@ def _is_told(value: Any) -> bool:
 _count = _is_number(0, 1 << 31)
 _SHOWN = ("rows", "columns", "colours", "open", "background", "palette", "picture")
 _FIELDS: dict[str, Callable[[Any], bool]] = {
-    **{name: _is_text for name in ("file", "title", "picture", "other", "error", "note", "content", "made", "limit")},
+    "file": lambda value: _is_text(value) and "\0" not in value,
+    **{name: _is_text for name in ("title", "picture", "other", "error", "note", "content", "made", "limit")},
     "certificate": _is_told,
     "lines": _count,
     "missing": _is_like("[A-Za-z0-9._-]{1,40}"),
