@@ -63,9 +63,6 @@ export const drawSign = (surface, look, at, { x, y, size, ink = look.inks[at] })
 /** The mark of a given cell. */
 export const drawGiven = (surface, x, y, side) => surface.polygon(givenCorners(x, y, side), { fill: '#fff', edge: '#1a1a1a', weight: Math.max(side * 0.05, surface.pen ? 0.8 : 0) });
 
-/** A dot for a cell that is known to be background. */
-export const drawDot = (surface, look, x, y, side) => surface.disc(x + side / 2, y + side / 2, Math.max(1.2, side * 0.09), look.inks[0]);
-
 // ---- clues
 
 const signOf = (look, letter) => (look.signs ? look.signs[LETTERS.indexOf(letter)] : '');

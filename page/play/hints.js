@@ -4,7 +4,7 @@
 import { capital, lineName, linesText } from '../base/words.js';
 import { phrase } from '../texts/phrase.js';
 import { searches } from '../view/verdict.js';
-import { play } from './play.js';
+import { checkText, play } from './play.js';
 
 const MOST_SECONDS = 30;
 
@@ -44,13 +44,16 @@ async function nextStep(state, letters) {
   return look ? { line: look.line, cells: look.falls.map(({ index }) => index), premises: knownIn(look.line, letters) } : null;
 }
 
-const isWrong = () => play.marks.some((row, at) => row.some((mark, col) => mark !== '?' && mark !== play.state.picture[at][col]));
+/** The places of marks that are not as in the picture. */
+export const wrongMarks = () => new Set(play.marks.flatMap((row, at) => row.flatMap((mark, col) => (mark === '?' || mark === play.state.picture[at][col] ? [] : [at * play.state.columns + col]))));
+
 const HOWS = ['line', 'cells', 'why'];
 
 /** The next part of a hint: its text, and what of it is shown; null where there are other marks by then. The same marks get more each time. */
 export async function nextHint() {
   const { state } = play;
-  if (isWrong()) return { text: phrase('play.markWrongCheckShows'), shown: null };
+  const wrong = wrongMarks().size;
+  if (wrong) return { text: `${checkText(wrong)} ${phrase('play.checkShowsWhich')}`, shown: null };
   const marks = () => play.marks.flat();
   const key = marks().join('');
   if (play.hint?.key !== key) {

@@ -8,17 +8,19 @@ import { LETTERS, MOST_CELLS } from '../document/limits.js';
 import { lineCells } from '../document/shapes.js';
 import { bench } from '../engine/bench.js';
 import { phrase } from '../texts/phrase.js';
-import { addAction, runAction } from '../view/actions.js';
+import { addAction } from '../view/actions.js';
+import { openDialog } from '../view/dialogs.js';
 import { dress, inkName } from '../view/dress.js';
 import { selection } from '../view/select.js';
 import { asSeen } from '../view/tools.js';
 import { searches } from '../view/verdict.js';
 import { isMet, marksOf } from './crossing.js';
-import { nextHint } from './hints.js';
-import { drawPlay, drawStroke, fitPlay, movePlay, zoomPlay } from './playdraw.js';
+import { nextHint, wrongMarks } from './hints.js';
+import { keepMarks, keptMarks } from './kept.js';
+import { drawPlay, drawStroke, fitPlay, movePlay, refitPlay, zoomPlay } from './playdraw.js';
 import { endWalk, isWalking, startWalk, walkBar, walkKey } from './walking.js';
 
-export const play = { state: null, marks: [], letter: 'a', past: [], future: [], wrong: new Set(), at: { row: 0, col: 0 }, side: 24, drag: null, isSolved: false, shown: null, heat: null, hint: null };
+export const play = { state: null, marks: [], letter: 'a', past: [], future: [], wrong: new Set(), at: { row: 0, col: 0 }, side: 24, room: [], isZoomed: false, drag: null, isSolved: false, shown: null, heat: null, hint: null };
 
 // Whether the marks of the last time are those of this puzzle: what was marked before the room was left stands there again.
 const goesOn = ({ picture, givens, colours }) => play.past.length > 0 && play.state.picture === picture && play.state.givens === givens && play.state.colours === colours;
@@ -27,9 +29,10 @@ const goesOn = ({ picture, givens, colours }) => play.past.length > 0 && play.st
 export async function openPlay({ isAlone = false } = {}) {
   if (selection.rows || bench.queue.length) await asSeen();
   const { state } = bench;
-  const isKept = goesOn(state);
-  if (isKept) Object.assign(play, { state, wrong: new Set(), drag: null, shown: null, heat: null, hint: null });
-  else Object.assign(play, { state, marks: marksOf(state), letter: state.colours.length > 1 ? 'a' : '.', past: [], future: [], wrong: new Set(), at: { row: 0, col: 0 }, drag: null, isSolved: false, shown: null, heat: null, hint: null });
+  const isGoing = goesOn(state);
+  const kept = isGoing ? play.marks : keptMarks(state);
+  if (!isGoing) Object.assign(play, { marks: kept ?? marksOf(state), letter: state.colours.length > 1 ? 'a' : '.', past: [], future: [], at: { row: 0, col: 0 }, isSolved: false });
+  Object.assign(play, { state, wrong: new Set(), drag: null, shown: null, heat: null, hint: null });
   searches.stop();
   const dialog = make('dialog', { id: 'play-room', 'aria-label': phrase('play.play') });
   dialog.append(playBar(), walkBar(), make('p', { id: 'play-said', role: 'status' }), playBoard(), make('div', { id: 'play-palette', role: 'radiogroup', 'aria-label': phrase('view.colourLabel') }), make('p', { id: 'play-credit', class: 'faint', hidden: !(state.about.title || state.about.author) }));
@@ -43,11 +46,13 @@ export async function openPlay({ isAlone = false } = {}) {
   dialog.showModal();
   playPalette();
   fitPlay();
+  afterPlay();
+  new ResizeObserver(refitPlay).observe(dialog);
   $('play-field').focus({ preventScroll: true });
   $('play-board').scrollTo(0, 0);
   const { word } = state.verdict;
   const told = word === 'unique' ? phrase('play.oneSolutionGoodLuck') : word === 'ambiguous' ? phrase('play.puzzleMoreOneSolution') : phrase('play.notKnownWhetherPuzzle');
-  playSays(`${isKept ? phrase('play.yourMarksYouLeft') : ''}${told}${state.givens.size ? phrase('play.cellsDiamondGiven') : ''}`);
+  playSays(`${kept ? phrase('play.yourMarksYouLeft') : ''}${told}${state.givens.size ? phrase('play.cellsDiamondGiven') : ''}`);
 }
 
 // Where the player stands alone nothing closes it: neither Escape nor a phone's way back.
@@ -66,8 +71,13 @@ function playBar() {
     buttonOf('play-hint', phrase('play.hint'), hintPlay, { title: phrase('play.lineTellsMoreAgain') }),
     buttonOf('play-clear', phrase('play.startOver'), clearPlay), buttonOf('play-walk', phrase('play.walkThrough'), startWalk),
     buttonOf('play-smaller', '−', () => zoomPlay(-1), { 'aria-label': phrase('view.smaller') }), buttonOf('play-larger', '+', () => zoomPlay(1), { 'aria-label': phrase('view.larger') }),
-    buttonOf('play-help', '?', () => runAction('guide'), { 'aria-label': phrase('view.guide'), title: phrase('view.guide') }),
+    buttonOf('play-help', '?', helpPlay, { 'aria-label': phrase('view.help'), title: phrase('view.help') }),
     buttonOf('play-close', phrase('play.backPicture'), () => $('play-room').close(), { 'data-short': '←', 'aria-label': phrase('play.backPicture') }));
+}
+
+function helpPlay() {
+  const list = make('ul', {}, ...phrase('play.howTo').split('\n').map((line) => make('li', {}, line)));
+  openDialog({ title: phrase('view.help'), content: make('div', { class: 'help' }, list), buttons: [{ name: phrase('view.close'), value: null, main: true }] });
 }
 
 function playBoard() {
@@ -149,6 +159,7 @@ export function afterPlay() {
     tell('solved', null);
   } else if (!solved) playSays('');
   play.isSolved = solved;
+  keepMarks(play.state, play.marks, solved);
   const { title, author } = play.state.about;
   $('play-credit').textContent = [solved && title, author && phrase('export.by', { author })].filter(Boolean).join(', '); // a title may tell what it is
   $('play-undo').disabled = !play.past.length;
@@ -157,16 +168,13 @@ export function afterPlay() {
 }
 
 // A cell that another solution has is not wrong: only where the picture is known to be the one solution is it told so.
-function checkText(count) {
+export function checkText(count) {
   if (play.state.verdict.word === 'unique') return count ? phrase('play.cellsWrong', { cells: count }) : phrase('play.nothingWrongSoFar');
   return count ? phrase('play.cellsDiffer', { cells: count }) : phrase('play.nothingDiffersFromYour');
 }
 
 function checkPlay() {
-  play.wrong = new Set();
-  play.marks.forEach((row, at) => row.forEach((mark, col) => {
-    if (mark !== '?' && mark !== play.state.picture[at][col]) play.wrong.add(at * play.state.columns + col);
-  }));
+  play.wrong = wrongMarks();
   playSays(checkText(play.wrong.size));
   drawPlay();
 }
@@ -181,7 +189,9 @@ async function hintPlay() {
 
 function clearPlay() {
   play.wrong = new Set();
-  keepPlay(markPlay(play.marks.flatMap((row, at) => row.map((_, col) => at * play.state.columns + col)), '?'));
+  const stroke = markPlay(play.marks.flatMap((row, at) => row.map((_, col) => at * play.state.columns + col)), '?');
+  keepPlay(stroke);
+  if (stroke.length) playSays(phrase('play.startedOver'));
 }
 
 // ---- pointer and keys

@@ -5,13 +5,13 @@ import { $ } from '../base/elements.js';
 import { clamp } from '../base/words.js';
 import { contrastOf, eightBits, lightness } from '../document/colours.js';
 import { LETTERS } from '../document/limits.js';
-import { coloursOf, drawClue, drawDot, drawGiven, drawRules, edges, wholeFrame } from '../draw/board.js';
+import { coloursOf, drawClue, drawGiven, drawRules, edges, wholeFrame } from '../draw/board.js';
 import { Sprites } from '../draw/sprites.js';
 import { CanvasSurface } from '../draw/surface.js';
 import { phrase } from '../texts/phrase.js';
 import { inkName, wordOf } from '../view/dress.js';
 import { crossedOff } from './crossing.js';
-import { afterPlay, play, playColumn } from './play.js';
+import { play, playColumn } from './play.js';
 import { drawShown } from './shown.js';
 
 // Cells without a mark: in the dark a grey from which both black and white stand out.
@@ -22,7 +22,8 @@ const LEAST_CONTRAST = 3;
 /** @type {any} */
 const strips = { sprites: new Sprites(), drawn: new Map(), r: null, c: null };
 
-const PLAY_SIDES = [8, 10, 12, 14, 16, 18, 20, 24, 28, 32, 40, 48];
+const PLAY_SIDES = [8, 10, 12, 14, 16, 18, 20, 24, 28, 32, 40, 48, 56, 64];
+const [LEAST_FIT, MOST_FIT] = [14, 64]; // a puzzle that fits by no such side is scrolled
 
 const playFont = () => clamp(Math.round(play.side * 0.58), 8, 17);
 const playChip = (block) => Math.max(playFont() * 1.25, String(block.length).length * playFont() * 0.62 + 7);
@@ -35,17 +36,26 @@ function playStrips() {
   return { wide: Math.ceil(wide), high: Math.ceil(high) };
 }
 
+/** Draws the puzzle as large as it has room. */
 export function fitPlay() {
-  const board = $('play-board');
+  const { offsetWidth, offsetHeight } = $('play-board');
+  const { rows, columns } = play.state;
   const fits = (side) => {
     play.side = side;
     const { wide, high } = playStrips();
-    return wide + side * play.state.columns <= board.clientWidth && high + side * play.state.rows <= board.clientHeight;
+    return wide + side * columns + 2 <= offsetWidth && high + side * rows + 2 <= offsetHeight;
   };
-  play.side = PLAY_SIDES.findLast(fits) ?? 16;
-  if (play.side < 14) play.side = 16;
+  let side = Math.min(MOST_FIT, Math.floor(offsetWidth / columns), Math.floor(offsetHeight / rows));
+  while (side >= LEAST_FIT && !fits(side)) side--;
+  Object.assign(play, { side: side < LEAST_FIT ? 16 : side, room: [offsetWidth, offsetHeight], isZoomed: false });
   drawPlay();
-  afterPlay();
+}
+
+/** Fits the puzzle again where its room is another one. A size that its user has chosen stays as long as the width does. */
+export function refitPlay() {
+  const board = $('play-board');
+  if (!board || (board.offsetWidth === play.room[0] && (play.isZoomed || board.offsetHeight === play.room[1]))) return;
+  fitPlay();
 }
 
 const boxOf = (id) => $(id).getBoundingClientRect();
@@ -60,8 +70,8 @@ function middleOfBoard() {
 export function zoomPlay(way, [x, y] = middleOfBoard()) {
   const before = boxOf('play-field');
   const [col, row] = [(x - before.left) / play.side, (y - before.top) / play.side];
-  const at = PLAY_SIDES.findIndex((side) => side >= play.side);
-  play.side = PLAY_SIDES[clamp(at + way, 0, PLAY_SIDES.length - 1)];
+  const next = way > 0 ? PLAY_SIDES.find((side) => side > play.side) : PLAY_SIDES.findLast((side) => side < play.side);
+  Object.assign(play, { side: next ?? play.side, isZoomed: true });
   drawPlay();
   const after = boxOf('play-field');
   $('play-board').scrollBy(after.left + col * play.side - x, after.top + row * play.side - y);
@@ -165,16 +175,21 @@ function drawPlayField() {
   pen.strokeRect(frame.x + play.at.col * side, frame.y + play.at.row * side, side, side);
 }
 
-// A mark in its colour; one that hardly stands out from cells without a mark has an edge that does.
+// A mark in its colour; one that hardly stands out from cells without a mark has an edge that does. Background has a cross.
 function drawPlayMark(surface, look, { mark, x, y, wide, high }) {
   const { colours, maxval } = play.state;
   const at = LETTERS.indexOf(mark);
   surface.rect(x, y, wide, high, look.fills[at]);
-  if (contrastOf(eightBits(colours[at], maxval), look.blank) < LEAST_CONTRAST) {
+  if (mark === '.') drawCross(surface, look, x + wide / 2, y + high / 2, high);
+  else if (contrastOf(eightBits(colours[at], maxval), look.blank) < LEAST_CONTRAST) {
     const inset = high * 0.13;
     surface.chip(x + inset, y + inset, wide - 2 * inset, high - 2 * inset, { fill: look.fills[at], edge: look.inks[at], weight: Math.max(1, high * 0.07) });
   }
-  if (mark === '.') drawDot(surface, look, x, y, high);
+}
+
+function drawCross(surface, look, x, y, side) {
+  const arm = Math.max(1.5, side * 0.15);
+  for (const way of [-1, 1]) surface.line(x - arm, y - way * arm, x + arm, y + way * arm, look.inks[0], Math.max(1, side * 0.06));
 }
 
 function drawPlayCell(surface, look, cell) {

@@ -7,7 +7,6 @@ import { bench } from '../engine/bench.js';
 import { keep } from '../library/keep.js';
 import { openRecord } from '../library/open.js';
 import { saving } from '../library/saving.js';
-import { play } from '../play/play.js';
 import { LANGUAGE, LANGUAGES, keepLanguage } from '../texts/language.js';
 import { phrase } from '../texts/phrase.js';
 import { addAction } from '../view/actions.js';
@@ -17,7 +16,6 @@ import { searches } from '../view/verdict.js';
 
 const OPEN = 'nonobench-open'; // what is open again in this tab
 const FILE = 'file:'; // the file that it is saved to; only a database keeps the browser's handle of it
-const asksBefore = () => sheet.underlay || play.past.length;
 
 // Keeps what is open, also where nothing was painted yet; gives its id, or null where the browser does not keep it.
 async function keptId() {
@@ -30,7 +28,7 @@ async function keptId() {
 
 async function changeLanguage(language) {
   if (language === LANGUAGE) return;
-  if (bench.state && asksBefore() && !(await confirmDialog(phrase('start.changeLanguage'), phrase('start.languageLoses'), phrase('start.changeLanguage')))) return;
+  if (bench.state && sheet.underlay && !(await confirmDialog(phrase('start.changeLanguage'), phrase('start.languageLoses'), phrase('start.changeLanguage')))) return;
   searches.stop();
   const id = bench.state ? await keptId() : null;
   keepLanguage(language);

@@ -33,7 +33,7 @@ export async function forcedColours({ trial, page }) {
     await page.send('Emulation.setEmulatedMedia', { features: [] });
 }
 
-/** On a phone, help is beside the verdict and in Play; it names version and commit. */
+/** On a phone, help is beside the verdict, and names version and commit; in Play it is for solvers. */
 export async function helpOnPhones({ browser, url, folder }) {
     const { page, trial } = await fresh(browser, url, folder, 'help', { size: SIZES.phone });
     await trial.open(ppmOf(THREE), 'help');
@@ -48,7 +48,10 @@ export async function helpOnPhones({ browser, url, folder }) {
     const high = await page.run(() => ['play-bar', 'play-palette'].reduce((sum, id) => sum + document.getElementById(id).getBoundingClientRect().height, 0));
     assert.ok(high <= 130, `${high} px of 844 are for buttons`);
     await page.tap('#play-help');
-    await page.until(() => document.querySelector('#version'), 3000 * SLACK);
+    await page.until(() => document.querySelector('.help li'), 3000 * SLACK);
+    const told = await trial.text('.help');
+    for (const wanted of ['×', '⌫', 'right mouse button', '“Check”', '“Hint”', '“Start over”']) assert.ok(told.includes(wanted), wanted);
+    assert.equal(await page.run(() => document.querySelector('#version')), null);
     await page.close();
 }
 

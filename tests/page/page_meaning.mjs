@@ -133,7 +133,7 @@ export async function playing({ trial, page }) {
     await page.drag([await at(1, 1), await at(1, 2)]);
     await page.drag([await at(2, 1)]);
     await page.click('#play-check');
-    assert.match(await trial.text('#play-said'), /1 cell wrong/);
+    assert.match(await trial.text('#play-said'), /^1 cell is wrong\./);
     await page.press('Control+z');
     await page.click('#play-check');
     assert.match(await trial.text('#play-said'), /Nothing is wrong/);

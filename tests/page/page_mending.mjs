@@ -90,12 +90,12 @@ export async function walkingPoint(hands) {
     await said(page, '^Step 1 of 6');
     await hands.press('#walk-end');
     assert.equal(await page.run(() => play.marks.flat().every((mark) => mark === '?')), true, 'the own marks stand again');
-    for (const wanted of ['^Row 2 settles more cells\\.$', '^Row 2 settles column 2\\.$']) {
+    for (const wanted of ['^Row 2: more cells follow\\.$', '^Row 2 settles column 2\\.$']) {
         await hands.press('#play-hint');
         await said(page, wanted);
     }
     await page.run(() => { play.marks = ['?a.', 'aa.', '???'].map((row) => [...row]); });
-    for (const wanted of ['^Row 1 settles more cells\\.$', '^Row 1 settles column 1\\.$', '^Row 1 settles column 1, since columns 2–3 are known\\.$']) {
+    for (const wanted of ['^Row 1: more cells follow\\.$', '^Row 1 settles column 1\\.$', '^Row 1 settles column 1, since columns 2–3 are known\\.$']) {
         await hands.press('#play-hint');
         await said(page, wanted);
     }

@@ -3,6 +3,7 @@
 import assert from 'node:assert/strict';
 import { pause } from './page_browser.mjs';
 import { hard } from './page_hands.mjs';
+import { Hands } from './page_inputs.mjs';
 import { SLACK, Trial, noise, ppmOf } from './page_trial.mjs';
 
 const UPRIGHT = [[390, 844], [360, 640]];
@@ -169,6 +170,101 @@ export async function tapBehindAFlick({ browser, url, folder }) {
     await flick([x - 60, y], 120);
     await page.tap('#play-palette [data-letter="b"]');
     await page.until(() => play.letter === 'b', 1000 * SLACK);
+    assert.deepEqual(page.faults, []);
+    await page.close();
+}
+
+// ---- a solver alone
+
+const turned = async (page, [width, height]) => {
+    await page.send('Emulation.setDeviceMetricsOverride', { width, height, deviceScaleFactor: 2, mobile: true });
+    await page.until((wide) => innerWidth === wide, 2000 * SLACK, width);
+    await page.run(() => new Promise((go) => requestAnimationFrame(() => requestAnimationFrame(() => go()))));
+};
+
+// The player: the side of cells, whether the grid stands whole, whether larger cells would have room, and where the field begins.
+const field = (page) => page.run(() => {
+    const [board, { left, top, right, bottom }] = ['play-board', 'play-field'].map((id) => document.getElementById(id).getBoundingClientRect());
+    const isWhole = left >= board.left && top >= board.top && right <= board.right && bottom <= board.bottom;
+    const [wide, high] = ['play-left', 'play-top'].map((id, at) => [document.getElementById(id).offsetWidth, document.getElementById(id).offsetHeight][at]);
+    const room = Math.floor(Math.min((board.width - wide) / play.state.columns, (board.height - high) / play.state.rows));
+    return { side: play.side, isWhole, isLarge: play.side >= Math.min(64, room - 2), top };
+});
+const inPlayer = (page) => page.until(() => document.getElementById('play-room')?.open, 5000 * SLACK);
+
+/** The player's grid fits a phone that is turned and a window that grows; a size that was chosen by hand stays as long as the width. */
+export async function playerIsTurned({ browser, url, folder }) {
+    const trial = await start(browser, url, folder, UPRIGHT[0]);
+    const { page: tab } = trial;
+    await trial.example('apple');
+    await tab.run(() => { runAction('play'); });
+    await inPlayer(tab);
+    for (const size of [UPRIGHT[0], LYING[0], UPRIGHT[1], LYING[1], [1900, 1000], UPRIGHT[0]]) {
+        await turned(tab, size);
+        const now = await field(tab);
+        assert.ok(now.isWhole && now.isLarge && now.side >= 14, `${size.join(' by ')}: ${JSON.stringify(now)}`);
+        await tab.shot(`${folder}/player-${size[0]}.png`);
+    }
+    const { side, top } = await field(tab);
+    await tab.tap('#play-check');
+    assert.equal((await field(tab)).top, top, 'a message moves nothing');
+    await tab.run(() => { document.getElementById('play-said').textContent = ''; });
+    assert.equal((await field(tab)).top, top, 'nor does its end');
+    await tab.tap('#play-larger');
+    const chosen = (await field(tab)).side;
+    assert.ok(chosen > side);
+    await turned(tab, [390, 790]);
+    assert.equal((await field(tab)).side, chosen);
+    const cut = await tab.run(() => {
+        const [palette, button] = ['#play-palette', '#play-palette [aria-checked="true"]'].map((one) => document.querySelector(one).getBoundingClientRect());
+        return [button.left - palette.left, button.top - palette.top, palette.bottom - button.bottom];
+    });
+    assert.ok(Math.min(...cut) >= 5, `the ring of the colour: ${cut}`);
+    assert.deepEqual(tab.faults, []);
+    await tab.close();
+}
+
+/** What a solver has marked is there after a reload, and after Start over by Undo; what is solved is kept no more. */
+export async function marksStay({ browser, url, folder }) {
+    const trial = await start(browser, url, folder, UPRIGHT[0]);
+    const { page } = trial;
+    const rows = ['a.', '.b', 'bb']; // column 2 has its bs in rows 2 and 3
+    await trial.open(ppmOf(rows), 'little');
+    const link = await page.run(() => fragmentOf(bench.state, 'play'));
+    await page.goto('about:blank');
+    await page.goto(url + link);
+    await inPlayer(page);
+    const marks = () => page.run(() => play.marks.map((row) => row.join('')).join());
+    const hands = new Hands(page, trial, 'touch');
+    await hands.mark('a', [[1, 1]]);
+    await hands.mark('.', [[1, 2]]);
+    const seen = await page.run(() => {
+        const pen = document.getElementById('play-field').getContext('2d');
+        const side = play.side * devicePixelRatio;
+        const dark = ([red]) => red < 100;
+        return [[0.5, 0.5], [0.4, 0.4], [0.6, 0.4], [0.14, 0.5], [0.5, 0.86]].map(([x, y]) => dark(pen.getImageData(devicePixelRatio + side * (1 + x), devicePixelRatio + side * y, 1, 1).data));
+    });
+    assert.deepEqual(seen, [true, true, true, false, false], 'a cross and no frame');
+    await page.reload();
+    await inPlayer(page);
+    assert.equal(await marks(), 'a.,??,??');
+    assert.match(await trial.text('#play-said'), /^Your marks are as you left them\. One solution/);
+    await hands.press('#play-clear');
+    assert.equal(await marks(), '??,??,??');
+    assert.match(await trial.text('#play-said'), /Undo brings them back/);
+    await hands.press('#play-undo');
+    assert.equal(await marks(), 'a.,??,??');
+    await hands.mark('a', [[2, 1]]);
+    for (const [press, text] of [['#play-check', '1 cell is wrong.'], ['#play-hint', '1 cell is wrong. Check shows which.']]) {
+        await hands.press(press);
+        await page.until((wanted) => document.getElementById('play-said').textContent === wanted, 5000 * SLACK, text);
+    }
+    await hands.press('#play-undo');
+    await hands.mark('b', [[2, 2], [3, 1], [3, 2]]);
+    assert.match(await trial.text('#play-said'), /^Solved/);
+    await page.reload();
+    await inPlayer(page);
+    assert.equal(await marks(), '??,??,??');
     assert.deepEqual(page.faults, []);
     await page.close();
 }

@@ -5,6 +5,7 @@ import '../../page/test/limits.mjs';
 import { cellsThatDiffer } from '../../page/document/shapes.js';
 import { Searches } from '../../page/engine/searches.js';
 import { crossedOff, isMet, marksOf } from '../../page/play/crossing.js';
+import { keepMarks, keptMarks } from '../../page/play/kept.js';
 
 const COLOURS = [[255, 255, 255], [0, 0, 0], [255, 0, 0], [0, 0, 255]];
 const stateOf = (picture, givens = []) => ({
@@ -197,4 +198,31 @@ test('clues met', () => {
 
 test('a puzzle begins with its givens', () => {
     assert.deepEqual(marksOf(stateOf(['a.', '.b'], [1, 3])).map((row) => row.join('')), ['?.', '?b']);
+});
+
+test('the browser keeps the marks of the puzzles played last, by their clues, until they are solved', () => {
+    const kept = new Map();
+    globalThis.localStorage = { getItem: (name) => kept.get(name) ?? null, setItem: (name, value) => kept.set(name, value) };
+    const puzzle = (length, givens = []) => ({ rows: 1, columns: 3, colours: [[], []], clues: { rows: [[{ length, letter: 'a' }]], columns: [[], [], []] }, givens: new Set(givens), picture: ['a..'] });
+    const text = (state) => keptMarks(state)?.flat().join('') ?? null;
+    assert.equal(text(puzzle(1)), null);
+    keepMarks(puzzle(1), [['?', 'a', '.']], false);
+    keepMarks(puzzle(2), [['.', '?', '?']], false);
+    assert.deepEqual([text(puzzle(1)), text(puzzle(2)), text(puzzle(3))], ['?a.', '.??', null]);
+    assert.equal(text(puzzle(1, [0])), 'aa.', 'what is given stands');
+    keepMarks(puzzle(2), [['a', 'a', '?']], true);
+    keepMarks(puzzle(1), [['?', '?', '?']], false);
+    assert.deepEqual([text(puzzle(1)), text(puzzle(2))], [null, null], 'neither what is solved nor what has no mark');
+    for (let length = 1; length <= 40; length++) keepMarks(puzzle(length), [['.', '?', '?']], false);
+    assert.deepEqual([text(puzzle(40)), text(puzzle(25)), text(puzzle(24))], ['.??', '.??', null], 'and 16 at most');
+    for (const other of ['', 'x', '7', 'null', '[null]', '[[1, 2]]', kept.get('nonobench-marks').replaceAll('.??', '.b?'), kept.get('nonobench-marks').replaceAll('.??', '.?')]) {
+        kept.set('nonobench-marks', other);
+        assert.equal(text(puzzle(40)), null, other);
+    }
+    keepMarks(puzzle(1), [['?', 'a', '.']], false);
+    assert.equal(text(puzzle(1)), '?a.');
+    globalThis.localStorage = { getItem() { throw new Error('refused'); }, setItem() { throw new Error('refused'); } };
+    keepMarks(puzzle(1), [['?', 'a', '.']], false);
+    assert.equal(text(puzzle(1)), null);
+    delete globalThis.localStorage;
 });
