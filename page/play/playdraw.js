@@ -54,7 +54,7 @@ export function fitPlay() {
 /** Fits the puzzle again where its room is another one. A size that its user has chosen stays as long as the width does. */
 export function refitPlay() {
   const board = $('play-board');
-  if (!board || (board.offsetWidth === play.room[0] && (play.isZoomed || board.offsetHeight === play.room[1]))) return;
+  if (!board?.offsetWidth || (board.offsetWidth === play.room[0] && (play.isZoomed || board.offsetHeight === play.room[1]))) return;
   fitPlay();
 }
 

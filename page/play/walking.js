@@ -8,7 +8,7 @@ import { inkName } from '../view/dress.js';
 import { knownIn, stepText } from './hints.js';
 import { Walk, pathOf } from './path.js';
 import { play, playSays } from './play.js';
-import { drawPlay } from './playdraw.js';
+import { drawPlay, refitPlay } from './playdraw.js';
 
 const PACE = 900; // milliseconds a step
 
@@ -33,6 +33,7 @@ export function walkBar() {
 export async function startWalk() {
   walking.marks ??= play.marks;
   $('walk-bar').hidden = false;
+  refitPlay();
   const { state } = play;
   const isShown = () => $('walk-bar') !== null && !$('walk-bar').hidden && play.state === state;
   Object.assign(walking, { walk: new Walk(state), isKnown: false });
@@ -113,6 +114,7 @@ export function endWalk() {
   Object.assign(play, { shown: null, heat: null });
   if (!$('walk-bar')) return;
   $('walk-bar').hidden = true;
+  refitPlay();
   $('walk-heat').checked = false;
   playSays('');
   drawPlay();

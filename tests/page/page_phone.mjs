@@ -205,6 +205,11 @@ export async function playerIsTurned({ browser, url, folder }) {
         assert.ok(now.isWhole && now.isLarge && now.side >= 14, `${size.join(' by ')}: ${JSON.stringify(now)}`);
         await tab.shot(`${folder}/player-${size[0]}.png`);
     }
+    await turned(tab, LYING[0]);
+    await tab.run(() => document.getElementById('play-walk').click());
+    assert.ok((await field(tab)).isWhole, 'the bar of the path leaves it whole');
+    await tab.run(() => document.getElementById('walk-end').click());
+    await turned(tab, UPRIGHT[0]);
     const { side, top } = await field(tab);
     await tab.tap('#play-check');
     assert.equal((await field(tab)).top, top, 'a message moves nothing');
