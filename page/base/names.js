@@ -25,11 +25,6 @@ export const verdictName = (word) => (VERDICTS[word] ? phrase(VERDICTS[word]) : 
 export const VERDICT_SIGNS = { __proto__: null, unique: '✓', ambiguous: '≠', undecided: '?' };
 export const verdictTitle = (word) => `${VERDICT_SIGNS[word]} ${capital(verdictName(word))}`;
 
-/** What the line of a grade in a description begins with: the same in all languages. */
-export const GRADE_MARK = 'Grade: ';
-
-/** The grade in one line, for a description. */
-export function gradeText({ open, grade: { word, rounds, evaluations, wait, splits, depth } }) {
-  const lines = `${word.replace('-', ' ')}: rounds ${rounds}, evaluations ${evaluations}, longest wait ${wait}`;
-  return open > 0 ? `${lines}, open ${open}, splits ${splits}, depth ${depth}` : lines;
-}
+/** The grade in one line, for a description, and what such a line begins with, in this language or as pages before wrote it. */
+export const gradeLine = (word) => phrase('export.gradeLine', { word: gradeName(word) });
+export const isGradeLine = (line) => line.startsWith('Grade: ') || line.startsWith(phrase('export.gradeLine', { word: '' }));

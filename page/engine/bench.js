@@ -3,7 +3,7 @@
 
 import { tell } from '../base/events.js';
 import { baseOf, linesTo, pageAfter, withCells } from '../document/cover.js';
-import { docOf, pageOf, sameBenchPart, sameDoc } from '../document/document.js';
+import { docOf, pageOf, sameBenchPart, sameDoc, sameValue } from '../document/document.js';
 import { HISTORY } from '../document/limits.js';
 import { answersTo } from './answers.js';
 import { EngineFault, startEngine } from './client.js';
@@ -29,6 +29,7 @@ export class Bench {
     this.term = {}; // another one for each document that is opened
     this.splits = FIRST_SPLITS;
     this.savedDoc = null; // the document as a file has it
+    this.isTitled = false; // the texts about the puzzle are newer than its last stroke
     this.searched = null; // the picture whose verdict was searched for here
   }
 
@@ -58,7 +59,7 @@ export class Bench {
       const docs = [...strokes.past, docOf(state), ...strokes.future].map((doc) => ({ ...doc, about: state.about }));
       const made = docs.slice(1).map((after, at) => ({ lines: [], live: false, before: docs[at], after }));
       const [past, future] = [made.slice(0, strokes.past.length), made.slice(strokes.past.length).reverse()].map((all) => all.filter(({ before, after }) => !sameDoc(before, after)));
-      Object.assign(this, { engine, state, name, past, future, isCut: past.length >= MOST_STROKES, running: false, term: {}, savedDoc: isSaved ? docOf(state) : null, searched: null });
+      Object.assign(this, { engine, state, name, past, future, isCut: past.length >= MOST_STROKES, running: false, term: {}, savedDoc: isSaved ? docOf(state) : null, searched: null, isTitled: false });
     } catch (fault) {
       engine.end();
       throw fault;
@@ -216,6 +217,7 @@ export class Bench {
 
   async sendBecome(item) {
     const doc = docOf(item.make(docOf(this.state)) ?? this.state);
+    if (!sameValue(doc.about, this.state.about)) this.isTitled = true;
     this.state = { ...this.state, about: doc.about }; // which no undo takes back
     const before = docOf(this.state);
     if (sameDoc(doc, before)) return [];
@@ -227,6 +229,7 @@ export class Bench {
   }
 
   keep(stroke) {
+    this.isTitled = false;
     this.past.push(stroke);
     this.future = [];
     if (this.past.length > MOST_STROKES) {

@@ -2,7 +2,7 @@
 // download.
 
 import { $, make, say } from '../base/elements.js';
-import { GRADE_MARK } from '../base/names.js';
+import { gradeLine, isGradeLine } from '../base/names.js';
 import { bareName, clamp, cleanName } from '../base/words.js';
 import { docOf, eightBitDoc, sameDoc, unlocked } from '../document/document.js';
 import { canvasPaper } from '../draw/papers.js';
@@ -18,7 +18,7 @@ import { phrase } from '../texts/phrase.js';
 import { actionButton, actions, addAction } from '../view/actions.js';
 import { openDialog } from '../view/dialogs.js';
 import { nearText, unfitText } from '../view/dress.js';
-import { gradeAtHand, gradeLine } from '../view/grading.js';
+import { gradeAtHand } from '../view/grading.js';
 import { asSeen, heard } from '../view/tools.js';
 import { certificateText, secondsChosen } from '../view/verdict.js';
 import { exportPath } from './animation.js';
@@ -95,7 +95,7 @@ const LONG_FIELDS = ['description', 'note'];
 const AUTHOR = 'nonobench-author'; // as it was typed last
 
 // A description with the grade as its last line, in place of an earlier one.
-const withGrade = (text) => [...text.split('\n').filter((line) => line && !line.startsWith(GRADE_MARK)), GRADE_MARK + gradeLine()].join('\n');
+const withGrade = (text) => [...text.split('\n').filter((line) => line && !isGradeLine(line)), gradeLine(gradeAtHand().word)].join('\n');
 
 /** Asks for the texts about the puzzle, which go into its files and on the printed sheet, and for its name: the title, unless the user chose another one. */
 async function askAbout() {
@@ -130,8 +130,9 @@ async function askAbout() {
 export function startExporting() {
   const add = (id, name, run, more = {}) => addAction({ id, name, place: 'file', group: 'export', run, ...more });
   add('about', phrase('export.titleAuthor'), askAbout, { group: 'save' });
+  Object.assign($('title'), { onclick: askAbout, title: phrase('export.titleAuthor') });
   add('export-xml', phrase('export.webpbnXml'), () => exportText('xml'));
-  add('export-site', phrase('export.siteZip'), exportForSite);
+  add('export-site', phrase('export.siteZip'), exportForSite, { hint: phrase('export.siteHolds') });
   startPrinting();
   startSharing();
   add('export-empty', phrase('export.puzzlePng'), exportEmpty);

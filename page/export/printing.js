@@ -3,7 +3,9 @@
 import { $, choiceOf, make, say } from '../base/elements.js';
 import { gradeName, verdictName } from '../base/names.js';
 import { clamp, opening, sizeText } from '../base/words.js';
-import { docOf } from '../document/document.js';
+import { tintOf } from '../document/colours.js';
+import { docOf, eightBitDoc } from '../document/document.js';
+import { nearPairs } from '../document/near.js';
 import { smallestText } from '../draw/papers.js';
 import { bench } from '../engine/bench.js';
 import { writeZip } from '../formats/zip.js';
@@ -13,7 +15,7 @@ import { SAVE_TYPES, download, exportAs } from '../library/saving.js';
 import { LANGUAGE, phrase } from '../texts/phrase.js';
 import { addAction } from '../view/actions.js';
 import { openDialog } from '../view/dialogs.js';
-import { nearText } from '../view/dress.js';
+import { nearText, pairText } from '../view/dress.js';
 import { gradeAtHand } from '../view/grading.js';
 import { asSeen } from '../view/tools.js';
 import { SHEET_TEXTS, entryOf } from './entries.js';
@@ -115,10 +117,17 @@ function smallOn(sheets, puzzles, { show }) {
   return text < LEAST_TEXT ? phrase('export.smallestNumbersMmHigh', { value: tenths(text) }) : '';
 }
 
+// That clues in light tints of two colours look alike on paper; '' where none do.
+function tintsText(doc) {
+  const shown = eightBitDoc(doc);
+  const [pair] = nearPairs({ ...shown, colours: shown.colours.map(tintOf) }).filter((one) => !one.includes('.'));
+  return pair ? phrase('export.tintsAlike', { pair: pairText(doc, pair[0], pair[1]) }) : '';
+}
+
 // What is to be known before it is printed.
 function warningsOf(puzzle, near) {
   const parts = isLarge(puzzle) ? phrase('export.goesOverSheetsMap', { sheets: partsOf(puzzle.doc).length }) : '';
-  return [WARNINGS[puzzle.verdict], near && phrase('export.soSheetLettersSigns', { near }), parts].filter(Boolean).map((text) => make('p', { class: text === parts ? 'faint' : 'wrong' }, text));
+  return [WARNINGS[puzzle.verdict], near ? phrase('export.soSheetLettersSigns', { near }) : tintsText(puzzle.doc), parts].filter(Boolean).map((text) => make('p', { class: text === parts ? 'faint' : 'wrong' }, text));
 }
 
 async function printPuzzle() {

@@ -17,6 +17,8 @@ const [PLAY, EDIT, FRAME] = ['play', 'edit', 'frame'];
 const KINDS = { [PLAY]: phrase('export.solve'), [EDIT]: phrase('export.edit'), [FRAME]: phrase('export.htmlSite') };
 const ownAddress = () => (/^https?:$/.test(location.protocol) ? location.href.split('#')[0] : '');
 
+// An address as it was meant: without what it begins with, a browser takes it for a file beside the page.
+const withScheme = (address) => (!address || /^[a-z][a-z\d+.-]*:\/\//i.test(address) ? address : `https://${address.replace(/^\/+/, '')}`);
 const attributeOf = (text) => text.replaceAll('&', '&amp;').replaceAll('"', '&quot;').replaceAll('<', '&lt;');
 
 /** What is handed out: the link itself, or the HTML of a frame that shows it, whose title gives nothing away. */
@@ -28,6 +30,7 @@ function linkText(kind, address, fragment) {
 // What a link does not tell by itself.
 function notesOn(kind, address, length) {
   return [
+    kind === FRAME ? phrase('export.htmlHolds') : '',
     address ? '' : phrase('export.pageOpenedFromFile'),
     kind === EDIT ? '' : phrase('export.linkHoldsSolutionThough'),
     length > LONG ? phrase('export.linkCharactersSomePrograms', { count: length, long: LONG }) : '',
@@ -53,23 +56,25 @@ async function share() {
   const kind = choiceOf({ id: 'share-kind' }, Object.entries(KINDS));
   const address = make('input', { type: 'url', id: 'share-address', value: keptChoice(ADDRESS) || ownAddress(), placeholder: 'https://example.org/nonobench.html' });
   const field = make('textarea', { id: 'share-link', readonly: true, rows: 4, cols: 60 });
+  const fieldName = make('span');
   const note = make('p', { id: 'share-note', class: 'faint', role: 'status' });
   const fill = () => {
-    const base = address.value.trim() || location.href.split('#')[0];
+    const base = withScheme(address.value.trim()) || location.href.split('#')[0];
+    fieldName.textContent = kind.value === FRAME ? 'HTML' : phrase('export.linkField');
     field.value = linkText(kind.value, base, fragments[kind.value === EDIT ? EDIT : PLAY]);
     note.textContent = notesOn(kind.value, address.value.trim(), field.value.length);
   };
   kind.addEventListener('change', fill);
   address.addEventListener('input', () => keepChoice(ADDRESS, address.value.trim()));
   address.addEventListener('input', fill);
-  note.textContent = notesOn(PLAY, '', LONG + 1);
-  const content = make('div', { class: 'rows' }, make('label', {}, phrase('export.linkKind'), kind), make('label', {}, phrase('export.addressPage'), address), make('label', {}, phrase('export.linkField'), field), note);
+  note.textContent = notesOn(FRAME, '', LONG + 1);
+  const content = make('div', { class: 'rows' }, make('label', {}, phrase('export.linkKind'), kind), make('label', {}, phrase('export.addressPage'), address), make('label', {}, fieldName, field), note);
   openDialog({ title: phrase('export.share'), content, buttons: [{ name: phrase('export.copy'), value: true, main: true, test: () => copied(field) }] });
-  note.style.minHeight = `${note.offsetHeight}px`; // room for all that it can say: the button below stays
+  note.style.minHeight = `${note.offsetHeight + 1}px`; // room for all that it can say: the button below stays
   fill();
 }
 
 /** Adds sharing to the menu File. */
 export function startSharing() {
-  addAction({ id: 'share', name: phrase('export.shareLink'), place: 'file', group: 'export', run: share });
+  addAction({ id: 'share', name: phrase('export.shareLink'), place: 'file', group: 'export', run: share, hint: phrase('export.shareHolds') });
 }

@@ -12,10 +12,10 @@ const MENUS = { file: phrase('view.file'), edit: phrase('view.edit'), picture: p
  * Adds an action. `id` names it; `name` is what the user reads; `key` as in 'Ctrl+Z', 'n' or 'Shift+ArrowUp'; `place` is a
  * menu ('file', 'edit', 'picture', 'view', 'check', 'help'), the id of an element that takes a button, or null for a key
  * alone; `run(event)` does it; `can()` says whether it can be done now; `needs` is false where no picture must be open; `isOn()` says
- * whether it is ticked in a menu.
+ * whether it is ticked in a menu; `hint` says more of it where the mouse rests.
  */
-export function addAction({ id, name, key = null, place = null, run, can = () => true, needs = true, isOn = () => false, group = '' }) {
-  const action = { id: id ?? name, name, key, place, run, group, needs, isOn, can: () => (!needs || bench.state !== null) && can() };
+export function addAction({ id, name, key = null, place = null, run, can = () => true, needs = true, isOn = () => false, group = '', hint = null }) {
+  const action = { id: id ?? name, name, key, place, run, group, needs, isOn, hint, can: () => (!needs || bench.state !== null) && can() };
   actions.set(action.id, action);
   if (place && !MENUS[place]) $(place)?.append(actionButton(action));
   return action;
@@ -33,7 +33,7 @@ export function runAction(id, event) {
 }
 
 export function actionButton(action, attributes = {}) {
-  const button = make('button', { type: 'button', 'data-action': action.id, 'aria-keyshortcuts': action.key ? ariaKey(action.key) : null, ...attributes }, action.name);
+  const button = make('button', { type: 'button', 'data-action': action.id, title: action.hint, 'aria-keyshortcuts': action.key ? ariaKey(action.key) : null, ...attributes }, action.name);
   button.addEventListener('click', (event) => runAction(action.id, event));
   return button;
 }

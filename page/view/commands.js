@@ -22,7 +22,10 @@ const SHIFTS = [{ key: 'ArrowUp', name: phrase('view.shiftUp'), down: -1 }, { ke
 
 async function undoStroke() {
   if (selection.rows) return void dropSelection(); // what floats is dropped by the first undo
-  if (await heard(bench.undo()) && bench.isCut && !bench.past.length) say(phrase('view.undoEnds', { strokes: MOST_STROKES }));
+  if (!(await heard(bench.undo()))) return;
+  if (bench.isCut && !bench.past.length) say(phrase('view.undoEnds', { strokes: MOST_STROKES }));
+  else if (bench.isTitled) say(phrase('view.undoneTitleStays'));
+  bench.isTitled = false;
 }
 
 export function addEditActions() {

@@ -20,7 +20,8 @@ import { searches, secondsChosen, verdictView } from './verdict.js';
 
 const GOALS = [['lines', phrase('view.noGuessing')], ['unique', phrase('view.oneSolution')]];
 const GRADES = LINE_WORDS.map((word) => [word, phrase('view.aGrade', { grade: gradeName(word) })]);
-const isGrade = (goal) => LINE_WORDS.includes(goal);
+const UNCHOSEN = ''; // a grade that is to be chosen
+const isGrade = (goal) => goal === UNCHOSEN || LINE_WORDS.includes(goal);
 const MOST_SHOWN = 24;
 const MOST_OF_ALL = 4; // proposals for all places together, where each is mended by itself
 const MOST_MIXED = 2;
@@ -32,6 +33,7 @@ const REST = 400; // milliseconds between a stroke and the search for what mends
 const NO_PLACES = [];
 const MOST_SECONDS = 2; // for the grade of a picture that is aimed for
 const SPARE = 5; // seconds that a search in the worker has left to end by itself
+const SEE = matchMedia('(hover: hover)').matches ? phrase('view.pointToSee') : phrase('view.holdToSee');
 const LONGER = phrase('view.longerSearchTimeMay');
 const LOOSE = phrase('view.pictureTooLooseBolder');
 
@@ -45,16 +47,16 @@ export const canFix = () => bench.state !== null && (bench.state.verdict.word !=
 /** Whether the panel has something to do: a grade may be aimed for by any picture. */
 export const mayFix = () => canFix() || (bench.state !== null && isGrade(fixing.goal));
 
-/** Opens the panel for what is to be mended, or for a grade that is aimed for. */
-export function openFix(grade = null) {
-  if (grade) fixing.goal = grade;
+/** Opens the panel for what is to be mended, or for a grade that is to be chosen. */
+export function openFix(isAim = false) {
+  if (isAim) fixing.goal = UNCHOSEN;
   else if (bench.state.verdict.word === 'unique' || isGrade(fixing.goal)) fixing.goal = 'lines';
   if (!mayFix()) return;
   fixing.isWanted = true;
   $('fix').hidden = false;
   $('fix').replaceChildren(
     make('div', { class: 'group' },
-      make('h2', {}, grade ? phrase('view.aimTitle') : phrase('view.fixTitle')), make('label', {}, phrase('view.until'), choiceOf({ id: 'fix-goal', onchange: (event) => aimFor(event.target.value) }, [...(canFix() ? GOALS : []), ...GRADES], fixing.goal)),
+      make('h2', {}, isAim ? phrase('view.aimTitle') : phrase('view.fixTitle')), make('label', {}, phrase('view.until'), choiceOf({ id: 'fix-goal', onchange: (event) => aimFor(event.target.value) }, [...(isAim ? [[UNCHOSEN, phrase('view.chooseGrade')]] : []), ...(canFix() ? GOALS : []), ...GRADES], fixing.goal)),
       buttonOf('fix-paint', phrase('view.findCellsRepaint'), findRepairs), buttonOf('fix-give', phrase('view.giveCells'), giveCells), buttonOf('fix-close', phrase('view.close'), closeFix)),
     make('p', { id: 'fix-said', role: 'status' }),
     make('div', { id: 'fix-list', role: 'group', 'aria-label': phrase('view.proposals') }),
@@ -64,7 +66,7 @@ export function openFix(grade = null) {
   showLocks();
   showFound();
   tell('fixing', true);
-  $('fix-paint').focus({ preventScroll: true });
+  $(isAim ? 'fix-goal' : 'fix-paint').focus({ preventScroll: true });
   if (isOfThis() && fixing.by === fixing.goal && fixing.found.length) fixSays(fixing.said);
   else findRepairs();
 }
@@ -134,6 +136,10 @@ async function takeGivens(state, { given, isLeast }) {
 // Lists proposals, while they are found: the smallest and least seen first.
 async function findRepairs() {
   clearTimeout(fixing.waits);
+  if (fixing.goal === UNCHOSEN) {
+    fixing.of = null;
+    return showFound();
+  }
   Object.assign(fixing, { found: fixing.found.filter((one) => fixing.kept.has(one) && isOfThis()), places: NO_PLACES, near: null, of: bench.state, by: fixing.goal, said: '', turn: fixing.turn + 1 });
   fixSays('');
   showFound();
@@ -174,7 +180,7 @@ async function findRepairs() {
 async function findAgain() {
   const { goal } = fixing;
   const { state } = bench;
-  const said = isGrade(goal) && state.verdict.word === 'unique' && state.open === 0 ? await searches.assess(MOST_SECONDS) : null;
+  const said = LINE_WORDS.includes(goal) && state.verdict.word === 'unique' && state.open === 0 ? await searches.assess(MOST_SECONDS) : null;
   if (state !== bench.state || goal !== fixing.goal) return;
   if (said?.grade?.word === goal) fixSays(phrase('view.gradeThere', { grade: gradeName(goal) }));
   else findRepairs();
@@ -217,7 +223,7 @@ function aimedText(done) {
   if (done?.isThere) return phrase('view.gradeThere', { grade });
   const count = wholes().length + givens().length;
   if (!count) return `${phrase('view.noChangeForGrade', { grade })}${done?.isThrough ? '' : ` ${LONGER}`}`;
-  return phrase('view.proposalsFoundChooseOne', { proposals: count, least: '', loose: '' });
+  return phrase('view.proposalsFoundChooseOne', { proposals: count, least: '', loose: '', see: SEE });
 }
 
 function foundText(done) {
@@ -233,7 +239,7 @@ function foundText(done) {
   if (best.goal !== fixing.goal && best.open > 0) return phrase('view.onlyOneSolution');
   const least = done && done.proved >= best.cells.length - 1 ? phrase('view.noneSmaller') : '';
   const loose = best.cells.length > FEW ? phrase('view.moreCellsPictureToo', { few: FEW }) : '';
-  return phrase('view.proposalsFoundChooseOne', { proposals: groups().reduce((sum, { items }) => sum + items.length, 0), least, loose });
+  return phrase('view.proposalsFoundChooseOne', { proposals: groups().reduce((sum, { items }) => sum + items.length, 0), least, loose, see: SEE });
 }
 
 // ---- the list

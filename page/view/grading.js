@@ -3,7 +3,7 @@
 
 import { $ } from '../base/elements.js';
 import { on, tell } from '../base/events.js';
-import { gradeName, gradeText } from '../base/names.js';
+import { gradeName } from '../base/names.js';
 import { opening } from '../base/words.js';
 import { gradeIn } from '../engine/assessing.js';
 import { bench } from '../engine/bench.js';
@@ -25,9 +25,6 @@ const saidAtHand = () => (bench.state && grading.of && isSame(grading.of, bench.
 
 /** The grade of the picture at hand, or null where there is none yet. */
 export const gradeAtHand = () => (saidAtHand() ? gradeIn(saidAtHand()) : null);
-
-/** The grade in one line with its figures, or '' where there is none. */
-export const gradeLine = () => (gradeAtHand() ? gradeText(saidAtHand()) : '');
 
 // The figures in words.
 function figuresText({ open, grade: { rounds, evaluations, wait, splits, depth } }) {
@@ -66,13 +63,10 @@ async function work() {
   } else schedule();
 }
 
-// What one may aim for first: the next word that is easier, or else harder.
-const nextWord = () => (['easy', 'hard'].includes(gradeAtHand()?.word) ? 'medium' : 'easy');
-
 /** Hears verdicts. */
 export function startGrading() {
   const isSolved = () => bench.state.verdict.word === 'unique' && bench.state.open === 0;
-  addAction({ place: 'check', id: 'aim', name: opening(phrase('view.aimTitle')), run: () => openFix(nextWord()), can: isSolved });
+  addAction({ place: 'check', id: 'aim', name: opening(phrase('view.aimTitle')), run: () => openFix(true), can: isSolved });
   on('stroke', () => clearTimeout(grading.waits));
   for (const name of ['shown', 'judged']) {
     on(name, () => {

@@ -140,18 +140,19 @@ async function addColour() {
 // What the page keeps of a colour that is changed: the usual name of the tone before, as files have it, goes with that tone.
 function inkOfOther(doc, at) {
   const { name, ...others } = doc.inks[at] ?? {};
-  return [nameOf(doc.colours[at], 255), namesOf({ ...doc, inks: [] }, XML_WHOLE)[at]].includes(name) ? others : doc.inks[at];
+  const isUsual = [nameOf(doc.colours[at], 255), namesOf({ ...doc, inks: [] }, XML_WHOLE)[at]].includes(name) || colourNamed(name ?? '')?.join() === doc.colours[at].join();
+  return isUsual ? others : doc.inks[at];
 }
 
 function changeByName() {
   const text = palette.named.value.trim();
   palette.named.value = '';
   const triple = text ? colourNamed(text) : null;
-  if (triple) return changeColour(triple);
+  if (triple) return changeColour(triple, /^#?[\da-f]{3,6}$/i.test(text) ? '' : text);
   return text ? say(phrase('view.noColourName', { text }), 'alarm') : null;
 }
 
-async function changeColour(triple) {
+async function changeColour(triple, name = '') {
   setDown();
   const at = LETTERS.indexOf(tools.colour);
   const now = eightBitDoc(bench.state).colours;
@@ -160,7 +161,7 @@ async function changeColour(triple) {
   const changed = (old) => {
     const doc = eightBitDoc(old);
     if (at >= doc.colours.length || isAmong(doc.colours, triple)) return null;
-    const inks = doc.inks.map((ink, other) => (other === at ? inkOfOther(doc, at) : ink));
+    const inks = doc.inks.map((ink, other) => (other === at ? { ...inkOfOther(doc, at), ...(name && { name }) } : ink));
     return { ...doc, inks, colours: doc.colours.map((one, other) => (other === at ? triple : one)) };
   };
   return heard(bench.become(changed));

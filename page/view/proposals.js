@@ -131,7 +131,7 @@ function proposalItem(one, { take, keep, preview, isKept }) {
   const press = ({ detail, target }) => { if (!detail || performance.now() - (since.get(target.closest('li')) ?? 0) > AIMED) take(one); };
   const hide = () => preview(null);
   const text = textOf(one);
-  const button = make('button', { type: 'button', 'aria-label': text, title: text, onclick: press, onpointermove: show, onfocus: show, onpointerleave: hide, onblur: hide }, make('span', { class: 'parts' }, ...picturesOf(one)), make('span', {}, shortOf(one)));
+  const button = make('button', { type: 'button', 'aria-label': text, title: text, onclick: press, onpointerdown: show, onpointermove: show, onfocus: show, onpointerleave: hide, onblur: hide }, make('span', { class: 'parts' }, ...picturesOf(one)), make('span', {}, shortOf(one)), make('span', { class: 'use', 'aria-hidden': 'true' }, phrase('view.useThis')));
   const box = make('input', { type: 'checkbox', checked: isKept(one), 'aria-label': phrase('view.keepNextSearch'), onchange: (event) => keep(one, event.target.checked) });
   return make('li', {}, button, make('label', { title: phrase('view.keepNextSearch') }, box, phrase('view.keep')));
 }

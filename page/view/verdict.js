@@ -42,7 +42,7 @@ export const searches = new Searches({
 
 function makeVerdictPanel() {
   $('audit').append(
-    make('div', { id: 'verdict-line' }, make('h2', { id: 'verdict' }, '…'), make('span', { id: 'verdict-short' }),
+    make('div', { id: 'verdict-line' }, make('h2', { id: 'verdict' }, '…'), make('span', { id: 'verdict-short' }), make('button', { type: 'button', id: 'verdict-fix', hidden: true, onclick: () => openFix() }, phrase('view.fixTitle')),
       make('button', { type: 'button', id: 'help-open', 'aria-haspopup': 'menu', popovertarget: 'menu-help', 'aria-label': phrase('view.help') }, '?'),
       make('button', { type: 'button', id: 'verdict-open', 'aria-expanded': 'false', 'aria-controls': 'verdict-more', onclick: turnVerdictMore }, phrase('view.more'))),
     make('div', { id: 'verdict-more' },
@@ -133,6 +133,7 @@ function showVerdict(state) {
   $('verdict').textContent = title;
   $('verdict-why').textContent = told;
   $('verdict-short').textContent = verdictShort(state);
+  $('verdict-fix').hidden = word !== 'ambiguous';
   $('open').textContent = phrase('view.openOfCells', { open: state.open, cells: state.rows * state.columns });
   $('changed').textContent = [state.changed.rows, state.changed.columns].map((lines, axis) => linesText(axis === 0, [...lines].map((at) => at + 1))).filter(Boolean).join('; ') || phrase('view.none');
   $('changed').title = $('changed').textContent;
@@ -162,8 +163,9 @@ function showTask(task) {
     return;
   }
   if ($('task-name').textContent !== task.name) $('task-name').textContent = task.name;
-  const of = Number.isFinite(task.seconds) ? phrase('view.of', { seconds: task.seconds }) : '';
-  $('task-time').textContent = `${Math.floor(task.elapsed)}${of} s${task.note ? ` · ${task.note}` : ''}`;
+  const seconds = Math.min(task.seconds, secondsChosen()); // what is beyond is there to end in
+  const of = Number.isFinite(seconds) ? phrase('view.of', { seconds }) : '';
+  $('task-time').textContent = `${Math.floor(Math.min(task.elapsed, seconds))}${of} s${task.note ? ` · ${task.note}` : ''}`;
   if (task.elapsed < 0.01) showVerdict(bench.state);
 }
 

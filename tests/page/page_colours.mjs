@@ -5,7 +5,7 @@ import { test } from 'node:test';
 import '../../page/test/limits.mjs';
 import { emptyDoc } from '../../page/document/document.js';
 import { COLOUR_NAMES, colourNamed } from '../../page/document/named.js';
-import { nameOf } from '../../page/document/names.js';
+import { nameOf, namesOf } from '../../page/document/names.js';
 import { clashesWith, seenWith } from '../../page/document/vision.js';
 import { PaletteFault, kindOfPalette, paletteText, readPalette } from '../../page/formats/palettes.js';
 import { withMore, withNearest } from '../../page/import/palettes.js';
@@ -123,5 +123,8 @@ test('colours are called as people who draw call them', () => {
     const more = Object.entries(CALLED_MORE).flatMap(([names, hexes]) => hexes.split(' ').map((hex) => [hex, names]));
     assert.ok(wanted.length > 90 && more.length > 30);
     assert.deepEqual([...wanted, ...more].map(([hex, names]) => [hex, nameOf(tripleOf(hex), 255), names]).filter(([, is, names]) => !names.split('|').includes(is)), []);
+    const called = (...hexes) => namesOf({ colours: [[255, 255, 255], ...hexes.map(tripleOf)] }).slice(1);
+    assert.deepEqual(['a52a2a', 'daabb0', '545170'].map((hex) => nameOf(tripleOf(hex), 255)), ['brown', 'light pink', 'dark purple']);
+    assert.deepEqual([called('2d5836', '183420'), called('1e4f20', '2a5f30'), called('0000ff', '2060f0')], [['dark green', 'very dark green'], ['very dark green', 'dark green'], ['darker blue', 'lighter blue']]);
     for (const table of [EN, DE, FR]) assert.equal(new Set(table['document.hues'].split(', ')).size, 25, 'each language has a name for each');
 });

@@ -217,7 +217,7 @@ export async function palettesPoint(hands, { page, trial, own }) {
     await page.run(() => document.activeElement.blur());
     await hands.menu('picture', 'palette-save');
     await hands.press('dialog button.main');
-    assert.match((await downloaded(page, own, 'trial.gpl')).content.toString(), /^GIMP Palette\nName: trial\nColumns: 0\n#\n250 250 250\t.*\n 10  10  10\t.*\n255  99  71\t.*\n$/);
+    assert.match((await downloaded(page, own, 'trial.gpl')).content.toString(), /^GIMP Palette\nName: trial\nColumns: 0\n#\n250 250 250\t.*\n 10  10  10\t.*\n255  99  71\ttomato\n$/);
 }
 
 /** A palette that is dropped is told what it is, with a picture or without one; one that is damaged says why. */

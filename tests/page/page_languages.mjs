@@ -106,7 +106,7 @@ export async function germanPoint(hands, { page, trial }) {
     assert.deepEqual(await page.run(MISLAID), [], 'Fix it');
     await hands.menu('file', 'about');
     await page.until(() => document.querySelector('dialog[open]'), 3000 * SLACK);
-    assert.match(await trial.text('dialog[open]'), /Über das Rätsel/);
+    assert.match(await trial.text('dialog[open]'), /Titel, Autor und Texte/);
     await closed(page);
     await overThePage(page, 'German', true);
     await hands.menu('file', 'new');

@@ -53,8 +53,9 @@ export async function aimPoint(hands) {
     await moreOf(hands);
     await hands.press('#verdict-do [data-action="aim"]');
     for (const word of ['easy', 'hard']) {
-        if (word === 'hard') await hands.choose('#fix-goal', word);
-        assert.equal(await page.run(() => document.getElementById('fix-goal').value), word);
+        assert.equal(await page.run(() => document.getElementById('fix-goal').value), word === 'easy' ? '' : 'easy');
+        if (word === 'easy') assert.equal(await page.run(() => document.getElementById('task').hidden && !document.querySelector('#fix-list button')), true, 'nothing is looked for before a word is chosen');
+        await hands.choose('#fix-goal', word);
         await page.until(() => /found\./.test(document.getElementById('fix-said').textContent), 30000 * SLACK);
         const texts = await page.run(() => [...document.querySelectorAll('#fix-list button')].map((button) => button.ariaLabel));
         assert.ok(texts.every((text) => text.endsWith(`; then the grade is “${word}”`) || text.startsWith('Give 1 cell, the fewest: ')), texts.join('\n'));
@@ -221,7 +222,7 @@ export async function gradeBeside({ trial, page }) {
     const graded = (wanted) => page.until((text) => document.getElementById('grade').textContent.startsWith(text), 20000 * SLACK, wanted);
     await trial.open(ppmOf(['.a.', 'aa.', '...']), 'small');
     await trial.judged();
-    await graded('easy (2 rounds, 8 lines looked at, longest wait 2)');
+    await graded('easy (2 rounds, 8 lines looked at, at most 2 lines until a cell is settled)');
     assert.equal(await trial.text('#publish'), 'yes');
     await trial.open(ppmOf(['.a.', 'aa.', '...'], { '.': '255 255 255', a: '250 250 250' }), 'whites');
     await trial.judged();
@@ -334,5 +335,5 @@ export async function gradeGoesOut({ trial, page }) {
     for (let twice = 0; twice < 2; twice++) await page.click('#about-grade');
     await page.click('dialog button.main');
     await page.until(() => bench.state.about.description, 5000 * SLACK); // the dialog is heard after it has closed
-    assert.equal(await page.run(() => bench.state.about.description), 'Grade: easy: rounds 2, evaluations 8, longest wait 2', 'once');
+    assert.equal(await page.run(() => bench.state.about.description), 'Grade: easy', 'once');
 }

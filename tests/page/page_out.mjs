@@ -441,11 +441,17 @@ export async function othersPoint(hands, { page, trial, own }) {
     await hands.press('#new-go');
     await isOpen(page);
     await page.run(() => bench.become((doc) => ({ ...doc, colours: [[255, 255, 255], [0, 0, 0], [0, 0, 200], [40, 40, 220]], picture: doc.picture.map((row, at) => (at ? row : `abc${row.slice(3)}`)), locks: new Set([25]), inks: [{}, {}, { locked: true }] })));
-    await hands.menu('file', 'about');
+    if (await page.run(() => document.getElementById('title').checkVisibility())) await hands.press('#title');
+    else await hands.menu('file', 'about');
     await page.until(() => document.querySelector('dialog[open] input'), 3000 * SLACK);
     await hands.fill('dialog[open] label:first-child input', 'No.5: a cat');
     await hands.press('dialog button.main');
     await page.until(() => bench.state.about.title === 'No.5: a cat', 5000 * SLACK);
+    await page.run(() => document.activeElement.blur());
+    await hands.undo();
+    await page.until(() => document.getElementById('said').textContent.startsWith('Undone: the last stroke. Title and texts stay.'), 3000 * SLACK);
+    await page.run(() => runAction('redo'));
+    await trial.settled();
     await page.until(async () => (await keep.keeper.cards())[0].name === 'No.5  a cat', 5000 * SLACK);
     await hands.menu('file', 'export-xml');
     const { name, content } = await downloaded(page, own, '.xml');

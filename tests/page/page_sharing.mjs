@@ -112,7 +112,13 @@ export async function linkNotes({ browser, url, folder }) {
     });
     assert.match(await linkShown(page), /^https:\/\/example\.org\/p\.html\?a&b#play=/);
     assert.doesNotMatch(await trial.text('#share-note'), /from a file/);
+    await page.run(() => {
+        const field = document.getElementById('share-address');
+        field.value = 'example.org/p.html?a&b';
+        field.dispatchEvent(new Event('input'));
+    });
     await choose(page, '#share-kind', 'frame');
+    assert.match(await trial.text('dialog[open] .rows'), /HTML.*The HTML shows the puzzle in a frame/s);
     assert.match(await linkShown(page), /^<iframe src="https:\/\/example\.org\/p\.html\?a&amp;b#play=[A-Za-z0-9_-]+" title="Puzzle" width="600" height="600"><\/iframe>$/);
     await page.close();
 }
