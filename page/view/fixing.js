@@ -33,7 +33,7 @@ const REST = 400; // milliseconds between a stroke and the search for what mends
 const NO_PLACES = [];
 const MOST_SECONDS = 2; // for the grade of a picture that is aimed for
 const SPARE = 5; // seconds that a search in the worker has left to end by itself
-const SEE = matchMedia('(hover: hover)').matches ? phrase('view.pointToSee') : phrase('view.holdToSee');
+const howToSee = () => (matchMedia('(hover: hover)').matches ? phrase('view.pointToSee') : phrase('view.holdToSee'));
 const LONGER = phrase('view.longerSearchTimeMay');
 const LOOSE = phrase('view.pictureTooLooseBolder');
 
@@ -223,7 +223,7 @@ function aimedText(done) {
   if (done?.isThere) return phrase('view.gradeThere', { grade });
   const count = wholes().length + givens().length;
   if (!count) return `${phrase('view.noChangeForGrade', { grade })}${done?.isThrough ? '' : ` ${LONGER}`}`;
-  return phrase('view.proposalsFoundChooseOne', { proposals: count, least: '', loose: '', see: SEE });
+  return phrase('view.proposalsFoundChooseOne', { proposals: count, least: '', loose: '', see: howToSee() });
 }
 
 function foundText(done) {
@@ -239,7 +239,7 @@ function foundText(done) {
   if (best.goal !== fixing.goal && best.open > 0) return phrase('view.onlyOneSolution');
   const least = done && done.proved >= best.cells.length - 1 ? phrase('view.noneSmaller') : '';
   const loose = best.cells.length > FEW ? phrase('view.moreCellsPictureToo', { few: FEW }) : '';
-  return phrase('view.proposalsFoundChooseOne', { proposals: groups().reduce((sum, { items }) => sum + items.length, 0), least, loose, see: SEE });
+  return phrase('view.proposalsFoundChooseOne', { proposals: groups().reduce((sum, { items }) => sum + items.length, 0), least, loose, see: howToSee() });
 }
 
 // ---- the list
