@@ -25,9 +25,9 @@ export function sizesFor({ width, height }, own) {
 }
 
 /** For a size the documents with some numbers of colours, of which no two look alike; each number and each picture once. `docOf(size, colours)` makes one. */
-export function docsFor(size, docOf) {
+export function docsFor(size, docOf, counts = COUNTS) {
   const [docs, shown] = [[], new Set()];
-  for (const count of COUNTS) {
+  for (const count of counts) {
     const { colours, doc } = docApart(count, (number) => docOf(size, number));
     const letters = [...new Set(`.${doc.picture.join('')}`)]; // as they appear: another palette makes no other picture
     const keys = [doc.colours.length, doc.picture.map((row) => Array.from(row, (letter) => letters.indexOf(letter))).join()];
@@ -47,10 +47,11 @@ function tileOf({ doc }, take) {
   return { element, verdict };
 }
 
-/** Shows the sheet, filled size by size; gives `{ size, colours }` of what was taken, or null. */
-export async function contactSheet(sizes, docOf) {
+/** Shows the sheet, filled size by size; gives `{ size, colours }` of what was taken, or null. `own`, of that form, is marked. */
+export async function contactSheet(sizes, docOf, own) {
   const judge = new Judge({ seconds: SECONDS });
   let taken = null;
+  const counts = [...new Set([...COUNTS, own.colours])].sort((one, other) => one - other);
   const rows = make('div', { class: 'contacts' });
   const chosen = openDialog({ title: phrase('import.contactSheet'), wide: true, content: rows, buttons: [{ name: phrase('view.close'), value: null, main: true }] });
   const take = (one) => {
@@ -60,7 +61,8 @@ export async function contactSheet(sizes, docOf) {
   const fill = async () => {
     const tiles = [];
     for (const size of sizes) {
-      const some = docsFor(size, docOf).map((one) => ({ ...one, ...tileOf(one, () => take(one)) }));
+      const some = docsFor(size, docOf, counts).map((one) => ({ ...one, ...tileOf(one, () => take(one)) }));
+      if (size.join() === own.size.join()) some.findLast(({ colours }) => colours <= own.colours)?.element.setAttribute('aria-current', 'true');
       rows.append(make('div', { class: 'contact-row', role: 'group', 'aria-label': sizeText(some[0].doc) }, ...some.map(({ element }) => element)));
       tiles.push(...some);
       await new Promise((go) => setTimeout(go)); // so that each row is seen at once

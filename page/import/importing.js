@@ -51,7 +51,7 @@ class Importing {
     this.worked = null; // the part that is taken, no larger than the dialog works on
     this.crop = { x: 0, y: 0, width: image.width, height: image.height }; // in pixels of the full image
     this.maker = new Maker();
-    this.inks = new Inks(() => this.change('inks'), () => { this.colours.value = Math.max(2, Number(this.colours.value) - 1); });
+    this.inks = new Inks(() => this.change('inks'), (by) => { this.colours.value = Number(this.colours.value) + by; });
     this.judging = new Judging((found) => { this.verdict.textContent = judgedText(found); });
     this.alike = new Alike(() => this.inks.merge());
     this.source = new Source(image, this.middle.canvas, shownSide(), { take: (part) => this.take(part), pick: (place) => this.pick(place) });
@@ -113,9 +113,10 @@ class Importing {
   }
 
   async showContacts() {
-    const docOf = (size, colours) => this.maker.doc(this.part(), size, { ...this.options(false), colours });
-    const taken = await contactSheet(sizesFor(this.crop, this.size), docOf);
+    const docOf = (size, colours) => this.maker.doc(this.part(), size, { ...this.options(false), sharp: this.isSharp(size), colours });
+    const taken = await contactSheet(sizesFor(this.crop, this.size), docOf, { size: this.size, colours: Number(this.colours.value) });
     if (!taken) return;
+    this.sharp.checked = this.isSharp(taken.size);
     [this.columns.value, this.rows.value] = taken.size;
     this.colours.value = taken.colours;
     this.two.checked = false;
@@ -178,11 +179,10 @@ class Importing {
       if (name === 'rows') this.columns.value = clamp(Math.round(side(this.rows) / ratio), 1, MOST_CELLS);
       else if (['columns', 'keeps', 'left', 'top', 'wide', 'high'].includes(name)) this.rows.value = clamp(Math.round(side(this.columns) * ratio), 1, MOST_CELLS);
     }
-    const { dot } = this.proposal;
-    if (dot && this.sharp.checked && this.keeps.checked && ['left', 'top', 'wide', 'high'].includes(name)) { // a part of pixel art keeps its dots
-      [this.columns.value, this.rows.value] = [this.crop.width, this.crop.height].map((length) => clamp(Math.round(length / dot), 1, MOST_CELLS));
-    }
+    const dots = this.dots();
+    if (dots && this.sharp.checked && (name === 'sharp' || (this.keeps.checked && ['left', 'top', 'wide', 'high'].includes(name)))) [this.columns.value, this.rows.value] = dots; // a part of pixel art keeps its dots
     this.size = [side(this.columns), side(this.rows)];
+    if (dots && ['columns', 'rows'].includes(name)) this.sharp.checked = this.size.join() === dots.join();
     if (name === 'two' && this.two.checked) this.threshold.value = thresholdFor(this.maker.cells(this.part(), this.size, { ...this.options(), sharp: this.sharp.checked }));
     this.showFields();
     this.isWaiting = true;
@@ -192,6 +192,17 @@ class Importing {
       if (this.spent > SLOW_MS) this.sketch();
       else this.show();
     });
+  }
+
+  // How many dots of pixel art the part has each way; null for other images.
+  dots() {
+    const { dot } = this.proposal;
+    return dot && [this.crop.width, this.crop.height].map((length) => clamp(Math.round(length / dot), 1, MOST_CELLS));
+  }
+
+  // Whether each cell of a size is one pixel: of pixel art, where it has a cell for each dot.
+  isSharp(size) {
+    return this.sharp.checked && (this.dots() ?? size).join() === size.join();
   }
 
   showFields() {

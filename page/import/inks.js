@@ -4,24 +4,27 @@
 import { make } from '../base/elements.js';
 import { markRadio, radioGroup } from '../base/radios.js';
 import { capital } from '../base/words.js';
-import { hexOf, isAmong, isSame, tripleOf } from '../document/colours.js';
+import { hexOf, isAmong, isSame, oklabOf, tripleOf } from '../document/colours.js';
 import { LETTERS } from '../document/limits.js';
 import { colourNamed } from '../document/named.js';
 import { nameOf } from '../document/names.js';
 import { mergedNumbers } from '../document/near.js';
 import { readPalette } from '../formats/palettes.js';
 import { LANGUAGE, phrase } from '../texts/phrase.js';
+import { LOCKED_FAR } from './photo.js';
+import { farness } from './spots.js';
 
+const hasNear = (triples, triple) => triples.some((one) => farness(oklabOf(...one), oklabOf(...triple)) <= LOCKED_FAR);
 const shareText = (share) => share.toLocaleString(LANGUAGE, { style: 'percent', minimumFractionDigits: 1, maximumFractionDigits: 1 });
 const without = (triples, triple) => triples.filter((one) => !isSame(one, triple));
 const noEdits = () => ({ locked: [], dropped: [], replaced: [], background: null, palette: null });
 
 export class Inks {
-  changed; drops; doc; isClear;
+  changed; counts; doc; isClear;
 
-  /** `changed` hears each edit; `drops` hears that a colour was dropped. */
-  constructor(changed, drops) {
-    Object.assign(this, { changed, drops, edits: noEdits(), doc: null, at: 0, wanted: null });
+  /** `changed` hears each edit; `counts` hears by how many there are more colours. */
+  constructor(changed, counts) {
+    Object.assign(this, { changed, counts, edits: noEdits(), doc: null, at: 0, wanted: null });
     this.row = make('div', { class: 'swatches', role: 'radiogroup', 'aria-label': phrase('import.palette'), id: 'import-palette' });
     this.text = make('output', { class: 'faint', id: 'import-ink' });
     this.ground = make('button', { type: 'button', onclick: () => this.edit({ background: this.source }) }, capital(phrase('view.background')));
@@ -84,12 +87,13 @@ export class Inks {
   drop() {
     const { source, edits } = this;
     this.at = Math.max(0, this.at - 1);
-    this.drops();
+    this.counts(-1);
     this.edit({ dropped: [...edits.dropped, source], locked: without(edits.locked, source), replaced: edits.replaced.filter(([from]) => !isSame(from, source)) });
   }
 
-  /** Locks a triple of the image, and chooses it. */
+  /** Locks a triple of the image, and chooses it. One that the palette does not have yet takes no other's place, where there is room. */
   keep(triple) {
+    if (!hasNear(this.doc.sources ?? this.doc.colours, triple)) this.counts(1);
     this.wanted = triple;
     this.edit({ locked: [...without(this.edits.locked, triple), triple], dropped: without(this.edits.dropped, triple) });
   }

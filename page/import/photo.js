@@ -11,7 +11,7 @@ const LEAST_PART = 0.004; // of the area: a smaller part is none
 const AROUND = 0.1 ** 2; // within that of Oklab colours are of a part that looks alike
 const FARTHEST = 9; // of a place from none
 const BIN = 0.025; // a side of the boxes of Oklab in which colours are taken as one
-const LOCKED_FAR = 0.04 ** 2; // within that of a locked colour nothing else is found
+export const LOCKED_FAR = 0.04 ** 2; // within that of a locked colour nothing else is found
 
 // The axis along which spots spread most, their mean there, and how much they spread, by weight.
 function spreadOf(spots) {

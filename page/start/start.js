@@ -15,7 +15,7 @@ import { openDoc } from '../library/open.js';
 import { save, saveAs } from '../library/saving.js';
 import { phrase } from '../texts/phrase.js';
 import { addAction } from '../view/actions.js';
-import { useColour } from '../view/tools.js';
+import { useColour, useTool } from '../view/tools.js';
 import { libraryListed, makeLibrary, startLibrary } from './library.js';
 
 const START_SIZE = [20, 15];
@@ -31,9 +31,16 @@ function newCard() {
   form.addEventListener('submit', async (event) => {
     event.preventDefault();
     const background = [1, 3, 5].map((at) => parseInt(ground.value.slice(at, at + 2), 16));
-    if (await openDoc(emptyDoc(Number(columns.value), Number(rows.value), background), { name: await newName(), isBlank: true })) useColour('a');
+    if (await openDoc(emptyDoc(Number(columns.value), Number(rows.value), background), { name: await newName(), isBlank: true })) beginPainting();
   });
   return form;
+}
+
+// A new picture begins as the first one did.
+function beginPainting() {
+  useTool('pencil');
+  useColour('a');
+  $('panels').scrollTop = 0;
 }
 
 // A name that no picture of the library has.

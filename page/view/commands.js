@@ -35,8 +35,8 @@ export function addEditActions() {
   edit({ id: 'redo', name: phrase('view.redo'), key: 'Ctrl+Y Ctrl+Shift+Z', run: () => { setDown(); heard(bench.redo()); }, can: () => bench.future.length > 0 });
   edit({ id: 'select-all', name: phrase('view.selectAll'), key: 'Ctrl+A', group: 'select', run: selectAll });
   edit({ id: 'select-none', name: phrase('view.selectNothing'), group: 'select', run: () => { setDown(); dropSelection(); }, can: hasBox });
-  edit({ id: 'copy', name: phrase('view.copyCtrlC'), group: 'select', run: () => copyToClipboard(false) });
-  edit({ id: 'cut', name: phrase('view.cutCtrlX'), group: 'select', run: () => copyToClipboard(true), can: hasBox });
+  edit({ id: 'copy', name: phrase('export.copy'), told: 'Ctrl+C', group: 'select', run: () => copyToClipboard(false) });
+  edit({ id: 'cut', name: phrase('view.cut'), told: 'Ctrl+X', group: 'select', run: () => copyToClipboard(true), can: hasBox });
   edit({ id: 'paste', name: opening(phrase('view.pasteText')), group: 'select', run: pasteByDialog });
   edit({ id: 'clear', name: phrase('view.clearSelection'), key: 'Delete Backspace', group: 'select', run: clearSelected, can: hasBox });
   edit({ id: 'select-colour', name: phrase('view.selectAllCellsColour'), key: 'Shift+A A', group: 'region', run: selectColour });
@@ -159,7 +159,7 @@ export function addViewActions() {
     showCell();
   } });
   for (const scheme of ['light', 'dark', '']) {
-    view({ id: `scheme-${scheme || 'system'}`, name: { light: phrase('view.light'), dark: phrase('view.dark'), '': phrase('view.lightDarkLikeSystem') }[scheme], needs: false, group: 'scheme', run: () => {
+    view({ id: `scheme-${scheme || 'system'}`, name: { light: phrase('view.light'), dark: phrase('view.dark'), '': phrase('view.lightDarkLikeSystem') }[scheme], needs: false, group: 'scheme', isOn: () => (document.documentElement.dataset.scheme ?? '') === scheme, run: () => {
       document.documentElement.dataset.scheme = scheme;
       if (sheet.state) sheet.redrawAll();
     } });

@@ -40,6 +40,11 @@ export function openDialog({ title, content = '', buttons = [{ name: 'OK', value
     });
     $('dialogs').append(dialog);
     dialog.showModal();
+    if (dialog.scrollTop) { // what got the focus lies further below: it begins at its title
+      heading.tabIndex = -1;
+      heading.focus();
+      dialog.scrollTop = 0;
+    }
     if (document.activeElement instanceof HTMLInputElement) document.activeElement.select(); // what is typed replaces it
   });
 }

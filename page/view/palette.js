@@ -210,10 +210,17 @@ async function becomeOpened(doc, text) {
   if (await heard(bench.become(doc))) say(text);
 }
 
+// On small screens what changes colours opens below the palette.
+function turnEditing() {
+  const isOpen = $('colours').classList.toggle('open');
+  $('colours-open').setAttribute('aria-expanded', isOpen);
+  if (isOpen && $('audit').classList.contains('open')) $('verdict-open').click(); // both would cover the picture
+}
+
 /** Makes the panel of colours. */
 export function makePalette() {
   const more = make('div', { class: 'group' });
-  const opens = make('button', { type: 'button', id: 'colours-open', 'aria-expanded': 'false', onclick: () => opens.setAttribute('aria-expanded', $('colours').classList.toggle('open')) }, phrase('view.edit'));
+  const opens = make('button', { type: 'button', id: 'colours-open', 'aria-expanded': 'false', onclick: turnEditing }, phrase('view.edit'));
   opens.setAttribute('aria-label', phrase('view.editColours'));
   $('colours').append(make('h2', {}, phrase('view.colours')), palette.row, opens, palette.text, more, make('div', { class: 'group' }, make('label', {}, phrase('view.change'), palette.picker), palette.named, make('datalist', { id: 'colour-words' }, ...COLOUR_NAMES.map((name) => make('option', { value: name }))), make('label', { title: phrase('view.noRepairChangesCells') }, palette.locked, capital(phrase('view.locked')))),
     make('div', { class: 'group' }, make('label', {}, phrase('view.name'), palette.name), make('label', { title: phrase('view.oneSignEachCell') }, phrase('view.sign'), palette.sign)), palette.near);

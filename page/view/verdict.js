@@ -64,6 +64,7 @@ function turnVerdictMore() {
   const isOpen = $('audit').classList.toggle('open');
   $('verdict-open').setAttribute('aria-expanded', isOpen);
   $('verdict-open').textContent = isOpen ? phrase('view.less') : phrase('view.more');
+  if (isOpen && $('colours').classList.contains('open')) $('colours-open').click(); // both would cover the picture
 }
 
 export function setSeconds(value) {

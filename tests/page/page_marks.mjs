@@ -236,7 +236,7 @@ export async function heldPointer({ trial, page }) {
     await trial.judged();
     const places = () => page.run(() => {
         const { left, top } = sheet.view.getBoundingClientRect();
-        return [left + sheet.geometry.x(0), top + sheet.geometry.y(0), sheet.geometry.cell, ...['tools', 'audit', 'colours', 'out'].map((id) => document.getElementById(id).getBoundingClientRect().top)].join();
+        return [left + sheet.geometry.x(0), top + sheet.geometry.y(0), sheet.geometry.cell, ...['tools', 'verdict', 'colours', 'hatching', 'out'].map((id) => document.getElementById(id).getBoundingClientRect().top)].join();
     });
     const before = await places();
     await page.drag([await trial.cell(3, 3), await trial.cell(3, 4)], { release: false });
@@ -282,10 +282,17 @@ export async function smallNumbersTold({ trial, page }) {
     assert.match(await told(50, 'symbols'), /^The smallest (numbers|cells) are [12]\.\d mm /);
 }
 
-/** On the start screen the examples stay where they are once they are seen, also where the library stands above them. */
+/** On the start screen the examples and what opens files stay where they are once they are seen, also where the library comes between them. */
 export async function examplesStay({ browser, url, folder }) {
     const { page, trial } = await fresh(browser, url, folder, 'examples', { before: `window.places = new Set();
-        const look = () => { const shown = document.getElementById('examples'); if (shown?.checkVisibility()) window.places.add(shown.getBoundingClientRect().top); requestAnimationFrame(look); };
+        window.files = new Set();
+        const look = () => {
+            for (const [id, all] of [['examples', window.places], ['open-go', window.files]]) {
+                const shown = document.getElementById(id);
+                if (shown?.checkVisibility()) { const { left, top } = shown.getBoundingClientRect(); all.add([left, top].join()); }
+            }
+            requestAnimationFrame(look);
+        };
         requestAnimationFrame(look);` });
     await clean(page);
     for (const name of ['one', 'two']) {
@@ -295,6 +302,67 @@ export async function examplesStay({ browser, url, folder }) {
     await trial.load();
     await page.until(() => document.querySelectorAll('#library .kept').length === 2 && window.places.size, 5000 * SLACK);
     await page.run(() => new Promise((go) => setTimeout(go, 600)));
-    assert.equal(await page.run(() => window.places.size), 1, 'one place');
+    assert.deepEqual(await page.run(() => [window.places.size, [...window.files].length]), [1, 1], 'one place each');
     await page.close();
+}
+
+/** The guide begins at its beginning, and so does a dialog for a picture on a phone that lies, with the preview in sight. */
+export async function dialogsAtTheirTop({ browser, url, folder }) {
+    const shown = (page) => page.run(() => [document.querySelector('dialog').scrollTop, document.activeElement.id]);
+    const { page } = await fresh(browser, url, folder, 'top', { size: { width: 844, height: 390, touch: true } });
+    await page.press('F1');
+    await page.until(() => document.querySelector('#version'), 3000 * SLACK);
+    assert.deepEqual(await shown(page), [0, 'dialog-title']);
+    await page.press('Escape');
+    await page.run(async () => {
+        const canvas = Object.assign(document.createElement('canvas'), { width: 401, height: 301 });
+        canvas.getContext('2d').fillRect(20, 20, 90, 90);
+        takeFile(new File([await new Promise((go) => canvas.toBlob(go))], 'part.png', { type: 'image/png' }));
+    });
+    await page.until(() => document.querySelector('#import-facts')?.textContent, 10000 * SLACK);
+    assert.deepEqual(await shown(page), [0, 'dialog-title']);
+    const [source, preview, buttons] = await page.run(() => ['#import-source', '#import-preview', 'dialog .buttons'].map((one) => document.querySelector(one).getBoundingClientRect().toJSON()));
+    assert.ok(source.top === preview.top && preview.bottom < buttons.top, `${preview.bottom} of ${buttons.top}`);
+    await page.close();
+}
+
+/** On a phone one of what is told and what changes colours is open; the other closes. */
+export async function oneIsOpen({ browser, url, folder }) {
+    const { page, trial } = await fresh(browser, url, folder, 'one', { size: SIZES.phone });
+    await trial.open(ppmOf(THREE), 'one');
+    const open = () => page.run(() => ['audit', 'colours'].map((id) => document.getElementById(id).classList.contains('open')));
+    for (const [press, wanted] of [['#verdict-open', [true, false]], ['#colours-open', [false, true]], ['#verdict-open', [true, false]], ['#verdict-open', [false, false]]]) {
+        await page.tap(press);
+        assert.deepEqual(await open(), wanted, press);
+    }
+    assert.deepEqual(await page.run(() => ['verdict-open', 'colours-open'].map((id) => document.getElementById(id).getAttribute('aria-expanded'))), ['false', 'false']);
+    await page.close();
+}
+
+/** A new picture begins with the pencil and the first colour, and its panel at the top, where the palette is in sight. */
+export async function newBegins({ trial, page }) {
+    await trial.open(ppmOf(THREE), 'before');
+    await page.press('b');
+    await page.run(() => { useColour('b'); document.getElementById('panels').scrollTop = 9999; runAction('new'); });
+    await page.click('#new-go');
+    await page.until(() => bench.state.columns === 20 && document.body.classList.contains('starting') === false, 5000 * SLACK);
+    await page.until(() => document.querySelector('#tool-row [aria-checked=true]').dataset.tool === 'pencil', 3000 * SLACK);
+    const [scrolled, colour, below] = await page.run(() => [document.getElementById('panels').scrollTop, document.querySelector('#palette [aria-checked=true]').dataset.letter, document.getElementById('ink-name').getBoundingClientRect().bottom]);
+    assert.deepEqual([scrolled, colour], [0, 'a']);
+    assert.ok(below < 600, `the palette ends at ${below}`);
+}
+
+/** A menu tells the keys that the browser hears, and ticks the scheme that is chosen. */
+export async function menusTell({ trial, page }) {
+    await trial.open(ppmOf(THREE), 'menus');
+    const told = (menu, id) => page.run(([place, one]) => {
+        document.getElementById(`menu-${place}`).showPopover();
+        const { textContent } = document.querySelector(`#menu-${place} [data-action="${one}"]`);
+        document.getElementById(`menu-${place}`).hidePopover();
+        return textContent;
+    }, [menu, id]);
+    assert.deepEqual([await told('edit', 'copy'), await told('edit', 'cut')], ['CopyCtrl+C', 'CutCtrl+X']);
+    assert.equal(await told('view', 'scheme-system'), 'Light or dark, like the system ✓');
+    await page.run(() => runAction('scheme-dark'));
+    assert.deepEqual([await told('view', 'scheme-dark'), await told('view', 'scheme-light')], ['Dark ✓', 'Light']);
 }

@@ -50,11 +50,12 @@ export async function alikePoint(hands, { page, trial }) {
     assert.equal((await trial.state()).colours.length, 4);
 }
 
-/** A click on the image keeps its colour, however few colours there are; by keys a ring is moved to it. */
+/** A click on the image keeps its colour beside those that there are, one more; by keys a ring is moved to it. */
 export async function pickingPoint(hands, { page }) {
     await openDrawn(page, 401, 401, [...SHADES, ['rgb(250 200 0)', 20, 380, 8, 8]]);
     await set(page, 'import-colours', 2);
     await facts(page, '2 colours');
+    const before = await palette(page);
     const at = await page.run(() => { const box = document.getElementById('import-source').getBoundingClientRect(); return [box.left + (box.width * 330) / 401, box.top + (box.height * 300) / 401]; });
     if (hands.byKeys) {
         await hands.tabTo('#import-source');
@@ -64,9 +65,30 @@ export async function pickingPoint(hands, { page }) {
     await page.until(() => [...document.querySelectorAll('#import-palette button')].some((one) => one.title === '#0000c8'), 5000 * SLACK);
     assert.equal(await page.run(() => document.querySelector('#import-palette [aria-checked=true]').title), '#0000c8', 'it is chosen');
     assert.match(await page.run(() => document.getElementById('import-ink').value), /locked/);
-    await facts(page, '2 colours');
+    await facts(page, '3 colours');
+    const now = await palette(page);
+    assert.deepEqual(before.filter((one) => !now.includes(one)), [], 'no other one went');
     assert.equal(await page.run(() => document.querySelector('.parts input').value), '0', 'a click takes no part');
     await page.press('Escape');
+}
+
+/** That pixel art has a pixel for each cell is ticked at that size alone; to tick it takes that size. */
+export async function pixelsFollowTheSize({ page }) {
+    await openDrawn(page, 40, 30, [['#fff', 0, 0, 40, 30], ['#c00', 5, 5, 10, 10], ['#00c', 21, 3, 7, 1]]);
+    const state = () => page.run(() => [...['import-columns', 'import-rows'].map((id) => Number(document.getElementById(id).value)), [...document.querySelectorAll('.choices label')].find((one) => one.textContent.startsWith('Pixel art')).querySelector('input').checked]);
+    assert.deepEqual(await state(), [40, 30, true]);
+    await set(page, 'import-columns', 24);
+    assert.deepEqual(await state(), [24, 18, false]);
+    await page.run(() => [...document.querySelectorAll('.choices label')].find((one) => one.textContent.startsWith('Pixel art')).querySelector('input').click());
+    assert.deepEqual(await state(), [40, 30, true]);
+    await set(page, 'import-columns', 24);
+    await set(page, 'import-columns', 40);
+    assert.deepEqual(await state(), [40, 30, true]);
+    await page.run(() => document.getElementById('import-contacts').click());
+    await page.until(() => document.querySelector('.contact[aria-current]'), 20000 * SLACK);
+    assert.match(await page.run(() => document.querySelector('.contact[aria-current]').textContent), /^40 by 30, 3 colours/);
+    const lefts = await page.run(() => [...document.querySelectorAll('.contact-row')].map((row) => [...row.children].map((one) => Math.round(one.getBoundingClientRect().left))));
+    assert.ok(lefts.every((row) => row.every((left, at) => left === lefts[0][at] || lefts[0][at] === undefined)), JSON.stringify(lefts));
 }
 
 /** Sizes by numbers of colours beside one another; one click takes one. */
