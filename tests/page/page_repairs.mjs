@@ -330,6 +330,7 @@ export async function pinchInPlay({ browser, url, folder }) {
     for (const [name, size] of Object.entries(SIZES)) {
         const trial = await Trial.start(browser, url, folder, { ...size, touch: true });
         const { page } = trial;
+        await page.run(() => localStorage.clear()); // no marks of the size before
         await trial.open(ppmOf(MIRRORED), 'fingers');
         await trial.judged();
         await page.run(() => { runAction('play'); });
