@@ -136,15 +136,12 @@ async function takeGivens(state, { given, isLeast }) {
 // Lists proposals, while they are found: the smallest and least seen first.
 async function findRepairs() {
   clearTimeout(fixing.waits);
-  if (fixing.goal === UNCHOSEN) {
-    fixing.of = null;
-    return showFound();
-  }
-  Object.assign(fixing, { found: fixing.found.filter((one) => fixing.kept.has(one) && isOfThis()), places: NO_PLACES, near: null, of: bench.state, by: fixing.goal, said: '', turn: fixing.turn + 1 });
+  const of = fixing.goal === UNCHOSEN ? null : bench.state;
+  Object.assign(fixing, { found: fixing.found.filter((one) => fixing.kept.has(one) && isOfThis()), places: NO_PLACES, near: null, of, by: fixing.goal, said: '', turn: fixing.turn + 1 });
   fixSays('');
   showFound();
   const { goal, turn } = fixing;
-  if (goal === 'unique' && bench.state.verdict?.word === 'unique') return fixSays(phrase('view.oneSolutionThere'));
+  if (!of || (goal === 'unique' && of.verdict?.word === 'unique')) return fixSays(of ? phrase('view.oneSolutionThere') : '');
   const part = Math.min(2, secondsChosen() / 4); // of the time, for the givens, and for mixtures
   const run = await searched(phrase('view.lookingRepairs'), async (copy, state) => {
     const board = boardOf(state);
@@ -166,8 +163,7 @@ async function findRepairs() {
     const mirror = board.mirror ? null : mirrorOf(state.picture);
     if (mirror) await copy.work('repair', { board: { ...board, mirror }, goal, seconds: MIRRORED }, ({ found }) => found && add(state, found));
     copy.found = await copy.work('repair', { board, goal, seconds: Math.max(1, secondsChosen() - 2) }, told);
-    const isFar = !(wholes()[0]?.cells.length <= FEW);
-    if (goal === 'lines' && isFar && state.verdict.word !== 'unique') await copy.work('repair', { board, goal: 'unique', seconds: FALLBACK }, ({ found }) => found && add(state, found));
+    if (goal === 'lines' && !(wholes()[0]?.cells.length <= FEW) && state.verdict.word !== 'unique') await copy.work('repair', { board, goal: 'unique', seconds: FALLBACK }, ({ found }) => found && add(state, found));
     if (!isLeast) await give(part);
     const bound = Math.min(...fixing.found.filter((one) => one.state === state && one.place === undefined).map(sizeOf), Infinity);
     await copy.work('mix', { board, goal, near: copy.found.near, bound, seconds: part }, told);
@@ -178,8 +174,7 @@ async function findRepairs() {
 
 // Looks for what mends another picture. Where it has the grade that was aimed for, the list stays for an undo.
 async function findAgain() {
-  const { goal } = fixing;
-  const { state } = bench;
+  const [{ goal }, { state }] = [fixing, bench];
   const said = LINE_WORDS.includes(goal) && state.verdict.word === 'unique' && state.open === 0 ? await searches.assess(MOST_SECONDS) : null;
   if (state !== bench.state || goal !== fixing.goal) return;
   if (said?.grade?.word === goal) fixSays(phrase('view.gradeThere', { grade: gradeName(goal) }));
