@@ -27,7 +27,10 @@ export const LIGHT_OF = Float64Array.from({ length: 256 }, (_, sample) => {
 /** The sample of a light. */
 export const sampleOf = (light) => Math.round(255 * (light <= 0.0031308 ? light * 12.92 : 1.055 * light ** (1 / 2.4) - 0.055));
 
-/** A triple of eight bits in Oklab (Ottosson, 2020), where equal steps look equal. */
+/**
+ * A triple of eight bits in Oklab (Ottosson, 2020), where equal steps look equal.
+ * @returns {[number, number, number]}
+ */
 export function oklabOf(red, green, blue) {
   const [r, g, b] = [LIGHT_OF[red], LIGHT_OF[green], LIGHT_OF[blue]];
   const l = Math.cbrt(0.4122214708 * r + 0.5363325363 * g + 0.0514459929 * b);
