@@ -1557,6 +1557,7 @@ class Again(Case):
         place, texts = self.folder / "rows.jsonl", [json.dumps({"file": f"{at}.ppm", "verdict": "error", "error": "x"}) for at in range(3)]
         run = running.Run(arguments.Options([], jsonl=str(place), csv=str(self.folder / "rows.csv"), is_quiet=True))
         run._open()
+        run._kept = {at: running.Kept((), None) for at in (1, 2)}
         first, second, third = (workers.Answer(at, True, "error", text) for at, text in enumerate(texts))
         with unittest.mock.patch.object(running, "BEHIND", -1.0):
             run._take_all(iter([third, None, second, None]))
@@ -1565,6 +1566,7 @@ class Again(Case):
             self.assertEqual(place.read_text().splitlines(), [texts[2], texts[1]])  # what a killed run leaves
             run = running.Run(run._options)
             run._open()
+            run._kept = {at: running.Kept((), None) for at in range(3)}
             run._take_all(iter([third, None, second, None, first, None]))
         self.assertEqual(run._size, 0)
         self.assertEqual(run._close(True), [])

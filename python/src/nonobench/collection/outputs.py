@@ -178,7 +178,7 @@ class Lines(Sink):
 
     def __init__(self, name: str, is_resumed: bool, flags: int = 0) -> None:
         super().__init__(name, is_resumed, flags)
-        self._name = name if flags else os.path.realpath(name)
+        self._name = os.path.realpath(name) if os.path.islink(name) and not flags else name
         self._end = 0
         self._order = array("Q")
         self.has_places = name != "-" and is_regular(self._output.file)  # where rows can be put in order in the end
