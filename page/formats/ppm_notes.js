@@ -5,7 +5,7 @@ import { LETTERS, MOST_COLOURS } from '../document/limits.js';
 import { phrase } from '../texts/phrase.js';
 
 const PPM_NOTE = '# nonobench';
-const MOST_HEAD = 1000000; // bytes that notes are looked for in
+const MOST_HEAD = 100; // bytes of sizes behind the notes
 
 // JSON in bytes that every program takes for a comment.
 const asciiOf = (value) => JSON.stringify(value).replace(/[\u007f-\uffff]/g, (sign) => `\\u${sign.charCodeAt(0).toString(16).padStart(4, '0')}`);
@@ -36,16 +36,19 @@ export const leftOutOfPpm = (doc) => (doc.extras && ['set', 'goal', 'notes', 'so
 
 /** The document of a P3 text with such notes, or null where it has none or they do not fit. */
 export function docOfNotes(text, image) {
-  const head = text.slice(0, MOST_HEAD);
   const notes = new Map();
-  for (const line of head.split('\n')) {
+  let at = /^P3\r?\n/.exec(text)?.[0].length ?? 0;
+  while (text[at] === '#') {
+    const end = text.indexOf('\n', at) + 1 || text.length;
+    const line = text.slice(at, end).trimEnd();
+    at = end;
     if (!line.startsWith(`${PPM_NOTE} `)) continue;
     const [word] = line.slice(PPM_NOTE.length + 1).split(' ', 1);
-    notes.set(word, [...(notes.get(word) ?? []), line.slice(PPM_NOTE.length + word.length + 2).trimEnd()]);
+    notes.set(word, [...(notes.get(word) ?? []), line.slice(PPM_NOTE.length + word.length + 2)]);
   }
   const words = (what) => (notes.get(what) ?? []).flatMap((line) => line.split(' '));
   const colours = words('colours').map((word) => word.split(',').map(Number));
-  if (!colours.length || colours.length > MOST_COLOURS || !/^P3\s[^]*?^255\s/m.test(head)) return null;
+  if (!colours.length || colours.length > MOST_COLOURS || !/^255\s/m.test(text.slice(at, at + MOST_HEAD))) return null;
   const numbers = new Map(colours.map((triple, at) => [(triple[0] << 16) | (triple[1] << 8) | triple[2], at]));
   const { width: columns, height: rows, data } = image;
   let cells = '';

@@ -10,6 +10,8 @@ import { mustHold } from './decoding.js';
 import { docsOfBytes } from './reading.js';
 
 const PICTURE = /\.(p[pgbn]m|png|gif|bmp|webp|avif|svg|jpe?g|non|xml)$/i;
+const AUDITED = /\.(p[pgbn]m|png|gif|bmp|webp|non|xml)$/i; // those that nonobench-audit reads
+const PUBLISHED = /\.(givens|background|GIVENS|BACKGROUND)$/;
 const BESIDE = /\.(givens|background|cert|proof|GIVENS|BACKGROUND|CERT|PROOF)$/;
 const NUMBERED = /\.[1-9][0-9]{0,5}\.(cert|proof)$/i; // of a puzzle in a set
 
@@ -19,9 +21,10 @@ const isBeside = (file) => !file.isDirectory && BESIDE.test(file.name);
 const stemOf = (name) => name.replace(/\.[^.]*$/, '');
 
 // The files that go with a picture and have an ending: those of NAME.png.givens come before those of NAME.givens, unless they are those
-// of a picture NAME.png.xml.
+// of a picture NAME.png.xml. Those of NAME.png are not those of a NAME.png.jpg, which an audit does not read.
 function filesFor(named, stems, name, ending) {
-  const fronts = [...(stems.has(name) ? [] : [name]), stemOf(name)];
+  const stem = stemOf(name);
+  const fronts = [...(stems.has(name) ? [] : [name]), ...(AUDITED.test(name) || !named.has(stem) ? [stem] : [])];
   return fronts.flatMap((front) => [ending, ending.toUpperCase()].flatMap((end) => named.get(`${front}.${end}`) ?? []));
 }
 
@@ -39,9 +42,9 @@ function unitOf(file, named, stems) {
  */
 export function grouped(files) {
   const named = new Map();
-  for (const file of files) if (!file.isDirectory || BESIDE.test(file.name)) named.set(file.name, [...(named.get(file.name) ?? []), file]);
+  for (const file of files) if (!file.isDirectory || PUBLISHED.test(file.name)) named.set(file.name, [...(named.get(file.name) ?? []), file]);
   const isOfSet = ({ name }) => NUMBERED.test(name) && ['', '.xml', '.XML'].some((ending) => named.has(name.replace(NUMBERED, ending)));
-  const stems = new Set(files.filter(isPicture).map(({ name }) => stemOf(name)));
+  const stems = new Set(files.filter((file) => !file.isDirectory && AUDITED.test(file.name)).map(({ name }) => stemOf(name)));
   const all = files.filter((file) => !isBeside(file)).map((file) => (isPicture(file) ? unitOf(file, named, stems) : { file, beside: [] }));
   const used = new Set(all.flatMap(({ beside }) => beside));
   const units = all.filter(({ file }) => file.isDirectory || !used.has(file));

@@ -76,6 +76,11 @@ test('the notes of a P3 text bring back background, palette and givens', () => {
     assert.equal(read(text.replace('4,5,6', '1,2,3')), null);
     for (const place of ['2,3', '1,4', '1,3', '0,4', '3,-1', '2,2,2', '0x2,2', '1,2.0']) assert.equal(read(text.replace('2,2', place)), null);
     assert.equal(read('P3 1 1 255 0 0 0\n'), null);
+    const [magic, notes, rest] = [text.slice(0, 3), text.slice(3, text.indexOf('2 2\n')), text.slice(text.indexOf('2 2\n'))];
+    for (const other of [magic + rest + notes, magic + rest.replace('255\n', `255\n${notes}`), magic + rest.replace('2 2\n', `2 2\n${notes}`)]) assert.equal(read(other), null); // comments elsewhere
+    assert.deepEqual(packedDoc(read(magic + notes.replace('# nonobench givens', '# another\n# nonobench givens') + rest)), packedDoc(doc));
+    const long = { ...doc, about: { title: 'ж'.repeat(90000), note: 'ж'.repeat(90000) } };
+    assert.deepEqual([...read(ppmTextOf(long)).givens], [0, 3]);
 });
 
 test('the given cells of XML have the size of the picture', () => {

@@ -88,6 +88,8 @@ test('what goes with a picture, by its name', () => {
         ['a.png', 'a.png.GIVENS', undefined, ['a.png.GIVENS'], false], ['a.ppm', 'a.givens', 'a.ppm.background', ['a.givens', 'a.ppm.background'], false], ['a.ppm.BACKGROUND', undefined, undefined, [], true],
     ]);
     assert.deepEqual(names(['a.png', 'a.png.xml', 'a.givens', 'a.png.givens']), [['a.png', 'a.givens', undefined, ['a.givens'], false], ['a.png.xml', 'a.png.givens', undefined, ['a.png.givens'], false]]);
+    // An audit does not know NAME.png.jpg: what goes with NAME.png stays its own.
+    assert.deepEqual(names(['a.png', 'a.png.jpg', 'a.png.givens']), [['a.png', 'a.png.givens', undefined, ['a.png.givens'], false], ['a.png.jpg', undefined, undefined, [], false]]);
     // Those of another name, or of a file that is no picture, are alone.
     assert.deepEqual(names(['a.txt', 'a.givens', 'A.background', 'b.cert']), [['a.txt', undefined, undefined, [], false], ...['a.givens', 'A.background', 'b.cert'].map((name) => [name, undefined, undefined, [], true])]);
     assert.deepEqual(names(['Ä 1.PNG', 'Ä 1.GIVENS']), [['Ä 1.PNG', 'Ä 1.GIVENS', undefined, ['Ä 1.GIVENS'], false]]);
