@@ -380,7 +380,7 @@ def create_app(**config):
     app = Flask(__name__, static_folder=None)
     app.jinja_loader = PAGES
     app.wsgi_app = plain(app.wsgi_app)
-    app.config.update(SECONDS=5.0, MEMORY=1 << 30, WORKERS=2, MAX_CONTENT_LENGTH=2 << 20)
+    app.config.update(MAX_CONTENT_LENGTH=2 << 20, WORKERS=2, SECONDS=5.0, MEMORY=1 << 30)
     app.config.update(DATABASE=os.environ.get("SITE_DATABASE", "puzzles.sqlite"))
     app.config.update(config)
     site = app.extensions["puzzles"] = Site(app.config)

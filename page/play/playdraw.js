@@ -36,8 +36,8 @@ function playStrips() {
   return { wide: Math.ceil(wide), high: Math.ceil(high) };
 }
 
-/** Draws the puzzle as large as it has room. */
-export function fitPlay() {
+/** Makes the puzzle as large as it has room, and draws it, if nobody else does. */
+export function fitPlay(isDrawn = true) {
   const { offsetWidth, offsetHeight } = $('play-board');
   const { rows, columns } = play.state;
   const fits = (side) => {
@@ -48,14 +48,14 @@ export function fitPlay() {
   let side = Math.min(MOST_FIT, Math.floor(offsetWidth / columns), Math.floor(offsetHeight / rows));
   while (side >= LEAST_FIT && !fits(side)) side--;
   Object.assign(play, { side: side < LEAST_FIT ? 16 : side, room: [offsetWidth, offsetHeight], isZoomed: false });
-  drawPlay();
+  if (isDrawn) drawPlay();
 }
 
 /** Fits the puzzle again where its room is another one. A size that its user has chosen stays as long as the width does. */
-export function refitPlay() {
+export function refitPlay(isDrawn = true) {
   const board = $('play-board');
   if (!board?.offsetWidth || (board.offsetWidth === play.room[0] && (play.isZoomed || board.offsetHeight === play.room[1]))) return;
-  fitPlay();
+  fitPlay(Boolean(isDrawn));
 }
 
 const boxOf = (id) => $(id).getBoundingClientRect();

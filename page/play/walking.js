@@ -33,7 +33,7 @@ export function walkBar() {
 export async function startWalk() {
   walking.marks ??= play.marks;
   $('walk-bar').hidden = false;
-  refitPlay();
+  refitPlay(false);
   const { state } = play;
   const isShown = () => $('walk-bar') !== null && !$('walk-bar').hidden && play.state === state;
   Object.assign(walking, { walk: new Walk(state), isKnown: false });
@@ -114,7 +114,7 @@ export function endWalk() {
   Object.assign(play, { shown: null, heat: null });
   if (!$('walk-bar')) return;
   $('walk-bar').hidden = true;
-  refitPlay();
+  refitPlay(false);
   $('walk-heat').checked = false;
   playSays('');
   drawPlay();
