@@ -3,11 +3,16 @@ import assert from 'node:assert/strict';
 import { readFileSync } from 'node:fs';
 import { test } from 'node:test';
 import { engine, needsModule } from '../../page/test/worker.mjs';
-import { gradeText } from '../../page/base/names.js';
 import { waits } from '../waits.mjs';
 
 const FORM = /^(\S+)(?: given ([\d, ]+?))?(?: cert (.*))?$/;
 const COLOURS = { '.': '255 255 255', a: '0 0 0', b: '255 0 0', c: '0 0 255' };
+
+// The grade in one line, as the cases have it.
+function gradeText({ open, grade: { word, rounds, evaluations, wait, splits, depth } }) {
+    const lines = `${word.replace('-', ' ')}: rounds ${rounds}, evaluations ${evaluations}, longest wait ${wait}`;
+    return open > 0 ? `${lines}, open ${open}, splits ${splits}, depth ${depth}` : lines;
+}
 
 // What is said of a case's puzzle: its grade, or the verdict where it has none.
 function toldOf(module, words) {
