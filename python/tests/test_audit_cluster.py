@@ -72,9 +72,9 @@ class Cluster(Case):
             "set.xml#2": False,
         })
         self.assertNotIn("certificate", rows["site/1/006.ppm"])  # a folder is none
-        # 004 has one solution with its given, and 006 is not judged.
+        # 004 has one solution with its given, and 006 is called by its whole name.
         for name in ("certs", "more"):
-            self.assertEqual(len(list((self.folder / name).rglob("*.cert"))), 525 + 1)
+            self.assertEqual(len(list((self.folder / name).rglob("*.cert"))), 525 + 2)
 
     def test_kept_rows_are_checked_again(self):
         self.put("one.ppm", p3(UNIQUE))
