@@ -42,7 +42,11 @@ function unitOf(file, named, stems) {
  */
 export function grouped(files) {
   const named = new Map();
-  for (const file of files) if (!file.isDirectory || PUBLISHED.test(file.name)) named.set(file.name, [...(named.get(file.name) ?? []), file]);
+  for (const file of files) {
+    const twins = named.get(file.name) ?? [];
+    // A second one tells already that it is not known which of them go together.
+    if (twins.length < 2 && (!file.isDirectory || PUBLISHED.test(file.name))) named.set(file.name, [...twins, file]);
+  }
   const isOfSet = ({ name }) => NUMBERED.test(name) && ['', '.xml', '.XML'].some((ending) => named.has(name.replace(NUMBERED, ending)));
   const stems = new Set(files.filter((file) => !file.isDirectory && AUDITED.test(file.name)).map(({ name }) => stemOf(name)));
   const all = files.filter((file) => !isBeside(file)).map((file) => (isPicture(file) ? unitOf(file, named, stems) : { file, beside: [] }));

@@ -109,6 +109,12 @@ test('files of one name out of several folders: what goes together is not known'
     assert.deepEqual(grouped([fileOf('a.png'), fileOf('a.png')]).map(({ fault }) => fault), ['', '']); // nothing goes with them
 });
 
+test('many files of two names are no work', () => {
+    const from = performance.now();
+    const units = grouped(Array.from({ length: 20000 }, (_, at) => fileOf(at % 2 ? 'a.givens' : 'a.ppm')));
+    assert.ok(units.every(({ fault }) => fault) && performance.now() - from < 10000);
+});
+
 test('givens and a background beside a picture', async () => {
     const doc = await docOf({ 'a.ppm': TWO_WAYS, 'a.givens': 'given 1 1\n' });
     assert.deepEqual([doc.colours, doc.picture, givensOf(doc)], [[[255, 255, 255], [0, 0, 0]], ['a.', '.a'], [0]]);
