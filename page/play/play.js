@@ -47,7 +47,7 @@ export async function openPlay({ isAlone = false } = {}) {
   playPalette();
   fitPlay();
   afterPlay();
-  new ResizeObserver(refitPlay).observe(dialog);
+  new ResizeObserver(() => refitPlay()).observe(dialog);
   $('play-field').focus({ preventScroll: true });
   $('play-board').scrollTo(0, 0);
   const { word } = state.verdict;

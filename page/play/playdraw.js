@@ -55,7 +55,7 @@ export function fitPlay(isDrawn = true) {
 export function refitPlay(isDrawn = true) {
   const board = $('play-board');
   if (!board?.offsetWidth || (board.offsetWidth === play.room[0] && (play.isZoomed || board.offsetHeight === play.room[1]))) return;
-  fitPlay(Boolean(isDrawn));
+  fitPlay(isDrawn);
 }
 
 const boxOf = (id) => $(id).getBoundingClientRect();
