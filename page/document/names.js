@@ -23,6 +23,9 @@ const NAMES = phrase('document.hues').split(', ');
 const WHOLE = { ffffff: NAMES[0], '000000': NAMES[1] };
 const shadedName = (name, step) => [phrase('document.veryLight', { name }), phrase('document.light', { name }), name, phrase('document.dark', { name }), phrase('document.veryDark', { name })][step];
 
+// The names of two light, and of two dark colours of each hue.
+const STEPS = NAMES.flatMap((hue) => [[0, 1], [3, 4]].map((pair) => pair.map((step) => shadedName(hue, step))));
+
 // What has a name, in Oklab: made when it is first asked for.
 let known = null;
 const knownColours = () => Object.values(SHADES).flatMap((shades, at) => shades.split('/').flatMap((hexes, step) => hexes.split(',').filter(Boolean)
@@ -64,7 +67,7 @@ function plainOf(triples, names) {
 function toldApart(name, at, count, others) {
   if (count === 1) return name;
   if (count > 2) return `${name} ${at + 1}`;
-  const steps = NAMES.flatMap((hue) => [[0, 1], [3, 4]].map((pair) => pair.map((step) => shadedName(hue, step)))).find((pair) => pair.includes(name));
+  const steps = STEPS.find((pair) => pair.includes(name));
   if (steps && !steps.some((step) => others.includes(step))) return steps[at];
   return at ? phrase('document.darker', { name }) : phrase('document.lighter', { name });
 }

@@ -9,14 +9,15 @@ import { phrase } from '../texts/phrase.js';
 import { mustHold } from './decoding.js';
 import { docsOfBytes } from './reading.js';
 
-const PICTURE = /\.(p[pgbn]m|png|gif|bmp|webp|avif|svg|jpe?g|non|xml)$/i;
-const AUDITED = /\.(p[pgbn]m|png|gif|bmp|webp|non|xml)$/i; // those that nonobench-audit reads
+const AUDITED = /\.(p[pgbn]m|png|gif|bmp|webp|non|xml)$/i; // pictures that nonobench-audit reads
+const OTHERS = /\.(avif|svg|jpe?g)$/i; // and those that this page alone reads
 const PUBLISHED = /\.(givens|background|GIVENS|BACKGROUND)$/;
-const BESIDE = /\.(givens|background|cert|proof|GIVENS|BACKGROUND|CERT|PROOF)$/;
+const CERTIFICATES = /\.(cert|proof|CERT|PROOF)$/;
 const NUMBERED = /\.[1-9][0-9]{0,5}\.(cert|proof)$/i; // of a puzzle in a set
 
-const isPicture = (file) => !file.isDirectory && PICTURE.test(file.name);
-const isBeside = (file) => !file.isDirectory && BESIDE.test(file.name);
+const isAudited = (file) => !file.isDirectory && AUDITED.test(file.name);
+const isPicture = (file) => isAudited(file) || (!file.isDirectory && OTHERS.test(file.name));
+const isBeside = (file) => !file.isDirectory && (PUBLISHED.test(file.name) || CERTIFICATES.test(file.name));
 
 const stemOf = (name) => name.replace(/\.[^.]*$/, '');
 
@@ -48,7 +49,7 @@ export function grouped(files) {
     if (twins.length < 2 && (!file.isDirectory || PUBLISHED.test(file.name))) named.set(file.name, [...twins, file]);
   }
   const isOfSet = ({ name }) => NUMBERED.test(name) && ['', '.xml', '.XML'].some((ending) => named.has(name.replace(NUMBERED, ending)));
-  const stems = new Set(files.filter((file) => !file.isDirectory && AUDITED.test(file.name)).map(({ name }) => stemOf(name)));
+  const stems = new Set(files.filter(isAudited).map(({ name }) => stemOf(name)));
   const all = files.filter((file) => !isBeside(file)).map((file) => (isPicture(file) ? unitOf(file, named, stems) : { file, beside: [] }));
   const used = new Set(all.flatMap(({ beside }) => beside));
   const units = all.filter(({ file }) => file.isDirectory || !used.has(file));

@@ -8,8 +8,13 @@ import { marksOf } from './crossing.js';
 const KEPT = 'nonobench-marks';
 const MOST_PUZZLES = 16;
 
+const names = new WeakMap(); // of puzzles, by their clues: a stroke asks for one again
+
 // The name of a puzzle: its size and the checksum of its clues.
-const nameOf = ({ rows, columns, clues }) => `${columns} ${rows} ${crcOf(new TextEncoder().encode(JSON.stringify([clues.rows, clues.columns])))}`;
+function nameOf({ rows, columns, clues }) {
+  if (!names.has(clues)) names.set(clues, `${columns} ${rows} ${crcOf(new TextEncoder().encode(JSON.stringify([clues.rows, clues.columns])))}`);
+  return names.get(clues);
+}
 
 // Pairs of a puzzle's name and its marks, the newest first.
 function keptPairs() {
