@@ -427,7 +427,7 @@ def take_turns(pages, workers):
 
 
 def bound_connections():
-    """Lets waitress close a connection after one answer, and where there are too many, so that who opens many shuts nobody out."""
+    """Lets waitress close a connection after one answer, and where there are too many, so that whoever opens many shuts nobody out."""
     from waitress.channel import HTTPChannel
     from waitress.parser import HTTPRequestParser, ParsingError, TransferEncodingNotImplemented
     from waitress.server import BaseWSGIServer

@@ -63,14 +63,19 @@ export async function damaged({ page, trial }) {
     assert.equal(await page.run(async () => (await keep.keeper.cards()).length), 1);
 }
 
-/** Two tabs have a picture each; where both would keep the same one the second says so, and adds a copy only once it changes. */
-export async function tabsApart({ browser, page, trial, url, folder }) {
+// A tab beside one in which a new picture with a cell is open and kept.
+async function besideKept({ browser, page, trial, url, folder }) {
     await clean(page);
     await page.click('#new-go');
     await isOpen(page);
     await trial.drag([[2, 2]]);
     await isKept(page);
-    const other = await Trial.start(browser, url, folder);
+    return Trial.start(browser, url, folder);
+}
+
+/** Two tabs have a picture each; where both would keep the same one the second says so, and adds a copy only once it changes. */
+export async function tabsApart({ browser, page, trial, url, folder }) {
+    const other = await besideKept({ browser, page, trial, url, folder });
     await goOn(other.page);
     await isOpen(other.page);
     await other.page.until(() => document.getElementById('said').textContent.includes('open in another tab'), 5000 * SLACK);
@@ -92,12 +97,7 @@ export async function tabsApart({ browser, page, trial, url, folder }) {
 
 /** A picture that is renamed in one tab while another one has it open keeps that name, and what is painted there. */
 export async function renamedElsewhere({ browser, page, trial, url, folder }) {
-    await clean(page);
-    await page.click('#new-go');
-    await isOpen(page);
-    await trial.drag([[2, 2]]);
-    await isKept(page);
-    const other = await Trial.start(browser, url, folder);
+    const other = await besideKept({ browser, page, trial, url, folder });
     await other.page.until(() => document.querySelector('#kept .kept'), 5000 * SLACK);
     await other.page.click('#library .tile-more button');
     await other.page.run(() => document.querySelector('#library [role=menuitem]').click());
