@@ -3,7 +3,8 @@ use Rattle.std.proofs.Common.{◌≡◌, ℕ, List, map, slice_index, IsBitSet, 
 use Rattle.picture.specs.declared.line_id.Axis.{Axis}
 use Rattle.picture.specs.declared.line_id.Axis.TheVariants.{Across, Down}
 use Rattle.picture.specs.declared.line_id.LineId.{LineId}
-use Rattle.picture.specs.LineSet.{Lines, PutsName, TakesOutName}
+use Rattle.picture.specs.CrossingLines.{crossing_at}
+use Rattle.picture.specs.LineSet.{HasName, Lines, PutsName, TakesOutName}
 use Rattle.picture.specs.Rows.{line_of, with_cell, Rows}
 use Rattle.clues.specs.declared.block.Block.{Block}
 use Rattle.clues.specs.ClueBook.{Clues, clue_at, clues_of}
@@ -82,3 +83,13 @@ changed_tallied picture old new row col held tallied a w s u = record {
 
 pub unsettled_others : (old new : Lines) (row col : ℕ) → UnsettlesCell old new row col → KeepsOthers old new row col
 unsettled_others old new row col u line has a d = (u.1.1 line).1 ((u.1.0 line).1 (has, a), d)
+
+-- ---- a cell of a line that is not settled changes
+
+absent : (lines : Lines) (line : LineId) → (HasName lines line → ⊥) → TakesOutName lines lines line
+absent lines line none = λ other. ((λ h. (h, λ e. none (subst (HasName lines) e h))), (λ both. both.0))
+
+pub crossed : (axis : Axis) (at place : ℕ) (old new : Lines) → (HasName old (record { axis = axis; at = at }) → ⊥)
+    → TakesOutName old new (crossing_at (record { axis = axis; at = at }) place) → UnsettlesCell old new (row_on axis at place) (col_on axis at place)
+crossed Across at place old new none takes = (old, (absent old (across at) none, takes))
+crossed Down at place old new none takes = (new, (takes, absent new (down at) (λ h. none ((takes (down at)).0 h).0)))

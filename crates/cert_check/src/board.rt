@@ -6,7 +6,7 @@ ghost use Rattle.picture.specs.LineSet.{HasName};
 ghost use Rattle.picture.specs.Rows.{width_of, with_cell, cell_at, line_of};
 ghost use Rattle.clues.specs.ClueBook.{clue_at, clues_of};
 ghost use Rattle.line_facts.specs.Branches.{branches};
-ghost use Rattle.line_facts.specs.FactSets.{IsClosedLine, IsFacts, SameShape};
+ghost use Rattle.line_facts.specs.FactSets.{IsClosedLine, IsFacts, SameShape, col_on, row_on};
 ghost use Rattle.cert_check.specs.Boards.{IsTallied, KeepsOthers, UnsettlesCell, waiting};
 ghost use Rattle.cert_check.specs.Notes.{most_notes};
 ghost use Rattle.cert_check.specs.Puzzle.{ShowsOnly};
@@ -166,6 +166,30 @@ impl Board {
             self.strays = strays;
             self.unsettle(cell);
         }
+    }
+
+    // The same for a cell of a line that is not settled.
+    #[inline]
+    pub(crate) fn hold_on(&mut self, picture: &Picture, line: LineId, place: u8, held: u16)
+        requires in_rows { row_on line.axis line.at place < length self.old.at_hand }
+        requires in_columns { col_on line.axis line.at place < width_of self.old.at_hand }
+        requires left { (k : ℕ) → IsBitSet held k → IsBitSet (cell_at
+            self.old.at_hand (row_on line.axis line.at place) (col_on line.axis line.at place)) k }
+        requires tallied { IsTallied picture.now self.old }
+        requires unsettled { ¬ HasName self.old.settled line }
+        ensures at_hand { self.new.at_hand ≡ with_cell self.old.at_hand
+            (row_on line.axis line.at place) (col_on line.axis line.at place) held }
+        ensures behind { self.new.behind ≡ self.old.behind }
+        ensures tallied { IsTallied picture.now self.new }
+        ensures unsettled { ¬ HasName self.new.settled line }
+        ensures facts { IsFacts self.old.at_hand }
+        ensures parts { self.new.parts ≡ self.old.parts }
+    {
+        let cell = Cell::on(line, place);
+        let strays = self.strays_with(picture, cell, held);
+        self.trail.hold(cell, held);
+        self.strays = strays;
+        self.settled.take_out(line.crossing(place));
     }
 
     // Takes some colours from a cell of the facts at hand. The branch with these alone waits before all others.

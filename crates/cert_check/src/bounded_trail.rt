@@ -182,11 +182,11 @@ fn change(facts: &mut Facts, notes: &mut Vec<Note>, cell: CellMask)
     let CellMask { row, col, mask } = cell;
     let left = facts.left(row, col);
     if left != mask {
+        facts.set_left(row, col, mask);
         if !notes.is_empty() {
             let mask = left;
             notes.push_reserved(Note::Restore(CellMask { row, col, mask }));
         }
-        facts.set_left(row, col, mask);
     }
 }
 

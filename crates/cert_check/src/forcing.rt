@@ -15,7 +15,6 @@ use crate::claim::Claim;
 use clues::Clue;
 use line_facts::{Facts, LineEngine, Outcome};
 use picture::{LineId, MAX_SIDE, Picture};
-use trail::Cell;
 
 // The most cells of a line.
 const MOST_CELLS: usize = MAX_SIDE as usize;
@@ -61,6 +60,7 @@ fn hold_line(board: &mut Board, picture: &Picture, line: LineId, left: &[u16], m
     requires among { (i k : ℕ) → IsBitSet (slice_index masks.now i) k
         → IsBitSet (slice_index (line_of board.old.at_hand line) i) k }
     requires tallied { IsTallied picture.now board.old }
+    requires unsettled { ¬ HasName board.old.settled line }
     ensures holds { HoldsLine line board.old.at_hand board.new.at_hand masks.now }
     ensures behind { board.new.behind ≡ board.old.behind }
     ensures tallied { IsTallied picture.now board.new }
@@ -69,8 +69,7 @@ fn hold_line(board: &mut Board, picture: &Picture, line: LineId, left: &[u16], m
     let _ = board.at_hand().height();
     for i in 0..masks.len() {
         if masks[i] != left[i] {
-            let cell = Cell::on(line, i as u8);
-            board.hold(picture, cell, masks[i]);
+            board.hold_on(picture, line, i as u8, masks[i]);
         }
     }
 }
