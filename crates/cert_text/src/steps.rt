@@ -19,14 +19,11 @@ fn tree_line(line: &[u8]) -> Option<CertLine>
         return Some(CertLine::Done);
     }
     let (word, first, second) = three_words_of(line)?;
-    if is_word(word, b"line") {
-        line_named(first, second).map(CertLine::Line)
-    } else if is_word(word, b"dead") {
-        line_named(first, second).map(CertLine::Dead)
-    } else if is_word(word, b"split") {
-        cell_named(first, second).map(CertLine::Split)
-    } else {
-        None
+    match word {
+        b"line" => line_named(first, second).map(CertLine::Line),
+        b"dead" => line_named(first, second).map(CertLine::Dead),
+        b"split" => cell_named(first, second).map(CertLine::Split),
+        _ => None,
     }
 }
 
