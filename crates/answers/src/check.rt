@@ -43,7 +43,7 @@ pub fn run_check<W: Write>(
 ///
 /// Where the answer is Ok, the picture is the only one of its size with its clues and its colours in the *published* cells.
 /// Otherwise the answer is the error of the first that refuses: the reader of the picture, the reader of the givens, the reader
-/// of the certificate, the checker; where none does, it is `UnpublishedGiven` for the certificate's first given that is not
+/// of the certificate, the checker. Where none does, it is `UnpublishedGiven` for the certificate's first given that is not
 /// published. What is written is as for `run_check`.
 pub fn run_check_published<W: Write>(
     alloc: Global,

@@ -88,9 +88,9 @@ impl Cert {
         place + left
     }
 
-    /// Whether the text that is written for the certificate is read as the same certificate: the givens are in the order
-    /// of rows, none twice, the steps are the form's, numbers have at most three digits, each literal names a colour, and
-    /// the runs are those of lines.
+    /// Whether the text that is written for the certificate is read as the same certificate. Then the givens are in the
+    /// order of rows, none twice; the steps are the form's, and the runs are those of lines; numbers have at most three
+    /// digits, and each literal names a colour.
     pub fn is_writable(&self) -> bool
         ensures { IsTrue result ↔ IsCert self.now }
     {

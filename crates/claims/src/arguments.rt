@@ -39,10 +39,10 @@ pub fn run_refused<F: Files, R: Read, W: Write, V: Write>(
 /// The whole program. Of the files that the task of its arguments names, it opens all, or only the first ones. Its exit status
 /// is that of its outcome, which is what the arguments and the files call for: a body that does the task and ends with another
 /// status does not meet this. With status 1 nothing was written; or, where a certificate was asked for, `ambiguous` or `undecided`; or
-/// lines for puzzles that are assessed. With status 0 there is such a task, and it is done: the clues or help were written; or a true
-/// text for each line of the input; or a certificate; or the block of each puzzle, all of which are fit to be published; or the line of
-/// a check, and the picture of the first file is the only one of its size with its clues and its colours in the certificate's givens,
-/// or, with a file of givens, in the cells that are published.
+/// lines for puzzles that are assessed. With status 0 there is such a task, and it is done. Then the clues or help were written; or
+/// a true text for each line of the input; or a certificate; or the block of each puzzle, all of which are fit to be published; or
+/// the line of a check. After a check the picture of the first file is the only one of its size with its clues and its colours in the
+/// certificate's givens, or, with a file of givens, in the cells that are published.
 pub fn run_asked<F: Files, R: Read, W: Write, V: Write>(
     alloc: Global,
     arguments: Vec<String>,
@@ -62,7 +62,7 @@ pub fn run_asked<F: Files, R: Read, W: Write, V: Write>(
     run(alloc, Ok(arguments), files, reader, writer, errors)
 }
 
-/// The whole program for arguments that ask for a check with a file of givens: with status 0, the picture of the first file is the
+/// The whole program for arguments that ask for a check with a file of givens. With status 0, the picture of the first file is the
 /// only one of its size with its clues and its colours in the cells that are published.
 pub fn run_published<F: Files, R: Read, W: Write, V: Write>(
     alloc: Global,

@@ -76,9 +76,9 @@ pub fn run_prints_what_run_accepts<F: Files + Drop>(
     (picture, cert, check)
 }
 
-/// Two runs: `prove` makes a certificate for a P3 file, in any form, and ends with status 0, and `check` checks it. Where the
-/// second is asked of files that hold the picture and what the first wrote, with the same background, it accepts, unless memory
-/// runs out, a read or a write fails, or one of the files is longer than 16 MiB.
+/// Two runs: `prove` makes a certificate for a P3 file, in any form, and ends with status 0, and `check` checks it. The second is
+/// asked of files that hold the picture and what the first wrote, with the same background. It accepts, unless memory runs out, a
+/// read or a write fails, or one of the files is longer than 16 MiB.
 pub fn run_proves_what_run_accepts<F: Files + Drop>(
     alloc: Global,
     proving: Run<F>,

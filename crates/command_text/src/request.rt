@@ -44,9 +44,9 @@ pub(crate) fn request_of(line: &[u8]) -> Request
 
 /// Reads the command of a line without its end, or answers the first error.
 ///
-/// Words are separated by spaces and TABs. A line of more than 200 bytes is `LongLine`; a first word with which no
-/// command begins is `UnknownWord`, and so is a second one that does not complete it; a missing second word and a wrong
-/// number of words are `WordCount`; then the first word from the left that is no number of one to five digits in its range
+/// Words are separated by spaces and TABs. A line of more than 200 bytes is `LongLine`. A first word with which no
+/// command begins is `UnknownWord`, and so is a second one that does not complete it. A missing second word and a wrong
+/// number of words are `WordCount`. Then the first word from the left that is no number of one to five digits in its range
 /// is `BadNumber`, or no colour's letter `BadColour`. Rows, columns and lines are numbered from 1 in the text and from 0
 /// in the command. A line of at most 200 bytes without a word, which a session passes over, is `UnknownWord`.
 pub fn parse_command(line: &[u8]) -> Result<Command, CommandFault>

@@ -63,8 +63,8 @@ pub fn audit_anew<E: LineEngine, A: Agenda>(
     Ok((Audit { clues, book }, work))
 }
 
-/// Audits a document after a change, from the audit of the document before: its clues are refreshed, the steps that are still valid
-/// over what its givens exclude are kept, and the book is closed again from the dirty lines alone. The result is an audit of the
+/// Audits a document after a change, from the audit of the document before. Its clues are refreshed, and the steps that are still
+/// valid over what its givens exclude are kept. The book is closed again from the dirty lines alone. The result is an audit of the
 /// new document, with the same facts as one made from scratch. Also returns the work. The old audit is not changed. The only error
 /// is out of memory.
 pub fn audit_again<E: LineEngine, A: Agenda>(

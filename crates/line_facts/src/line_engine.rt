@@ -31,7 +31,7 @@ pub trait LineEngine {
 
     /// Finds which colours each cell of a line can still have. In `left` and `out` bit k of a cell's mask stands for
     /// colour k. A list of colours fits when it has the line's length, its clue is `clue`, and in each cell it has a
-    /// colour that is left there; each cell of `out` gets exactly the colours that some list that fits has there. The
+    /// colour that is left there. Each cell of `out` gets exactly the colours that some list that fits has there. The
     /// count of evaluations goes up by one, and stays at the largest `u64`. No memory is taken.
     fn narrow(&mut self, count: &mut u64, clue: &Clue, left: &[u16], out: &mut [u16]) -> Outcome
         requires same_length { length left.now ≡ length out.old }

@@ -179,7 +179,7 @@ impl<E: LineEngine + Drop, A: Agenda + Drop> Bench<E, A> {
     /// Whether another picture of the present one's size has its clues and, in the givens, its colours: Unique if there is none,
     /// Ambiguous with such a picture, and Undecided only if an allowance is set and the search of a part takes more splits. Where
     /// another filling of a part is kept, nothing is searched. Else the parts about which nothing is known are searched in order,
-    /// up to the first that has another filling or is broken off at the allowance. What the searches that ended found is kept, so
+    /// up to the first that has another filling or is broken off at the allowance. What the searches that ended found is kept. So
     /// a verdict that was decided is answered without a search until an accepted edit, undo or redo drops the filling that it
     /// showed or, where it was Unique, leaves a part about which nothing is known. Where memory runs out nothing changes but
     /// `calls`.

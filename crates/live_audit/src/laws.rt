@@ -10,7 +10,7 @@ ghost use Rattle.live_audit.specs.Laws.{
 
 #[tactic(auto, using(crate::proofs::CallLemmas::lists))]
 /// After any list of edits, undos and redos, verdicts, allowances and certificates, accepted or refused, the state is
-/// audited, history and allowance are the machine's, and each answer was right: each verdict was true of the picture that
+/// audited, history and allowance are the machine's, and each answer was right. Each verdict was true of the picture that
 /// was then present, and each certificate fits it. The engine's calls never fall.
 pub fn lists_stay_audited()
     ensures { ListsStayAudited }

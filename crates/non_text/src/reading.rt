@@ -19,9 +19,9 @@ use std::alloc::Global;
 /// Reads the puzzle of a .non text: the clues, and the goal where it has one.
 ///
 /// Keywords come in any order, lines that begin with `#` and other keywords are skipped, and bytes need not be UTF-8.
-/// If the text is not a puzzle, the first error is returned: line by line from the top a second `width`, `height`,
-/// `rows` or `columns` (`Repeated`) or a bad size, then a missing size, the rows' section, the columns' section and the
-/// goal. `Memory` is returned where memory runs out, before any later error.
+/// If the text is not a puzzle, the first error is returned. First come, line by line from the top, a second `width`,
+/// `height`, `rows` or `columns` (`Repeated`) and bad sizes; then a missing size, the rows' section, the columns' section
+/// and the goal. `Memory` is returned where memory runs out, before any later error.
 pub fn read_non(alloc: Global, bytes: &[u8]) -> Result<NonPuzzle, NonFault>
     ensures { Gives NonFault.Memory (λ puzzle. puzzle) result (non_of bytes.now) }
 {

@@ -37,7 +37,7 @@ pub fn fillings_are_of_facts()
 
 #[tactic(auto, using(crate::proofs::KnownLaws::fillings_stay))]
 /// A part whose lines are the same in two scenes is a part in both, and has another filling in the one exactly where it
-/// has one in the other: its colours on the part, with the other scene's picture elsewhere.
+/// has one in the other. Its colours on the part are the same; elsewhere it has those of the scene's picture.
 pub fn fillings_stay()
     ensures { FillingsStay }
 {}

@@ -39,8 +39,8 @@ IsShownBy has picture (Ok cells) (Ok cert) (Ok text) =
 IsShownBy has picture (Ok cells) (Ok cert) (Err fault) =
     (found : CertFault) × (FirstFaultWith picture cells cert (Some found) × (fault ≡ has (cert_fault_of found)))
 
--- What is to be shown for the texts of a picture, of givens and of a certificate: the error of the first of the three
--- readers and the checker that refuses, as a host has it, or the line where none does.
+-- What is to be shown for the texts of a picture, of givens and of a certificate. It is the error of the first of the
+-- three readers and the checker that refuses, as a host has it, or the line where none does.
 abbrev pub IsPublishedBy : {F : Type 0} → (CheckFault → F) → Result Content PpmFault → List ℕ
     → Result Certificate CertFault → Result (List ℕ) F → Type 0
 IsPublishedBy has (Err fault) givens certificate shown = shown ≡ Err (has (fault_of fault))

@@ -21,8 +21,8 @@ use picture::{CellSet, MAX_SIDE, Picture, Rgb};
 use ppm_text::read_ppm;
 use std::alloc::{AllocError, Global};
 
-/// Checks a certificate of the picture of a P3 text, whose background is the one that is passed, or else white: the line
-/// `certificate accepted`, with the number of givens where there are some, or the error of the first that refuses.
+/// Checks a certificate of the picture of a P3 text, whose background is the one that is passed, or else white. The answer
+/// is the line `certificate accepted`, with the number of givens where there are some, or the error of the first that refuses.
 pub fn checked_text(
     alloc: Global,
     file: &[u8],
