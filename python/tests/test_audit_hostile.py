@@ -476,6 +476,22 @@ class Strangers(Case):
                 with self.subTest(names, place=place):
                     self.assertEqual(read, {name: [name] if name in called else [] for name in read})
 
+    def test_a_folder_behind_a_link_that_leads_nowhere_is_not_missing(self):
+        """What the operator meant to be there is not read, and that is told of each puzzle."""
+        for name in ("one.ppm", "sub/one.ppm", "sub/deep/one.ppm"):
+            self.put(name, p3(UNIQUE))
+        (self.folder / "told").mkdir()
+        (self.folder / "told" / "one.cert").write_text(CERT)
+        os.symlink("nowhere", self.folder / "told" / "sub")
+        for option, word in (("--givens", "givens"), ("--certificates", "certificate")):
+            for more in ((), ("--untrusted",)):
+                rows = self.rows_of("site", option, "told", *more, status=3)
+                self.assertEqual([row.get("error") for row in rows.values()], [None, *[f"its {word}: No such file or directory"] * 2])
+        # A folder that is not there is none, and a link that leads to one is what that is.
+        (self.folder / "told" / "sub").unlink()
+        os.symlink("told", self.folder / "mine")
+        self.rows_of("site", "--givens", "mine", status=0)
+
     def test_outputs_go_through_no_link_of_strangers(self):
         self.put("one.ppm", p3(UNIQUE))
         kept, secret = self.folder / "kept", self.folder / "secret"

@@ -196,12 +196,16 @@ def _steps(real: str, prefix: str, front: str, places: Places) -> Iterator[Any]:
 
 @functools.lru_cache(maxsize=4)
 def _listed(folder: str) -> Optional[frozenset[tuple[str, bool]]]:
-    """The names in a folder, each with whether it is a folder's: none where the folder is missing, nothing where it cannot be listed."""
+    """The names in a folder, each with whether it is a folder's: none where the folder is missing, nothing where it cannot be listed, as
+    behind a link that leads nowhere.
+    """
     try:
         with os.scandir(folder or ".") as entries:
             return frozenset((entry.name, entry.is_dir(follow_symlinks=False)) for entry in entries)
     except (FileNotFoundError, NotADirectoryError):
-        return frozenset()
+        while folder and not os.path.lexists(folder):
+            folder = os.path.dirname(folder)
+        return frozenset() if not folder or os.path.exists(folder) else None
     except OSError:
         return None
 
