@@ -426,8 +426,7 @@ class Strangers(Case):
         places = finding.Places(str(mine), None, True)
 
         def held():
-            finding._listed.cache_clear()
-            finding._folder.cache_clear()
+            finding.forget()
             found = [one for paths in (["site"], ["site/one.ppm", "site/set.xml"]) for one in finding.find(paths, places)]
             return [[(of, os.path.basename(way)) for of, way in one.beside] for one in found if one.name in ("site/one.ppm", "site/set.xml")]
 
@@ -455,8 +454,7 @@ class Strangers(Case):
         os.chdir(self.folder)
 
         def puzzles(place):
-            finding._listed.cache_clear()
-            finding._folder.cache_clear()
+            finding.forget()
             found = finding.find([f"site/{at}"], finding.Places(place))
             return {f"{one.path}#{of}": (one, of) for one in found for of in range(1, 3 if one.path.endswith(".xml") else 2)}
 
@@ -491,6 +489,25 @@ class Strangers(Case):
         (self.folder / "told" / "sub").unlink()
         os.symlink("told", self.folder / "mine")
         self.rows_of("site", "--givens", "mine", status=0)
+
+    def test_what_one_puzzle_has_no_need_of_is_anothers(self):
+        """A certificate that two could claim is read by one of them, beside the puzzles and in a folder of its own."""
+        own = self.folder / "own"
+        own.mkdir()
+        self.put("a.xml", "")
+        self.put("a.xml.1.cert", "")
+        (own / "a.xml.1.cert").write_text("")
+        for name, reader in (("a.xml.1.ppm", "a.xml.1.ppm"), ("a.xml.1.pgm", "a.xml"), ("a.xml.xml", "a.xml.xml")):
+            called = f"{name}.1.cert" if name.endswith(".xml") else f"{name}.cert"
+            self.put(name, "")
+            self.put(called, "")
+            (own / called).write_text("")
+            for place, wanted in ((None, reader), (str(self.site), reader), (str(own), "a.xml")):
+                finding.forget()
+                found = finding.find([str(self.site)], finding.Places(place))
+                readers_of = [os.path.basename(one.path) for one in found for _, way in one.beside if way.endswith("/a.xml.1.cert")]
+                with self.subTest((name, place)):
+                    self.assertEqual(readers_of, [wanted])
 
     def test_outputs_go_through_no_link_of_strangers(self):
         self.put("one.ppm", p3(UNIQUE))

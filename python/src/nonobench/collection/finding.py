@@ -242,6 +242,29 @@ def _folder(prefix: str, real: str, front: str, listed: Optional[frozenset[tuple
     return Folder(prefix, real, front, files, *kinds, certificates, apart[0], told, told_in, apart[1], whole)
 
 
+@functools.lru_cache(maxsize=4)
+def pictures_in(real: str, front: str, places: Places) -> Folder:
+    """A folder of which the plain PPM pictures alone count as puzzles."""
+    listed = _listed(real)
+    kept = None if listed is None else frozenset(one for one in listed if one[1] or one[0].endswith(".ppm"))
+    return _folder(real, real, front, kept, places)
+
+
+def picture_of(folder: Folder, called: str, certificate: str) -> Optional[Found]:
+    """The picture that a certificate is for, or would be; nothing where another certificate takes its place."""
+    short = f"{called}.ppm"
+    found = [_found(folder, name) for name in (called, short) if _is_puzzle(folder, name)]
+    of = next((one for one in found if (1, certificate) in one.beside), None)
+    return of if of or _is_puzzle(folder, short) else _found(folder, short)
+
+
+def forget() -> None:
+    """Forgets what lay in folders."""
+    _listed.cache_clear()
+    _folder.cache_clear()
+    pictures_in.cache_clear()
+
+
 def _found(folder: Folder, name: str) -> Found:
     stem = os.path.splitext(name)[0]
     called = stem if _is_own(folder, name) else name if name not in folder.taken else name + NO_NAME
@@ -259,11 +282,11 @@ def _found(folder: Folder, name: str) -> Found:
 
 
 def _certificates(folder: Folder, name: str, stem: str) -> list[Named]:
-    """The certificates of each puzzle of a file: those after its whole name, else those after the stem. Beside puzzles both, where the
-    stem is its own.
+    """The certificates of each puzzle of a file: those after its whole name, else those after the stem. Beside puzzles both, where no other
+    has the stem.
     """
     found: list[Named] = []
-    is_both = not folder.is_held_apart and _is_own(folder, name)
+    is_both = not folder.is_held_apart and _is_alone(folder, name)
     for way in (name, stem):
         have = {one[:2] for one in found if not is_both}
         held = [one for key in ((way, way + "/") if name.lower().endswith(".xml") else (way,)) for one in sorted(folder.held.get(key, ()))]
@@ -272,20 +295,26 @@ def _certificates(folder: Folder, name: str, stem: str) -> list[Named]:
 
 
 def _is_others(folder: Folder, name: str, called: str) -> bool:
-    """Whether a certificate that a puzzle's could be called like is another's: of that with this whole name, but beside puzzles of that
-    with this stem, if the former has its stem for itself.
+    """Whether a certificate that a puzzle's could be called like is another's: of that with this whole name, but beside puzzles of the only
+    one with this stem, if the former has its stem for itself.
     """
     whole, number = _whole(folder, called), _NUMBER.fullmatch(called)
     if folder.is_held_apart or not whole:
         return whole not in ("", name) or not folder.is_held_apart and called != os.path.splitext(name)[0] and folder.stems[called] > 0
-    is_stem = folder.stems[called] > 0 or number is not None and number[1] in folder.sets
+    is_stem = folder.stems[called] == 1 or number is not None and number[1] in folder.sets and folder.stems[number[1]] == 1
     return (whole == name) == (is_stem and _is_own(folder, whole))
+
+
+def _is_alone(folder: Folder, name: str) -> bool:
+    """Whether no other puzzle has the stem of a file."""
+    stem, suffix = os.path.splitext(name)
+    return folder.stems[stem] == (suffix.lower() in SUFFIXES)
 
 
 def _is_own(folder: Folder, name: str) -> bool:
     """Whether a puzzle's certificate may be called after its stem: no other puzzle's could be called so, and no folder is."""
     stem, suffix = os.path.splitext(name)
-    if folder.stems[stem] != (suffix.lower() in SUFFIXES) or stem in folder.taken or _whole(folder, stem):
+    if not _is_alone(folder, name) or stem in folder.taken or _whole(folder, stem):
         return False
     return suffix.lower() != ".xml" or stem not in folder.numbers
 
