@@ -193,7 +193,7 @@ def test_a_path_that_is_too_long_is_not_nothing(site, checked, tmp_path, monkeyp
     monkeypatch.chdir(tmp_path)
     assert checked("site")[0] == 1
     status, lines = checked("site", "--givens", ours.name)
-    assert status == 3 and lines[0].endswith(": its givens: File name too long")
+    assert status == 3 and lines[0].endswith(": its background: File name too long")
 
 
 def test_givens_and_backgrounds_of_the_site_and_not_of_strangers(site, checked, tmp_path):
@@ -244,12 +244,43 @@ def test_what_lies_beside_a_picture_is_called_as_for_an_audit(site, checked):
     ])
 
 
-def test_what_lies_beside_a_picture_is_short(site, checked):
+def test_what_lies_beside_a_picture_is_bounded_as_a_picture_is(site, checked):
+    pair(site, "blanks", background=" " * 70 + "white\n" + " " * 70)
     pair(site, "long", CROSS, ONE, givens="x" * 16777217)
-    pair(site, "word", background="white" + " " * 60)
-    assert checked("site") == (3, [
-        "site/long.cert: its givens: more than 16777216 bytes", "site/word.cert: its background: more than 64 bytes",
-    ])
+    pair(site, "longer", background="white" + " " * 16777212)
+    assert checked("site") == (3, [f"site/{name}: more than 16777216 bytes" for name in ("long.cert: its givens", "longer.cert: its background")])
+
+
+def test_each_certificate_is_of_the_picture_of_which_it_is_for_an_audit(site, checked, tmp_path, capsys):
+    """In a folder of their own those after the whole name come first, and beside the pictures NAME.cert is of NAME.ppm."""
+    own = tmp_path / "own"
+    for place in (site, own):
+        pair(place, "one", None)
+        pair(place, "one.ppm", None, ONE)
+    pair(site, "one", certificate=None)
+    pair(site, "one.ppm", CROSS, None, **{"ppm.givens": "given 1 1\n"})
+    assert checked("site") == (0, [])
+    refused = ["own/one.ppm.cert: certificate UnpublishedGiven at line 2"]
+    for more in ((), ("--untrusted",)):
+        assert check_site.main(["site", "--certificates", "own", *more]) == 1
+        said = capsys.readouterr()
+        assert said.out.splitlines() == refused
+        assert said.err.splitlines() == ["nonobench-check-site: own/one.cert: not read, since its picture has another certificate", "accepted 0, refused 1, not read 0"]
+    (own / "one.ppm.cert").rename(own / "one.ppm.ppm.cert")
+    assert checked("site", "--certificates", "own") == (0, [])
+    # One after the whole name is read beside its picture, too.
+    (site / "one.cert").rename(site / "two.ppm.cert")
+    (site / "one.ppm").rename(site / "two.ppm")
+    assert checked("site") == (0, [])
+
+
+@pytest.mark.parametrize("option, said", [("--givens", "site/sub/in/one.cert: its givens: No such file or directory"), ("--certificates", "own/sub: this is a link")])
+def test_a_folder_behind_a_link_that_leads_nowhere_is_not_missing(site, checked, tmp_path, option, said):
+    pair(site, "sub/in/one")
+    pair(tmp_path / "own", "two", None)
+    pair(site, "two")
+    (tmp_path / "own" / "sub").symlink_to("nowhere")
+    assert checked("site", option, "own") == (3, [said])
 
 
 def test_numbers_of_a_given_that_are_too_long(site, checked):

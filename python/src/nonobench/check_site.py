@@ -7,11 +7,9 @@ nothing but regular files is read.
 from __future__ import annotations
 
 import argparse
-import errno
 import itertools
 import os
 import queue
-import stat
 import sys
 import traceback
 from concurrent.futures import ThreadPoolExecutor
@@ -23,15 +21,13 @@ from ._library import version
 from .collection import finding
 from .collection.arguments import _above_0, _memory, _seconds, _shard, add_allowed
 from .collection.outputs import hold_streams
-from .collection.puzzles import MOST_BYTES, Triple, Unreadable, one_line
+from .collection.puzzles import Triple, Unreadable, one_line
 from .collection.readers import bytes_of, ground_beside
 from .worker import Worker
 
 ACCEPTED, REFUSED, WRONG, UNREAD = range(4)  # the exit statuses; WRONG is that of wrong arguments
 INTERRUPTED = 130
 ENDINGS = tuple(f".{ending}" for ending in finding.ENDINGS)  # of certificates
-MOST_NAME = 255  # bytes: no file is called by more
-MOST_BACKGROUND = 64  # bytes
 PACK = 64  # certificates that wait for a worker, for each one
 
 ABOUT = """Checks each certificate (NAME.cert) below FOLDER with the picture NAME.ppm, a plain PPM text. It prints a line for each that fails: whose certificate is refused, or which has a flaw for which it is not fit to be published. The cells that are published with a puzzle are those of NAME.givens, a line
@@ -53,19 +49,27 @@ class Answer(NamedTuple):
     why: str = ""
 
 
+class Pair(NamedTuple):
+    """A certificate, and the picture that it is for."""
+
+    file: str  # as it is shown
+    certificate: str
+    found: finding.Found
+
+
 class Site:
     """Where the files of a site are."""
 
     def __init__(self, told: argparse.Namespace) -> None:
-        self._certificates = told.certificates or told.folder
+        finding.forget()
+        self._certificates, self._is_apart = told.certificates or told.folder, told.certificates is not None
         published = told.givens or (None if told.untrusted else told.folder)
         # The real paths, of which nothing below them may be a link.
-        self._folder, self._held, self._published = (
-            folder and os.path.realpath(folder) for folder in (told.folder, self._certificates, published)
-        )
+        self._folder, *held = (folder and os.path.realpath(folder) for folder in (told.folder, self._certificates, published))
+        self._places = finding.Places(*held, told.untrusted)
         self._shard = told.shard
         self.unsearched: list[Answer] = []
-        self.unread: list[str] = []  # those of the older ending with a certificate beside them
+        self.unread: list[Answer] = []  # in whose place another certificate is
 
     def certificates(self) -> list[str]:
         """The certificates of a share, in order, below their folder. What is called so and is no folder is among them.
@@ -83,61 +87,44 @@ class Site:
                             waiting.append(entry.path)
                         elif entry.name.lower().endswith(ENDINGS):
                             found.append(entry.path)
+                        elif self._is_apart and not os.path.exists(entry.path):
+                            self.unsearched.append(Answer(entry.path, UNREAD, "this is a link"))
             except OSError as error:
                 self.unsearched.append(Answer(os.path.join(place, ""), UNREAD, error.strerror))
         newer = {os.path.splitext(file)[0] for file in found if file.lower().endswith(ENDINGS[0])}
-        self.unread = sorted(file for file in found if not file.lower().endswith(ENDINGS[0]) and os.path.splitext(file)[0] in newer)
-        names = [os.path.relpath(file, self._certificates) for file in sorted({*found}.difference(self.unread))]
+        older = sorted(file for file in found if not file.lower().endswith(ENDINGS[0]) and os.path.splitext(file)[0] in newer)
+        self.unread += [Answer(file, ACCEPTED, "not read, since a .cert is there") for file in older]
+        names = [os.path.relpath(file, self._certificates) for file in sorted({*found}.difference(older))]
         # One that comes in the place of an older one is in its share.
         return [name for name in names if finding.is_in_share(finding.shown(os.path.splitext(name)[0]), self._shard)]
 
-    def path(self, name: str) -> str:
-        """The path of a certificate, as it is shown."""
-        return os.path.join(self._certificates, name)
-
-    def certificate(self, name: str) -> bytes:
-        """The bytes of a certificate."""
-        return _read("", os.path.join(self._held, name), MOST_BYTES)
-
-    def picture(self, stem: str) -> bytes:
-        """The bytes of a picture."""
-        return _read("its picture: ", os.path.join(self._folder, f"{stem}.ppm"), MOST_BYTES)
-
-    def background(self, stem: str) -> Optional[Triple]:
-        """The background of a picture; nothing for white."""
-        text = self.beside(stem, "background", MOST_BACKGROUND)
-        try:
-            ground = ground_beside(b"white" if text is None else text)
-            if ground.is_corner:
-                raise ValueError("must be white or R,G,B")
-            return ground.triple
-        except ValueError as error:
-            raise Unreadable(f"its background {error}") from error
-
-    def beside(self, stem: str, ending: str, most: int) -> Optional[bytes]:
-        """What the site has beside a picture; nothing where it has no such file."""
-        if self._published is None:
-            return None
-        # Beside pictures, a file that is called after the whole name is that of the picture with this name and the suffix.
-        is_other = self._published == self._folder and not _is_missing(os.path.join(self._folder, f"{stem}.ppm.ppm"), True)
-        whole = stem if is_other else f"{stem}.ppm"
-        paths = [os.path.join(self._published, name) for name in finding.called_beside(whole, stem, f".{ending}")]
-        path = next(itertools.filterfalse(_is_missing, paths), None)
-        return None if path is None else _read(f"its {ending}: ", path, most)
+    def pairs(self, names: list[str]) -> Iterator[Pair]:
+        """Certificates with their pictures, by the one rule of names."""
+        for name in names:
+            front = os.path.join(os.path.dirname(name), "")
+            folder = finding.pictures_in(os.path.join(self._folder, front), front, self._places)
+            file, certificate = (os.path.join(way, name) for way in (self._certificates, self._places.certificates or ""))
+            found = finding.picture_of(folder, os.path.splitext(os.path.basename(name))[0], certificate)
+            if found is None:
+                self.unread.append(Answer(file, ACCEPTED, "not read, since its picture has another certificate"))
+            else:
+                yield Pair(file, certificate, found)
 
 
-def _is_missing(path: str, is_picture: bool = False) -> bool:
-    """Whether nothing is there; for a picture also whether a folder is. Where that cannot be told, it cannot be read either."""
+def _background(path: Optional[str]) -> Optional[Triple]:
+    """The background of a picture; nothing for white."""
     try:
-        return stat.S_ISDIR(os.lstat(path).st_mode) and is_picture
-    except OSError as error:
-        is_no_name = error.errno == errno.ENAMETOOLONG and len(os.fsencode(os.path.basename(path))) > MOST_NAME
-        return is_no_name or error.errno in (errno.ENOENT, errno.ENOTDIR)
+        ground = ground_beside(b"white" if path is None else _read("its background: ", path))
+        if ground.is_corner:
+            raise ValueError("must be white or R,G,B")
+        return ground.triple
+    except ValueError as error:
+        raise Unreadable(f"its background {error}") from error
 
 
-def _read(whose: str, path: str, most: int) -> bytes:
+def _read(whose: str, path: str) -> bytes:
     try:
-        return bytes_of(path, most, follows=False, is_real=True)
+        return bytes_of(path, follows=False, is_real=True)
     except Unreadable as error:
         raise Unreadable(f"{whose}{error}") from error
 
@@ -145,28 +132,27 @@ def _read(whose: str, path: str, most: int) -> bytes:
 class Checks:
     """Checks the certificates of a site, as many at a time as there are workers."""
 
-    def __init__(self, site: Site, told: argparse.Namespace) -> None:
-        self._site = site
+    def __init__(self, told: argparse.Namespace) -> None:
         self._jobs = told.jobs
         self._allowed = told.allowed
         self._workers: queue.SimpleQueue[Worker] = queue.SimpleQueue()
         for _ in range(told.jobs):
             self._workers.put(Worker(told.seconds, told.memory << 20, told.processor))
 
-    def answers(self, names: list[str]) -> Iterator[Answer]:
+    def answers(self, pairs: Iterator[Pair]) -> Iterator[Answer]:
         """What is said of each, in order."""
         pool = ThreadPoolExecutor(self._jobs)
-        for at in range(0, len(names), PACK * self._jobs):
-            yield from pool.map(self._answer, names[at : at + PACK * self._jobs])
+        while pack := list(itertools.islice(pairs, PACK * self._jobs)):
+            yield from pool.map(self._answer, pack)
         pool.shutdown()
 
-    def _answer(self, name: str) -> Answer:
-        file, certificate = self._site.path(name), b""
+    def _answer(self, pair: Pair) -> Answer:
+        (file, path, found), certificate = pair, b""
         worker = self._workers.get()
         try:
-            certificate, stem = self._site.certificate(name), os.path.splitext(name)[0]
-            givens = self._site.beside(stem, "givens", MOST_BYTES) or b""
-            said = worker.assess(self._site.picture(stem), certificate, self._site.background(stem), givens)
+            certificate = _read("", path)
+            givens = b"" if found.givens is None else _read("its givens: ", found.givens)
+            said = worker.assess(_read("its picture: ", found.path), certificate, _background(found.background), givens)
             flaws = refused_flaws(map(str, said.flaws), self._allowed)
         except Fault as fault:
             hint = hint_of(fault, certificate)
@@ -212,13 +198,13 @@ def _run(told: argparse.Namespace) -> int:
     names = site.certificates()
     if not names and told.shard[1] == 1:
         site.unsearched.append(Answer(os.path.join(told.certificates or told.folder, ""), UNREAD, "there is no certificate"))
-    for file in site.unread:
-        print(f"nonobench-check-site: {line_of(Answer(file, ACCEPTED, 'not read, since a .cert is there'))}", file=sys.stderr)
     counts = {ACCEPTED: 0, REFUSED: 0, UNREAD: 0}
-    for answer in itertools.chain(site.unsearched, Checks(site, told).answers(names)):
+    for answer in itertools.chain(site.unsearched, Checks(told).answers(site.pairs(names))):
         counts[answer.status] += 1
         if answer.status != ACCEPTED:
             print(line_of(answer), flush=True)
+    for answer in site.unread:
+        print(f"nonobench-check-site: {line_of(answer)}", file=sys.stderr)
     if not told.quiet:
         print(f"accepted {counts[ACCEPTED]}, refused {counts[REFUSED]}, not read {counts[UNREAD]}", file=sys.stderr)
     return UNREAD if counts[UNREAD] else REFUSED if counts[REFUSED] else ACCEPTED
