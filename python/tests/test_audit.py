@@ -1127,6 +1127,18 @@ class Running(Case):
         self.run_audit("site", "--certificates", "certs", status=0)
 
     @pytest.mark.since("0.7.0")
+    def test_a_certificate_of_a_puzzle_that_a_set_does_not_have(self):
+        self.put("set.xml", "<puzzleset>" + webpbn(UNIQUE) * 2 + "</puzzleset>")
+        (self.folder / "certs").mkdir()
+        for place in (self.folder / "certs", self.site):
+            (place / "set.7.cert").write_text(CERT)
+        for more in ((), ("--resume",)):
+            said = self.run_audit("site", "--jsonl", "rows", "--jobs", "1", *more, status=0).stderr
+            self.assertIn("nonobench-audit: site/set.7.cert: not read, since there is no such puzzle\n", said)
+        said = self.run_audit("site", "--certificates", "certs", "--jobs", "1", status=3).stderr
+        self.assertIn("nonobench-audit: certs: no certificate in it is of one of these puzzles\n", said)
+
+    @pytest.mark.since("0.7.0")
     def test_givens_that_do_not_fit(self):
         self.put("one.ppm", p3(AMBIGUOUS))
         for text, why in (("given 3 1\n", "Place at line 1"), ("given 1 1\ngiven 1\n", "BadLine at line 2"), ("x", "BadLine at line 1"),

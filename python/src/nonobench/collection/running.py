@@ -50,6 +50,7 @@ class Kept(NamedTuple):
 
     rows: tuple[tuple[int, str], ...]  # where each is, and its verdict
     to: Optional[str]
+    beside: tuple[tuple[int, str], ...] = ()  # certificates, each with the number of its puzzle
 
 
 def main(words: Optional[list[str]] = None) -> int:
@@ -104,6 +105,7 @@ class Run:
         self._since = time.monotonic()  # when that came to be the next
         self._beside = 0  # how many certificates lie beside the puzzles
         self._unread: list[str] = []  # those of an older name that are not read
+        self._lost: list[str] = []  # those of puzzles that their files do not have
         self._is_elsewhere = False  # whether other shares have files
 
     def audit(self) -> int:
@@ -202,7 +204,7 @@ class Run:
             rows = [] if self._earlier is None else self._earlier.rows(found.name)
             before = content_before(rows, settings.made, settings.limit, to, published)
             rows = rows if before else []
-            self._kept[number] = Kept(tuple((place, row["verdict"]) for place, row in rows), to)
+            self._kept[number] = Kept(tuple((place, row["verdict"]) for place, row in rows), to, found.beside)
             beside = found.beside, found.givens, found.background
             yield Task(number, found.name, found.path, *beside, to, before, 1, FULL, published, to_check(rows, to, published))
 
@@ -223,7 +225,7 @@ class Run:
         if status:
             for number in sorted(self._complete):
                 self._release(number)
-        if is_whole and options.certificates is not None and options.shard == (1, 1) and not self._beside:
+        if is_whole and options.certificates is not None and options.shard == (1, 1) and self._beside == len(self._lost):
             failures.append(Failure(f"{options.certificates}: no certificate in it is of one of these puzzles"))
         if is_whole and not self._tally.total and not self._is_elsewhere:
             failures.append(Failure(f"no puzzles in {', '.join(options.paths)}"))
@@ -303,17 +305,20 @@ class Run:
 
     def _deliver_answer(self, answer: Answer) -> None:
         self._size -= len(answer.text)
+        beside = self._kept[answer.number].beside
         if answer.verdict == "same":
             assert self._earlier is not None
             for place, _ in self._kept[answer.number].rows:
-                self._deliver(text_of(self._earlier.row(place)), place)
+                self._deliver(text_of(self._earlier.row(place)), place, beside)
         elif answer.verdict != "none":
-            self._deliver(self._text_of(answer), answer.place)
+            self._deliver(self._text_of(answer), answer.place, beside)
 
-    def _deliver(self, text: str, place: Optional[int] = None) -> None:
+    def _deliver(self, text: str, place: Optional[int] = None, beside: tuple[tuple[int, str], ...] = ()) -> None:
         """Puts a row into what is written. One that has a place in the file of rows stays there."""
         row = row_of(text)
         self._tally.put(row)
+        if not row.get("more") and row["verdict"] != "error":  # the last one of its file
+            self._lost += [path for number, path in beside if number > row.get("puzzle", 1)]
         for sink in self._sinks:
             if sink is self._lines and place is not None:
                 self._lines.keep(place)
@@ -322,7 +327,7 @@ class Run:
 
     def _summary(self, is_whole: bool, is_stopped: bool) -> None:
         options, summary = self._options, self._tally.summary()
-        self._tally.warn(options, is_stopped, self._unread)
+        self._tally.warn(options, is_stopped, {"a .cert is there": self._unread, "there is no such puzzle": self._lost})
         if options.is_quiet or "-" in (options.jsonl, options.csv):
             return
         table = next((sink for sink in self._sinks if isinstance(sink, Table)), None)

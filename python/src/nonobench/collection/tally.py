@@ -56,15 +56,16 @@ class Tally:
             lines.append(f"besides: {counted(self.flaws, sorted(self.flaws))}")
         return "\n".join(lines)
 
-    def warn(self, options: Options, is_stopped: bool, unread: list[str]) -> None:
+    def warn(self, options: Options, is_stopped: bool, unread: dict[str, list[str]]) -> None:
         """Says on standard error what kept the run from judging all."""
         lines = [f"{count} not read, since {name} is not installed" for name, count in sorted(self._missing.items())]
         lines += [f"{word}s not written: {count}" for word, count in sorted(self._unwritten.items())]
         if self._bare and options.certify is not None:
             lines.append(f"unique, but no certificate made in time or memory: {self._bare}")
-        if unread:
-            more = f" and {len(unread) - 1} more" if unread[1:] else ""
-            lines.append(f"{printable(shown(unread[0]))}{more}: not read, since a .cert is there")
+        for why, paths in unread.items():
+            if paths:
+                more = f" and {len(paths) - 1} more" if paths[1:] else ""
+                lines.append(f"{printable(shown(paths[0]))}{more}: not read, since {why}")
         if is_stopped:
             again = " (--resume goes on)" if options.jsonl not in (None, "-") else ""
             lines.append(f"stopped after {self.total} puzzles{again}")
