@@ -874,6 +874,12 @@ class Outputs(Case):
                     self.assertEqual((done.returncode, done.stdout, done.stderr), (status, "", said))
         self.assertEqual(len(self.read("rows")), 2)
 
+    def test_too_few_open_files(self):
+        self.put("one.ppm", p3(UNIQUE))
+        words = ["sh", "-c", 'ulimit -n 7; exec "$@"', "sh", *self.words("site", "--jobs", "1")]
+        done = subprocess.run(words, cwd=self.folder, env=self.env(), capture_output=True, text=True, check=False, timeout=PATIENCE)
+        self.assertEqual((done.returncode, done.stderr), (3, "nonobench-audit: [Errno 24] Too many open files\n"))
+
     def test_less_memory_than_is_asked_for(self):
         bound = lambda: resource.setrlimit(resource.RLIMIT_AS, (900 << 20, 900 << 20))  # noqa: E731
         done = subprocess.run(self.words("site"), cwd=self.folder, env=self.env(), capture_output=True, text=True, preexec_fn=bound)

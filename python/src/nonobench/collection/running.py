@@ -61,7 +61,7 @@ def main(words: Optional[list[str]] = None) -> int:
     try:
         options = options_of(sys.argv[1:] if words is None else words)
         return Run(options).merge() if options.is_merge else Run(options).audit()
-    except (Failure, Broken) as error:
+    except (Failure, Broken, OSError) as error:  # of the last ones none is known but of a machine that lacks something
         print(f"nonobench-audit: {printable(str(error))}", file=sys.stderr)
         return ERRORS
     except Stopped as error:
@@ -219,7 +219,7 @@ class Run:
         except Stopped as stopped:
             status = stopped.status
         except Exception as error:  # what is done is kept then too
-            if not isinstance(error, (Failure, Broken)):
+            if not isinstance(error, (Failure, Broken, OSError)):
                 traceback.print_exc()
             failures.append(error)
         if status:
