@@ -13,6 +13,7 @@ import { inkName, wordOf } from '../view/dress.js';
 import { crossedOff } from './crossing.js';
 import { play, playColumn } from './play.js';
 import { drawShown } from './shown.js';
+import { isWalking } from './walking.js';
 
 // Cells without a mark: in the dark a grey from which both black and white stand out.
 const [BLANK, DARK_BLANK] = [[255, 254, 251], [118, 122, 128]];
@@ -159,31 +160,33 @@ function drawPlayField() {
   const look = playLook();
   const surface = playSurface('play-field', ...fieldSize());
   const frame = playFrame();
+  const isPlain = play.isSolved && !isWalking(); // what is solved is a picture: without signs of marks, and without the cursor of a pointer
   surface.rect(0, 0, ...fieldSize(), `rgb(${look.blank.join(' ')})`);
   drawRules(surface, look, frame);
   play.marks.forEach((row, at) => {
     const [y, high] = edges(look, at, at + 1, frame.y, side, state.rows);
     row.forEach((mark, col) => {
       const [x, wide] = edges(look, col, col + 1, frame.x, side, state.columns);
-      drawPlayCell(surface, look, { mark, index: at * state.columns + col, x, y, wide, high });
+      drawPlayCell(surface, look, { mark: isPlain && mark === '?' ? '.' : mark, isPlain, index: at * state.columns + col, x, y, wide, high });
     });
   });
   const { pen } = surface;
   drawShown(pen);
+  if (isPlain && !pen.canvas.matches(':focus-visible')) return;
   pen.strokeStyle = look.here;
   pen.lineWidth = 2.5;
   pen.strokeRect(frame.x + play.at.col * side, frame.y + play.at.row * side, side, side);
 }
 
 // A mark in its colour; one that hardly stands out from cells without a mark has an edge that does. Background has a cross.
-function drawPlayMark(surface, look, { mark, x, y, wide, high }) {
+function drawPlayMark(surface, look, { mark, isPlain, x, y, wide, high }) {
   const { colours, maxval } = play.state;
   const at = LETTERS.indexOf(mark);
   surface.rect(x, y, wide, high, look.fills[at]);
+  if (isPlain) return;
   if (mark === '.') drawCross(surface, look, x + wide / 2, y + high / 2, high);
   else if (contrastOf(eightBits(colours[at], maxval), look.blank) < LEAST_CONTRAST) {
-    const inset = high * 0.13;
-    surface.chip(x + inset, y + inset, wide - 2 * inset, high - 2 * inset, { fill: look.fills[at], edge: look.inks[at], weight: Math.max(1, high * 0.07) });
+    surface.chip(x, y, wide, high, { fill: look.fills[at], edge: look.inks[at], weight: Math.max(1, high * 0.07) });
   }
 }
 
@@ -193,9 +196,9 @@ function drawCross(surface, look, x, y, side) {
 }
 
 function drawPlayCell(surface, look, cell) {
-  const { mark, index, x, y, wide, high } = cell;
+  const { mark, isPlain, index, x, y, wide, high } = cell;
   if (mark !== '?') drawPlayMark(surface, look, cell);
-  if (play.state.givens.has(index)) drawGiven(surface, x, y, high);
+  if (!isPlain && play.state.givens.has(index)) drawGiven(surface, x, y, high);
   if (!play.wrong.has(index)) return;
   for (const [ink, breadth] of [['#fff', 4], [look.alarm, 2]]) {
     surface.line(x + 3, y + 3, x + wide - 3, y + high - 3, ink, breadth);

@@ -273,3 +273,37 @@ export async function marksStay({ browser, url, folder }) {
     assert.deepEqual(page.faults, []);
     await page.close();
 }
+
+// How many pixels of a cell of the player are dark; `inset` of its side is left out all around.
+const darkIn = (page, row, col, inset) => page.run((r, c, part) => {
+    const scale = devicePixelRatio;
+    const [x, y, wide] = [c + part, r + part, 1 - 2 * part].map((one) => Math.round(one * play.side * scale));
+    const { data } = document.getElementById('play-field').getContext('2d').getImageData(x + scale, y + scale, wide, wide);
+    return data.filter((_, at) => at % 4 === 0 && data[at] < 100).length;
+}, row - 1, col - 1, inset);
+
+/** A pale mark has an edge around its cell, not a square in it; help tells of it; and what is solved is shown without edges and crosses. */
+export async function solvedIsPlain({ browser, url, folder }) {
+    const trial = await start(browser, url, folder, UPRIGHT[0]);
+    const { page } = trial;
+    await trial.open(ppmOf(['a.', 'aa'], { '.': '255 255 255', a: '255 210 40' }), 'pale');
+    await page.run(() => { runAction('play'); });
+    await inPlayer(page);
+    const hands = new Hands(page, trial, 'touch');
+    await hands.mark('a', [[1, 1]]);
+    await hands.mark('.', [[1, 2]]);
+    assert.equal(await darkIn(page, 1, 1, 0.15), 0, 'no square in the cell');
+    assert.ok(await darkIn(page, 1, 1, 0.02) > 0, 'but an edge');
+    assert.ok(await darkIn(page, 1, 2, 0.15) > 0, 'a cross');
+    await hands.press('#play-help');
+    await page.until(() => /gets an edge/.test(document.querySelector('dialog .help').textContent), 3000 * SLACK);
+    await page.run(() => document.querySelector('dialog:has(.help)').close());
+    await hands.mark('a', [[2, 1], [2, 2]]);
+    assert.match(await trial.text('#play-said'), /^Solved/);
+    for (const [row, col] of [[1, 1], [1, 2], [2, 1], [2, 2]]) assert.equal(await darkIn(page, row, col, 0.06), 0, `row ${row}, column ${col} is plain`);
+    await page.shot(`${folder}/player-solved.png`);
+    await hands.press('#play-undo');
+    assert.ok(await darkIn(page, 1, 2, 0.15) > 0, 'the cross is back');
+    assert.deepEqual(page.faults, []);
+    await page.close();
+}
