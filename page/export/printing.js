@@ -127,7 +127,7 @@ function tintsText(doc) {
 // What is to be known before it is printed.
 function warningsOf(puzzle, near) {
   const parts = isLarge(puzzle) ? phrase('export.goesOverSheetsMap', { sheets: partsOf(puzzle.doc).length }) : '';
-  return [WARNINGS[puzzle.verdict], near ? phrase('export.soSheetLettersSigns', { near }) : tintsText(puzzle.doc), parts].filter(Boolean).map((text) => make('p', { class: text === parts ? 'faint' : 'wrong' }, text));
+  return [WARNINGS[puzzle.verdict], near ? phrase('export.soSheetLettersSigns', { near }) : '', parts].filter(Boolean).map((text) => make('p', { class: text === parts ? 'faint' : 'wrong' }, text));
 }
 
 async function printPuzzle() {
@@ -136,13 +136,15 @@ async function printPuzzle() {
   const { fields, rows } = printFields(near, gradeAtHand());
   const others = libraryPart(await otherCards());
   const small = make('p', { class: 'faint', id: 'print-small', role: 'status' });
-  const content = make('div', { class: 'rows' }, ...rows, others.part, ...warningsOf(own, near), small);
+  const alikeTints = make('p', { class: 'wrong', id: 'print-tints' }, near ? '' : tintsText(own.doc));
+  const content = make('div', { class: 'rows' }, ...rows, others.part, ...warningsOf(own, near), alikeTints, small);
   const svgName = make('span');
   const isZip = (sheets) => sheets.length > 1 || others.chosen().length > 0;
   const showSmall = () => {
     const options = readFields(fields);
     const sheets = sheetsFor([own], options);
     small.textContent = smallOn(sheets, [own], options);
+    alikeTints.hidden = options.show !== 'colours' || !alikeTints.textContent; // letters and symbols tell them apart
     svgName.textContent = isZip(sheets) ? phrase('export.saveSvgs') : phrase('export.saveSvg');
   };
   content.addEventListener('change', showSmall);

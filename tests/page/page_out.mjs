@@ -474,3 +474,24 @@ export async function othersPoint(hands, { page, trial, own }) {
     assert.equal(sheet.name, 'No.5  a cat-print.svg');
     assert.match(sheet.content.toString(), />darker blue<[^]*>lighter blue</);
 }
+
+/** That tints look alike on paper is said as long as the sheet has them: not beside letters or symbols. */
+export async function tintsOnPaper({ browser, url, folder }) {
+    const { page, trial } = await fresh(browser, url, folder, 'tints');
+    await trial.open(ppmOf(['ab', '.a'], { '.': '255 255 255', a: '120 0 0', b: '120 60 0' }), 'tints');
+    await menu(page, 'print');
+    await page.until(() => document.querySelector('#print-show'), 3000 * SLACK);
+    const isTold = () => page.run(() => [...document.querySelectorAll('dialog p.wrong')].some((one) => one.checkVisibility() && /look alike on paper/.test(one.textContent)));
+    const told = [];
+    for (const show of ['colours', 'letters', 'signs', 'colours']) {
+        await page.run((value) => {
+            const choice = document.getElementById('print-show');
+            choice.value = value;
+            choice.dispatchEvent(new Event('change', { bubbles: true }));
+        }, show);
+        told.push(await isTold());
+    }
+    assert.deepEqual(told, [true, false, false, true]);
+    assert.deepEqual(page.faults, []);
+    await page.close();
+}
