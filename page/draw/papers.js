@@ -104,10 +104,10 @@ const givensIn = ({ doc, frame: { top, left, bottom, right } }) => [...doc.given
 
 const boxOf = ({ frame: { x, y, cell } }, row, from, to) => [x + from * cell, y + row * cell, (to - from) * cell, cell];
 
-function drawPaperSign({ surface, look, frame: { x, y, cell } }, row, col, at) {
+function drawPaperSign({ surface, look, frame: { x, y, cell } }, row, col, at, ink = PAPER_INK) {
   const middle = { x: x + (col + 0.5) * cell, y: y + (row + 0.5) * cell };
   if (at === 0) surface.text('×', middle.x, middle.y, { size: cell * 0.7, ink: look.signs ? PAPER_INK : PAPER_FAINT, family: look.family });
-  else drawSign(surface, look, at, { ...middle, size: cell * 0.7, ink: PAPER_INK });
+  else drawSign(surface, look, at, { ...middle, size: cell * 0.7, ink });
 }
 
 function drawGivenCells(board) {
@@ -118,7 +118,7 @@ function drawGivenCells(board) {
   }
 }
 
-// One shape for a run of one colour, or a sign a cell.
+// One shape for a run of one colour, and on it a sign a cell where signs tell colours.
 function drawSolution(board) {
   const { surface, doc, look, frame: { top, left, bottom, right } } = board;
   for (let row = top; row <= bottom; row++) {
@@ -126,9 +126,8 @@ function drawSolution(board) {
     for (let from = left, to; from <= right; from = to) {
       for (to = from + 1; to <= right && letters[to] === letters[from];) to++;
       const at = LETTERS.indexOf(letters[from]);
-      if (!look.signs) {
-        if (look.fills[at] !== '#ffffff') surface.rect(...boxOf(board, row, from, to), look.fills[at]);
-      } else if (at > 0) for (let col = from; col < to; col++) drawPaperSign(board, row, col, at);
+      if (look.fills[at] !== '#ffffff') surface.rect(...boxOf(board, row, from, to), look.fills[at]);
+      if (look.signs && at > 0) for (let col = from; col < to; col++) drawPaperSign(board, row, col, at, look.inks[at]);
     }
   }
 }

@@ -54,7 +54,7 @@ function legendRows(items, width, size) {
   const rows = [[]];
   let used = 0;
   for (const item of items) {
-    const room = (item.text.length * DIGIT + 3) * size;
+    const room = (item.text.length * DIGIT + (item.sign ? 4.1 : 3)) * size;
     if (used + room > width && rows.at(-1).length) {
       rows.push([]);
       used = 0;
@@ -68,9 +68,10 @@ function legendRows(items, width, size) {
 function drawLegend(surface, rows, { x, y, size }) {
   rows.forEach((row, at) => row.forEach((item) => {
     const top = y + at * size * 1.5;
+    const left = x + item.x + (item.sign ? size * 1.1 : 0);
     if (item.sign) surface.text(item.sign, x + item.x + size * 0.45, top + size * 0.5, { size, ink: PAPER_INK, family: PAPER_FAMILY, weight: 600 });
-    else surface.chip(x + item.x, top, size * 0.9, size * 0.9, { fill: item.fill, edge: FAINT, weight: size * 0.05 });
-    surface.text(item.text, x + item.x + size * 1.2, top + size * 0.5, { size, ink: PAPER_INK, family: PAPER_FAMILY, anchor: 'start' });
+    surface.chip(left, top, size * 0.9, size * 0.9, { fill: item.fill, edge: FAINT, weight: size * 0.05 });
+    surface.text(item.text, left + size * 1.2, top + size * 0.5, { size, ink: PAPER_INK, family: PAPER_FAMILY, anchor: 'start' });
   }));
 }
 

@@ -109,6 +109,14 @@ test('letters and signs for colours, in clues, solution and legend', () => {
     assert.deepEqual(textsOf(letters).slice(-7, -1).map(({ text }) => text), ['a', 'red', 'b', 'blue', 'c', 'green']);
     assert.deepEqual(textsOf(solved).filter(({ text }) => /^[abc]$/.test(text)).map(({ text }) => text), ['a', 'a', 'b', 'c', 'c']);
     assert.deepEqual(textsOf(solved)[0].text, 'puzzle 1: solution');
+    const swatches = rectsOf(letters).filter(({ stroke }) => stroke === '#555');
+    assert.deepEqual(swatches.map(({ fill }) => fill), ['#c80000', '#0000c8', '#00b400'], 'a letter, its colour, its name');
+    for (const [at, { x, width }] of swatches.entries()) {
+        const [letter, name] = textsOf(letters).slice(-7, -1).slice(2 * at, 2 * at + 2);
+        assert.ok(letter.x < x && x + width < name.x, `swatch ${at}`);
+    }
+    assert.deepEqual(rectsOf(solved).filter(({ fill }) => /^#(c80000|0000c8|00b400)$/.test(fill)).map(({ fill, width, height }) => [fill, width / height]), [['#c80000', 2], ['#0000c8', 1], ['#00b400', 2]], 'the solution in colours');
+    assert.deepEqual(textsOf(solved).filter(({ text }) => /^[abc]$/.test(text)).map(({ fill }) => fill), ['#fff', '#fff', '#fff', '#000', '#000'], 'letters are read on them');
     const [signs] = sheets([doc], { show: 'signs' });
     assert.deepEqual(digitsOf(signs), ['1●', '2■', '2▲', '1■', '1▲', '1■', '1▲', '1●']);
     assert.deepEqual(textsOf(signs).slice(-6).map(({ text }) => text), ['■', 'red', '●', 'blue', '▲', 'green']);
