@@ -1,8 +1,7 @@
 // A picture into a puzzle: a dialog with the image, the part that is taken, the size in cells, the colours, and what comes of it,
 // drawn anew at each change, with its verdict.
 
-import { make, say } from '../base/elements.js';
-import { on } from '../base/events.js';
+import { make } from '../base/elements.js';
 import { capital, clamp } from '../base/words.js';
 import { MOST_CELLS, MOST_COLOURS } from '../document/limits.js';
 import { COLOUR_NAMES } from '../document/named.js';
@@ -10,7 +9,7 @@ import { drawSmall, penOf, penWith } from '../draw/small.js';
 import { kindOfPalette } from '../formats/palettes.js';
 import { openDoc } from '../library/open.js';
 import { phrase } from '../texts/phrase.js';
-import { actions, runAction } from '../view/actions.js';
+import { sayWith } from '../view/actions.js';
 import { openDialog } from '../view/dialogs.js';
 import { Alike } from './alike.js';
 import { contactSheet, sizesFor } from './contacts.js';
@@ -295,17 +294,6 @@ export async function takesPalette(file) {
   return true;
 }
 
-// Says a text, with a button for an empty margin where the picture has one; the next stroke takes it back.
-function offerTrim(text) {
-  const { name, can } = actions.get('trim');
-  if (!can()) return say(text);
-  const unsay = say(text, '', { name, run: () => runAction('trim') });
-  const end = on('stroke', () => {
-    end();
-    unsay();
-  });
-}
-
 /** Lets the user make a puzzle of an image; answers whether one was opened. */
 export async function importImage(image, name) {
   const importing = new Importing(image);
@@ -315,6 +303,6 @@ export async function importImage(image, name) {
   if (atHand === importing) atHand = null;
   if (importing.isSheet) return cutSheet(image, importing.canvas, name);
   if (!doc || !(await openDoc(doc, { name, isSaved: false }))) return false;
-  offerTrim(phrase('import.madeFromImageVerdict', { name }));
+  sayWith(phrase('import.madeFromImageVerdict', { name }), '', 'trim'); // where it has an empty margin
   return true;
 }

@@ -435,7 +435,7 @@ export const DE = /** @type {const} */ ({
   'view.searchUntilStopped': 'Bis zum Abbruch suchen',
   'view.searchS': '{seconds} s lang suchen',
   'view.of': ' von {seconds}',
-  'view.thereNoCertificateAnother': 'Es gibt kein Zertifikat: Ein anderes Bild hat dieselben Hinweise.',
+  'view.thereNoCertificateAnother': 'Es gibt kein Zertifikat, denn das Rätsel hat eine zweite Lösung. „Reparieren“ sucht Änderungen, die nur eine lassen.',
   'view.noCertificateFoundWithin': 'In {secondsChosen} s wurde kein Zertifikat gefunden. Wählen Sie eine längere „Suchzeit“.',
   'view.searchCertificateStopped': 'Die Suche nach einem Zertifikat wurde abgebrochen.',
   'view.shown': 'Gezeigt: {hatching}.',

@@ -435,7 +435,7 @@ export const EN = /** @type {const} */ ({
   'view.searchUntilStopped': 'Search until stopped',
   'view.searchS': 'Search for {seconds} s',
   'view.of': ' of {seconds}',
-  'view.thereNoCertificateAnother': 'There is no certificate: another picture has these clues.',
+  'view.thereNoCertificateAnother': 'There is no certificate, as the puzzle has a second solution. “Fix it” looks for changes that leave one.',
   'view.noCertificateFoundWithin': 'No certificate was found within {secondsChosen} s. Choose a longer “Search time”.',
   'view.searchCertificateStopped': 'The search for a certificate was stopped.',
   'view.shown': 'Shown: {hatching}.',

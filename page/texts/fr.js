@@ -435,7 +435,7 @@ export const FR = /** @type {const} */ ({
   'view.searchUntilStopped': 'Chercher jusqu’à l’arrêt',
   'view.searchS': 'Chercher pendant {seconds} s',
   'view.of': ' sur {seconds}',
-  'view.thereNoCertificateAnother': 'Il n’y a pas de certificat : une autre image a ces indices.',
+  'view.thereNoCertificateAnother': 'Il n’y a pas de certificat, car la grille a une deuxième solution. « Réparer » cherche des changements qui n’en laissent qu’une.',
   'view.noCertificateFoundWithin': 'Aucun certificat trouvé en {secondsChosen} s. Choisissez une « Durée de recherche » plus longue.',
   'view.searchCertificateStopped': 'La recherche d’un certificat a été arrêtée.',
   'view.shown': 'Montré : {hatching}.',

@@ -1,6 +1,7 @@
 // Actions: what can be done, each with a name, a key and a place in a menu or panel. Keys work where no field is typed in.
 
-import { $, make } from '../base/elements.js';
+import { $, make, say } from '../base/elements.js';
+import { on } from '../base/events.js';
 import { bench } from '../engine/bench.js';
 import { phrase } from '../texts/phrase.js';
 
@@ -30,6 +31,17 @@ const isFree = (action) => action.can() && !(action.needs && action.place !== 'f
 export function runAction(id, event) {
   const action = actions.get(id);
   if (action && isFree(action)) action.run(event);
+}
+
+/** Says a text, with a button for an action where it can be done; the next stroke takes it back. */
+export function sayWith(text, kind, id) {
+  const { name, can } = actions.get(id);
+  if (!can()) return say(text, kind);
+  const unsay = say(text, kind, { name, run: () => runAction(id) });
+  const end = on('stroke', () => {
+    end();
+    unsay();
+  });
 }
 
 export function actionButton(action, attributes = {}) {

@@ -12,7 +12,7 @@ import { startEngine } from '../engine/client.js';
 import { Searches } from '../engine/searches.js';
 import { keepChoice, keptChoice } from '../texts/language.js';
 import { phrase } from '../texts/phrase.js';
-import { actionButton, actions, addAction } from './actions.js';
+import { actionButton, actions, addAction, sayWith } from './actions.js';
 import { canFix, hideFix, isFixing, mayFix, openFix } from './fixing.js';
 
 const TIMES = [['5', '5 s'], ['30', '30 s'], ['', phrase('view.untilStopped')]];
@@ -181,8 +181,8 @@ const mayProve = (state) => state && state.open > 0 && !state.givens.size && sta
 
 /** A certificate of the present picture as a text, the shorter of two that are made, or null; what is found is told as the verdict. */
 export async function certificateText() {
-  if (bench.state?.verdict.word === 'ambiguous') {
-    say(phrase('view.thereNoCertificateAnother'), 'alarm');
+  if (isWord('ambiguous')) {
+    sayWith(phrase('view.thereNoCertificateAnother'), 'alarm', 'fix');
     return null;
   }
   verdictView.ended = null;
@@ -197,6 +197,7 @@ export async function certificateText() {
     stroke: phrase('view.searchCertificateStopped'),
   }[verdictView.ended];
   if (text === null && why) say(why);
+  else if (text === null && isWord('ambiguous')) sayWith(phrase('view.thereNoCertificateAnother'), 'alarm', 'fix');
   return text;
 }
 

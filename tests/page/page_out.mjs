@@ -4,7 +4,7 @@ import { execFileSync } from 'node:child_process';
 import { readFileSync, readdirSync, writeFileSync } from 'node:fs';
 import { join } from 'node:path';
 import { NO_PICKERS, act, clean, coloursAt, downloaded, drop, examples, fresh, isKept, isOpen, menu, said } from './page_hands.mjs';
-import { SLACK, ppmOf } from './page_trial.mjs';
+import { SLACK, noise, ppmOf } from './page_trial.mjs';
 
 /** Ctrl+S downloads an XML text under the document's name that opens as it was, texts and names too; then nothing asks on leaving. */
 export async function savedAsDownload({ browser, url, folder }) {
@@ -492,6 +492,28 @@ export async function tintsOnPaper({ browser, url, folder }) {
         told.push(await isTold());
     }
     assert.deepEqual(told, [true, false, false, true]);
+    assert.deepEqual(page.faults, []);
+    await page.close();
+}
+
+/** Who asks for a certificate of a picture with a second solution is told so, with what mends it, also where the search for it finds that; the next stroke takes it back. */
+export async function noCertificateOfTwo({ browser, url, folder }) {
+    const { page, trial } = await fresh(browser, url, folder, 'two');
+    for (const isKnown of [true, false]) {
+        await trial.open(ppmOf(noise(40, 40, '...ab', 9)), 'two');
+        if (isKnown) await trial.judged();
+        await menu(page, 'export-site');
+        await page.until(() => /second solution.*Fix it/.test(document.getElementById('said').textContent), 8000 * SLACK);
+        assert.equal(await page.run(() => document.getElementById('task').checkVisibility()), false, 'nothing runs any more');
+        assert.equal(await page.run(() => bench.state.verdict.word), 'ambiguous');
+        await page.click('#said button');
+        await page.until(() => !document.getElementById('fix').hidden, 3000 * SLACK);
+        assert.equal(await said(page), '');
+        await menu(page, 'export-site');
+        await page.until(() => document.querySelector('#said button'), 3000 * SLACK);
+        await page.run(() => bench.stroke(['fill 1 1 2 2 a']));
+        await page.until(() => document.getElementById('said').textContent === '', 3000 * SLACK);
+    }
     assert.deepEqual(page.faults, []);
     await page.close();
 }
