@@ -5,23 +5,41 @@ import { LETTERS } from '../document/limits.js';
 import { coloursTooNear } from '../document/near.js';
 import { Votes, dithered, withoutSpecks } from './cells.js';
 import { flatPalette, isFlat, nearestPalette } from './flat.js';
-import { photoPalette } from './photo.js';
-import { ALIKE, EXACT, farness, hasClear, hasFewColours, numbersFor, once, spotsOf } from './spots.js';
+import { LOCKED_FAR, photoPalette } from './photo.js';
+import { ALIKE, EXACT, farness, hasClear, hasFewColours, nearestOf, numbersFor, once, spotsOf } from './spots.js';
 import { drawnCells } from './tone.js';
 
+// The triples that stand well for an image's colours, at most so many: where `isExact`, its own ones if there are no more than that, else
+// those of smoothed edges would be among them.
+const foundFor = (image, most, from, isExact) => once(image, `palette ${most} ${from?.join(';')} ${isExact}`, () => {
+  if (from) return nearestPalette(image, from, most);
+  if (isExact && hasFewColours(image, most)) return [...spotsOf(image)].sort((a, b) => b.weight - a.weight).map((spot) => spot.triple);
+  return isFlat(image) ? flatPalette(image, most) : photoPalette(image, most);
+});
+
+// What is found with what is locked: each of that in place of the nearest that looks like it, else beside all.
+function withLocked(found, locked) {
+  const all = [...found];
+  for (const triple of locked.filter((one) => !isAmong(found, one))) {
+    const free = all.filter((one) => !isAmong(locked, one));
+    const labs = free.map((one) => oklabOf(...one));
+    const near = free.length ? nearestOf(labs, oklabOf(...triple)) : -1;
+    const isLike = near >= 0 && farness(labs[near], oklabOf(...triple)) <= LOCKED_FAR;
+    all.splice(isLike ? all.indexOf(free[near]) : all.length, isLike ? 1 : 0, triple);
+  }
+  return all;
+}
+
 /**
- * At most so many triples that stand well for an image's colours; where `isExact`, its own ones if there are no more than that: else
- * those of smoothed edges would be among them.
+ * At most so many triples that stand well for an image's colours, the locked ones among them: those that are found for as many as leave
+ * room for these, so that one more that is locked, with room for one more, displaces none.
  */
 export function paletteFor(image, most, { locked = [], from = null, isExact = true } = {}) {
-  return once(image, `palette ${most} ${locked.join(';')} ${from?.join(';')} ${isExact}`, () => {
-    if (from) return nearestPalette(image, from, most, locked);
-    if (isExact && hasFewColours(image, most - locked.length)) {
-      const own = [...spotsOf(image)].sort((a, b) => b.weight - a.weight).map((spot) => spot.triple);
-      return [...own, ...locked.filter((triple) => !isAmong(own, triple))];
-    }
-    return isFlat(image) ? flatPalette(image, most, locked) : photoPalette(image, most, locked);
-  });
+  for (let count = most; count > 0; count--) {
+    const all = withLocked(foundFor(image, count, from, isExact), locked);
+    if (all.length <= most) return all;
+  }
+  return locked.slice(0, most);
 }
 
 // The palette as it was edited: what was dropped is found, so that the others stay as they are, and taken out. What is locked stays,

@@ -247,6 +247,24 @@ test('colours are locked, dropped and replaced', () => {
     for (const colours of [2, 5, 9]) assert.ok(has(docOfCells(noise, { colours, locked: [[250, 1, 250]], background: [250, 1, 250] }), [250, 1, 250]), String(colours));
 });
 
+test('one more colour that is locked, with room for one more, displaces none', () => {
+    for (const [round, speed] of [[1, 3], [2, 5], [3, 7]].entries()) {
+        const data = Uint8ClampedArray.from({ length: 40 * 40 * 4 }, (_, at) => {
+            const [row, col] = [Math.floor(at / 160), Math.floor((at % 160) / 4)];
+            return [row * 6, col * 6, ((row * speed[0] + col * speed[1]) * 3) % 256, 255][at % 4];
+        });
+        const image = { width: 40, height: 40, data };
+        for (const most of [3, 6, 10]) {
+            const before = paletteFor(image, most, { isExact: false });
+            for (const triple of [[255, 0, 255], [0, 255, 255], [250, 240, 10]]) {
+                const after = paletteFor(image, most + 1, { locked: [triple], isExact: false });
+                for (const one of before) assert.ok(after.some((other) => String(other) === String(one)), `${round}: ${one} of ${most} beside ${triple}`);
+                assert.ok(after.map(String).includes(String(triple)) && after.length === before.length + 1);
+            }
+        }
+    }
+});
+
 test('colours of a palette alone', () => {
     const image = imageOf(['wwww', 'rgrk', 'rgrk', 'wwww'], COLOURS);
     const palette = [[250, 250, 250], [190, 40, 60], [10, 140, 70], [5, 5, 5], [0, 0, 250]];
