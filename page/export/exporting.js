@@ -132,7 +132,7 @@ export function startExporting() {
   add('about', phrase('export.titleAuthor'), askAbout, { group: 'save' });
   Object.assign($('title'), { onclick: askAbout, title: phrase('export.titleAuthor') });
   add('export-xml', phrase('export.webpbnXml'), () => exportText('xml'));
-  add('export-site', phrase('export.siteZip'), exportForSite, { hint: phrase('export.siteHolds') });
+  add('export-site', phrase('export.siteZip'), exportForSite, { hint: phrase('export.siteServes') });
   startPrinting();
   startSharing();
   add('export-empty', phrase('export.puzzlePng'), exportEmpty);
@@ -147,5 +147,5 @@ export function startExporting() {
 /** The panel that saves and exports, by what the menu does. */
 export function showExportPanel() {
   const buttons = ['save', 'export-xml', 'export-site', 'print', 'share', 'export-empty', 'export-picture', 'certificate'].map((id) => actionButton(actions.get(id)));
-  $('out').replaceChildren(make('h2', {}, phrase('export.saveExport')), make('p', { class: 'group' }, ...buttons));
+  $('out').replaceChildren(make('h2', {}, phrase('export.saveExport')), make('p', { class: 'group' }, ...buttons), make('p', { class: 'faint' }, make('b', {}, phrase('export.siteZip')), ` ${phrase('export.siteServes')}`));
 }

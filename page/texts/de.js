@@ -713,7 +713,7 @@ export const DE = /** @type {const} */ ({
   'export.pathGif': 'Lösungsweg (GIF)',
   'export.pathNeedsOne': 'Nur ein Rätsel mit einer einzigen Lösung hat einen Lösungsweg bis zum Ende.',
   'export.siteZip': 'Rätselseite (Zip)',
-  'export.siteHolds': 'Enthält das Bild, sein Zertifikat, vorgegebene Felder und den Hintergrund: was eine Rätselseite prüft.',
+  'export.siteServes': 'Für eine Website, die Ihr Rätsel veröffentlicht: Damit prüft sie, dass es nur eine Lösung gibt.',
   'export.export': 'Exportieren',
   'export.saveExport': 'Speichern und exportieren',
   'export.savedUnfit': ' Aber das Rätsel ist nicht zum Veröffentlichen geeignet: {why}.',

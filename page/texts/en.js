@@ -713,7 +713,7 @@ export const EN = /** @type {const} */ ({
   'export.pathGif': 'Solving path (GIF)',
   'export.pathNeedsOne': 'Only a puzzle with one solution has a solving path to its end.',
   'export.siteZip': 'Puzzle site (zip)',
-  'export.siteHolds': 'Holds the picture, its certificate, given cells and background: what a puzzle site checks.',
+  'export.siteServes': 'For a site that publishes your puzzle: with it, the site checks that there is only one solution.',
   'export.export': 'Export',
   'export.saveExport': 'Save and export',
   'export.savedUnfit': ' But the puzzle is not fit to be published: {why}.',

@@ -713,7 +713,7 @@ export const FR = /** @type {const} */ ({
   'export.pathGif': 'Chemin de résolution (GIF)',
   'export.pathNeedsOne': 'Seule une grille qui n’a qu’une solution a un chemin de résolution complet.',
   'export.siteZip': 'Site de jeux (zip)',
-  'export.siteHolds': 'Contient l’image, son certificat, les cases données et le fond : ce qu’un site de jeux vérifie.',
+  'export.siteServes': 'Pour un site qui publie votre grille : il vérifie ainsi qu’elle n’a qu’une solution.',
   'export.export': 'Exporter',
   'export.saveExport': 'Enregistrer et exporter',
   'export.savedUnfit': ' Mais la grille n’est pas bonne à publier : {why}.',

@@ -13,7 +13,7 @@ const MENUS = { file: phrase('view.file'), edit: phrase('view.edit'), picture: p
  * Adds an action. `id` names it; `name` is what the user reads; `key` as in 'Ctrl+Z', 'n' or 'Shift+ArrowUp'; `place` is a
  * menu ('file', 'edit', 'picture', 'view', 'check', 'help'), the id of an element that takes a button, or null for a key
  * alone; `told` is a key that the menu tells and the browser hears; `run(event)` does it; `can()` says whether it can be done now; `needs`
- * is false where no picture must be open; `isOn()` says whether it is ticked in a menu; `hint` says more of it where the mouse rests.
+ * is false where no picture must be open; `isOn()` says whether it is ticked in a menu; `hint` says more of it below its name in a menu, and where the mouse rests.
  */
 export function addAction({ id, name, key = null, told = key ?? '', place = null, run, can = () => true, needs = true, isOn = () => false, group = '', hint = null }) {
   const action = { id: id ?? name, name, key, told, place, run, group, needs, isOn, hint, can: () => (!needs || bench.state !== null) && can() };
@@ -109,7 +109,7 @@ function fillMenu(list, place, button) {
     if (action.isOn()) item.textContent += ' ✓';
     const free = isFree(action);
     if (!free) item.setAttribute('aria-disabled', 'true'); // it keeps the focus, and with it the keys of the menu
-    item.append(make('kbd', {}, keyText(action.told.split(' ')[0])));
+    item.append(make('kbd', {}, keyText(action.told.split(' ')[0])), ...(action.hint ? [make('small', { class: 'faint', 'aria-hidden': 'true' }, action.hint)] : [])); // heard by its title
     item.addEventListener('click', () => { if (free) list.hidePopover(); });
     items.push(item);
   }

@@ -307,3 +307,21 @@ export async function solvedIsPlain({ browser, url, folder }) {
     assert.deepEqual(page.faults, []);
     await page.close();
 }
+
+/** What a zip for a site is for is read where it is offered, by a finger too. */
+export async function siteIsExplained({ browser, url, folder }) {
+    const trial = await start(browser, url, folder, UPRIGHT[0]);
+    const { page } = trial;
+    await trial.example('heart');
+    await page.tap('[popovertarget="menu-file"]');
+    await page.until(() => document.querySelector('#menu-file [data-action="export-site"]'), 3000 * SLACK);
+    const told = await page.run(() => {
+        const [item, note] = ['', ' small'].map((one) => document.querySelector(`#menu-file [data-action="export-site"]${one}`));
+        if (!note?.checkVisibility()) return 'nothing';
+        const [outer, inner] = [item, note].map((one) => one.getBoundingClientRect());
+        return inner.left >= outer.left && inner.right <= outer.right && inner.bottom <= outer.bottom && note.textContent;
+    });
+    assert.match(String(told), /^For a site that publishes your puzzle/);
+    assert.deepEqual(page.faults, []);
+    await page.close();
+}
