@@ -10,12 +10,12 @@ export function plainOf({ rows, columns, maxval, colours, picture }) {
   return { text: `P3\n${columns} ${rows}\n${maxval}\n${triples.join('\n')}\n`, letters };
 }
 
-/** Asks an engine for what it says of a document, as web/nonobench.mjs gives it, in the letters of the document. A background counts as named where it is not white. */
+/** Asks an engine for what it says of a document, as web/nonobench.mjs gives it, in the letters of the document. A background counts as named where it is not white, or the document says so. */
 export async function assessed(engine, doc) {
   const { text, letters } = plainOf(doc);
-  const isWhite = doc.colours[0].every((sample) => sample === doc.maxval);
+  const isNamed = doc.isNamed || doc.colours[0].some((sample) => sample !== doc.maxval);
   const givens = [...doc.givens].map((index) => [Math.floor(index / doc.columns) + 1, (index % doc.columns) + 1]);
-  const options = { background: isWhite ? null : doc.colours[0].join(','), givens, format: 'ppm' };
+  const options = { background: isNamed ? doc.colours[0].join(',') : null, givens, format: 'ppm' };
   const found = await engine.call('assess', { puzzle: text, options });
   const own = (text) => Array.from(text, (letter) => letters[LETTERS.indexOf(letter)]);
   const flaws = found.flaws.map((flaw) => flaw.split(' ')).map(([kind, ...words]) => (kind === 'alike' ? { kind, letters: own(words).sort() } : { kind, place: words.map(Number) }));

@@ -7,6 +7,7 @@ import { readGivens, readGround } from '../formats/published.js';
 import { faultText } from '../library/open.js';
 import { phrase } from '../texts/phrase.js';
 import { mustHold } from './decoding.js';
+import { kindOfFile } from './images.js';
 import { docsOfBytes } from './reading.js';
 
 const AUDITED = /\.(p[pgbn]m|png|gif|bmp|webp|non|xml)$/i; // pictures that nonobench-audit reads
@@ -78,8 +79,8 @@ async function naming(file, work) {
 
 /**
  * The documents of a unit as `{ docs, left }`. What lies beside the file holds in place of what the file itself tells. Of several puzzles
- * in a file each tells it itself: then that is `left`. Such a puzzle that is not read stands as `{ fault }`. `imageDocs(file, bytes, ground)` gives the documents of an image, or null where
- * the file is none.
+ * in a file each tells it itself: then that is `left`. Such a puzzle that is not read stands as `{ fault }`. That of a picture beside
+ * which a triple lies says that it `isNamed`. `imageDocs(file, bytes, ground)` gives the documents of an image, or null where the file is none.
  */
 export async function docsOfUnit({ file, fault, givens, background }, imageDocs = async (...image) => null) {
   if (fault) throw new FileFault(fault);
@@ -88,6 +89,7 @@ export async function docsOfUnit({ file, fault, givens, background }, imageDocs 
   const bytes = await bytesOf(file);
   const docs = (await imageDocs(file, bytes, ground)) ?? (await docsOfBytes(bytes, ground));
   if (docs.length > 1) return { docs, left: [givens, background].filter(Boolean) };
+  if (docs.length && read?.isNamed && !['xml', 'non'].includes(kindOfFile(bytes))) docs[0] = { ...docs[0], isNamed: true };
   if (docs.length && givens) docs[0] = { ...docs[0], givens: await naming(givens, async () => readGivens(await textOf(givens), docs[0])) };
   return { docs, left: [] };
 }

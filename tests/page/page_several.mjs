@@ -205,6 +205,24 @@ test('the examples, as they are published', { skip: needsModule.skip || waits('0
     judge.end();
 });
 
+test('a triple beside a picture counts as named, white too, and not beside a text that has a background of its own', { skip: needsModule.skip || waits('0.7.0') }, async () => {
+    const judge = new Judge({ seconds: 20, start: () => new Client(workers()()) });
+    const flaws = async (files) => (await judge.judge(await docOf(files))).flaws.map(({ kind }) => kind);
+    const [red, xml] = ['P3 2 1 255 200 0 0 200 0 0', '<puzzle><color name="red" char="r">c80000</color><solution><image>|rr|</image></solution></puzzle>'];
+    for (const [text, wanted] of [['255,255,255', ['background']], ['200,0,0', ['blank']]]) {
+        assert.deepEqual(await flaws({ 'a.ppm': red, 'a.background': text, 'a.givens': '' }), wanted);
+    }
+    const white = 'P3 2 1 9 9 9 9 0 0 0';
+    for (const [picture, text] of [[white, '9,9,9'], [white, 'white'], [ppmTextOf(await docOf({ 'a.xml': xml })), 'white'], [null, '255,255,255']]) {
+        assert.deepEqual(await flaws({ ...(picture ? { 'a.ppm': picture } : { 'a.xml': xml }), 'a.background': text }), []);
+    }
+    const image = { width: 1, height: 1, data: Uint8ClampedArray.of(200, 0, 0, 255) };
+    const imageDocs = async (file, bytes, ground) => [docByItself(image, await ground(image, 255))];
+    const { docs } = await docsOfUnit(unitOf({ 'a.png': '', 'a.background': '255,255,255' }), imageDocs);
+    assert.deepEqual((await judge.judge(docs[0])).flaws, [{ kind: 'background', place: [] }]);
+    judge.end();
+});
+
 // An entry of a folder, as a browser has it: a text is a file, anything else a folder.
 function entryOf(name, content) {
     if (typeof content === 'string') return { name, isFile: true, isDirectory: false, file: (take) => take(fileOf(name, content)) };
