@@ -105,9 +105,12 @@ export function readWebpbn(text, at = 0) {
   if (!Object.keys(page.extras).length) page.extras = null;
   const usual = puzzle.attributes.get('defaultcolor') ?? 'black';
   const clues = { rows: readClues(puzzle, 'rows', usual), columns: readClues(puzzle, 'columns', usual) };
-  if (!goal) return { non: nonOfClues(clues), page, count };
+  const [colours, ground] = [readColours(puzzle), puzzle.attributes.get('backgroundcolor') ?? 'white'];
+  if (!colours.has(ground)) throw new FileFault(phrase('formats.backgroundPuzzleColourDoes'));
+  if (!goal && (givens || locks)) throw new FileFault(phrase('formats.givensNoSolution'));
+  if (!goal) return { non: nonOfClues(clues, colours, ground), page, count };
   const signs = readWebpbnImage(imageIn(goal));
-  const { doc, names } = docOfSigns(signs, readColours(puzzle), puzzle.attributes.get('backgroundcolor') ?? 'white');
+  const { doc, names } = docOfSigns(signs, colours, ground);
   checkClues(doc, clues, (name) => LETTERS[names.indexOf(name)] ?? '?');
   if (givens) doc.givens = placesOfSigns(readWebpbnImage(imageIn(givens)), signs, phrase('formats.givenCellAnotherColour'));
   if (locks) doc.locks = placesOfSigns(readWebpbnImage(imageIn(locks)), signs, phrase('formats.lockedCellAnotherColour'));
@@ -125,7 +128,6 @@ function lockedNames(locks) {
 // The colours that the picture takes: the background first, then those that are declared, and white and black where they are used.
 function orderOf(signs, colours, ground) {
   const background = colours.get(ground);
-  if (!background) throw new FileFault(phrase('formats.backgroundPuzzleColourDoes'));
   const used = new Set(signs.flat());
   const bySign = new Map();
   for (const colour of colours.values()) {
@@ -181,11 +183,11 @@ function placesOfSigns(saved, signs, fault) {
   }));
 }
 
-function nonOfClues({ rows, columns }) {
-  if (!rows || !columns) throw new FileFault(phrase('formats.puzzleNeitherSolutionNor'));
-  if (new Set([...rows, ...columns].flat().map((block) => block.name)).size > 1) {
-    throw new FileFault(phrase('formats.puzzleCluesSeveralColours'));
-  }
+function nonOfClues({ rows, columns }, colours, ground) {
+  if (!rows?.length || !columns?.length) throw new FileFault(phrase('formats.puzzleNeitherSolutionNor'));
+  const names = [...new Set([...rows, ...columns].flat().map((block) => block.name))];
+  if (names.length > 1) throw new FileFault(phrase('formats.puzzleCluesSeveralColours'));
+  if (names.some((name) => name === ground || !colours.has(name))) throw new FileFault(phrase('formats.cluesNoColour'));
   const line = (blocks) => blocks.map((block) => block.length).join(',') || '0';
   return `width ${columns.length}\nheight ${rows.length}\nrows\n${rows.map(line).join('\n')}\ncolumns\n${columns.map(line).join('\n')}\n`;
 }

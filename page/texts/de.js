@@ -56,6 +56,8 @@ export const DE = /** @type {const} */ ({
   'formats.savedCellsAnotherSize': 'Die gespeicherten Felder haben eine andere Größe als die Lösung.',
   'formats.puzzleNeitherSolutionNor': 'Das Rätsel hat weder eine Lösung noch alle Hinweise.',
   'formats.puzzleCluesSeveralColours': 'Das Rätsel hat Hinweise in mehreren Farben, aber keine Lösung; ohne sie kann die Seite es nicht öffnen.',
+  'formats.cluesNoColour': 'Die Hinweise des Rätsels sind in der Farbe seines Hintergrunds oder in einer, die es nicht hat.',
+  'formats.givensNoSolution': 'Das Rätsel hat vorgegebene oder gesperrte Felder, aber keine Lösung.',
   'formats.xmlNotReadLine': 'Die XML-Datei ist fehlerhaft: {what}, in Zeile {line}.',
   'formats.noEnd': '{what} hat kein Ende',
   'formats.nameMissing': 'ein Name fehlt',

@@ -56,6 +56,8 @@ export const EN = /** @type {const} */ ({
   'formats.savedCellsAnotherSize': 'The saved cells have a different size from that of the solution.',
   'formats.puzzleNeitherSolutionNor': 'The puzzle has neither a solution nor all clues.',
   'formats.puzzleCluesSeveralColours': 'The puzzle has clues in several colours, but no solution, which the page needs to open it.',
+  'formats.cluesNoColour': 'The clues of the puzzle are in the colour of its background, or in one that it does not have.',
+  'formats.givensNoSolution': 'The puzzle has givens or locked cells, but no solution.',
   'formats.xmlNotReadLine': 'The XML cannot be read: {what}, in line {line}.',
   'formats.noEnd': '{what} has no end',
   'formats.nameMissing': 'a name is missing',

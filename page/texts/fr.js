@@ -56,6 +56,8 @@ export const FR = /** @type {const} */ ({
   'formats.savedCellsAnotherSize': 'Les cases enregistrées n’ont pas la taille de la solution.',
   'formats.puzzleNeitherSolutionNor': 'La grille n’a ni solution ni indices complets.',
   'formats.puzzleCluesSeveralColours': 'La grille a des indices en plusieurs couleurs, mais pas de solution ; la page en a besoin pour l’ouvrir.',
+  'formats.cluesNoColour': 'Les indices de la grille sont dans la couleur de son fond, ou dans une qu’elle n’a pas.',
+  'formats.givensNoSolution': 'La grille a des cases données ou verrouillées, mais pas de solution.',
   'formats.xmlNotReadLine': 'Le XML est illisible : {what}, ligne {line}.',
   'formats.noEnd': '{what} n’a pas de fin',
   'formats.nameMissing': 'il manque un nom',

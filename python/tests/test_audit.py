@@ -360,6 +360,9 @@ class Reading(unittest.TestCase):
         self.assertEqual((puzzle.is_non, puzzle.text), (True, b"width 2\nheight 1\nrows\n1\ncolumns\n1\n0\n"))
         two = clues.replace("<count>1</count></line></clues>", '<count color="red">1</count></line></clues>')
         self.assertRegex(str(one(f"<puzzle>{two}</puzzle>".encode())), "several colours and no solution")
+        saved = '<solution type="saved" id="{}"><image>|X?|</image></solution>'
+        self.assertEqual(one(f"<puzzle>{clues}{saved.format('mine')}</puzzle>".encode()).text, puzzle.text)
+        self.assertEqual(str(one(f"<puzzle>{clues}{saved.format('givens')}</puzzle>".encode())), "the puzzle has givens and no solution")
 
     @pytest.mark.since("0.7.0")
     def test_xml_that_is_refused(self):

@@ -209,6 +209,21 @@ test('clues without a solution: two colours alone', () => {
     refused(() => readWebpbn(bare.replace(/<clues type="rows">[^]*<\/clues>/, '')), /neither a solution/);
 });
 
+test('clues without a solution are refused for their colours, for cells that are given, and where there are none, as by nonobench-audit', () => {
+    const axis = (name) => `<clues type="${name}"><line><count>1</count></line></clues>`;
+    const [clues, blue] = [axis('rows') + axis('columns'), '<color name="blue">00f</color>'];
+    const puzzle = (words, more = '') => `<puzzle ${words}>${more}${clues}</puzzle>`;
+    for (const [words, more] of [['', ''], ['backgroundcolor="blue"', blue], ['defaultcolor="blue"', blue], ['backgroundcolor="black" defaultcolor="white"', ''], ['', '<solution type="saved"><image>|X|</image></solution>']]) {
+        assert.equal(readWebpbn(puzzle(words, more)).non, 'width 1\nheight 1\nrows\n1\ncolumns\n1\n');
+    }
+    for (const words of ['defaultcolor="blue"', 'defaultcolor=""', 'backgroundcolor="black"', 'defaultcolor="white"', 'defaultcolor="__proto__"']) refused(() => readWebpbn(puzzle(words)), /colour of its background, or in one that it does not have/);
+    refused(() => readWebpbn(puzzle('backgroundcolor="blue"')), /background of the puzzle is a colour that it does not have/);
+    refused(() => readWebpbn(puzzle('', blue + blue)), /declared twice/);
+    refused(() => readWebpbn(puzzle('', '<color name="blue">blue</color>')), /hexadecimal digits/);
+    for (const id of ['givens', 'locks']) refused(() => readWebpbn(puzzle('', `<solution type="saved" id="${id}"><image>|X|</image></solution>`)), /givens or locked cells, but no solution/);
+    for (const name of ['rows', 'columns']) refused(() => readWebpbn(puzzle('').replace(axis(name), `<clues type="${name}"/>`)), /neither a solution/);
+});
+
 test('two declared colours of one sign: which is meant is not known', () => {
     const text = '<puzzle><color name="red" char="r">f00</color><color name="rose" char="r">f08</color><solution><image>|X.|</image></solution></puzzle>';
     assert.deepEqual(readWebpbn(text).doc.picture[0].length, 2, 'no cell has it');

@@ -134,7 +134,9 @@ def puzzle_of(element: Any) -> Puzzle:
     clues = {axis: _clues(element, axis, element.get("defaultcolor", "black")) for axis in ("rows", "columns")}
     solutions = element.findall("solution")
     goals = [one for one in solutions if one.get("type", "goal") == "goal"] or [one for one in solutions if one.get("type") == "solution"]
+    givens = [one for one in solutions if (one.get("type"), one.get("id")) == ("saved", GIVENS)]
     if not goals:
+        need(not givens, "the puzzle has givens and no solution")
         text, colours, ground = _non_text(clues), _colours(element), element.get("backgroundcolor", "white")
         used = {name for lines in clues.values() for line in lines or () for _, name in line}
         need(used | {ground} <= colours.keys(), "the puzzle has clues, or a background, in a colour that it does not have")
@@ -146,7 +148,7 @@ def puzzle_of(element: Any) -> Puzzle:
     order, by_sign = _order(_colours(element), element.get("backgroundcolor", "white"), {sign for row in signs for sign in row})
     cells = [[by_sign[sign].name for sign in row] for row in signs]
     _compare(cells, order[0].name, clues)
-    saved = _only([one for one in solutions if (one.get("type"), one.get("id")) == ("saved", GIVENS)], "its givens")
+    saved = _only(givens, "its givens")
     published = b"" if saved is None else _givens(_image(saved), signs)
     triples = {colour.name: triple for colour, triple in zip(order, _apart(order))}
     text = picture_of(len(cells[0]), len(cells), [triples[name] for row in cells for name in row])
