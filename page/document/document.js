@@ -96,6 +96,18 @@ export function unpackedDoc(value) {
   return { rows, columns, maxval, colours, picture, givens: places(value.givens ?? [], phrase('document.givenCellLiesOutside')), ...unpackedPage(value), locks: places(value.locks ?? [], phrase('document.lockedCellLiesOutside')) };
 }
 
+const areTexts = (list) => Array.isArray(list) && list.every((text) => typeof text === 'string');
+
+// What else an XML puzzle had, where all of it is as readers of files make it; else null.
+function unpackedExtras(extras) {
+  if (!extras || typeof extras !== 'object') return null;
+  const { notes, goal, set, solutions } = extras;
+  const others = solutions ?? [];
+  const isSound = Array.isArray(others) && others.every((one) => typeof one?.image === 'string')
+    && [notes, goal?.notes, set?.notes, ...others.map((one) => one.notes)].every((list) => areTexts(list ?? []));
+  return isSound ? extras : null;
+}
+
 // Texts, names and signs as far as they are such.
 function unpackedPage({ about, inks, extras }) {
   const texts = Object.entries(about ?? {}).filter(([name, text]) => ABOUT.includes(name) && isText(text, ABOUT_LIMIT) && text !== '');
@@ -104,7 +116,7 @@ function unpackedPage({ about, inks, extras }) {
     ...(isText(one?.sign, 4) && [...one.sign].length === 1 ? { sign: one.sign } : {}),
     ...(one?.locked === true ? { locked: true } : {}),
   });
-  return { about: Object.fromEntries(texts), inks: Array.isArray(inks) ? inks.slice(0, MOST_COLOURS).map(ink) : [], extras: extras && typeof extras === 'object' ? extras : null };
+  return { about: Object.fromEntries(texts), inks: Array.isArray(inks) ? inks.slice(0, MOST_COLOURS).map(ink) : [], extras: unpackedExtras(extras) };
 }
 
 // ---- what makes one document of another

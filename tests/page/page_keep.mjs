@@ -7,6 +7,7 @@ import { gradeName, verdictTitle } from '../../page/base/names.js';
 import { baseOf } from '../../page/document/cover.js';
 import { docOf, emptyDoc, packedDoc, sameDoc } from '../../page/document/document.js';
 import { Client } from '../../page/engine/client.js';
+import { webpbnText } from '../../page/formats/webpbn.js';
 import { crcOf, writeZip } from '../../page/formats/zip.js';
 import { readZip } from '../../page/test/zips.mjs';
 import { archiveOf, readArchive } from '../../page/import/archives.js';
@@ -62,6 +63,18 @@ test('of strokes that take much room the last ones are kept', () => {
     const back = readRecord(json(recordOf(benchOf(docs.at(-1), docs.slice(0, -1)), 'x')));
     assert.ok(back.strokes.past.length > 10 && back.strokes.past.length < 39, `${back.strokes.past.length}`);
     assert.ok(sameDoc(back.strokes.past.at(-1), docs.at(-2)));
+});
+
+test('what an XML puzzle had besides is left out where it is damaged, and the document is there', () => {
+    const doc = packedDoc(emptyDoc(2, 1));
+    const kept = (extras) => {
+        const read = readRecord({ id: 'a', version: 2, name: 'a', doc: { ...doc, extras } }).doc;
+        assert.equal(webpbnText(read).includes('<image>'), true);
+        return read.extras;
+    };
+    const solution = { type: 'saved', image: '|.X|' };
+    for (const extras of [{ notes: 7 }, { notes: [7] }, { set: { notes: 3 } }, { goal: { notes: { length: 1 } } }, { solutions: 5 }, { solutions: [null] }, { solutions: [{ ...solution, notes: 5 }] }, 7]) assert.equal(kept(extras), null);
+    for (const extras of [{}, { goal: null, set: null, notes: null, solutions: null }, { notes: ['a'], set: { title: 'b', notes: ['c'] }, goal: { id: 'd', notes: [] }, solutions: [{ ...solution, notes: ['e'] }] }]) assert.deepEqual(kept(extras), extras);
 });
 
 test('damaged records are none, and damaged strokes leave the document', () => {
