@@ -90,7 +90,7 @@ class Importing {
     this.facts = make('p', { role: 'status', class: 'faint', id: 'import-facts' });
     this.verdict = make('p', { role: 'status', id: 'import-verdict' });
     this.content = make('div', { class: 'importing' },
-      make('div', { class: 'pictures' }, make('figure', {}, this.source.canvas, make('figcaption', {}, phrase('import.dragOverImageSelect'))), make('figure', {}, this.preview, this.facts, this.verdict, this.alike.element)),
+      make('div', { class: 'pictures' }, make('figure', {}, this.source.canvas, make('figcaption', {}, matchMedia('(pointer: coarse)').matches ? phrase('import.tapToKeep') : phrase('import.dragOverImageSelect'))), make('figure', {}, this.preview, this.facts, this.verdict, this.alike.element)),
       make('div', { class: 'choices' }, this.sizes(), this.inkChoices(), this.lights()), this.parts(),
       make('datalist', { id: 'colour-names' }, ...COLOUR_NAMES.map((name) => make('option', { value: name }))));
   }

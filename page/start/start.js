@@ -52,7 +52,7 @@ async function newName() {
 function openCard() {
   return make('section', { class: 'card', 'aria-labelledby': 'open-title' },
     make('h2', { id: 'open-title' }, phrase('start.openPicture')),
-    make('p', {}, phrase('start.dropFileHerePaste')),
+    make('p', {}, matchMedia('(pointer: coarse)').matches ? phrase('start.tapToChoose') : phrase('start.dropFileHerePaste')),
     make('p', { class: 'faint' }, phrase('start.pngJpegGifWebp')),
     make('button', { type: 'button', class: 'main', id: 'open-go', onclick: () => chooseFile() }, phrase('start.chooseFile')));
 }

@@ -220,7 +220,7 @@ function turnEditing() {
 /** Makes the panel of colours. */
 export function makePalette() {
   const more = make('div', { class: 'group' });
-  const opens = make('button', { type: 'button', id: 'colours-open', 'aria-expanded': 'false', onclick: turnEditing }, phrase('view.edit'));
+  const opens = make('button', { type: 'button', id: 'colours-open', 'aria-expanded': 'false', onclick: turnEditing }, phrase('view.colours'));
   opens.setAttribute('aria-label', phrase('view.editColours'));
   $('colours').append(make('h2', {}, phrase('view.colours')), palette.row, opens, palette.text, more, make('div', { class: 'group' }, make('label', {}, phrase('view.change'), palette.picker), palette.named, make('datalist', { id: 'colour-words' }, ...COLOUR_NAMES.map((name) => make('option', { value: name }))), make('label', { title: phrase('view.noRepairChangesCells') }, palette.locked, capital(phrase('view.locked')))),
     make('div', { class: 'group' }, make('label', {}, phrase('view.name'), palette.name), make('label', { title: phrase('view.oneSignEachCell') }, phrase('view.sign'), palette.sign)), palette.near);

@@ -325,3 +325,36 @@ export async function siteIsExplained({ browser, url, folder }) {
     assert.deepEqual(page.faults, []);
     await page.close();
 }
+
+/** On a phone all tools of the player are in the window, no two buttons have one name, and texts and help tell what fingers do. */
+export async function fingersAreTold({ browser, url, folder }) {
+    const trial = await start(browser, url, folder, UPRIGHT[0]);
+    const { page } = trial;
+    const told = [await trial.text('#start [aria-labelledby="open-title"] p')];
+    await trial.example('apple');
+    const names = await page.run(() => [...document.querySelectorAll('button')].filter((one) => one.checkVisibility()).map((one) => one.textContent.trim()));
+    await page.run(() => { runAction('play'); });
+    await inPlayer(page);
+    const beyond = () => page.run(() => [...document.querySelectorAll('#play-bar button, #walk-bar > *, #play-palette button')].filter((one) => one.checkVisibility()).filter((one) => one.getBoundingClientRect().right > innerWidth || one.getBoundingClientRect().bottom > innerHeight).map((one) => one.id || one.textContent));
+    const cut = await beyond();
+    await page.run(() => document.getElementById('play-walk').click());
+    cut.push(...await beyond());
+    await page.run(() => document.getElementById('play-help').click());
+    told.push(await trial.text('dialog .help'));
+    await page.run(() => { for (const one of document.querySelectorAll('dialog')) one.close(); runAction('guide'); });
+    told.push(await trial.text('dialog .help'));
+    await page.run(() => {
+        document.querySelector('dialog').close();
+        const canvas = document.createElement('canvas');
+        canvas.getContext('2d').fillRect(9, 9, 90, 90);
+        canvas.toBlob((blob) => takeFile(new File([blob], 'image.png')));
+    });
+    await page.until(() => document.querySelector('.importing figcaption'), 5000 * SLACK);
+    told.push(await page.run(() => { const one = document.querySelector('.importing figcaption'); return one.checkVisibility() ? one.textContent : ''; }));
+    assert.deepEqual(cut, [], 'beyond the window');
+    assert.equal(names.filter((name) => name === 'Edit').length, 1);
+    const wanted = [/^Tap “Choose files …”\.(?!.*Ctrl)/, /Two fingers move the picture/, /Two fingers move the view/, /Tap a colour to keep it/];
+    for (const [at, text] of wanted.entries()) assert.match(told[at], text);
+    assert.deepEqual(page.faults, []);
+    await page.close();
+}
