@@ -97,7 +97,9 @@ export class Board {
   /** The clue of a line of some cells. */
   clueAt(cells, line) {
     const [first, step] = this.placeOf(line);
-    return clueOf(Uint8Array.from({ length: this.sizeOf(line) }, (_, at) => cells[first + at * step]));
+    const its = [];
+    for (let at = 0, size = this.sizeOf(line); at < size; at++) its.push(cells[first + at * step]);
+    return clueOf(its);
   }
 
   cluesOf(cells) {

@@ -3,31 +3,48 @@
 import { narrow } from './lines.js';
 
 const MOST_CELLS = 120; // of a line
+const line = new Uint16Array(MOST_CELLS);
+const out = new Uint16Array(MOST_CELLS);
 
 const isSettled = (mask) => (mask & (mask - 1)) === 0;
 
+// What a clue alone leaves of its line's cells. It is kept with the clue, which most candidates share.
+function aloneOf(clue, size, all) {
+  if (!clue.alone) {
+    clue.alone = new Uint16Array(size);
+    narrow(line.fill(all, 0, size), size, clue, clue.alone);
+  }
+  return clue.alone;
+}
+
 /** The candidates of a puzzle's cells, a mask each, narrowed line by line: `cells` are its picture's, `clues` those of its lines. */
 export class Narrowing {
-  #line = new Uint16Array(MOST_CELLS);
-  #out = new Uint16Array(MOST_CELLS);
-
-  constructor(board, { cells = board.cells, givens = board.givens, clues = board.clues } = {}) {
+  /** `from` is a settled narrowing of the puzzle with fewer givens, from which this one goes on. */
+  constructor(board, { cells = board.cells, givens = board.givens, clues = board.clues } = {}, from = null) {
     this.board = board;
+    this.cells = cells;
     this.clues = clues;
-    this.masks = new Uint16Array(cells.length).fill(board.all);
-    for (const index of givens) this.masks[index] = 1 << cells[index];
-    this.isDue = new Uint8Array(board.lines).fill(1);
-    this.openIn = new Int32Array(board.lines);
-    for (const index of this.openCells()) for (const line of board.linesOf(index)) this.openIn[line]++;
+    this.isNew = !from;
+    this.isDue = new Uint8Array(board.lines);
+    this.masks = from?.masks.slice() ?? new Uint16Array(cells.length).fill(board.all);
+    this.openIn = from?.openIn.slice() ?? Int32Array.from(this.isDue, (_, one) => (isSettled(board.all) ? 0 : board.sizeOf(one)));
+    for (const index of givens) this.#write(index, 1 << cells[index], null);
+  }
+
+  /** What line logic leaves of a settled narrowing where one cell more is given. */
+  given(index) {
+    return new Narrowing(this.board, { cells: this.cells, givens: [index], clues: this.clues }, this).settle();
   }
 
   /** Looks at lines until none excludes anything more. */
   settle() {
+    if (this.isNew) for (let one = 0; one < this.isDue.length; one++) this.#keep(one, aloneOf(this.clues[one], this.board.sizeOf(one), this.board.all));
+    this.isNew = false;
     for (let looks = 1; looks > 0;) {
       looks = 0;
-      for (let line = 0; line < this.isDue.length; line++) {
-        if (this.isDue[line] === 0 || this.openIn[line] === 0) continue;
-        this.#look(line);
+      for (let one = 0; one < this.isDue.length; one++) {
+        if (this.isDue[one] === 0 || this.openIn[one] === 0) continue;
+        this.#look(one);
         looks++;
       }
     }
@@ -42,21 +59,35 @@ export class Narrowing {
   }
 
   // Excludes what none of a line's fillings has.
-  #look(line) {
+  #look(one) {
     const { board, masks } = this;
-    const [first, step] = board.placeOf(line);
-    const size = board.sizeOf(line);
-    for (let at = 0; at < size; at++) this.#line[at] = masks[first + at * step];
-    this.isDue[line] = 0;
-    narrow(this.#line, size, this.clues[line], this.#out);
-    for (let at = 0; at < size; at++) if (this.#out[at] !== this.#line[at]) this.#write(first + at * step, this.#out[at], line);
+    const [first, step] = board.placeOf(one);
+    const size = board.sizeOf(one);
+    for (let at = 0; at < size; at++) line[at] = masks[first + at * step];
+    this.isDue[one] = 0;
+    narrow(line, size, this.clues[one], out);
+    this.#keep(one, out);
   }
 
-  #write(index, mask, line) {
+  // Keeps of a line's candidates those that `kept` has, too.
+  #keep(one, kept) {
+    const [first, step] = this.board.placeOf(one);
+    for (let at = 0, size = this.board.sizeOf(one); at < size; at++) {
+      const index = first + at * step;
+      const mask = this.masks[index] & kept[at];
+      if (mask !== this.masks[index]) this.#write(index, mask, one);
+    }
+  }
+
+  // Puts candidates that were excluded in a line, or in none: then both of the cell's lines are due.
+  #write(index, mask, one) {
+    const { rows, columns } = this.board;
+    const row = Math.floor(index / columns);
+    const column = rows + (index % columns);
     const wasOpen = !isSettled(this.masks[index]);
     this.masks[index] = mask;
-    const [row, column] = this.board.linesOf(index);
-    this.isDue[line === row ? column : row] = 1;
+    if (one !== row) this.isDue[row] = 1;
+    if (one !== column) this.isDue[column] = 1;
     if (!wasOpen || !isSettled(mask)) return;
     this.openIn[row]--;
     this.openIn[column]--;

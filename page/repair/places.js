@@ -1,18 +1,19 @@
 // The places where line solving stalls: groups of open cells, none of which settles a cell of another group. Each is mended by itself.
 
-import { openWith } from './givens.js';
+import { Narrowing } from './narrowing.js';
 
 const MOST_TRIED = 60; // cells that are given, one after the other, to find what they settle
 
 /** The groups of a board's open cells, each by rising index; all in one where there are many, or `goesOn` says that time is up. */
 export function placesOf(board, goesOn = () => true) {
-  const open = openWith(board, []);
+  const settled = new Narrowing(board).settle();
+  const open = settled.openCells();
   const unseen = new Set(open);
   let groups = [];
   for (let tried = 0; unseen.size > 0; tried++) {
     if (tried === MOST_TRIED || !goesOn()) return [open];
     const [index] = unseen;
-    const still = new Set(openWith(board, [index]));
+    const still = new Set(settled.given(index).openCells());
     let group = open.filter((one) => !still.has(one));
     for (const one of group) unseen.delete(one);
     const isApart = (other) => !other.some((one) => group.includes(one));
