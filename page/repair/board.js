@@ -181,6 +181,7 @@ function loosenessOf({ lengths, colours }, size) {
 /** A candidate: the picture with some cells changed. `codes` are these by rising index. */
 export class Candidate {
   #keys;
+  #before = []; // for each move, the clues of its lines before it was made, or null where they may be others now
 
   constructor(board) {
     this.board = board;
@@ -235,12 +236,17 @@ export class Candidate {
 
   make(move) {
     this.moves.push(move);
+    this.#before.push(move.lines.map((line) => this.clues[line]));
     this.#turn(move, true);
   }
 
   takeBack(move) {
-    this.moves.splice(this.moves.lastIndexOf(move), 1);
+    const at = this.moves.lastIndexOf(move);
+    this.moves.splice(at, 1);
     this.#turn(move, false);
+    const [before] = this.#before.splice(at, 1);
+    if (at < this.moves.length) this.#before.fill(null, at);
+    else if (before) for (let each = 0; each < before.length; each++) this.clues[move.lines[each]] = before[each];
   }
 
   /** Makes exactly these moves. */
