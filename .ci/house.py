@@ -258,7 +258,7 @@ COUNTS = (
     ('code lines', code_lines, 18700),
     # the same, `cert_figures` and `grade_text`; a checker that has all its memory before it begins; a law that trees which are told
     # step by step are proofs with lemmas
-    ('lines of specs, lemmas and answers', proof_lines, 55340),
+    ('lines of specs, lemmas and answers', proof_lines, 55370),
     # French has 880 lines of texts; the page reads SVG, BMP, AVIF and sheets of sprites, and cuts pictures into places; the example
     # site bounds connections, and headers are read in bounded memory. Modules are made those of other systems, too. The page aims for
     # a grade, and a script measures how often that is reached. Outputs and names of an audit withstand more.

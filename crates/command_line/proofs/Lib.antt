@@ -1,3 +1,4 @@
+pub mod AloneLemmas
 pub mod CommandLemmas
 pub mod DefaultLemmas
 pub mod EnterLemmas

@@ -211,7 +211,7 @@ untaken_as kinds app words e r has passes u =
     let among : (kind_of e ≡ kind.OutOfMemory → ⊥) → IsAmong (kind_of e) kinds = λ other. ⊎_elim (λ memory. absurd (other memory)) (λ one. one) has in
     ⊎_elim (λ memory. inl memory) (λ other. inr (untaken_by kinds app words (kind_of e) r (λ t. other (passes t)) (among other) u)) (memory_or (kind_of e) r u)
 
-pub not_taken : (words : List Text) (e : Error) (r : Result Task ProgramFault) → (formats : Formats) × (AreFormats formats × ParsesAs formats words (Err e)) → IsUntaken (kind_of e) r
+pub not_taken : (words : List Text) (e : Error) (r : Result Task ProgramFault) → (formats : Formats) × (AreFormats formats × ParsesAs (program_app formats) words (Err e)) → IsUntaken (kind_of e) r
     → IsTaskOf words r
 not_taken words e r p u = ⊎_elim (λ memory. inl memory) (λ told. inr (p.0, (p.1.0, told))) (untaken_as (fault_of (program_app p.0) words) (program_app p.0) words e r p.1.1.0 p.1.1.1 u)
 
@@ -220,8 +220,8 @@ taken_by : (kinds : Kinds) (app : App) (words : List Text) (r : Result Task Prog
 taken_by [] app words r none named asked = (named, asked)
 taken_by (first ∷ more) app words r none named asked = absurd (some_kind first more none)
 
-pub taken : (words : List Text) (m : ArgMatches) (r : Result Task ProgramFault) → (formats : Formats) × (AreFormats formats × ParsesAs formats words (Ok m)) → IsAsked (subcommand_rows_of m) r
-    → IsTaskOf words r
+pub taken : (words : List Text) (m : ArgMatches) (r : Result Task ProgramFault) → (formats : Formats) × (AreFormats formats × ParsesAs (program_app formats) words (Ok m))
+    → IsAsked (subcommand_rows_of m) r → IsTaskOf words r
 taken words m r p asked =
     let fine = p.1.1.0 in
     let there = subst (λ (x : Option (Text × List Row)). IsAsked x r) p.1.1.1 asked in

@@ -161,11 +161,9 @@ AreFormats formats = AreOfFiles formats.0 × AreOfCerts formats.1 × AreOfFiles 
 abbrev pub IsLocal : Command → Type 0
 IsLocal c = (out-Command c).has_globals ≡ false
 
--- What a parse of the program's words gives. Where they have no error, it has the name and the rows of the
+-- What a parse of words by a definition gives. Where they have no error, it has the name and the rows of the
 -- subcommand that they name. Else its error is of a kind of their error, or memory ran out; where the definition
 -- takes the words, only memory can have run out.
-abbrev pub ParsesAs : Formats → List Text → Result ArgMatches Error → Type 0
-ParsesAs formats words (Ok m) =
-    (fault_of (program_app formats) words ≡ []) × (subcommand_rows_of m ≡ subcommand_of (program_app formats) words)
-ParsesAs formats words (Err e) = HasKind (fault_of (program_app formats) words) e
-    × (takes (program_app formats) words ≡ true → kind_of e ≡ OutOfMemory)
+abbrev pub ParsesAs : App → List Text → Result ArgMatches Error → Type 0
+ParsesAs app words (Ok m) = (fault_of app words ≡ []) × (subcommand_rows_of m ≡ subcommand_of app words)
+ParsesAs app words (Err e) = HasKind (fault_of app words) e × (takes app words ≡ true → kind_of e ≡ OutOfMemory)

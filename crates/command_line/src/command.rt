@@ -15,14 +15,18 @@ static FORMATS: [&str; 2] = ["ppm", "non"];
 // The formats that a certificate can be made in: nonolemma 1 or nonolemma 2.
 static FORMS: [&str; 2] = ["1", "2"];
 
-// Parses the words after the program's own name.
+// Parses the words after the program's own name. Those that begin with `check` need no other command.
 pub(crate) fn parsed<'a>(
     alloc: Global,
     words: &'a [&str],
 ) -> Result<Result<ArgMatches<'a>, Error>, AllocError>
     ensures { IfOk result (λ r. (formats : _)
-        × (AreFormats formats × ParsesAs formats (texts words.entry.now) r)) }
+        × (AreFormats formats × ParsesAs (program_app formats) (texts words.entry.now) r)) }
 {
+    if let ["check", ..] = *words {
+        let command = named(alloc)?.subcommand(check_command(alloc, "check", CHECK)?)?;
+        return Ok(command.try_get_matches_from(words));
+    }
     Ok(command(alloc)?.try_get_matches_from(words))
 }
 

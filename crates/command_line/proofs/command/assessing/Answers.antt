@@ -1,5 +1,5 @@
-use Rattle.command_line.proofs.CommandLemmas.{assessing_made}
+use Rattle.command_line.proofs.CommandLemmas.{formatted}
 use Rattle.command_line.proofs.command.assessing.Goals as goal
 
 pub returns-clause-shape : goal.returns-clause-shape
-returns-clause-shape c = assessing_made c.in_ok-puzzles_command.field-0 c.format.result c.arg.result c.arg.ensures c.format.ensures.local c.in_ok-puzzles_command.ensures.shape c.format.ensures.rule
+returns-clause-shape c = formatted c.in_ok-puzzles_command.field-0 c.format.result c.arg.result c.arg.ensures c.format.ensures.local c.in_ok-puzzles_command.ensures.shape c.format.ensures.rule
