@@ -89,6 +89,7 @@ export function unpackedDoc(value) {
   const isRow = (row) => typeof row === 'string' && row.length === columns && [...row].every((letter) => letters.includes(letter));
   must(Array.isArray(picture) && picture.length === rows && picture.every(isRow), phrase('document.rowsPuzzleDoNot'));
   const places = (list, fault) => {
+    must(Array.isArray(list) || list instanceof Set, fault);
     const set = new Set(list);
     must([...set].every((place) => isWhole(place, 0, rows * columns - 1)), fault);
     return set;

@@ -5,7 +5,8 @@ import { test } from 'node:test';
 import { needsModule, saidLine, workers } from '../../page/test/worker.mjs';
 import { gradeName, verdictTitle } from '../../page/base/names.js';
 import { baseOf } from '../../page/document/cover.js';
-import { docOf, emptyDoc, packedDoc, sameDoc } from '../../page/document/document.js';
+import { docOf, emptyDoc, packedDoc, sameDoc, unpackedDoc } from '../../page/document/document.js';
+import { FileFault } from '../../page/document/limits.js';
 import { Client } from '../../page/engine/client.js';
 import { webpbnText } from '../../page/formats/webpbn.js';
 import { crcOf, writeZip } from '../../page/formats/zip.js';
@@ -83,6 +84,14 @@ test('damaged records are none, and damaged strokes leave the document', () => {
     const odd = readCard({ ...cardOf(good), verdict: 'constructor', grade: 'constructor', when: -Infinity });
     assert.deepEqual([odd.when, gradeName(odd.grade), typeof verdictTitle(odd.verdict)], [0, 'constructor', 'string'], 'a card with other words and no time is shown');
     for (const wrong of [null, 'x', {}, { ...good, version: 3 }, { ...good, doc: { ...good.doc, picture: ['z..', '...'] } }, { ...good, doc: null }, { ...good, id: 3 }]) assert.equal(readRecord(wrong), null);
+    for (const name of ['givens', 'locks']) {
+        for (const list of [7, '', '0', {}, true, { length: 1, 0: 0 }]) {
+            const doc = { ...good.doc, [name]: list };
+            assert.equal(readRecord({ ...good, doc }), null);
+            assert.throws(() => unpackedDoc(doc), FileFault, 'no TypeError');
+            assert.deepEqual(readRecord({ ...good, past: [{ [name]: list }] }).strokes.past, []);
+        }
+    }
     for (const past of [null, 'x', [{ rows: [[9, '...']] }], [{ rows: [[0, 'zzz']] }], [{ whole: {} }], [null]]) {
         const read = readRecord({ ...good, past });
         assert.deepEqual([read.doc.picture, read.strokes.past], [['a..', '...'], []]);
