@@ -2,7 +2,7 @@
 // for one another, then those that look most alike, by their distance in Oklab, by the area that each has, and by how much of that is
 // edges alone.
 
-import { isAmong, oklabOf } from '../document/colours.js';
+import { oklabOf } from '../document/colours.js';
 import { coloursTooNear } from '../document/near.js';
 import { isTransparent } from './images.js';
 import { farness, keyOf, nearestOf, once, spotsOf, weightOf } from './spots.js';
@@ -91,26 +91,22 @@ export function groupsOf(image) {
 }
 
 // Groups as they are merged: `weight` by area and edges, `isGuarded` for a colour with some area of its own.
-function weighed(groups, locked) {
+function weighed(groups) {
   const total = groups.reduce((sum, group) => sum + group.area, 0);
-  const isLocked = ({ triple }) => isAmong(locked, triple);
-  const kept = groups.filter((group) => isLocked(group) || (group.edges <= group.area / 2 && group.area >= total * SPECK) || group.area - group.edges >= total * GUARDED);
-  return kept.map((group) => ({
-    ...group, weight: Math.sqrt(group.area - group.edges * (1 - EDGE_WEIGHT)), isLocked: isLocked(group), isGuarded: group.area - group.edges >= total * GUARDED,
-  }));
+  const kept = groups.filter((group) => (group.edges <= group.area / 2 && group.area >= total * SPECK) || group.area - group.edges >= total * GUARDED);
+  return kept.map((group) => ({ ...group, weight: Math.sqrt(group.area - group.edges * (1 - EDGE_WEIGHT)), isGuarded: group.area - group.edges >= total * GUARDED }));
 }
 
 // In which turn a pair is merged: first what a solver may take for one another, last what is guarded.
 const turnOf = (stays, goes) => (goes.alike.has(stays) ? 0 : goes.isGuarded ? 2 : 1);
 
-// The pair that is merged next: what stays and what goes, or null. What is locked never goes.
+// The pair that is merged next: what stays and what goes, or null.
 function cheapest(groups) {
   let best = null;
   for (const [at, one] of groups.entries()) {
     for (let to = at + 1; to < groups.length; to++) {
       const other = groups[to];
-      const [stays, goes] = other.isLocked || (!one.isLocked && other.weight > one.weight) ? [other, one] : [one, other];
-      if (goes.isLocked) continue;
+      const [stays, goes] = other.weight > one.weight ? [other, one] : [one, other];
       const turn = turnOf(stays, goes);
       if (best && turn > best.turn) continue;
       const cost = farness(one.place, other.place) * ((one.weight * other.weight) / (one.weight + other.weight));
@@ -136,29 +132,20 @@ function mergedDown(groups) {
 
 const triplesOf = (groups, most) => groups.filter(({ least }) => least <= most).map(({ triple }) => triple);
 
-/** At most so many of the own colours of flat art, the most used first; the locked ones are among them. */
-export function flatPalette(image, most, locked = []) {
-  const groups = once(image, `palette ${locked.join(';')} flat`, () => {
-    const own = groupsOf(image);
-    const met = new Set(own.map((group) => group.triple.join()));
-    const added = locked.filter((triple) => !met.has(triple.join())).map((triple) => ({ triple, place: placeOfTriple(triple), area: 0, edges: 0 }));
-    return mergedDown(weighed([...own, ...added], locked));
-  });
-  return triplesOf(groups, most);
-}
+/** At most so many of the own colours of flat art, the most used first. */
+export const flatPalette = (image, most) => triplesOf(once(image, 'palette flat', () => mergedDown(weighed(groupsOf(image)))), most);
 
 /** How many colours flat art has of some area each; 0 where an image is none. */
 export function countFlat(image, least = 0.01) {
   if (!isFlat(image)) return 0;
   const total = weightOf(spotsOf(image));
-  return weighed(groupsOf(image), []).filter((group) => group.area >= total * least).length;
+  return weighed(groupsOf(image)).filter((group) => group.area >= total * least).length;
 }
 
 /** For a palette from a file: its triples that an image uses most, at most so many, of those that are like ones the better used. */
-export function nearestPalette(image, triples, most, locked = []) {
+export function nearestPalette(image, triples, most) {
   const places = triples.map(placeOfTriple);
   const groups = triples.map((triple, at) => ({ triple, place: places[at], area: 0, edges: 0 }));
   for (const { triple, weight } of spotsOf(image)) groups[nearestOf(places, placeOfTriple(triple))].area += weight;
-  const isLocked = ({ triple }) => isAmong(locked, triple);
-  return triplesOf(mergedDown(weighed(groups.filter((group) => group.area > 0 || isLocked(group)), locked)), most);
+  return triplesOf(mergedDown(weighed(groups.filter((group) => group.area > 0))), most);
 }

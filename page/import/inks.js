@@ -11,7 +11,7 @@ import { nameOf } from '../document/names.js';
 import { mergedNumbers } from '../document/near.js';
 import { readPalette } from '../formats/palettes.js';
 import { LANGUAGE, phrase } from '../texts/phrase.js';
-import { LOCKED_FAR } from './photo.js';
+import { LOCKED_FAR } from './quantise.js';
 import { farness } from './spots.js';
 
 const hasNear = (triples, triple) => triples.some((one) => farness(oklabOf(...one), oklabOf(...triple)) <= LOCKED_FAR);

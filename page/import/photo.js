@@ -1,8 +1,6 @@
 // Few colours for a photo: boxes of colours cut where they spread most (Heckbert's median cut, 1982, cut at the mean), or what is
-// salient, one after the other; then a little k-means (Lloyd) of each. What stands best for the parts of the image is taken. Colours that
-// are locked stay as they are.
+// salient, one after the other; then a little k-means (Lloyd) of each. What stands best for the parts of the image is taken.
 
-import { oklabOf } from '../document/colours.js';
 import { farness, nearestOf, once, spotsOf, weightOf } from './spots.js';
 
 const KMEANS_ROUNDS = 16;
@@ -11,7 +9,6 @@ const LEAST_PART = 0.004; // of the area: a smaller part is none
 const AROUND = 0.1 ** 2; // within that of Oklab colours are of a part that looks alike
 const FARTHEST = 9; // of a place from none
 const BIN = 0.025; // a side of the boxes of Oklab in which colours are taken as one
-export const LOCKED_FAR = 0.04 ** 2; // within that of a locked colour nothing else is found
 
 // The axis along which spots spread most, their mean there, and how much they spread, by weight.
 function spreadOf(spots) {
@@ -69,9 +66,9 @@ function groupedAround(centres, spots) {
 
 // Groups around those spots, one after the other, that are salient: by the root of the area that looks like them times the contrast to
 // what is taken.
-function salientGroups(spots, most, fixed) {
-  const taken = [...fixed];
-  while (taken.length < fixed.length + most) {
+function salientGroups(spots, most) {
+  const taken = [];
+  while (taken.length < most) {
     let best = { salience: 0, lab: null };
     for (const { lab, area } of spots) {
       const salience = Math.sqrt(area) * farFrom(taken, lab);
@@ -80,7 +77,7 @@ function salientGroups(spots, most, fixed) {
     if (!best.lab) break;
     taken.push(best.lab);
   }
-  return groupedAround(taken, spots).slice(fixed.length).filter((group) => group.length);
+  return groupedAround(taken, spots).filter((group) => group.length);
 }
 
 // The parts of an image by their colours: around the spot that most looks like, what is near to it; then so on with what is left.
@@ -98,12 +95,12 @@ function partsOf(spots) {
 // How badly places stand for the parts of an image, each of which counts the same.
 const missOf = (parts, labs) => parts.reduce((sum, part) => sum + Math.sqrt(part.reduce((all, { lab, weight }) => all + weight * farFrom(labs, lab), 0) / weightOf(part)), 0);
 
-// Groups of spots around centres that move; those of `fixed` places do not, and their groups are left out.
-function movedGroups(spots, begun, fixed) {
+// Groups of spots around centres that move.
+function movedGroups(spots, begun) {
   let groups = begun;
   for (let round = 0; round < KMEANS_ROUNDS; round++) {
-    const centres = [...fixed, ...groups.map((group) => meanOf(group, 'lab'))];
-    const kept = groupedAround(centres, spots).slice(fixed.length).filter((group) => group.length);
+    const centres = groups.map((group) => meanOf(group, 'lab'));
+    const kept = groupedAround(centres, spots).filter((group) => group.length);
     const isStill = kept.length === groups.length && kept.every((group, at) => group.length === groups[at].length);
     groups = kept;
     if (isStill) break;
@@ -112,30 +109,24 @@ function movedGroups(spots, begun, fixed) {
 }
 
 // The groups of spots that stand best for an image: of some that are begun in two ways, by some weights.
-function bestGroups(spots, most, fixed) {
+function bestGroups(spots, most) {
   const parts = partsOf(spots);
   let best = { miss: Infinity, groups: [] };
   for (const weighed of POWERS.map((power) => weighedBy(spots, power))) {
-    for (const begun of [cutBoxes(weighed, most), salientGroups(weighed, most, fixed)]) {
-      const groups = movedGroups(weighed, begun, fixed);
-      const miss = missOf(parts, [...fixed, ...groups.map((group) => meanOf(group, 'lab'))]);
+    for (const begun of [cutBoxes(weighed, most), salientGroups(weighed, most)]) {
+      const groups = movedGroups(weighed, begun);
+      const miss = missOf(parts, groups.map((group) => meanOf(group, 'lab')));
       if (miss < best.miss) best = { miss, groups };
     }
   }
   return best.groups;
 }
 
-/** At most so many triples that stand well for a photo's colours, the locked ones first. */
-export function photoPalette(image, most, locked = []) {
-  const fixed = locked.map((triple) => oklabOf(...triple));
-  const isFree = ({ lab }) => fixed.every((place) => farness(place, lab) > LOCKED_FAR);
-  const spots = once(image, 'gathered', () => gatheredSpots(spotsOf(image))).filter(isFree);
-  const wanted = most - locked.length;
-  if (wanted < 1 || !spots.length) return locked.slice(0, most);
-  const triples = new Map(locked.map((triple) => [triple.join(), triple]));
-  for (const group of bestGroups(spots, wanted, fixed).sort((a, b) => weightOf(b) - weightOf(a))) {
-    const triple = meanOf(group, 'triple').map(Math.round);
-    triples.set(triple.join(), triple);
-  }
-  return [...triples.values()];
+/** At most so many triples that stand well for a photo's colours. */
+export function photoPalette(image, most) {
+  const spots = once(image, 'gathered', () => gatheredSpots(spotsOf(image)));
+  if (!spots.length) return [];
+  const groups = bestGroups(spots, most).sort((a, b) => weightOf(b) - weightOf(a));
+  const triples = groups.map((group) => meanOf(group, 'triple').map(Math.round));
+  return [...new Map(triples.map((triple) => [triple.join(), triple])).values()];
 }

@@ -5,9 +5,11 @@ import { LETTERS } from '../document/limits.js';
 import { coloursTooNear } from '../document/near.js';
 import { Votes, dithered, withoutSpecks } from './cells.js';
 import { flatPalette, isFlat, nearestPalette } from './flat.js';
-import { LOCKED_FAR, photoPalette } from './photo.js';
+import { photoPalette } from './photo.js';
 import { ALIKE, EXACT, farness, hasClear, hasFewColours, nearestOf, numbersFor, once, spotsOf } from './spots.js';
 import { drawnCells } from './tone.js';
+
+export const LOCKED_FAR = 0.04 ** 2; // a locked colour takes the place of one within that
 
 // The triples that stand well for an image's colours, at most so many: where `isExact`, its own ones if there are no more than that, else
 // those of smoothed edges would be among them.
