@@ -50,7 +50,7 @@ def one(data, suffix="", ground=NONE):
 
 # Values that a field of a row cannot have. Its puzzle has one solution, a given and a certificate.
 POISONED = {
-    "file": [1, "", None, ["site/one.ppm"], "\ud800"],
+    "file": [1, "", None, ["site/one.ppm"], "\ud800", "./one.ppm", "site//one.ppm", "site/../one.ppm", "site/./one.ppm", "site/one.ppm/", "///one.ppm"],
     "verdict": ["fine", "Unique", 1, None, ["unique"], {}],
     "rows": ["2", 2.0, True, 0, 121, -1, None, [2]],
     "columns": ["2", [], 1e3],
@@ -1382,6 +1382,15 @@ class Again(Case):
         self.assertIn("of another run", self.run_audit("merge", "whole", "one", "--jsonl", "merged", status=3).stderr)
         self.run_audit("merge", "whole", "two", "--jsonl", "merged", status=1)
         self.run_audit("merge", "whole", "--jsonl", "merged", status=0)
+
+    def test_merge_takes_each_name_that_an_audit_writes(self):
+        """Each is its own normal form: other names are of no audit, and one file could have two."""
+        one = self.put("one.ppm", p3(UNIQUE))
+        (self.folder / "beside").mkdir()
+        for at, path in enumerate((".", "./site/", "site//one.ppm", one, f"/{one}", "beside/..", "../" + self.folder.name, "site/../../" + self.folder.name)):
+            self.run_audit(path, "--allow", "9", "--jsonl", str(at), status=0)
+        self.run_audit("merge", *map(str, range(at + 1)), "--jsonl", "merged", status=0)
+        self.assertEqual(sorted(self.read("merged")), sorted({"site/one.ppm", str(one), f"/{one}", f"../{self.folder.name}/site/one.ppm"}))
 
     def test_resume_minds_options_and_limits(self):
         self.put("one.ppm", p3(UNIQUE))

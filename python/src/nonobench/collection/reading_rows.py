@@ -3,6 +3,7 @@
 from __future__ import annotations
 
 import json
+import os
 import re
 from typing import Any, Callable
 
@@ -121,7 +122,7 @@ def _is_told(value: Any) -> bool:
 _count = _is_number(0, 1 << 31)
 _SHOWN = ("rows", "columns", "colours", "open", "background", "palette", "picture")
 _FIELDS: dict[str, Callable[[Any], bool]] = {
-    "file": lambda value: _is_text(value) and "\0" not in value,
+    "file": lambda value: _is_text(value) and "\0" not in value and os.path.normpath(value) == value,
     **{name: _is_text for name in ("title", "picture", "other", "error", "note", "content", "made", "limit")},
     "certificate": _is_told,
     "lines": _count,
