@@ -141,6 +141,10 @@ class ByProgram(unittest.TestCase):
                 self.assertEqual(_by_program.beside(f"{place}{name}", ground), wanted)
         with mock.patch.object(_by_program, "row_of", lambda status, text, said: _by_program.Row("unique", notes=tuple(text.split()[1:]))):
             self.assertIn("--certificate, words.PROOF", self.run_on(self.folder / "words.ppm")[1][0])
+        (self.folder / "words.background").write_text(" " * 99 + "0,0,40" + "\n" * 99 + "x")
+        self.assertIn("\n" * 99 + "x", _by_program.beside(f"{place}words.ppm", None)[3])
+        (self.folder / "words.background").write_bytes(b" " * 16_777_217)
+        self.assertEqual(self.run_on(self.folder / "words.ppm"), (3, ["error                 words.ppm: its background: more than 16777216 bytes"]))
         (self.folder / "fit.background").mkdir()
         self.assertEqual(self.run_on(self.folder / "fit.ppm")[0], 3)
 

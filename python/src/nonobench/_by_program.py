@@ -14,6 +14,7 @@ from typing import Callable, Iterator, NamedTuple, Optional
 
 from ._library import FOLDER
 from .collection.finding import ENDINGS, SUFFIXES, called_beside
+from .collection.puzzles import MOST_BYTES
 from .collection.rows import printable
 
 # The program that is packed with the library; tests name another one.
@@ -23,7 +24,6 @@ VERDICTS = ("unique", "ambiguous", "undecided")
 FIT, UNFIT, UNREAD = 0, 1, 3
 LAST = {FIT: "fit", UNFIT: "unfit"}  # the line that ends an assessment, by the program's status
 MOST_SECONDS = 1e6
-MOST_BACKGROUND = 64  # bytes
 
 
 class Row(NamedTuple):
@@ -75,7 +75,10 @@ def beside(path: str, ground: Optional[str]) -> list[str]:
     told = lying(path, "background")
     if told is not None:
         with open(told, "rb") as file:
-            ground = file.read(MOST_BACKGROUND).strip().decode("ascii", "replace")
+            held = file.read(MOST_BYTES + 1)
+        if len(held) > MOST_BYTES:
+            raise ValueError(f"its background: more than {MOST_BYTES} bytes")
+        ground = held.strip().decode("ascii", "replace")
     certificate = next(filter(None, (lying(path, ending, False) for ending in ENDINGS)), None)
     named = {"--givens": lying(path, "givens"), "--background": None if ground == "white" else ground, "--certificate": certificate}
     return [word for option, value in named.items() if value is not None for word in (option, value)]
