@@ -766,6 +766,29 @@ class Running(Case):
                 self.run_audit(*words, status=2)
         self.assertEqual((self.site / "in" / "one.ppm").read_bytes(), p3(UNIQUE))
 
+    def test_certificates_are_not_written_beside_other_puzzles(self):
+        """They would be read as theirs; beside their own, and where there are no puzzles, they may lie below a path."""
+        self.put("a.ppm", p3(UNIQUE))
+        self.put("b.ppm", p3(UNIQUE))
+        self.put("sub/a.ppm", p3(("aa",)))
+        self.put("other/site/a.ppm", p3(("aa",)))
+        (self.folder / "link").symlink_to("site/sub")
+        for of, *words in (
+            ("site", "--certify", "site/sub"), ("site", "--certify", "link"), ("site", "--certify", "site/sub", "--untrusted"), (".", "--certify", "site"),
+            ("site/a.ppm", "--certify", "site/sub"), ("site/a.ppm", "site/sub", "--certify", "site/other"), ("site/a.ppm", "site/sub", "--certify", "site/sub"),
+        ):
+            with self.subTest((of, words)):
+                said = self.run_audit(of, *words, "--allow", "9", status=2).stderr
+                self.assertRegex(said, f"--certify '.*': certificates of '{of}' would lie beside other puzzles, in '{self.folder.resolve()}/site")
+        self.assertEqual(list(self.folder.rglob("*.cert")), [])
+        for words in (
+            ("site", "--certify", "site"), ("site", "--certify", "site/new"), (".", "--certify", "certificates"), ("site/a.ppm", "site/b.ppm", "--certify", "site"),
+            ("site/sub", "site/other", "--certify", "site"),
+        ):
+            with self.subTest(words):
+                self.run_audit(*words, "--allow", "9", status=0)
+                self.run_audit(".", "--allow", "9", status=0)
+
     def test_a_picture_that_cannot_be_written(self):
         self.put("one.ppm", p3(UNIQUE))
         (self.folder / "out" / "one.ppm").mkdir(parents=True)

@@ -12,7 +12,7 @@ from typing import Optional, Sequence
 
 from .._answers import FLAW_KINDS
 from .._library import version
-from .finding import ENDINGS, MADE, SUFFIXES, find, front_of, is_behind_link, unreached
+from .finding import ENDINGS, MADE, SUFFIXES, find, front_of, is_among, is_behind_link, unreached, without_nested
 from .readers import ground_of
 
 _ENDINGS = frozenset((*SUFFIXES, ".givens", ".background", *(f".{ending}" for ending in ENDINGS)))
@@ -93,6 +93,8 @@ def options_of(words: list[str]) -> Options:
             parser.error(f"no such folder: {folder!r}")
     if told.publish is not None:
         _refuse_publishing(parser, told)
+    if told.certify is not None:
+        _refuse_certifying(parser, told)
     for option, wanted in (("certify", told.certify), ("ppm", told.publish), ("certificates", told.certificates), ("givens", told.givens)):
         if wanted is not None:
             _refuse_twins(parser, told.paths, option)
@@ -212,6 +214,17 @@ def _refuse_publishing(parser: argparse.ArgumentParser, told: argparse.Namespace
         one, other = os.path.realpath(path), os.path.realpath(told.publish)
         if os.path.commonpath([one, other]) in (one, other):
             parser.error(f"--ppm {told.publish!r} and {path!r} lie in each other")
+
+
+def _refuse_certifying(parser: argparse.ArgumentParser, told: argparse.Namespace) -> None:
+    """Certificates are written beside their own puzzles or beside none: others below a path would take them for theirs."""
+    outer = without_nested(told.paths)
+    for path in outer:
+        is_folder = os.path.isdir(path)
+        own = os.path.realpath(path if is_folder else os.path.dirname(path))
+        to = os.path.realpath(os.path.join(told.certify, front_of(path) if is_folder and len(outer) > 1 else ""))
+        if to != own and is_among(to, told.paths) and os.path.isdir(to) and any(True for _ in find([to])):
+            parser.error(f"--certify {told.certify!r}: certificates of {path!r} would lie beside other puzzles, in {to!r}")
 
 
 def _ground(word: str) -> str:
