@@ -510,3 +510,36 @@ def test_many_at_a_time_say_what_one_says(site, checked):
     wanted = (1, [f"site/{number:03}.cert: certificate Ended at line 2" for number in range(0, 300, 3)])
     assert checked("site", "--jobs", "1") == wanted
     assert checked("site", "--jobs", "8") == wanted
+
+
+# A program as pip installs it, to which Ctrl-C comes where a module of the package begins to be loaded.
+INTERRUPTED = """import os, signal, sys
+class Finder:
+    def find_spec(name, path, target=None):
+        if name == {module!r}:
+            os.kill(os.getpid(), signal.SIGINT)
+sys.meta_path.insert(0, Finder)
+from {package} import main
+sys.exit(main())
+"""
+
+
+@pytest.mark.parametrize("name, package", [("nonobench-audit", "nonobench.collection"), ("nonobench-check-site", "nonobench.check_site")])
+def test_ctrl_c_while_a_program_is_loaded(site, tmp_path, name, package):
+    program, own = tmp_path / name, {"nonobench-audit": "nonobench.collection.running"}
+    for module in ("nonobench._answers", "nonobench.worker", "nonobench.collection.finding", "nonobench.collection.outputs", own.get(name, package)):
+        program.write_text(INTERRUPTED.format(module=module, package=package))
+        run = subprocess.run([sys.executable, program, "site"], cwd=site.parent, capture_output=True, text=True, timeout=PATIENCE)
+        assert (run.stderr, run.returncode) == ("", -signal.SIGINT), module
+    other = tmp_path / "program-of-a-user"
+    other.write_text(INTERRUPTED.format(module="nonobench._answers", package=package))
+    assert "KeyboardInterrupt" in subprocess.run([sys.executable, other, "site"], capture_output=True, text=True, timeout=PATIENCE).stderr
+
+
+def test_ctrl_c_while_a_site_is_checked_has_its_status(site, tmp_path):
+    pair(site, "one")
+    program = tmp_path / "nonobench-check-site"
+    begun = "from nonobench import check_site\ncheck_site._run = lambda told: os.kill(os.getpid(), signal.SIGINT)\n"
+    program.write_text(f"import os, signal, sys\n{begun}sys.exit(check_site.main())\n")
+    run = subprocess.run([sys.executable, program, "site"], cwd=site.parent, capture_output=True, text=True, timeout=PATIENCE)
+    assert (run.stderr, run.returncode) == ("", check_site.INTERRUPTED)

@@ -18,6 +18,7 @@ child must not call the library; use `Worker` there, which starts a new program.
     picture = nonobench.picture_of_image(data)                           # raises ImageFault
 """
 
+from . import _loading  # before all else
 from ._answers import (
     Assessment, Audit, Block, CertificateFault, Clues, Fault, Flaw, Given, GivensFault, Grade, ImageFault, LengthFault, PictureFault,
     Proved, Result, Ruling, UnpublishedGiven, Verdict,

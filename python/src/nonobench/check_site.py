@@ -15,6 +15,7 @@ import traceback
 from concurrent.futures import ThreadPoolExecutor
 from typing import Iterator, NamedTuple, Optional
 
+from . import _loading
 from ._answers import Fault, refused_flaws
 from ._hints import hint_of
 from ._library import version
@@ -176,8 +177,9 @@ def line_of(answer: Answer) -> str:
 def main(words: Optional[list[str]] = None) -> int:
     """Runs nonobench-check-site, and answers its status."""
     is_closed = sys.stdout is None
-    hold_streams()
     try:
+        _loading.end()
+        hold_streams()
         told = _parser().parse_args(words)
         if is_closed:
             print("nonobench-check-site: standard output is closed", file=sys.stderr)

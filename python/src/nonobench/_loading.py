@@ -1,0 +1,17 @@
+"""While a program of this package is loaded, Ctrl-C ends it at once, without a traceback. The program minds it once it runs."""
+
+import _signal as signal  # type: ignore  # `signal` itself loads much before it can be asked
+import os
+import sys
+
+_PROGRAMS = ("nonobench-audit", "nonobench-check-site")
+_is_ours = os.path.basename(sys.argv[0] if sys.argv else "") in _PROGRAMS and signal.getsignal(signal.SIGINT) is signal.default_int_handler
+
+if _is_ours:
+    signal.signal(signal.SIGINT, signal.SIG_DFL)
+
+
+def end() -> None:
+    """Has Ctrl-C raise KeyboardInterrupt again, as the program expects."""
+    if _is_ours:
+        signal.signal(signal.SIGINT, signal.default_int_handler)
