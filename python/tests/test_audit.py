@@ -1499,6 +1499,15 @@ class Again(Case):
             with self.subTest(forged):
                 self.assertEqual((in_process(self.folder, *words)[0], place.read_text()), (1, whole))
 
+    def test_resume_checks_that_the_only_puzzle_has_no_number(self):
+        self.put("one.ppm", p3(UNIQUE))
+        words = ["site", "--allow", "9", "--certify", "certs", "--jsonl", "rows.jsonl", "--resume"]
+        in_process(self.folder, *words)
+        place = self.folder / "rows.jsonl"
+        whole = place.read_text()
+        place.write_text(whole.replace('.ppm",', '.ppm","puzzle":1,'))
+        self.assertEqual((in_process(self.folder, *words)[0], place.read_text()), (0, whole))
+
     def test_resume_refuses_other_files(self):
         self.put("one.ppm", p3(UNIQUE))
         (self.folder / "rows.jsonl").write_text('{"file":"site/one.ppm","verdict":"unique"}\nmy diary\n')

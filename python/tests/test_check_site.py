@@ -536,6 +536,17 @@ def test_ctrl_c_while_a_program_is_loaded(site, tmp_path, name, package):
     assert "KeyboardInterrupt" in subprocess.run([sys.executable, other, "site"], capture_output=True, text=True, timeout=PATIENCE).stderr
 
 
+@pytest.mark.parametrize("name, package", [("nonobench-audit", "nonobench.collection"), ("nonobench-check-site", "nonobench.check_site")])
+def test_a_program_that_cannot_be_loaded_ends_with_3(site, tmp_path, name, package):
+    program = tmp_path / name
+    program.write_text(INTERRUPTED.replace("os.kill(os.getpid(), signal.SIGINT)", "raise MemoryError").format(module="nonobench._answers", package=package))
+    run = subprocess.run([sys.executable, program, "site"], cwd=site.parent, capture_output=True, text=True, timeout=PATIENCE)
+    assert (run.stderr.splitlines()[-1], run.returncode) == ("MemoryError", 3)
+    program.write_bytes((Path(__file__).parents[2] / "packages" / "linux" / "command").read_bytes())
+    run = subprocess.run([sys.executable, "-I", program, "site"], cwd=site.parent, capture_output=True, text=True, timeout=PATIENCE)
+    assert (run.stderr, run.returncode) == (f"{name}: No module named 'nonobench'\n", 3)
+
+
 def test_ctrl_c_while_a_site_is_checked_has_its_status(site, tmp_path):
     pair(site, "one")
     program = tmp_path / "nonobench-check-site"

@@ -193,12 +193,10 @@ class Judging:
         for number, has_more, puzzle in numbered(self._puzzles(task.name, files)):
             if number < task.start:
                 continue
-            front: Row = {"file": task.name}
-            if has_more or number > 1:
+            place = _place(number, has_more)
+            if place:
                 self._answers.put(task.number, "at", str(number), "more" if has_more else "")
-                front["puzzle"] = number
-            if has_more:
-                front["more"] = True
+            front: Row = {"file": task.name, **place}
             about = About(front, "more" if has_more else "last", content, sha256, begun)
             self._judge(task, about, puzzle, files.of(number))
             if task.mode == GLANCE:
@@ -214,9 +212,11 @@ class Judging:
         if not kept:
             return True
         with contextlib.suppress(Unreadable):
-            for number, _, puzzle in numbered(self._puzzles(task.name, files)):
+            for number, has_more, puzzle in numbered(self._puzzles(task.name, files)):
                 row, held = kept.pop(number, (None, b""))
                 if row is None or (row and (isinstance(puzzle, Unreadable) or row.get("sha256") != sha256)):
+                    return False
+                if row and _place(number, has_more) != {word: row[word] for word in ("puzzle", "more") if word in row}:
                     return False
                 published = task.published and certificates.numbered_name(task.published, number)
                 proof = None if task.to is None else held
@@ -303,6 +303,11 @@ def unread(name: str, error: Unreadable, has_times: bool) -> str:
     """The row of a file that cannot be read."""
     row: Row = {"file": name, "verdict": "error", "error": str(error)}
     return text_of({**row, "seconds": 0.0} if has_times else row)
+
+
+def _place(number: int, has_more: bool) -> Row:
+    """What a row says of its puzzle's place in the file: nothing where it is the only one."""
+    return {**({"puzzle": number} if has_more or number > 1 else {}), **({"more": True} if has_more else {})}
 
 
 def numbered(puzzles: Iterator[Union[Puzzle, Unreadable]]) -> Iterator[tuple[int, bool, Union[Puzzle, Unreadable]]]:
