@@ -37,11 +37,14 @@ function withLocked(found, locked) {
  * room for these, so that one more that is locked, with room for one more, displaces none.
  */
 export function paletteFor(image, most, { locked = [], from = null, isExact = true } = {}) {
-  for (let count = most; count > 0; count--) {
-    const all = withLocked(foundFor(image, count, from, isExact), locked);
-    if (all.length <= most) return all;
+  const all = (count) => withLocked(count > 0 ? foundFor(image, count, from, isExact) : [], locked);
+  let [fits, high, tried] = [Math.max(0, most - locked.length), most, most];
+  while (fits < high) {
+    if (all(tried).length <= most) fits = tried;
+    else high = tried - 1;
+    tried = Math.ceil((fits + high) / 2);
   }
-  return locked.slice(0, most);
+  return all(fits).slice(0, most);
 }
 
 // The palette as it was edited: what was dropped is found, so that the others stay as they are, and taken out. What is locked stays,

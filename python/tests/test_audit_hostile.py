@@ -426,7 +426,6 @@ class Strangers(Case):
         places = finding.Places(str(mine), None, True)
 
         def held():
-            finding.forget()
             found = [one for paths in (["site"], ["site/one.ppm", "site/set.xml"]) for one in finding.find(paths, places)]
             return [[(of, os.path.basename(way)) for of, way in one.beside] for one in found if one.name in ("site/one.ppm", "site/set.xml")]
 
@@ -448,13 +447,34 @@ class Strangers(Case):
         rows = self.rows_of("site", "--certificates", "mine", "--untrusted", status=1)
         self.assertEqual([rows[name]["certificate"]["accepted"] for name in ("one.ppm", "set.xml#1", "set.xml#2")], [False, True, False])
 
+    def test_a_folder_of_the_operators_that_goes_meanwhile_is_none(self):
+        """What it held is not taken to be missing: the puzzles that are left cannot be read, whether another folder takes its place or not."""
+        mine, gone = self.folder / "mine", self.folder / "gone"
+        for name in ("a", "b", "c"):
+            self.put(f"{name}/x.ppm", p3(UNIQUE))
+            (mine / name).mkdir(parents=True)
+            (mine / name / "x.background").write_text("0,0,200")
+        for places in (finding.Places(None, str(mine)), finding.Places(str(mine), None)):
+            found = finding.find([str(self.site)], places)
+            first = next(found)
+            mine.rename(gone)
+            second = next(found)
+            mine.mkdir()
+            third = next(found)
+            mine.rmdir()
+            gone.rename(mine)
+            if places.givens:
+                self.assertEqual((first.givens, first.background), (None, str(mine / "a" / "x.background")))
+                self.assertEqual([one.givens for one in (second, third)], [str(mine / name) + "/" for name in ("b", "c")])
+            else:
+                self.assertEqual([one.beside for one in (first, second, third)], [(), ((1, str(mine / "b") + "/"),), ((1, str(mine / "c") + "/"),)])
+
     def test_each_puzzle_has_its_own_certificates_alone(self):
         """Those that were written of it, in a folder of their own and beside the puzzles, whatever puzzles and folders are called."""
         self.addCleanup(os.chdir, os.getcwd())
         os.chdir(self.folder)
 
         def puzzles(place):
-            finding.forget()
             found = finding.find([f"site/{at}"], finding.Places(place))
             return {f"{one.path}#{of}": (one, of) for one in found for of in range(1, 3 if one.path.endswith(".xml") else 2)}
 
@@ -503,7 +523,6 @@ class Strangers(Case):
             self.put(called, "")
             (own / called).write_text("")
             for place, wanted in ((None, reader), (str(self.site), reader), (str(own), "a.xml")):
-                finding.forget()
                 found = finding.find([str(self.site)], finding.Places(place))
                 readers_of = [os.path.basename(one.path) for one in found for _, way in one.beside if way.endswith("/a.xml.1.cert")]
                 with self.subTest((name, place)):

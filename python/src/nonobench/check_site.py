@@ -62,12 +62,12 @@ class Site:
     """Where the files of a site are."""
 
     def __init__(self, told: argparse.Namespace) -> None:
-        finding.forget()
         self._certificates, self._is_apart = told.certificates or told.folder, told.certificates is not None
         published = told.givens or (None if told.untrusted else told.folder)
         # The real paths, of which nothing below them may be a link.
         self._folder, *held = (folder and os.path.realpath(folder) for folder in (told.folder, self._certificates, published))
         self._places = finding.Places(*held, told.untrusted)
+        finding.begin(self._places)
         self._shard = told.shard
         self.unsearched: list[Answer] = []
         self.unread: list[Answer] = []  # in whose place another certificate is

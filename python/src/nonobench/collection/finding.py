@@ -2,6 +2,7 @@
 
 from __future__ import annotations
 
+import contextlib
 import functools
 import hashlib
 import os
@@ -149,6 +150,7 @@ def find(paths: list[str], places: Places = Places()) -> Iterator[Found]:
     if places.is_untrusted:
         certificates, givens = (way and os.path.realpath(way) for way in places[:2])
         places = Places(certificates, givens, True)
+    begin(places)
     for path in outer:
         real = _real(path) if places.is_untrusted else path
         if os.path.isdir(path) and not (places.is_untrusted and os.path.islink(real)):
@@ -194,11 +196,24 @@ def _steps(real: str, prefix: str, front: str, places: Places) -> Iterator[Any]:
             yield _found(folder, name)
 
 
+def _identity(folder: str) -> Optional[tuple[int, int]]:
+    """What tells a folder from all others; nothing where it is missing."""
+    with contextlib.suppress(OSError):
+        about = os.stat(folder)
+        return about.st_dev, about.st_ino
+    return None
+
+
+_meant = functools.lru_cache(maxsize=None)(_identity)  # that of a folder when it was first asked for
+
+
 @functools.lru_cache(maxsize=4)
-def _listed(folder: str) -> Optional[frozenset[tuple[str, bool]]]:
+def _listed(folder: str, within: Optional[str] = None) -> Optional[frozenset[tuple[str, bool]]]:
     """The names in a folder, each with whether it is a folder's: none where the folder is missing, nothing where it cannot be listed, as
-    behind a link that leads nowhere.
+    behind a link that leads nowhere, or where that which it is within is no longer the one of the beginning.
     """
+    if within is not None and _identity(within) != _meant(within):
+        return None
     try:
         with os.scandir(folder or ".") as entries:
             return frozenset((entry.name, entry.is_dir(follow_symlinks=False)) for entry in entries)
@@ -219,8 +234,8 @@ def _folder(prefix: str, real: str, front: str, listed: Optional[frozenset[tuple
     names = _names(listed)
     held_in, told_in = (real if way is None else os.path.join(way, front) for way in (places.certificates, places.givens))
     beside = frozenset() if places.is_untrusted else listed
-    held = _names(beside if places.certificates is None else _listed(held_in), False)
-    told = _names(beside if places.givens is None else _listed(told_in))
+    held = _names(beside if places.certificates is None else _listed(held_in, places.certificates), False)
+    told = _names(beside if places.givens is None else _listed(told_in, places.givens))
     unlisted = [place or "." for place, listed in ((real, names), (held_in, held)) if listed is None]
     certificates: dict[str, list[Named]] = {}
     for called, ending, name in ((*os.path.splitext(name), name) for name in sorted(held or ())):
@@ -258,11 +273,12 @@ def picture_of(folder: Folder, called: str, certificate: str) -> Optional[Found]
     return of if of or _is_puzzle(folder, short) else _found(folder, short)
 
 
-def forget() -> None:
-    """Forgets what lay in folders."""
-    _listed.cache_clear()
-    _folder.cache_clear()
-    pictures_in.cache_clear()
+def begin(places: Places) -> None:
+    """Forgets what lay in folders, and notes which ones are meant."""
+    for cached in (_listed, _folder, pictures_in, _meant):
+        cached.cache_clear()
+    for way in filter(None, places[:2]):
+        _meant(way)
 
 
 def _found(folder: Folder, name: str) -> Found:
