@@ -3,6 +3,7 @@
 import { hexOf, lightness, tintOf } from '../document/colours.js';
 import { columnOf, eightBitDoc, rowOf } from '../document/document.js';
 import { LETTERS } from '../document/limits.js';
+import { nearPairs } from '../document/near.js';
 import { coloursOf, drawClue, drawGiven, drawRules, drawSign, edges, textSize, wholeFrame } from './board.js';
 import { penOf } from './small.js';
 import { CanvasSurface } from './surface.js';
@@ -20,19 +21,26 @@ export const signsOf = ({ colours }) => ['', ...SIGNS].slice(0, colours.length);
 /** Whether a document has one colour besides its background: its clues need no colours. */
 export const hasOneInk = ({ colours }) => colours.length <= 2;
 
+/** How colours of a document are told where letters or signs are wished for: one ink has them only where its background is too similar. */
+export const shownAs = (doc, show) => (hasOneInk(doc) && !nearPairs(doc).length ? 'colours' : show);
+
 // How it looks with cells of a size. `show` says how colours are told: 'colours', 'letters' or 'signs'. Lines of a canvas are whole.
 function paperLook(surface, doc, cell, show) {
   const isWhole = Boolean(surface.pen);
   const weight = (share, least) => (isWhole ? Math.max(least, Math.round(cell * share)) : cell * share);
   const { fills, inks } = coloursOf(doc, true);
+  const told = shownAs(doc, show);
   return {
-    fills, inks, signs: show === 'letters' ? LETTERS : show === 'signs' ? signsOf(doc) : null, family: PAPER_FAMILY,
+    fills, inks, signs: told === 'letters' ? LETTERS : told === 'signs' ? signsOf(doc) : null, family: PAPER_FAMILY,
     thin: weight(1 / 50, 1), wide: weight(1 / 12, 2), border: weight(1 / 10, 2), isWhole, under: !isWhole, light: '#555', heavy: PAPER_INK,
     ink: '#000', faint: PAPER_FAINT, style: show !== 'colours' || hasOneInk(doc) ? 'plain' : 'box',
     tints: doc.colours.map((triple) => hexOf(tintOf(triple), 255)), edges: doc.colours.map((triple) => (lightness(triple) > PALE ? PAPER_FAINT : null)),
     hair: cell / 40, font: cell * 0.66, least: isWhole ? 5 : 0, weight: 400,
   };
 }
+
+// How clues look: of one ink they are numbers alone.
+const clueLook = (look, doc) => (hasOneInk(doc) ? { ...look, signs: null } : look);
 
 const longest = (clues) => Math.max(1, ...clues.map((blocks) => blocks.length));
 const whole = ({ rows, columns }) => ({ top: 0, left: 0, bottom: rows - 1, right: columns - 1 });
@@ -78,7 +86,7 @@ export function canvasPaper(puzzle, cell) {
 /** How large the smallest text of the clues is on paper, by the side of a cell. */
 export function smallestText(puzzle, show) {
   const doc = eightBitDoc(puzzle.doc);
-  const look = paperLook({}, doc, 1, show);
+  const look = clueLook(paperLook({}, doc, 1, show), doc);
   return [...puzzle.clues.rows, ...puzzle.clues.columns].flat().reduce((least, block) => Math.min(least, textSize(look, block, { width: ROOM, height: ROOM })), look.font);
 }
 
@@ -132,7 +140,8 @@ function drawSolution(board) {
   }
 }
 
-function drawPaperClues({ surface, look, frame }, clues) {
+function drawPaperClues({ surface, doc, look: ofCells, frame }, clues) {
+  const look = clueLook(ofCells, doc);
   const { x, y, cell, top, left, bottom, right } = frame;
   const place = { far: -Infinity, gap: (1 - ROOM) * cell, unit: 1, sizeOf: () => ({ width: ROOM * cell, height: ROOM * cell }) };
   const away = cell * (0.25 + (1 - ROOM) / 2);

@@ -6,7 +6,7 @@ import { plainHexOf } from '../document/colours.js';
 import { eightBitDoc } from '../document/document.js';
 import { LETTERS } from '../document/limits.js';
 import { namesOf } from '../document/names.js';
-import { hasOneInk, signsOf } from '../draw/papers.js';
+import { hasOneInk, shownAs, signsOf } from '../draw/papers.js';
 import { phrase } from '../texts/phrase.js';
 
 /** The texts of sheets themselves. */
@@ -17,7 +17,8 @@ export const SHEET_TEXTS = {
 };
 
 /** The colours that are drawn, with what stands for them, and the background where it is not white. */
-export function legendOf(doc, show) {
+export function legendOf(doc, wished) {
+  const show = shownAs(doc, wished);
   const { colours } = eightBitDoc(doc);
   const names = namesOf(doc);
   const signs = show === 'signs' ? signsOf(doc) : LETTERS;

@@ -151,6 +151,16 @@ test('names of colours in the legend differ', () => {
     assert.deepEqual(legendOf(docOf(['a.'], [[0, 0, 40], [200, 40, 40]]), 'colours').map(({ text }) => text), ['red', 'background: very dark blue']);
 });
 
+test('one ink has plain numbers however colours are shown', () => {
+    const given = docOf(['aa', '.a'], BLACK, { givens: new Set([0]) });
+    const shown = ['colours', 'letters', 'signs'].map((show) => sheets([given], { show, answers: true }).map(({ svg }) => svg));
+    assert.deepEqual(shown.slice(1), [shown[0], shown[0]]);
+    // Where the ink and its background are alike, the cells of the solution have their letter, and clues have none.
+    const [puzzle, solution] = sheets([docOf(['aa', '.a'], [[255, 255, 255], [250, 250, 250]])], { show: 'letters', answers: true });
+    assert.deepEqual(digitsOf(puzzle), ['2', '1', '1', '2']);
+    assert.equal(textsOf(solution).filter(({ text }) => text === 'a').length, 3);
+});
+
 test('several puzzles a sheet, and the solutions at the end', () => {
     const docs = Array.from({ length: 5 }, () => CROSS);
     const all = sheets(docs, { perSheet: 4, answers: true });
