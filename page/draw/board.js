@@ -69,7 +69,8 @@ const signOf = (look, letter) => (look.signs ? look.signs[LETTERS.indexOf(letter
 export const blockText = (look, block) => `${block.length}${signOf(look, block.letter)}`;
 const widthOf = (text) => [...text].reduce((sum, sign) => sum + (sign > 'z' || sign === 'm' ? 1.1 : DIGIT), 0); // by its size
 
-const FRAME = 0.13; // of a box's side
+/** How wide the frame of a box is, by its side. */
+export const FRAME = 0.13;
 
 // A chip of a colour. A very small one has no edge.
 function drawChip(surface, look, at, { x, y, width, height }) {

@@ -1,10 +1,10 @@
 // A puzzle, its solution, or a part of either, on a white surface: for print and for images. Lengths are in the surface's units.
 
-import { hexOf, lightness, tintOf } from '../document/colours.js';
+import { hexOf, lightness, oklabOf, tintOf } from '../document/colours.js';
 import { columnOf, eightBitDoc, rowOf } from '../document/document.js';
 import { LETTERS } from '../document/limits.js';
 import { nearPairs } from '../document/near.js';
-import { coloursOf, drawClue, drawGiven, drawRules, drawSign, edges, textSize, wholeFrame } from './board.js';
+import { FRAME, coloursOf, drawClue, drawGiven, drawRules, drawSign, edges, textSize, wholeFrame } from './board.js';
 import { penOf } from './small.js';
 import { CanvasSurface } from './surface.js';
 
@@ -14,6 +14,8 @@ const PAPER_FAINT = '#8a8a8a';
 const SIGNS = '■●▲▼★♥♣♠▶◀✚✖☀☂♪'; // one a colour, none like the mark of a given cell
 const PALE = 215; // from this lightness on white paper an edge is wanted
 const ROOM = 0.88; // of a cell's side, for a block of a clue
+const FRAMED = 1 - (1 - 2 * FRAME) ** 2; // of a box's area, its frame
+const ALIKE = 0.065; // in Oklab, on the mean over a box: so far apart are colours that are just not too similar
 
 /** The signs of colours on paper, each another one; the background has none. */
 export const signsOf = ({ colours }) => ['', ...SIGNS].slice(0, colours.length);
@@ -88,6 +90,20 @@ export function smallestText(puzzle, show) {
   const doc = eightBitDoc(puzzle.doc);
   const look = clueLook(paperLook({}, doc, 1, show), doc);
   return [...puzzle.clues.rows, ...puzzle.clues.columns].flat().reduce((least, block) => Math.min(least, textSize(look, block, { width: ROOM, height: ROOM })), look.font);
+}
+
+/** The first two letters whose boxes look alike on paper, by frame and tint together; null where none do, and of one ink, which has none. */
+export function alikeBoxes(own) {
+  const doc = eightBitDoc(own);
+  const letters = hasOneInk(doc) ? [] : LETTERS.slice(1, doc.colours.length).split('').filter((letter) => doc.picture.some((row) => row.includes(letter)));
+  const boxes = letters.map((letter) => doc.colours[LETTERS.indexOf(letter)]).map((triple) => [triple, tintOf(triple)].map(([red, green, blue]) => oklabOf(red, green, blue)));
+  const apart = (one, other) => Math.hypot(...one.map((part, at) => part - other[at]));
+  const isAlike = ([frame, tint], other) => FRAMED * apart(frame, other[0]) + (1 - FRAMED) * apart(tint, other[1]) < ALIKE;
+  for (const [at, one] of boxes.entries()) {
+    const other = boxes.findIndex((box, place) => place > at && isAlike(one, box));
+    if (other > 0) return [letters[at], letters[other]];
+  }
+  return null;
 }
 
 /** Where a cell lies between its lines, {left, top, width, height} in a list, in a puzzle that `drawPaper` drew at a place. */

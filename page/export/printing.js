@@ -3,10 +3,8 @@
 import { $, choiceOf, make, say } from '../base/elements.js';
 import { gradeName, verdictName } from '../base/names.js';
 import { clamp, opening, sizeText } from '../base/words.js';
-import { tintOf } from '../document/colours.js';
-import { docOf, eightBitDoc } from '../document/document.js';
-import { nearPairs } from '../document/near.js';
-import { smallestText } from '../draw/papers.js';
+import { docOf } from '../document/document.js';
+import { alikeBoxes, smallestText } from '../draw/papers.js';
 import { bench } from '../engine/bench.js';
 import { writeZip } from '../formats/zip.js';
 import { keep } from '../library/keep.js';
@@ -117,10 +115,9 @@ function smallOn(sheets, puzzles, { show }) {
   return text < LEAST_TEXT ? phrase('export.smallestNumbersMmHigh', { value: tenths(text) }) : '';
 }
 
-// That clues in light tints of two colours look alike on paper; '' where none do.
+// That clues in two colours look alike on paper; '' where none do.
 function tintsText(doc) {
-  const shown = eightBitDoc(doc);
-  const [pair] = nearPairs({ ...shown, colours: shown.colours.map(tintOf) }).filter((one) => !one.includes('.'));
+  const pair = alikeBoxes(doc);
   return pair ? phrase('export.tintsAlike', { pair: pairText(doc, pair[0], pair[1]) }) : '';
 }
 

@@ -741,7 +741,7 @@ export const DE = /** @type {const} */ ({
   'export.coloursShown': 'Farben dargestellt durch',
   'export.goesOverSheetsMap': 'Es braucht {sheets|# Blatt|# Blätter}, jedes mit einer Übersicht der Blätter.',
   'export.soSheetLettersSigns': '{near} Darum hat das Blatt Buchstaben oder Zeichen.',
-  'export.tintsAlike': 'Die hellen Töne von {pair} sehen auf Papier ähnlich aus: „Buchstaben“ unterscheidet ihre Hinweise.',
+  'export.tintsAlike': 'Die Hinweise von {pair} sehen auf Papier ähnlich aus: „Buchstaben“ unterscheidet sie.',
   'export.print': 'Drucken',
   'export.saveSvg': 'Als SVG speichern',
   'export.saveSvgs': 'Blätter als SVG speichern (Zip)',

@@ -741,7 +741,7 @@ export const EN = /** @type {const} */ ({
   'export.coloursShown': 'Show colours as',
   'export.goesOverSheetsMap': 'It takes {sheets|# sheet|# sheets}, with a map of the sheets on each.',
   'export.soSheetLettersSigns': '{near} So the sheet has letters or symbols.',
-  'export.tintsAlike': 'The light tints of {pair} look alike on paper: “Letters” tells their clues apart.',
+  'export.tintsAlike': 'The clues of {pair} look alike on paper: “Letters” tells them apart.',
   'export.print': 'Print',
   'export.saveSvg': 'Save as SVG',
   'export.saveSvgs': 'Save the sheets as SVG (zip)',

@@ -741,7 +741,7 @@ export const FR = /** @type {const} */ ({
   'export.coloursShown': 'Montrer les couleurs par',
   'export.goesOverSheetsMap': 'Il faut {sheets|# feuille|# de feuilles|# feuilles}, avec un plan des feuilles sur chacune.',
   'export.soSheetLettersSigns': '{near} La feuille a donc des lettres ou des symboles.',
-  'export.tintsAlike': 'Les teintes claires de {pair} se ressemblent sur papier : « Lettres » distingue leurs indices.',
+  'export.tintsAlike': 'Les indices de {pair} se ressemblent sur papier : « Lettres » les distingue.',
   'export.print': 'Imprimer',
   'export.saveSvg': 'Enregistrer en SVG',
   'export.saveSvgs': 'Enregistrer les feuilles en SVG (zip)',

@@ -8,6 +8,7 @@ import '../../page/test/limits.mjs';
 const { entryOf, legendOf, SHEET_TEXTS } = await import('../../page/export/entries.js');
 const { inksOf } = await import('../../page/formats/webpbn.js');
 const { namesOf } = await import('../../page/document/names.js');
+const { alikeBoxes } = await import('../../page/draw/papers.js');
 const { PAPERS, linesOf, partsOf, sheetsOf } = await import('../../page/export/sheets.js');
 const { tintOf } = await import('../../page/document/colours.js');
 
@@ -92,6 +93,16 @@ test('a tint on paper: black is read on it at 7 to 1 whatever the colour is, and
         tint.forEach((sample, at) => assert.ok(sample >= triple[at] && (sample > triple[at] || sample === 255), triple.join()));
     }
     assert.ok(least >= 7, `${least}`);
+});
+
+test('clues look alike on paper where frames and tints together do', () => {
+    const inks = { salmon: [250, 128, 114], grey: [34, 34, 34], blue: [0, 0, 160], wine: [160, 0, 0], red: [200, 0, 0] };
+    const pairOf = (picture, ...names) => alikeBoxes(docOf([picture], [[255, 255, 255], ...names.map((name) => inks[name])]));
+    assert.equal(pairOf('ab', 'salmon', 'grey'), null, 'strong frames');
+    assert.equal(pairOf('abc', 'blue', 'wine', 'grey'), null, 'tints alike, frames not');
+    assert.deepEqual(pairOf('abc', 'blue', 'wine', 'red'), ['b', 'c']);
+    assert.equal(pairOf('ab', 'blue', 'wine', 'red'), null, 'a colour without a cell');
+    assert.equal(pairOf('a', 'red'), null);
 });
 
 test('however small the cells are, each block of several colours has its colour', () => {
