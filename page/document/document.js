@@ -59,6 +59,12 @@ export function emptyDoc(columns, rows, background = [255, 255, 255]) {
   return docOf({ rows, columns, maxval: 255, colours: [background, ink], picture: Array(rows).fill('.'.repeat(columns)), givens: new Set() });
 }
 
+/** The runs of a picture's rows and columns, as blocks. Clues that leave the page come from the engine alone. */
+export function runsOf({ picture }) {
+  const runsIn = (letters) => (letters.match(/([a-o])\1*/g) ?? []).map((run) => ({ length: run.length, letter: run[0] }));
+  return { rows: picture.map(runsIn), columns: [...picture[0]].map((_, col) => runsIn(picture.map((row) => row[col]).join(''))) };
+}
+
 /** A document with 8-bit triples, as files out of the page have them. */
 export function eightBitDoc(doc) {
   return { ...docOf(doc), maxval: 255, colours: doc.maxval === 255 ? doc.colours : doc.colours.map((triple) => eightBits(triple, doc.maxval)) };

@@ -3,7 +3,7 @@
 import { $, choiceOf, make, say } from '../base/elements.js';
 import { gradeName, verdictName } from '../base/names.js';
 import { clamp, opening, sizeText } from '../base/words.js';
-import { docOf } from '../document/document.js';
+import { docOf, runsOf } from '../document/document.js';
 import { alikeBoxes, smallestText } from '../draw/papers.js';
 import { bench } from '../engine/bench.js';
 import { writeZip } from '../formats/zip.js';
@@ -121,35 +121,49 @@ function tintsText(doc) {
   return pair ? phrase('export.tintsAlike', { pair: pairText(doc, pair[0], pair[1]) }) : '';
 }
 
-// What is to be known before it is printed.
-function warningsOf(puzzle, near) {
-  const parts = isLarge(puzzle) ? phrase('export.goesOverSheetsMap', { sheets: partsOf(puzzle.doc).length }) : '';
-  return [WARNINGS[puzzle.verdict], near ? phrase('export.soSheetLettersSigns', { near }) : '', parts].filter(Boolean).map((text) => make('p', { class: text === parts ? 'faint' : 'wrong' }, text));
+// What is to be known before puzzles are printed: what is wrong with them, how many sheets they take, and what is small on these.
+function notesOn(puzzles, sheets, options) {
+  const inColours = options.show === 'colours';
+  const named = ({ name }, text) => (text && puzzles.length > 1 ? phrase('import.certificateSays', { name, text }) : text);
+  const coloursText = (one, near) => {
+    if (!near) return inColours ? named(one, tintsText(one.doc)) : '';
+    return inColours ? phrase('export.printLettersSigns', { name: one.name, near }) : named(one, phrase('export.soSheetLettersSigns', { near }));
+  };
+  const wrong = puzzles.flatMap((one) => [named(one, WARNINGS[one.verdict]), coloursText(one, nearText(one.doc))]);
+  const large = puzzles.filter(isLarge).map((one) => named(one, phrase('export.goesOverSheetsMap', { sheets: partsOf(one.doc).length })));
+  const lines = (kind, texts) => texts.filter(Boolean).map((text) => make('p', { class: kind }, text));
+  return [...lines('wrong', wrong), ...lines('faint', large), make('p', { class: 'faint', id: 'print-small' }, smallOn(sheets, puzzles, options))];
+}
+
+// A puzzle and those of some cards, with the runs of their pictures, to foresee their sheets: what is printed has the engine's clues.
+async function foreseen(own, cards) {
+  const records = await Promise.all(cards.map(async ({ id, grade, verdict }) => ({ ...(await keep.keeper.record(id)), grade, verdict })));
+  return [own, ...records.filter(({ doc }) => doc).map((one) => ({ ...one, clues: runsOf(one.doc) }))].sort(byName);
 }
 
 async function printPuzzle() {
   await asSeen();
-  const [own, near] = [atHand(), nearText(bench.state)];
-  const { fields, rows } = printFields(near, gradeAtHand());
+  const own = atHand();
+  const { fields, rows } = printFields(nearText(bench.state), gradeAtHand());
   const others = libraryPart(await otherCards());
-  const small = make('p', { class: 'faint', id: 'print-small', role: 'status' });
-  const alikeTints = make('p', { class: 'wrong', id: 'print-tints' }, near ? '' : tintsText(own.doc));
-  const content = make('div', { class: 'rows' }, ...rows, others.part, ...warningsOf(own, near), alikeTints, small);
+  const notes = make('div', { id: 'print-notes', role: 'status' });
   const svgName = make('span');
   const isZip = (sheets) => sheets.length > 1 || others.chosen().length > 0;
-  const showSmall = () => {
-    const options = readFields(fields);
-    const sheets = sheetsFor([own], options);
-    small.textContent = smallOn(sheets, [own], options);
-    alikeTints.hidden = options.show !== 'colours' || !alikeTints.textContent; // letters and symbols tell them apart
+  const titled = () => ({ ...own, doc: { ...own.doc, about: { ...own.doc.about, title: fields.title.value.trim() } } });
+  let turn = 0;
+  const showNotes = async () => {
+    const ownTurn = ++turn;
+    const [options, puzzles] = [readFields(fields), await foreseen(titled(), others.chosen())];
+    if (ownTurn !== turn) return;
+    const sheets = sheetsFor(puzzles, options);
+    notes.replaceChildren(...notesOn(puzzles, sheets, options));
     svgName.textContent = isZip(sheets) ? phrase('export.saveSvgs') : phrase('export.saveSvg');
   };
-  content.addEventListener('change', showSmall);
-  showSmall();
+  const content = make('div', { class: 'rows', onchange: showNotes }, ...rows, others.part, notes);
+  await showNotes();
   const way = await openDialog({ title: phrase('export.print'), content, wide: true, buttons: [{ name: svgName, value: 'svg' }, { name: opening(phrase('export.print')), value: 'print', main: true }] });
   if (!way) return;
   Object.assign(chosen, readFields(fields));
-  const title = fields.title.value.trim();
   const records = [];
   for (const { id, name, grade } of others.chosen()) {
     const record = await keep.keeper.record(id);
@@ -160,10 +174,7 @@ async function printPuzzle() {
   if (alike) return say(phrase('export.printLettersSigns', { name: alike.name, near: nearText(alike.doc) }), 'alarm');
   const opened = await withClues(records);
   if (!opened) return;
-  const puzzles = [{ ...own, doc: { ...own.doc, about: { ...own.doc.about, title } } }, ...opened].sort(byName);
-  const sheets = sheetsFor(puzzles, chosen);
-  const isSmall = smallOn(sheets, puzzles, chosen);
-  if (isSmall) say(isSmall, 'alarm');
+  const sheets = sheetsFor([titled(), ...opened].sort(byName), chosen);
   if (way === 'svg') return saveSvg(sheets, isZip(sheets));
   fillPrint(sheets);
   globalThis.print();

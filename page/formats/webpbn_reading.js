@@ -1,7 +1,7 @@
 // Web Paint-by-Number's XML puzzle sets, read: the picture, and all else that the format has, so that writing it again loses nothing.
 
 import { withoutSpace } from '../base/words.js';
-import { sameValue, unpackedDoc } from '../document/document.js';
+import { runsOf, sameValue, unpackedDoc } from '../document/document.js';
 import { FileFault, LETTERS, MOST_CELLS, MOST_COLOURS } from '../document/limits.js';
 import { phrase } from '../texts/phrase.js';
 import { LOCKED_COLOURS, WEBPBN_GIVENS, WEBPBN_LOCKS } from './webpbn.js';
@@ -161,15 +161,13 @@ function docOfSigns(signs, colours, ground) {
   return { doc, names: order.map((one) => one.name) };
 }
 
-// The runs of a line of letters, to compare a file's clues with its picture. Clues that leave the page come from the engine alone.
-const runsOf = (letters) => (letters.match(/([a-o])\1*/g) ?? []).map((run) => run.length + run[0]).join(' ');
-
-function checkClues({ picture }, clues, letterOf) {
-  const lines = { rows: picture, columns: [...picture[0]].map((_, col) => picture.map((row) => row[col]).join('')) };
+// Compares a file's clues with its picture.
+function checkClues(doc, clues, letterOf) {
+  const runs = runsOf(doc);
+  const texts = (lines, of) => lines.map((blocks) => blocks.map((block) => block.length + of(block)).join(' '));
   for (const axis of ['rows', 'columns']) {
     if (!clues[axis]) continue;
-    const told = clues[axis].map((blocks) => blocks.map(({ length, name }) => length + letterOf(name)).join(' '));
-    if (!sameValue(told, lines[axis].map(runsOf))) throw new FileFault(axis === 'rows' ? phrase('formats.cluesRowsNotThose') : phrase('formats.cluesColumnsNotThose'));
+    if (!sameValue(texts(clues[axis], ({ name }) => letterOf(name)), texts(runs[axis], ({ letter }) => letter))) throw new FileFault(axis === 'rows' ? phrase('formats.cluesRowsNotThose') : phrase('formats.cluesColumnsNotThose'));
   }
 }
 

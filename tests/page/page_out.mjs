@@ -4,7 +4,7 @@ import { execFileSync } from 'node:child_process';
 import { readFileSync, readdirSync, writeFileSync } from 'node:fs';
 import { join } from 'node:path';
 import { NO_PICKERS, act, clean, coloursAt, downloaded, drop, examples, fresh, isKept, isOpen, menu, said } from './page_hands.mjs';
-import { SLACK, noise, ppmOf } from './page_trial.mjs';
+import { SIZES, SLACK, noise, ppmOf } from './page_trial.mjs';
 
 /** Ctrl+S downloads an XML text under the document's name that opens as it was, texts and names too; then nothing asks on leaving. */
 export async function savedAsDownload({ browser, url, folder }) {
@@ -494,6 +494,44 @@ export async function tintsOnPaper({ browser, url, folder }) {
     assert.deepEqual(told, [true, false, false, true]);
     assert.deepEqual(page.faults, []);
     await page.close();
+}
+
+/** What is said before printing is true of all that is ticked, by its name, moves no button, and goes with the dialog. */
+export async function printNotes({ browser, url, folder }) {
+    for (const [name, size] of Object.entries(SIZES)) {
+        const { page, trial } = await fresh(browser, url, folder, `notes-${name}`, { size });
+        await clean(page);
+        const colours = [[255, 255, 255], [250, 128, 114], [34, 34, 34]]; // their tints look alike, their frames do not
+        for (const [title, picture] of Object.entries({ wide: Array(30).fill('a'.repeat(29) + 'b'), twofold: ['a.', '.a'], own: ['ab', 'bb'] })) {
+            await page.run((one, rows, triples) => openDoc({ rows: rows.length, columns: rows[0].length, maxval: 255, colours: triples, picture: rows, givens: new Set() }, { name: one, isSaved: false }), title, picture, colours);
+            await trial.judged();
+            await isKept(page);
+        }
+        await page.until(async () => (await keep.keeper.cards()).every((card) => card.verdict), 8000 * SLACK);
+        await page.run(() => { window.print = () => { window.isPrinted = true; }; runAction('print'); });
+        await page.until(() => document.querySelector('#print-show')?.closest('dialog[open]'), 5000 * SLACK);
+        const place = () => page.run(() => ['left', 'top'].map((side) => document.querySelector('dialog button.main').getBoundingClientRect()[side]).join());
+        const notes = () => page.run(() => [...document.querySelectorAll('dialog[open] .rows p')].filter((one) => one.checkVisibility()).map((one) => one.textContent).join(' '));
+        const before = await place();
+        assert.equal((await notes()).trim(), '', name);
+        await page.run(() => document.getElementById('print-all').click());
+        await page.until(() => /“twofold”: Another picture has the same clues/.test(document.querySelector('dialog[open] .rows').textContent), 5000 * SLACK);
+        assert.equal(await trial.text('#print-small'), '', `${name}: one on each sheet`);
+        assert.equal(await place(), before, `${name}: ticked`);
+        for (const [id, value] of [['print-count', '6'], ['print-show', 'letters'], ['print-show', 'colours']]) {
+            await page.run((field, chosen) => {
+                document.getElementById(field).value = chosen;
+                document.getElementById(field).dispatchEvent(new Event('change', { bubbles: true }));
+            }, id, value);
+            await page.until(() => /^The smallest cells are 2\.\d mm wide/.test(document.getElementById('print-small').textContent), 5000 * SLACK);
+            assert.equal(await place(), before, `${name}: ${id} ${value}`);
+        }
+        assert.doesNotMatch(await notes(), /look alike/, name);
+        await page.click('dialog button.main');
+        await page.until(() => window.isPrinted, 8000 * SLACK);
+        assert.equal(await said(page), '', `${name}: nothing stays`);
+        await page.close();
+    }
 }
 
 /** Who asks for a certificate of a picture with a second solution is told so, with what mends it, also where the search for it finds that; the next stroke takes it back. */
