@@ -323,6 +323,7 @@ export const DE = /** @type {const} */ ({
   'view.gradeThere': 'Die Schwierigkeit ist schon „{grade}“. Wählen Sie eine andere.',
   'view.oneSolutionThere': 'Das Rätsel hat schon genau eine Lösung.',
   'view.noChangeForGrade': 'Gefunden wurde weder eine Änderung von höchstens vier Feldern noch ein vorgegebenes Feld, mit denen die Schwierigkeit „{grade}“ ist.',
+  'view.otherwiseForGrade': 'Weniger oder mehr Farben, eine andere Größe oder ein anderer Hintergrund führen vielleicht dahin.',
   'view.whatListedGivesCells': ' Die Vorschläge geben auch Felder vor.',
   'view.whatListedComesNearer': ' Die Vorschläge kommen dem Ziel näher.',
   'view.noneSmaller': ' Nach diesen Regeln ist keiner kleiner.',

@@ -323,6 +323,7 @@ export const EN = /** @type {const} */ ({
   'view.gradeThere': 'The grade is “{grade}” already. Choose another one.',
   'view.oneSolutionThere': 'The puzzle has one solution already.',
   'view.noChangeForGrade': 'Neither a change of at most four cells nor a given cell was found that makes the grade “{grade}”.',
+  'view.otherwiseForGrade': 'Fewer or more colours, another size or another background may lead to it.',
   'view.whatListedGivesCells': ' The proposals below also give cells.',
   'view.whatListedComesNearer': ' The changes below come closest.',
   'view.noneSmaller': ' No smaller one exists under these rules.',

@@ -323,6 +323,7 @@ export const FR = /** @type {const} */ ({
   'view.gradeThere': 'La difficulté est déjà « {grade} ». Choisissez-en une autre.',
   'view.oneSolutionThere': 'La grille a déjà une seule solution.',
   'view.noChangeForGrade': 'Aucun changement d’au plus quatre cases, ni aucune case donnée, n’a été trouvé pour que la difficulté soit « {grade} ».',
+  'view.otherwiseForGrade': 'Moins ou plus de couleurs, une autre taille ou un autre fond y mèneront peut-être.',
   'view.whatListedGivesCells': ' Les propositions ci-dessous donnent aussi des cases.',
   'view.whatListedComesNearer': ' Les changements ci-dessous s’en approchent le plus.',
   'view.noneSmaller': ' Selon ces règles, il n’en existe pas de plus petite.',

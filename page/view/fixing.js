@@ -217,7 +217,7 @@ function aimedText(done) {
   const grade = gradeName(fixing.goal);
   if (done?.isThere) return phrase('view.gradeThere', { grade });
   const count = wholes().length + givens().length;
-  if (!count) return `${phrase('view.noChangeForGrade', { grade })}${done?.isThrough ? '' : ` ${LONGER}`}`;
+  if (!count) return `${phrase('view.noChangeForGrade', { grade })} ${done?.isThrough ? phrase('view.otherwiseForGrade') : LONGER}`;
   return phrase('view.proposalsFoundChooseOne', { proposals: count, least: '', loose: '', see: howToSee() });
 }
 

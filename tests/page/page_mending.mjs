@@ -44,6 +44,19 @@ export async function mendingPoint(hands) {
     assert.equal((await trial.state()).open, 0, 'no guessing');
 }
 
+/** Where no change reaches the grade that is wished for, it is said what may. */
+export async function noGradeReached({ trial, page }) {
+    await trial.open(ppmOf(['aa', '.a']), 'tiny');
+    assert.equal(await trial.judged(), 'unique');
+    await page.run(() => runAction('aim'));
+    await page.run(() => {
+        const goal = document.getElementById('fix-goal');
+        goal.value = 'hard';
+        goal.dispatchEvent(new Event('change', { bubbles: true }));
+    });
+    await page.until(() => /^Neither a change .* “hard”\. Fewer or more colours, another size or another background may/.test(document.getElementById('fix-said').textContent), 20000 * SLACK);
+}
+
 /** A grade is aimed for: what is proposed changes at most four cells or gives one, has the grade once it is taken, and goes by one undo. */
 export async function aimPoint(hands) {
     const { page, trial } = hands;
