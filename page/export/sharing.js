@@ -19,6 +19,16 @@ const ownAddress = () => (/^https?:$/.test(location.protocol) ? location.href.sp
 
 // An address as it was meant: without what it begins with, a browser takes it for a file beside the page.
 const withScheme = (address) => (!address || /^[a-z][a-z\d+.-]*:\/\//i.test(address) ? address : `https://${address.replace(/^\/+/, '')}`);
+
+// Whether a text is an address that a browser opens as it stands.
+function isAddress(text) {
+  try {
+    return !/\s/.test(text) && Boolean(new URL(text));
+  } catch {
+    return false;
+  }
+}
+
 const attributeOf = (text) => text.replaceAll('&', '&amp;').replaceAll('"', '&quot;').replaceAll('<', '&lt;');
 
 /** What is handed out: the link itself, or the HTML of a frame that shows it, whose title gives nothing away. */
@@ -38,14 +48,15 @@ function notesOn(kind, address, length) {
   ].filter(Boolean).join(' ');
 }
 
-async function copied(field) {
+// Copies a link; what is wrong, or ''. Where it leads to a file, it works nowhere else.
+async function copied(field, base) {
   try {
     await navigator.clipboard.writeText(field.value);
   } catch { // without the clipboard, as in a page from a file
     field.select();
     if (!document.execCommand('copy')) return phrase('export.browserDidNotCopy');
   }
-  say(phrase('export.linkCopied'));
+  say(/^file:/i.test(base) ? phrase('export.linkCopiedHere') : phrase('export.linkCopied'));
   return '';
 }
 
@@ -58,18 +69,18 @@ async function share() {
   const field = make('textarea', { id: 'share-link', readonly: true, rows: 4, cols: 60 });
   const fieldName = make('span');
   const note = make('p', { id: 'share-note', class: 'faint', role: 'status' });
+  const base = () => withScheme(address.value.trim()) || location.href.split('#')[0];
   const fill = () => {
-    const base = withScheme(address.value.trim()) || location.href.split('#')[0];
     fieldName.textContent = kind.value === FRAME ? 'HTML' : phrase('export.linkField');
-    field.value = linkText(kind.value, base, fragments[kind.value === EDIT ? EDIT : PLAY]);
-    note.textContent = notesOn(kind.value, address.value.trim(), field.value.length);
+    field.value = isAddress(base()) ? linkText(kind.value, base(), fragments[kind.value === EDIT ? EDIT : PLAY]) : '';
+    note.textContent = field.value ? notesOn(kind.value, address.value.trim(), field.value.length) : phrase('export.noAddress', { address: address.value.trim() });
   };
   kind.addEventListener('change', fill);
   address.addEventListener('input', () => keepChoice(ADDRESS, address.value.trim()));
   address.addEventListener('input', fill);
   note.textContent = notesOn(FRAME, '', LONG + 1);
   const content = make('div', { class: 'rows' }, make('label', {}, phrase('export.linkKind'), kind), make('label', {}, phrase('export.addressPage'), address), make('label', {}, fieldName, field), note);
-  openDialog({ title: phrase('export.share'), content, buttons: [{ name: phrase('export.copy'), value: true, main: true, test: () => copied(field) }] });
+  openDialog({ title: phrase('export.share'), content, buttons: [{ name: phrase('export.copy'), value: true, main: true, test: () => (field.value ? copied(field, base()) : note.textContent) }] });
   note.style.minHeight = `${note.offsetHeight + 1}px`; // room for all that it can say: the button below stays
   fill();
 }

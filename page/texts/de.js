@@ -758,6 +758,8 @@ export const DE = /** @type {const} */ ({
   'export.linkCharactersSomePrograms': 'Der Link hat {count} Zeichen. Manche Programme kürzen Links über {long}.',
   'export.browserDidNotCopy': 'Der Browser hat ihn nicht kopiert. Er ist ausgewählt: Drücken Sie Strg+C.',
   'export.linkCopied': 'Der Link ist kopiert.',
+  'export.linkCopiedHere': 'Der Link ist kopiert. Er funktioniert nur auf diesem Computer.',
+  'export.noAddress': '„{address}“ ist keine Adresse einer Seite: Es gibt nichts zu kopieren.',
   'export.linkKind': 'Ein Link',
   'export.addressPage': 'Adresse der Seite',
   'export.linkField': 'Link',

@@ -758,6 +758,8 @@ export const EN = /** @type {const} */ ({
   'export.linkCharactersSomePrograms': 'The link has {count} characters. Some programs cut links above {long}.',
   'export.browserDidNotCopy': 'The browser did not copy it. It is selected: press Ctrl+C.',
   'export.linkCopied': 'The link was copied.',
+  'export.linkCopiedHere': 'The link was copied. It works only on this computer.',
+  'export.noAddress': '“{address}” is not the address of a page: nothing can be copied.',
   'export.linkKind': 'A link',
   'export.addressPage': 'Address of the page',
   'export.linkField': 'Link',

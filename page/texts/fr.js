@@ -758,6 +758,8 @@ export const FR = /** @type {const} */ ({
   'export.linkCharactersSomePrograms': 'Le lien a {count} caractères. Certains programmes coupent les liens au-delà de {long}.',
   'export.browserDidNotCopy': 'Le navigateur ne l’a pas copié. Il est sélectionné : tapez Ctrl+C.',
   'export.linkCopied': 'Le lien est copié.',
+  'export.linkCopiedHere': 'Le lien est copié. Il ne marche que sur cet ordinateur.',
+  'export.noAddress': '« {address} » n’est pas l’adresse d’une page : rien ne peut être copié.',
   'export.linkKind': 'Un lien',
   'export.addressPage': 'Adresse de la page',
   'export.linkField': 'Lien',

@@ -157,9 +157,42 @@ export async function shareStays({ browser, url, folder }) {
         await closedDialog(page);
         assert.equal(await address(), '', `${name}: no address any more`);
         await page.press('Escape');
-        await page.until(() => window.told.join('|') === 'The link was copied.|', 9000 * SLACK);
+        await page.until(() => window.told.join('|') === 'The link was copied. It works only on this computer.|', 9000 * SLACK);
         await page.close();
     }
+}
+
+/** What is no address is named, and nothing is copied: the dialog stays. */
+export async function shareNoAddress({ browser, url, folder }) {
+    const { page, trial } = await fresh(browser, url, folder, 'share-none');
+    await trial.open(ppmOf(TWO_WAYS), 'two');
+    await trial.judged();
+    await page.run(() => {
+        window.copies = [];
+        navigator.clipboard.writeText = async (text) => { window.copies.push(text); };
+        document.execCommand = () => window.copies.push('by the browser') > 0;
+    });
+    await menu(page, 'share');
+    await page.until(() => document.getElementById('share-link'), 3000 * SLACK);
+    const typed = (text) => page.run((value) => {
+        const field = document.getElementById('share-address');
+        field.value = value;
+        field.dispatchEvent(new Event('input'));
+    }, text);
+    for (const text of ['foo bar', 'https://a.org/foo bar', 'https://', 'mailto:you']) {
+        await typed(text);
+        assert.equal(await linkShown(page), '', text);
+        await page.click('dialog button.main');
+        await page.until((wanted) => document.querySelector('dialog[open] [role="alert"]').textContent === wanted, 3000 * SLACK, `“${text}” is not the address of a page: nothing can be copied.`);
+    }
+    assert.deepEqual(await page.run(() => window.copies), []);
+    await typed('foo.org/p');
+    assert.match(await linkShown(page), /^https:\/\/foo\.org\/p#play=/);
+    await page.click('dialog button.main');
+    await closedDialog(page);
+    assert.equal(await said(page), 'The link was copied.');
+    assert.equal((await page.run(() => window.copies)).length, 1);
+    await page.close();
 }
 
 // Writes files to a folder; gives their paths.
