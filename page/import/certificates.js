@@ -11,6 +11,17 @@ import { asSeen } from '../view/tools.js';
 const STRANGE = phrase('import.countsCellsPuzzleDoes');
 // What an editor did to a certificate, by a word of what web/nonobench.mjs says of it.
 const HINTS = [['CR LF', phrase('import.linesEndCrLf')], ['UTF-16', phrase('import.isUtf16')], ['mark', phrase('import.hasByteOrderMark')]];
+// What the checker finds, by its name for it, in words.
+const FAULTS = {
+  NotCert: (line) => phrase('import.faultNotCert', { line }), BadLine: (line) => phrase('import.faultBadLine', { line }), Place: (line) => phrase('import.faultPlace', { line }),
+  NotDead: (line) => phrase('import.faultNotDead', { line }), NotDone: (line) => phrase('import.faultNotDone', { line }),
+  Ended: (line) => phrase('import.faultEnded', { line }), Trailing: (line) => phrase('import.faultTrailing', { line }),
+};
+
+function inWords(text) {
+  const [, name, line] = /^certificate (\w+) at line (\d+)$/.exec(text) ?? [];
+  return FAULTS[name]?.(line) ?? '';
+}
 
 /** What a check says of a certificate, a text or bytes, and a document: a sentence, and whether it proves the puzzle. */
 export async function checkedCertificate(certificate, doc, engine = startEngine()) {
@@ -20,7 +31,7 @@ export async function checkedCertificate(certificate, doc, engine = startEngine(
     if (accepted) return { proves: true, text: phrase('import.provesPictureOnlySolution', { count: doc.givens.size ? phrase('import.givenCells') : '' }) };
     if (text.includes('UnpublishedGiven')) return { proves: false, text: STRANGE };
     const [, why] = HINTS.find(([word]) => hint.includes(word)) ?? [];
-    return { proves: false, text: [phrase('import.doesNotProvePicture', { value: text.trim() }), why].filter(Boolean).join(' ') };
+    return { proves: false, text: [phrase('import.doesNotProvePicture', { value: text.trim() }), why ?? inWords(text.trim())].filter(Boolean).join(' ') };
   } finally {
     engine.end();
   }

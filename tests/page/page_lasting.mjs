@@ -246,6 +246,27 @@ export async function certificateDropped({ browser, url, folder }) {
     await page.close();
 }
 
+/** What is wrong with a certificate is said in words, beside those of the checker. */
+export async function certificateInWords({ browser, url, folder }) {
+    const { page, trial, own } = await fresh(browser, url, folder, 'words');
+    await trial.open(ppmOf(['.a.', 'aaa', '.a.']), 'cross');
+    await trial.judged();
+    const certificate = await page.run(() => certificateText());
+    const wanted = {
+        'nonocert 1\nline r 9\n': '(certificate Place at line 2). Its line 2 names a row, column or cell that this picture does not have.',
+        'nonocert 1\nnonsense\n': '(certificate BadLine at line 2). Its line 2 is no line of a certificate.',
+        'nonocert 1\ndead r 2\n': '(certificate NotDead at line 2). What its line 2 rules out is possible in this picture.',
+        'nonocert 1\ndone\n': '(certificate NotDone at line 2). At its line 2, a cell may still have another colour than in this picture.',
+        'nonocert 1\nline r 1\n': '(certificate Ended at line 3). It ends too early: its line 3 is missing.',
+        [`${certificate}done\n`]: `. Its line ${certificate.split('\n').length} stands behind its end.`,
+    };
+    for (const [text, words] of Object.entries(wanted)) {
+        await drop(page, own, 'wrong.cert', text);
+        await saysThat(page, words);
+    }
+    await page.close();
+}
+
 // A picture whose tree repeats much: its certificate with lemmas is shorter.
 const LEARNT = ['a...a....a..', '.a..a.a.a.a.', 'a..aa.a..a..', 'aaaa...a.a..', 'aa..a..aaa..', '.a.......a..', '.a....aa.aaa', '..aaaa......', '...aa.a.a.aa', 'a..a..aa..aa', '.aa....aa.aa', '...a...aaa.a'];
 
