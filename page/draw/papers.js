@@ -12,6 +12,8 @@ export const PAPER_INK = '#1a1a1a';
 export const PAPER_FAMILY = 'system-ui, "Liberation Sans", "DejaVu Sans", sans-serif';
 const PAPER_FAINT = '#8a8a8a';
 const SIGNS = '■●▲▼★♥♣♠▶◀✚✖☀☂♪'; // one a colour, none like the mark of a given cell
+/** From this size on, in millimetres, numbers are read easily. */
+export const LEAST_TEXT = 2;
 const PALE = 215; // from this lightness on white paper an edge is wanted
 const ROOM = 0.88; // of a cell's side, for a block of a clue
 const FRAMED = 1 - (1 - 2 * FRAME) ** 2; // of a box's area, its frame
@@ -72,7 +74,7 @@ export function drawPaper(surface, puzzle, { x, y, cell, show = 'colours', solut
   else drawGivenCells(board);
   drawRules(surface, board.look, frame);
   if (!solution) for (const [row, col] of givensIn(board)) drawGiven(surface, frame.x + col * cell, frame.y + row * cell, cell);
-  if (hasClues) drawPaperClues(board, puzzle.clues);
+  if (hasClues) drawPaperClues(board, puzzle.clues, smallestText(puzzle, show) * cell);
   if (hasNumbers) drawPaperNumbers(board);
 }
 
@@ -156,8 +158,10 @@ function drawSolution(board) {
   }
 }
 
-function drawPaperClues({ surface, doc, look: ofCells, frame }, clues) {
-  const look = clueLook(ofCells, doc);
+// Beside letters and signs numbers have one size, that of the longest, but where this would leave none that is read easily.
+function drawPaperClues({ surface, doc, look: ofCells, frame }, clues, smallest) {
+  const own = clueLook(ofCells, doc);
+  const look = own.signs && smallest >= LEAST_TEXT ? { ...own, font: smallest } : own;
   const { x, y, cell, top, left, bottom, right } = frame;
   const place = { far: -Infinity, gap: (1 - ROOM) * cell, unit: 1, sizeOf: () => ({ width: ROOM * cell, height: ROOM * cell }) };
   const away = cell * (0.25 + (1 - ROOM) / 2);

@@ -4,7 +4,7 @@ import { $, choiceOf, make, say } from '../base/elements.js';
 import { gradeName, verdictName } from '../base/names.js';
 import { clamp, opening, sizeText } from '../base/words.js';
 import { docOf, runsOf } from '../document/document.js';
-import { alikeBoxes, smallestText } from '../draw/papers.js';
+import { LEAST_TEXT, alikeBoxes, smallestText } from '../draw/papers.js';
 import { bench } from '../engine/bench.js';
 import { writeZip } from '../formats/zip.js';
 import { keep } from '../library/keep.js';
@@ -22,7 +22,7 @@ import { GRIDS, PAPERS, isLarge, partsOf, sheetsOf } from './sheets.js';
 const PAPER_NAMES = { a4: 'A4', a5: 'A5', letter: phrase('export.usLetter'), book: phrase('export.sixByNine') };
 const SHOWN = { colours: phrase('view.colours'), letters: phrase('export.letters'), signs: phrase('export.signs') };
 const MARGINS = [5, 40]; // millimetres
-const [LEAST_CELL, LEAST_TEXT] = [3, 2]; // millimetres that are filled and read easily
+const LEAST_CELL = 3; // millimetres that are filled easily
 const USUAL = { paper: 'a4', isWide: false, margin: 12, perSheet: 1, show: 'colours', answers: true, hasGrade: false };
 const chosen = { ...USUAL }; // as it was chosen last
 const page = { rule: -1 }; // the place of the rule for the size of paper, in the page's style

@@ -501,7 +501,7 @@ export async function printNotes({ browser, url, folder }) {
     for (const [name, size] of Object.entries(SIZES)) {
         const { page, trial } = await fresh(browser, url, folder, `notes-${name}`, { size });
         await clean(page);
-        const colours = [[255, 255, 255], [250, 128, 114], [34, 34, 34]]; // their tints look alike, their frames do not
+        const colours = [[255, 255, 255], [220, 110, 100], [34, 34, 34]]; // their tints look alike, their frames do not
         for (const [title, picture] of Object.entries({ wide: Array(30).fill('a'.repeat(29) + 'b'), twofold: ['a.', '.a'], own: ['ab', 'bb'] })) {
             await page.run((one, rows, triples) => openDoc({ rows: rows.length, columns: rows[0].length, maxval: 255, colours: triples, picture: rows, givens: new Set() }, { name: one, isSaved: false }), title, picture, colours);
             await trial.judged();

@@ -96,7 +96,7 @@ test('a tint on paper: black is read on it at 7 to 1 whatever the colour is, and
 });
 
 test('clues look alike on paper where frames and tints together do', () => {
-    const inks = { salmon: [250, 128, 114], grey: [34, 34, 34], blue: [0, 0, 160], wine: [160, 0, 0], red: [200, 0, 0] };
+    const inks = { salmon: [220, 110, 100], grey: [34, 34, 34], blue: [0, 0, 160], wine: [160, 0, 0], red: [200, 0, 0] };
     const pairOf = (picture, ...names) => alikeBoxes(docOf([picture], [[255, 255, 255], ...names.map((name) => inks[name])]));
     assert.equal(pairOf('ab', 'salmon', 'grey'), null, 'strong frames');
     assert.equal(pairOf('abc', 'blue', 'wine', 'grey'), null, 'tints alike, frames not');
@@ -170,6 +170,22 @@ test('one ink has plain numbers however colours are shown', () => {
     const [puzzle, solution] = sheets([docOf(['aa', '.a'], [[255, 255, 255], [250, 250, 250]])], { show: 'letters', answers: true });
     assert.deepEqual(digitsOf(puzzle), ['2', '1', '1', '2']);
     assert.equal(textsOf(solution).filter(({ text }) => text === 'a').length, 3);
+});
+
+test('beside letters numbers have one size, that of the longest, where it is read easily', () => {
+    const doc = docOf(['aaaa' + 'b'.repeat(11)], [[255, 255, 255], [200, 0, 0], [0, 0, 200]]);
+    const sizesOn = (more) => {
+        const [sheet] = sheets([doc], more);
+        const sizes = textsOf(sheet).filter(({ text }) => /^\d+[ab●▲■]$/.test(text)).map(({ 'font-size': size }) => size);
+        return { count: new Set(sizes).size, least: Math.min(...sizes), share: Math.min(...sizes) / sheet.cell };
+    };
+    for (const show of ['letters', 'signs']) {
+        const { count, least } = sizesOn({ show });
+        assert.ok(count === 1 && least >= 2, `${show}: ${count} sizes, the least ${least} mm`);
+    }
+    const [small, large] = [sizesOn({ show: 'letters', paper: 'a5', perSheet: 6 }), sizesOn({ show: 'letters' })];
+    assert.ok(small.count === 2 && small.least < 2, 'of a cell of 3 mm the short ones stay as large as they may be');
+    assert.ok(Math.abs(small.share - large.share) < 0.01);
 });
 
 test('several puzzles a sheet, and the solutions at the end', () => {
