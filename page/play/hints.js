@@ -22,13 +22,27 @@ export function knownIn(line, letters) {
   return all.filter((index) => letters[index] !== '?');
 }
 
-/** What a step says, as far as it is told: 'line', 'cells' or 'why', that is, with the cells of its line that were known. */
-export function stepText({ line, cells, premises }, how = 'why') {
+// How many cells the clue of a line settles alone: those that its blocks have wherever they lie, and all where these have no spare cell.
+function settledByClue(line) {
+  const { clues, rows, columns } = play.state;
+  const [blocks, size] = isRow(line) ? [clues.rows[line], columns] : [clues.columns[line - rows], rows];
+  const spare = blocks.length ? blocks.reduce((left, { length, letter }, at) => left - length - (letter === blocks[at - 1]?.letter ? 1 : 0), size) : 0;
+  return spare ? blocks.reduce((sum, { length }) => sum + Math.max(0, length - spare), 0) : size;
+}
+
+// What a step follows from: known cells of its line, else its clue, alone or with colours that other lines exclude.
+function reasonOf({ line, cells, premises }) {
+  if (premises.length) return phrase('play.sinceCountKnown', { places: placesText(line, premises), count: premises.length });
+  return cells.length > settledByClue(line) ? phrase('play.byExcludedColours') : phrase('play.byClueAlone');
+}
+
+/** What a step says, as far as it is told: 'line', 'cells' or 'why', that is, with what it follows from. */
+export function stepText(step, how = 'why') {
+  const { line, cells } = step;
   if (!cells.length) return phrase('play.excludesColours', { lineName: nameOfLine(line) });
   if (how === 'line') return phrase('play.tellsMore', { lineName: nameOfLine(line) });
   const first = phrase('play.settles', { lineName: nameOfLine(line), places: placesText(line, cells) });
-  if (how === 'cells' || !premises.length) return `${first}.`;
-  return `${first}${phrase('play.sinceCountKnown', { places: placesText(line, premises), count: premises.length })}.`;
+  return `${first}${how === 'cells' ? '' : reasonOf(step)}.`;
 }
 
 // The first look that settles a cell, where what is marked is known; null where none does, undefined where the engine does not answer.

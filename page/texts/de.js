@@ -473,6 +473,8 @@ export const DE = /** @type {const} */ ({
   'play.tellsMore': '{lineName}: Hier ergeben sich weitere Felder.',
   'play.excludesColours': '{lineName} schließt Farben aus, bestimmt aber noch kein Feld.',
   'play.sinceCountKnown': ', weil {places} {count|bekannt ist|bekannt sind}',
+  'play.byClueAlone': ', allein nach ihrem Hinweis',
+  'play.byExcludedColours': ', nach ihrem Hinweis und den Farben, die kreuzende Linien ausschließen',
   'play.checkShowsWhich': '„Prüfen“ zeigt, wo.',
   'play.noLineSettlesCell': 'Keine einzelne Linie bestimmt jetzt ein Feld: Es braucht mehr als Linienlogik.',
   'play.nothingLeft': 'Es ist nichts mehr offen.',

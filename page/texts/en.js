@@ -473,6 +473,8 @@ export const EN = /** @type {const} */ ({
   'play.tellsMore': '{lineName}: more cells follow.',
   'play.excludesColours': '{lineName} excludes colours, but settles no cell yet.',
   'play.sinceCountKnown': ', since {places} {count|is|are} known',
+  'play.byClueAlone': ', by its clue alone',
+  'play.byExcludedColours': ', by its clue and the colours that crossing lines exclude',
   'play.checkShowsWhich': 'Check shows which.',
   'play.noLineSettlesCell': 'No single line settles a cell now: it takes more than line logic.',
   'play.nothingLeft': 'Nothing is left.',

@@ -473,6 +473,8 @@ export const FR = /** @type {const} */ ({
   'play.tellsMore': '{lineName} : d’autres cases s’en déduisent.',
   'play.excludesColours': '{lineName} exclut des couleurs, sans encore déterminer de case.',
   'play.sinceCountKnown': ', puisque {places} {count|est connue|sont connues|sont connues}',
+  'play.byClueAlone': ', d’après son seul indice',
+  'play.byExcludedColours': ', d’après son indice et les couleurs que des lignes croisées excluent',
   'play.checkShowsWhich': '« Vérifier » montre où.',
   'play.noLineSettlesCell': 'Aucune ligne seule ne détermine de case : il faut plus que la logique ligne par ligne.',
   'play.nothingLeft': 'Il ne reste rien.',

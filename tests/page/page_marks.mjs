@@ -110,6 +110,37 @@ export async function archiveTwice({ browser, url, folder }) {
     await page.close();
 }
 
+/** The third press of Hint tells why, in each language: by the clue alone, by known cells, or by colours that other lines exclude. */
+export async function hintsTellWhy({ browser, url, folder }) {
+    const WHY = {
+        en: ['Row 2 settles column 2, by its clue alone.', 'Column 1 settles row 3, by its clue and the colours that crossing lines exclude.', 'Row 2 settles columns 1–3, by its clue alone.'],
+        de: ['Zeile 2 bestimmt Spalte 2, allein nach ihrem Hinweis.', 'Spalte 1 bestimmt Zeile 3, nach ihrem Hinweis und den Farben, die kreuzende Linien ausschließen.', 'Zeile 2 bestimmt Spalten 1–3, allein nach ihrem Hinweis.'],
+        fr: ['Ligne 2 détermine colonne 2, d’après son seul indice.', 'Colonne 1 détermine ligne 3, d’après son indice et les couleurs que des lignes croisées excluent.', 'Ligne 2 détermine colonnes 1–3, d’après son seul indice.'],
+    };
+    for (const [language, wanted] of Object.entries(WHY)) {
+        const { page, trial } = await fresh(browser, url, folder, `why-${language}`, { before: `try { localStorage.setItem('nonobench-language', '${language}'); } catch {}` });
+        const told = [];
+        for (const rows of [['.a.', 'aa.', '...'], ['ab.', '.ab', '..b'], ['.a.', '...', '.a.']]) {
+            await trial.open(ppmOf(rows), 'why');
+            await page.run(() => { runAction('play'); });
+            await page.until(() => document.getElementById('play-room')?.open, 5000 * SLACK);
+            const texts = [];
+            for (let press = 0; press < 4; press++) {
+                await page.click('#play-hint');
+                await page.until((at) => play.hint?.told === at, 10000 * SLACK, Math.min(press, 2));
+                await page.run(() => new Promise((go) => setTimeout(go, 0)));
+                texts.push(await trial.text('#play-said'));
+            }
+            assert.equal(new Set(texts).size, 3, texts.join(' '));
+            assert.equal(texts[3], texts[2]);
+            told.push(texts[2]);
+            await page.run(() => document.getElementById('play-room').close());
+        }
+        assert.deepEqual(told, wanted);
+        await page.close();
+    }
+}
+
 /** The palette says why a colour is not moved, and a refused name or sign does not stay in its field. */
 export async function refusedInPalette({ trial, page }) {
     await trial.open(ppmOf(THREE), 'refused');

@@ -97,14 +97,14 @@ export async function walkingPoint(hands) {
     await said(page, '^Step 0 of [1-9]');
     if (hands.byKeys) await page.press('ArrowRight');
     else await hands.press('#walk-on');
-    await said(page, '^Step 1 of 6: Row 2 settles column 2\\.$');
+    await said(page, '^Step 1 of 6: Row 2 settles column 2, by its clue alone\\.$');
     for (let step = 2; step <= 6; step++) await hands.press('#walk-on');
     await said(page, '^Step 6 of 6: Row 2 settles column 1, since columns 2–3 are known\\.$');
     await hands.press('#walk-hardest'); // one cell by one block
     await said(page, '^Step 1 of 6');
     await hands.press('#walk-end');
     assert.equal(await page.run(() => play.marks.flat().every((mark) => mark === '?')), true, 'the own marks stand again');
-    for (const wanted of ['^Row 2: more cells follow\\.$', '^Row 2 settles column 2\\.$']) {
+    for (const wanted of ['^Row 2: more cells follow\\.$', '^Row 2 settles column 2\\.$', '^Row 2 settles column 2, by its clue alone\\.$']) {
         await hands.press('#play-hint');
         await said(page, wanted);
     }
