@@ -205,12 +205,21 @@ function playCellAt(event) {
 // Where the first cell has the mark already, the stroke wipes.
 function beginPlay(at, letter) {
   const mark = play.marks[at.row][at.col] === letter ? '?' : letter;
-  play.drag = { mark, to: at, stroke: [] };
+  play.drag = { mark, from: at, to: at, way: null, stroke: [] };
   alongPlay(at);
 }
 
-function alongPlay(at) {
+// A stroke stays in the row or the column of its first cell: the one along which it first goes further than across.
+function inLine(drag, { row, col }) {
+  const { from, to } = drag;
+  const [down, across] = [Math.abs(row - from.row), Math.abs(col - from.col)];
+  if (!drag.way && down !== across) drag.way = down < across ? 'row' : 'col';
+  return drag.way ? { row, col, [drag.way]: from[drag.way] } : to;
+}
+
+function alongPlay(cell) {
   const { drag } = play;
+  const at = inLine(drag, cell);
   drag.stroke.push(...markPlay(lineCells(drag.to, at).map(({ row, col }) => row * play.state.columns + col), drag.mark));
   drag.to = at;
   movePlay(at);

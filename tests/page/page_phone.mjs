@@ -229,6 +229,42 @@ export async function playerIsTurned({ browser, url, folder }) {
     await tab.close();
 }
 
+/** A stroke of the player stays in the row or the column along which it begins, by mouse and by finger; one of the editor goes where it is led. */
+export async function strokesKeepTheirLine({ browser, url, folder }) {
+    for (const input of ['mouse', 'touch']) {
+        const page = await browser.page({ width: 390, height: 844, touch: input === 'touch', downloads: folder });
+        const trial = new Trial(page, url, folder);
+        await trial.load();
+        await trial.open(ppmOf(['.....', '.....', '.....', '....a']), 'line');
+        await page.run(() => localStorage.clear()); // the marks of the other input
+        const along = (points) => (input === 'mouse' ? page.drag(points) : page.touch(points));
+        await page.run(() => { runAction('play'); });
+        await inPlayer(page);
+        const mark = async (cells) => along(await page.run((places) => {
+            const box = document.getElementById('play-field').getBoundingClientRect();
+            return places.map(([row, col]) => [box.left + (col - 0.5) * play.side, box.top + (row - 0.5) * play.side]);
+        }, cells));
+        const marks = () => page.run(() => play.marks.map((row) => row.join('')).join());
+        await mark([[1, 1], [1, 2], [2, 3], [2, 5]]);
+        assert.equal(await marks(), 'aaaaa,?????,?????,?????', `${input}: the row`);
+        await mark([[2, 1], [3, 1], [4, 2], [4, 3]]);
+        assert.equal(await marks(), 'aaaaa,a????,a????,a????', `${input}: the column`);
+        await mark([[2, 3], [3, 4]]);
+        assert.equal(await marks(), 'aaaaa,a?a??,a????,a????', `${input}: no direction yet`);
+        await mark([[3, 3], [2, 2], [2, 5], [3, 3]]);
+        assert.equal(await marks(), 'aaaaa,a?a??,a?aaa,a????', `${input}: told apart behind a diagonal step`);
+        await page.run(() => document.getElementById('play-room').close());
+        await page.run(() => useColour('a'));
+        const spots = [];
+        for (const [row, col] of [[1, 1], [1, 2], [2, 3]]) spots.push(await trial.cell(row, col));
+        await along(spots);
+        await trial.settled();
+        assert.deepEqual(await trial.picture(), ['aa...', '..a..', '.....', '....a'], `${input}: the editor`);
+        assert.deepEqual(page.faults, []);
+        await page.close();
+    }
+}
+
 /** What a solver has marked is there after a reload, and after Start over by Undo; what is solved is kept no more. */
 export async function marksStay({ browser, url, folder }) {
     const trial = await start(browser, url, folder, UPRIGHT[0]);
