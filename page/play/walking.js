@@ -4,6 +4,7 @@ import { $, buttonOf, make } from '../base/elements.js';
 import { clamp } from '../base/words.js';
 import { phrase } from '../texts/phrase.js';
 import { runAction } from '../view/actions.js';
+import { confirmDialog } from '../view/dialogs.js';
 import { inkName } from '../view/dress.js';
 import { knownIn, stepText } from './hints.js';
 import { Walk, pathOf } from './path.js';
@@ -12,7 +13,7 @@ import { drawPlay, refitPlay } from './playdraw.js';
 
 const PACE = 900; // milliseconds a step
 
-const walking = { walk: null, at: 0, told: '', isKnown: false, timer: 0, marks: null };
+const walking = { walk: null, at: 0, told: '', isKnown: false, timer: 0, marks: null, mayShow: null };
 
 /** Whether the path is shown in place of the player's marks. */
 export const isWalking = () => walking.walk !== null;
@@ -29,8 +30,17 @@ export function walkBar() {
     buttonOf('walk-end', phrase('play.solveYourself'), endWalk));
 }
 
+// Whether a puzzle's solution may be shown: who has it from others is asked once for each.
+async function mayShow(state) {
+  if (!document.body.classList.contains('player') || walking.mayShow === state) return true;
+  if (!(await confirmDialog(phrase('play.walkThrough'), phrase('play.showsSolution'), phrase('play.walkThrough')))) return false;
+  walking.mayShow = state;
+  return play.state === state;
+}
+
 /** Begins the path from the empty puzzle; the player's marks come back at its end. */
 export async function startWalk() {
+  if (!(await mayShow(play.state))) return;
   walking.marks ??= play.marks;
   $('walk-bar').hidden = false;
   refitPlay(false);

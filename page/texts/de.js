@@ -493,6 +493,7 @@ export const DE = /** @type {const} */ ({
   'play.startedOver': 'Alle Markierungen sind gelöscht. „Rückgängig“ holt sie zurück.',
   'play.howTo': 'Die Zahlen neben einer Zeile oder Spalte sind ihre Blöcke, der Reihe nach. Zwischen zweien einer Farbe ist mindestens ein Feld Hintergrund; andere dürfen sich berühren.\nWählen Sie eine Farbe, und ziehen Sie eine Zeile oder Spalte entlang. Hat das erste Feld sie schon, löschen Sie.\n× markiert Felder als Hintergrund, ebenso die rechte Maustaste und die Taste X. Nötig ist das nicht.\n⌫ löscht Markierungen.\nZwei Finger verschieben das Bild; auf- oder zuziehen zoomt.\nEine Farbe, die sich von leeren Feldern kaum abhebt, bekommt einen Rand. Das gelöste Bild steht ohne Ränder und Kreuze da.\n„Prüfen“ zeigt, welche Markierungen falsch sind.\n„Tipp“ nennt eine Linie, die weiterhilft; noch einmal: ihre Felder; noch einmal: warum.\n„Neu beginnen“ löscht alle Markierungen; „Rückgängig“ holt sie zurück.\nIhre Markierungen bleiben in diesem Browser, bis das Rätsel gelöst ist.',
   'play.walkThrough': 'Lösungsweg',
+  'play.showsSolution': 'Das zeigt die Lösung, Schritt für Schritt. Ihre Markierungen kommen am Ende zurück.',
   'play.backPicture': 'Zurück zum Bild',
   'play.puzzle': 'Rätsel',
   'play.wipe': 'löschen',

@@ -493,6 +493,7 @@ export const EN = /** @type {const} */ ({
   'play.startedOver': 'All marks are wiped. Undo brings them back.',
   'play.howTo': 'The numbers beside a row or column are its blocks, in their order. Between two of one colour, at least one cell is background; others may touch.\nChoose a colour and drag along a row or column. Where the first cell has it already, you wipe.\n× marks cells as background, just as the right mouse button or the key X does. You need not mark them.\n⌫ wipes marks.\nTwo fingers move the picture, and pinching zooms.\nA colour that hardly stands out from empty cells gets an edge. What is solved is shown without edges and crosses.\n“Check” shows which marks are wrong.\n“Hint” names a line that helps; again, its cells; again, why.\n“Start over” wipes all marks; “Undo” brings them back.\nYour marks stay in this browser until the puzzle is solved.',
   'play.walkThrough': 'Walk through',
+  'play.showsSolution': 'This shows the solution, step by step. Your marks come back at the end.',
   'play.backPicture': 'Back to the picture',
   'play.puzzle': 'Puzzle',
   'play.wipe': 'wipe',

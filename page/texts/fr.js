@@ -493,6 +493,7 @@ export const FR = /** @type {const} */ ({
   'play.startedOver': 'Toutes les marques sont effacées. « Annuler » les rétablit.',
   'play.howTo': 'Les nombres à côté d’une ligne ou d’une colonne sont ses blocs, dans l’ordre. Entre deux blocs d’une même couleur, il y a au moins une case de fond ; les autres peuvent se toucher.\nChoisissez une couleur et glissez le long d’une ligne ou d’une colonne. Si la première case l’a déjà, vous effacez.\n× marque des cases comme fond, de même que le bouton droit de la souris ou la touche X. Ce n’est pas nécessaire.\n⌫ efface des marques.\nDeux doigts déplacent l’image, et les écarter ou les rapprocher zoome.\nUne couleur qui se distingue à peine des cases vides reçoit un bord. L’image résolue est montrée sans bords ni croix.\n« Vérifier » montre quelles marques sont fausses.\n« Aide-moi » nomme une ligne utile ; encore : ses cases ; encore : pourquoi.\n« Recommencer » efface toutes les marques ; « Annuler » les rétablit.\nVos marques restent dans ce navigateur jusqu’à ce que la grille soit résolue.',
   'play.walkThrough': 'Pas à pas',
+  'play.showsSolution': 'Cela montre la solution, étape par étape. Vos marques reviennent à la fin.',
   'play.backPicture': 'Retour à l’image',
   'play.puzzle': 'Grille',
   'play.wipe': 'effacer',

@@ -2,9 +2,9 @@
 // large enough. Each is a test of the runner tests/page/page_test.mjs.
 import assert from 'node:assert/strict';
 import { pause } from './page_browser.mjs';
-import { hard } from './page_hands.mjs';
+import { fresh, hard } from './page_hands.mjs';
 import { Hands } from './page_inputs.mjs';
-import { SLACK, Trial, noise, ppmOf } from './page_trial.mjs';
+import { SIZES, SLACK, Trial, noise, ppmOf } from './page_trial.mjs';
 
 const UPRIGHT = [[390, 844], [360, 640]];
 const LYING = [[844, 390], [640, 360]];
@@ -260,6 +260,39 @@ export async function strokesKeepTheirLine({ browser, url, folder }) {
         await along(spots);
         await trial.settled();
         assert.deepEqual(await trial.picture(), ['aa...', '..a..', '.....', '....a'], `${input}: the editor`);
+        assert.deepEqual(page.faults, []);
+        await page.close();
+    }
+}
+
+/** Who has a puzzle from others is asked once before the path shows its solution, in each language; a designer is not. */
+export async function solutionIsAskedFor({ browser, url, folder }) {
+    for (const [language, text] of [['en', /shows the solution/], ['de', /zeigt die Lösung/], ['fr', /montre la solution/]]) {
+        const { page, trial } = await fresh(browser, url, folder, `asks-${language}`, { size: SIZES.phone, before: `try { localStorage.setItem('nonobench-language', '${language}'); } catch {}` });
+        await trial.open(ppmOf(['a.', '.b', 'bb']), 'asks');
+        const asked = () => page.run(() => document.querySelector('#dialogs dialog:not(#play-room)')?.textContent ?? '');
+        await page.run(() => { runAction('play'); });
+        await inPlayer(page);
+        await page.tap('#play-walk');
+        await page.until(() => !document.getElementById('walk-bar').hidden, 5000 * SLACK);
+        assert.equal(await asked(), '', 'the designer sees it');
+        const link = await page.run(() => fragmentOf(bench.state, 'play'));
+        await page.goto('about:blank');
+        await page.goto(url + link);
+        await inPlayer(page);
+        for (const [answer, isHidden] of [['button:not(.main)', true], ['button.main', false]]) {
+            await page.tap('#play-walk');
+            await page.until(() => document.querySelector('#dialogs dialog:not(#play-room) button.main'), 5000 * SLACK);
+            assert.match(await asked(), text);
+            assert.equal(await page.run(() => document.getElementById('walk-bar').hidden), true, 'nothing is shown yet');
+            await page.tap(`#dialogs dialog:not(#play-room) ${answer}`);
+            await page.until(() => !document.querySelector('#dialogs dialog:not(#play-room)'), 3000 * SLACK);
+            assert.equal(await page.run(() => document.getElementById('walk-bar').hidden), isHidden, answer);
+        }
+        await page.tap('#walk-end');
+        await page.tap('#play-walk');
+        await page.until(() => !document.getElementById('walk-bar').hidden, 5000 * SLACK);
+        assert.equal(await asked(), '', 'once');
         assert.deepEqual(page.faults, []);
         await page.close();
     }
