@@ -2,7 +2,7 @@
 // drawn again only when its clue, its mark or its place changes. Where Fit folds the clues, edges with the numbers of some lines
 // stand there.
 
-import { drawClue, lengthsIn } from './board.js';
+import { drawClue, lengthsIn, textSize } from './board.js';
 import { Sprites } from './sprites.js';
 import { CanvasSurface } from './surface.js';
 
@@ -121,9 +121,10 @@ export class Strips {
     return at.cell < 7 * at.scale ? Math.round(4 * at.scale) : at.chipWidth(String(block.length).length, at.font);
   }
 
-  /** Whether cells are large enough for numbers. */
-  hasNumbers({ geometry }) {
-    return !geometry.isFolded && geometry.cell >= 7 * geometry.scale;
+  /** Whether cells are large enough for the numbers of all clues. */
+  hasNumbers({ geometry: at, clues, look }) {
+    const fits = (block) => textSize(look, block, { width: at.cell - 1, height: at.pitch }) >= look.least;
+    return !at.isFolded && clues.columns.every((blocks) => blocks.every(fits));
   }
 
   /** Whether a clue is drawn in part only, or without its numbers. */

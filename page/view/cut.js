@@ -6,7 +6,7 @@ import { sheet } from '../draw/sheet.js';
 import { phrase } from '../texts/phrase.js';
 import { runAction } from './actions.js';
 
-const LEAST_ROOM = 48; // the page's pixels of the corner's width
+const LEAST_ROOM = 48; // the page's pixels at the left of the picture
 
 // Fit makes room for clues; where it has, or cells are too small for numbers, larger cells do.
 const showMore = () => runAction(sheet.geometry.isFitted ? 'zoom-in' : 'fit');
@@ -14,13 +14,15 @@ const note = make('button', { type: 'button', id: 'cut', hidden: true, onclick: 
 
 function showCut() {
   const { geometry: at, strips } = sheet;
-  const hasNumbers = strips.hasNumbers(sheet);
-  const count = sheet.state && hasNumbers ? strips.countCut(sheet) : 0;
-  note.hidden = !sheet.state || at.left < LEAST_ROOM * at.scale || (hasNumbers && !count);
+  const hasNumbers = sheet.state !== null && strips.hasNumbers(sheet);
+  const count = hasNumbers ? strips.countCut(sheet) : 0;
+  const [width, height] = [at.originX / at.scale, at.originY / at.scale];
+  note.hidden = !sheet.state || width < LEAST_ROOM || (hasNumbers && !count);
   if (note.hidden) return;
   note.textContent = hasNumbers ? phrase('view.cluesCut', { clues: count }) : phrase('view.zoomForNumbers');
   note.title = hasNumbers ? phrase('view.cluesCutMore') : '';
-  Object.assign(note.style, { right: `${(at.width - at.originX) / at.scale + 8}px`, bottom: `${(at.height - at.originY) / at.scale + 8}px`, maxWidth: `${at.left / at.scale - 12}px` });
+  Object.assign(note.style, { right: `${(at.width - at.originX) / at.scale + 8}px`, bottom: `${(at.height - at.originY) / at.scale + 8}px`, maxWidth: `${width - 12}px` });
+  note.hidden = note.offsetHeight > height - 8; // the room above ends there
 }
 
 /** Puts the note over the sheet. */

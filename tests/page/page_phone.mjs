@@ -93,6 +93,34 @@ export async function cluesUnderAFinger({ browser, url, folder }) {
     }
 }
 
+/** Where not all clues have their numbers, a note says so; it stands whole in the room beside the picture, also where More takes of its height. */
+export async function numbersAreToldOf({ browser, url, folder }) {
+    const rows = Array.from({ length: 48 }, (_, row) => Array.from({ length: 48 }, (_, col) => ((col < 24 ? row < 20 : row === 40 && col % 2) ? 'a' : '.')).join(''));
+    for (const [language, size] of [['en', [768, 1024]], ['en', UPRIGHT[0]], ['de', UPRIGHT[0]], ['fr', UPRIGHT[1]], ['de', LYING[0]]]) {
+        const where = `${language}, ${size.join(' by ')}`;
+        const { page, trial } = await fresh(browser, url, folder, `numbers-${language}-${size[0]}`, { size: { width: size[0], height: size[1], touch: true }, before: `try { localStorage.setItem('nonobench-language', '${language}'); } catch {}` });
+        const note = () => page.run(() => new Promise((go) => requestAnimationFrame(() => requestAnimationFrame(() => {
+            const [one, stage] = ['cut', 'stage'].map((id) => document.getElementById(id));
+            const [inner, outer] = [one.getBoundingClientRect(), stage.getBoundingClientRect()];
+            const isWhole = inner.left >= outer.left && inner.top >= outer.top && one.scrollWidth <= one.clientWidth;
+            go({ isShown: !one.hidden, isWhole, side: sheet.geometry.cell / sheet.geometry.scale });
+        }))));
+        await trial.open(ppmOf(rows), 'wide');
+        await trial.judged();
+        const first = await note();
+        assert.ok(first.side < 8, `${where}: ${first.side}`);
+        assert.ok(first.isShown && first.isWhole, `${where}: ${JSON.stringify(first)}`);
+        await trial.open(ppmOf(rows.slice(0, 24).map((row) => row.slice(12, 36))), 'small');
+        await trial.judged();
+        if (await page.run(() => document.getElementById('verdict-open').checkVisibility())) await page.tap('#verdict-open');
+        const more = await note();
+        await page.shot(`${folder}/numbers-${language}-${size[0]}.png`);
+        assert.ok(!more.isShown || more.isWhole, `${where}: More: ${JSON.stringify(more)}`);
+        assert.deepEqual(page.faults, []);
+        await page.close();
+    }
+}
+
 /** A phone that lies has its tools, its palette and the verdict beside the picture, large enough for fingers. */
 export async function lyingPhone({ browser, url, folder }) {
     for (const size of LYING) {
