@@ -99,8 +99,11 @@ export function drawBlock(surface, look, block, { x, y, width, height }) {
 }
 
 /** The clue of a line without a block. */
-export function drawNone(surface, look, x, y) {
-  if (look.font >= look.least) surface.text('0', x, y, { size: look.font, ink: look.faint, family: look.family });
+export function drawNone(surface, look, x, y, isCrossed = false) {
+  if (look.font < look.least) return;
+  surface.text('0', x, y, { size: look.font, ink: look.faint, family: look.family });
+  const arm = look.font / 2;
+  if (isCrossed) surface.line(x - arm, y + arm, x + arm, y - arm, look.ink, 1);
 }
 
 const sumOf = (lengths) => lengths.reduce((sum, length) => sum + length, 0);
@@ -129,7 +132,7 @@ export function drawClue(surface, look, axis, blocks, place, drawOne = drawBlock
   const { near, far, middle, gap, sizeOf, crossed = null } = place;
   const across = axis === 'r';
   const whole = (value) => (look.isWhole ? Math.floor(value) : value);
-  if (!blocks.length) return drawNone(surface, look, ...(across ? [near - look.font / 2, middle] : [middle, near - look.font / 2]));
+  if (!blocks.length) return drawNone(surface, look, ...(across ? [near - look.font / 2, middle] : [middle, near - look.font / 2]), crossed?.[0]);
   const { lengths } = lengthsIn(look, axis, blocks, place);
   let edge = near;
   for (let at = blocks.length - 1; at >= 0; at--) {

@@ -36,8 +36,12 @@ function wholeFromFront(blocks, cells) {
   return whole;
 }
 
-/** Of each block of a clue, whether the marks in its line cross it off: all where the clue is met, else those from both ends. */
+/**
+ * Of each block of a clue, whether the marks in its line cross it off: all where the clue is met, else those from both ends. The 0 of a
+ * clue without a block is crossed off once all cells are marked.
+ */
 export function crossedOff(blocks, cells) {
+  if (!blocks.length) return cells.every((cell) => cell === '.') ? [true] : [];
   if (isMet(blocks, cells)) return blocks.map(() => true);
   const front = wholeFromFront(blocks, cells);
   const back = wholeFromFront([...blocks].reverse(), [...cells].reverse());

@@ -186,6 +186,8 @@ test('blocks crossed off', () => {
     assert.equal(crossed('1a 1a 1a', 'a????a'), '101');
     assert.equal(crossed('1a 1a 1a', '?a???.'), '000');
     assert.deepEqual(crossedOff([], ['?', '.']), []);
+    assert.deepEqual(crossedOff([], ['.', '.']), [true], 'its 0');
+    assert.deepEqual(crossedOff([], ['.', 'a']), []);
 });
 
 test('clues met', () => {
