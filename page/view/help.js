@@ -22,6 +22,8 @@ const CERTIFICATE = [
   phrase('view.checkOneHereOpen'),
 ];
 
+// What fingers press has no keys: such as “(m)” and “(h shows them)” are left out for them.
+const toFingers = (text) => (matchMedia('(pointer: coarse)').matches ? text.replace(/\s\([a-z](\s[^)]*)?\)/g, '') : text);
 const part = (title, ...content) => make('section', {}, make('h3', {}, title), ...content);
 const paragraphs = (texts) => texts.map((text) => make('p', {}, text));
 
@@ -33,7 +35,7 @@ function versionText() {
 }
 
 function showGuide() {
-  const tour = make('ol', {}, ...TOUR.map(([what, how]) => make('li', {}, make('b', {}, what), ` ${how}`)));
+  const tour = make('ol', {}, ...TOUR.map(([what, how]) => make('li', {}, make('b', {}, what), ` ${toFingers(how)}`)));
   openDialog({
     title: phrase('view.guide'), wide: true, buttons: [{ name: phrase('view.close'), value: null, main: true }],
     content: make('div', { class: 'help' }, part(phrase('view.shortTour'), tour), part(phrase('view.whatCertificate'), ...paragraphs(CERTIFICATE)), part(phrase('view.whereYourPictures'), make('p', {}, phrase('view.yourPicturesStayLibrary'))), part(phrase('view.page'), make('p', { id: 'version' }, versionText()))),

@@ -326,6 +326,25 @@ export async function solutionIsAskedFor({ browser, url, folder }) {
     }
 }
 
+/** The guide tells fingers of no keys, in each language, and of no place that a phone does not have; a mouse is told of them. */
+export async function guideForFingers({ browser, url, folder }) {
+    for (const [language, opens] of [['en', /when you open it or drop it/], ['de', /wenn Sie sie öffnen oder/], ['fr', /quand vous l’ouvrez ou/]]) {
+        for (const size of [SIZES.phone, SIZES.small]) {
+            const { page, trial } = await fresh(browser, url, folder, `guide-${language}-${size.width}`, { size, before: `try { localStorage.setItem('nonobench-language', '${language}'); } catch {}` });
+            await page.run(() => { runAction('guide'); });
+            await page.until(() => document.querySelector('.help ol'), 3000 * SLACK);
+            const told = await trial.text('.help ol');
+            const keys = told.match(/\([a-z](\s[^)]*)?\)/g) ?? [];
+            assert.equal(keys.length, size.touch ? 0 : 5, `${language}: ${keys}`);
+            assert.doesNotMatch(told, /on the right|steht rechts|de droite/);
+            assert.match(told, opens);
+            assert.ok(told.includes('(GIMP, JASC'), 'other brackets stay');
+            assert.deepEqual(page.faults, []);
+            await page.close();
+        }
+    }
+}
+
 /** What a solver has marked is there after a reload, and after Start over by Undo; what is solved is kept no more. */
 export async function marksStay({ browser, url, folder }) {
     const trial = await start(browser, url, folder, UPRIGHT[0]);
