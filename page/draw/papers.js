@@ -100,7 +100,7 @@ export function alikeBoxes(own) {
   const letters = hasOneInk(doc) ? [] : LETTERS.slice(1, doc.colours.length).split('').filter((letter) => doc.picture.some((row) => row.includes(letter)));
   const boxes = letters.map((letter) => doc.colours[LETTERS.indexOf(letter)]).map((triple) => [triple, tintOf(triple)].map(([red, green, blue]) => oklabOf(red, green, blue)));
   const apart = (one, other) => Math.hypot(...one.map((part, at) => part - other[at]));
-  const isAlike = ([frame, tint], other) => FRAMED * apart(frame, other[0]) + (1 - FRAMED) * apart(tint, other[1]) < ALIKE;
+  const isAlike = (one, other) => FRAMED * apart(one[0], other[0]) + (1 - FRAMED) * apart(one[1], other[1]) < ALIKE;
   for (const [at, one] of boxes.entries()) {
     const other = boxes.findIndex((box, place) => place > at && isAlike(one, box));
     if (other > 0) return [letters[at], letters[other]];
