@@ -159,7 +159,7 @@ async function printPuzzle() {
     notes.replaceChildren(...notesOn(puzzles, sheets, options));
     svgName.textContent = isZip(sheets) ? phrase('export.saveSvgs') : phrase('export.saveSvg');
   };
-  const content = make('div', { class: 'rows', onchange: showNotes }, ...rows, others.part, notes);
+  const content = make('div', { onchange: showNotes }, make('div', { class: 'rows' }, ...rows, others.part), notes);
   await showNotes();
   const way = await openDialog({ title: phrase('export.print'), content, wide: true, buttons: [{ name: svgName, value: 'svg' }, { name: opening(phrase('export.print')), value: 'print', main: true }] });
   if (!way) return;

@@ -511,11 +511,11 @@ export async function printNotes({ browser, url, folder }) {
         await page.run(() => { window.print = () => { window.isPrinted = true; }; runAction('print'); });
         await page.until(() => document.querySelector('#print-show')?.closest('dialog[open]'), 5000 * SLACK);
         const place = () => page.run(() => ['left', 'top'].map((side) => document.querySelector('dialog button.main').getBoundingClientRect()[side]).join());
-        const notes = () => page.run(() => [...document.querySelectorAll('dialog[open] .rows p')].filter((one) => one.checkVisibility()).map((one) => one.textContent).join(' '));
+        const notes = () => page.run(() => [...document.querySelectorAll('dialog[open] .content p')].filter((one) => one.checkVisibility()).map((one) => one.textContent).join(' '));
         const before = await place();
         assert.equal((await notes()).trim(), '', name);
         await page.run(() => document.getElementById('print-all').click());
-        await page.until(() => /“twofold”: Another picture has the same clues/.test(document.querySelector('dialog[open] .rows').textContent), 5000 * SLACK);
+        await page.until(() => /“twofold”: Another picture has the same clues/.test(document.querySelector('dialog[open] .content').textContent), 5000 * SLACK);
         assert.equal(await trial.text('#print-small'), '', `${name}: one on each sheet`);
         assert.equal(await place(), before, `${name}: ticked`);
         for (const [id, value] of [['print-count', '6'], ['print-show', 'letters'], ['print-show', 'colours']]) {
@@ -527,6 +527,7 @@ export async function printNotes({ browser, url, folder }) {
             assert.equal(await place(), before, `${name}: ${id} ${value}`);
         }
         assert.doesNotMatch(await notes(), /look alike/, name);
+        await page.shot(`${folder}/print-${name}.png`);
         await page.click('dialog button.main');
         await page.until(() => window.isPrinted, 8000 * SLACK);
         assert.equal(await said(page), '', `${name}: nothing stays`);

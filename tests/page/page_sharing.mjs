@@ -131,7 +131,7 @@ export async function shareStays({ browser, url, folder }) {
         await trial.judged();
         const address = async () => {
             await menu(page, 'share');
-            await page.until(() => document.getElementById('share-link'), 3000 * SLACK);
+            await page.until(() => document.querySelector('dialog[open] #share-link'), 3000 * SLACK); // not that of the dialog before, which goes a moment after it closes
             await page.run(() => document.getElementById('share-address').select());
             return page.run(() => document.getElementById('share-address').value);
         };
