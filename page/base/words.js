@@ -30,18 +30,19 @@ export function linesText(isRow, places) {
 /** A text without the white space of ASCII at its ends, which alone nonobench-audit leaves out, too. */
 export const withoutSpace = (text) => /^[ \t\n\v\f\r]*([^]*[^ \t\n\v\f\r])?/.exec(text)?.[1] ?? '';
 
-/** A name without what no file name may have. */
-export const cleanName = (name) => (name ?? '').replace(/[\u0000-\u001f\\/:*?"<>|]/g, ' ').trim().slice(0, 80).replace(/\.+$/, '') || 'picture';
+/** A name without what no file name may have, and without signs that turn the order of others. */
+export const cleanName = (name) => (name ?? '').trim().slice(0, 80).replace(/[\p{Cc}\p{Cs}\u2028-\u202e\u2066-\u2069\\/:*?"<>|]/gu, ' ').trim().replace(/[\s.]+$/, '') || 'picture';
 
 /** A file's name without its ending and without what no file name may have. */
 export const bareName = (name) => cleanName((name ?? '').replace(/\.[A-Za-z0-9]{1,5}$/, ''));
 
-/** A name, or that with a number behind it, that `taken` does not have; it has it from now on. Capitals make no other name. */
+/** A name, or that with a number behind it, that `taken` does not have; it has it from now on. Capitals make no other name, nor does how accents are written. */
 export function freeName(name, taken) {
   for (let count = 1; ; count++) {
     const tried = count === 1 ? name : `${name} ${count}`;
-    if (taken.has(tried.toLowerCase())) continue;
-    taken.add(tried.toLowerCase());
+    const alike = tried.normalize().toLowerCase();
+    if (taken.has(alike)) continue;
+    taken.add(alike);
     return tried;
   }
 }

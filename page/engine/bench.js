@@ -2,6 +2,7 @@
 // answers is all that is shown. Documents are kept beside it, so that a worker that ended is replaced and nothing is lost.
 
 import { tell } from '../base/events.js';
+import { cleanName } from '../base/words.js';
 import { baseOf, linesTo, pageAfter, withCells } from '../document/cover.js';
 import { docOf, pageOf, sameBenchPart, sameDoc, sameValue } from '../document/document.js';
 import { HISTORY } from '../document/limits.js';
@@ -59,7 +60,7 @@ export class Bench {
       const docs = [...strokes.past, docOf(state), ...strokes.future].map((doc) => ({ ...doc, about: state.about }));
       const made = docs.slice(1).map((after, at) => ({ lines: [], live: false, before: docs[at], after }));
       const [past, future] = [made.slice(0, strokes.past.length), made.slice(strokes.past.length).reverse()].map((all) => all.filter(({ before, after }) => !sameDoc(before, after)));
-      Object.assign(this, { engine, state, name, past, future, isCut: past.length >= MOST_STROKES, running: false, term: {}, savedDoc: isSaved ? docOf(state) : null, searched: null, isTitled: false });
+      Object.assign(this, { engine, state, name: cleanName(name), past, future, isCut: past.length >= MOST_STROKES, running: false, term: {}, savedDoc: isSaved ? docOf(state) : null, searched: null, isTitled: false });
     } catch (fault) {
       engine.end();
       throw fault;

@@ -1,6 +1,7 @@
 // Records: what the library keeps of a picture, as a plain value. A record has the document and the documents that its strokes
 // lead back and forth to; a card is what the list shows of it.
 
+import { cleanName } from '../base/words.js';
 import { docOf, packedDoc, patchOf, patched, sameDoc, unpackedDoc } from '../document/document.js';
 
 const MOST_SIGNS = 200000; // of the strokes of one record; older ones are left out
@@ -49,7 +50,7 @@ export function recordOf(open, id, when = Date.now()) {
   const doc = last && sameDoc(last, open.state) ? last : docOf(open.state);
   const past = patchesTo(doc, [...open.past].reverse().map((stroke) => stroke.before), MOST_SIGNS);
   const future = patchesTo(doc, [...open.future].reverse().map((stroke) => stroke.after), past.left);
-  return { version: 2, id, name: open.name, when, isSaved: open.isSaved, doc: packedDoc(doc), past: past.patches, future: future.patches };
+  return { version: 2, id, name: cleanName(open.name), when, isSaved: open.isSaved, doc: packedDoc(doc), past: past.patches, future: future.patches };
 }
 
 /** The record of a document without strokes. */
@@ -64,7 +65,7 @@ export function readRecord(value) {
     if (typeof value.id !== 'string' || ![1, 2].includes(value.version)) return null;
     const doc = unpackedDoc(value.version === 1 ? { ...value.now, about: value.about } : value.doc);
     const [past, future] = value.version === 1 ? [[], []] : [docsOf(doc, value.past).reverse(), docsOf(doc, value.future)];
-    return { id: value.id, name: String(value.name).slice(0, 200), when: Number(value.when) || 0, isSaved: value.isSaved === true, isNamed: value.isNamed === true, doc, strokes: { past, future } };
+    return { id: value.id, name: cleanName(String(value.name)), when: Number(value.when) || 0, isSaved: value.isSaved === true, isNamed: value.isNamed === true, doc, strokes: { past, future } };
   } catch {
     return null;
   }
@@ -74,7 +75,7 @@ export function readRecord(value) {
 export function cardOf(record, { verdict = null, grade = null } = {}) {
   const { id, name, when, isSaved } = record;
   const { rows, columns, maxval, colours, picture } = record.doc ?? record.now;
-  return { id, name: String(name).slice(0, 200), when, isSaved: isSaved === true, verdict, grade, size: JSON.stringify(record).length, doc: { rows, columns, maxval, colours, picture, givens: [] } };
+  return { id, name: cleanName(String(name)), when, isSaved: isSaved === true, verdict, grade, size: JSON.stringify(record).length, doc: { rows, columns, maxval, colours, picture, givens: [] } };
 }
 
 /** A card out of the shelf, or null where it is none. */
@@ -82,7 +83,7 @@ export function readCard(value) {
   try {
     if (typeof value.id !== 'string') return null;
     const text = (one) => (typeof one === 'string' ? one.slice(0, 80) : null);
-    return { ...value, name: String(value.name).slice(0, 200), when: new Date(value.when).getTime() || 0, size: Number(value.size) || 0, verdict: text(value.verdict), grade: text(value.grade), doc: unpackedDoc(value.doc) };
+    return { ...value, name: cleanName(String(value.name)), when: new Date(value.when).getTime() || 0, size: Number(value.size) || 0, verdict: text(value.verdict), grade: text(value.grade), doc: unpackedDoc(value.doc) };
   } catch {
     return null;
   }

@@ -207,6 +207,12 @@ async function reopened(bench) {
   return again;
 }
 
+test('what is open has a name that a file may have, wherever it came from', async () => {
+  const { bench } = await opened();
+  await bench.open(baseOf(empty(2, 2)), { name: '../../up/and/away\n' });
+  assert.equal(bench.name, '.. .. up and away'); // files and entries of zips are called by it
+});
+
 test('what is kept brings picture and strokes back', async () => {
   const { bench } = await opened();
   await bench.stroke(['paint 1 1 a', 'paint 1 2 b']);

@@ -4,6 +4,7 @@ import assert from 'node:assert/strict';
 import { test } from 'node:test';
 import { needsModule, saidLine, workers } from '../../page/test/worker.mjs';
 import { gradeName, verdictTitle } from '../../page/base/names.js';
+import { cleanName, freeName } from '../../page/base/words.js';
 import { baseOf } from '../../page/document/cover.js';
 import { docOf, emptyDoc, packedDoc, sameDoc, unpackedDoc } from '../../page/document/document.js';
 import { FileFault } from '../../page/document/limits.js';
@@ -96,6 +97,16 @@ test('damaged records are none, and damaged strokes leave the document', () => {
         const read = readRecord({ ...good, past });
         assert.deepEqual([read.doc.picture, read.strokes.past], [['a..', '...'], []]);
     }
+});
+
+test('a name that a stranger chose is one of a file in records, cards and archives, and no two are one', () => {
+    const bad = ['../../up/and/away', '..', 'a\\b\u0000\n\u0085c', 'x.. .', '\u202egpp', `${'y'.repeat(79)}\u{1f408}z`, '\t', null];
+    const good = ['.. .. up and away', 'picture', 'a b   c', 'x', 'gpp', 'y'.repeat(79), 'picture', 'null'];
+    const old = bad.map((name, at) => ({ ...record(`${at}`, at), name }));
+    for (const names of [old.map((one) => readRecord(one).name), old.map((one) => cardOf(one).name), old.map((one) => readCard({ ...cardOf(one), name: one.name }).name)]) assert.deepEqual(names, good);
+    assert.deepEqual(bad.slice(0, -1).map((title) => recordOfDoc(emptyDoc(3, 2), title, true).name), good.slice(0, -1), 'as a set of puzzles names them');
+    const taken = new Set();
+    assert.deepEqual(['../a', '/../a', '.. A', 'e\u0301', '\u00e9'].map((name) => freeName(cleanName(name), taken)), ['.. a', '.. a 2', '.. A 3', 'e\u0301', '\u00e9 2']);
 });
 
 test('a record of the first version brings its picture and its texts', () => {
