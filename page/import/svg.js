@@ -3,6 +3,7 @@
 import { FileFault } from '../document/limits.js';
 import { penOf } from '../draw/small.js';
 import { phrase } from '../texts/phrase.js';
+import { MOST_DRAWN, drawnOf } from './drawn.js';
 
 const USUAL = 512; // pixels of the longer side: a drawing is as sharp at any size
 const UNITS = { '': 1, px: 1, pt: 4 / 3, pc: 16, in: 96, cm: 96 / 2.54, mm: 9.6 / 2.54, q: 2.4 / 2.54 };
@@ -29,6 +30,8 @@ export function sizeOfSvg({ width, height, viewBox }) {
 export async function imageOfSvg(text, most) {
   const root = new DOMParser().parseFromString(text, 'image/svg+xml').documentElement;
   if (root.localName !== 'svg') throw new FileFault(phrase('import.browserDoesNotRead'));
+  for (const one of root.querySelectorAll('set, animate')) one.remove(); // they could give an element another address
+  if (drawnOf(root) > MOST_DRAWN || /data:image\/svg/i.test(root.outerHTML.replace(/[\s\\]/g, ''))) throw new FileFault(phrase('formats.thereTooManyElements'));
   const told = { width: root.getAttribute('width'), height: root.getAttribute('height'), viewBox: root.getAttribute('viewBox') };
   const size = sizeOfSvg(told);
   const longer = Math.max(...size);

@@ -4,6 +4,8 @@ import { test } from 'node:test';
 import '../../page/test/limits.mjs';
 import { oklabOf } from '../../page/document/colours.js';
 import { dotSize, kindOfFile, scaledTo, sizeOfImage } from '../../page/import/images.js';
+import { drawnOf } from '../../page/import/drawn.js';
+import { readXml } from '../../page/formats/xml.js';
 import { sizeOfSvg } from '../../page/import/svg.js';
 import { withoutMargin } from '../../page/import/proposing.js';
 import { withoutSpecks, dithered } from '../../page/import/cells.js';
@@ -94,6 +96,32 @@ test('the size of a drawing', () => {
     assert.deepEqual([size(null, null, '0 0 30 60'), size('100%', '100%', '0,0,16,8'), size('90', null, '0 0 30 60'), size(null, '30', '0 0 30 60')], [[30, 60], [16, 8], [90, 180], [15, 30]]);
     assert.deepEqual(size(`1${' '.repeat(1e6)}!`, '5'), [5, 5], 'at once');
     assert.deepEqual([size(null, null, null), size('100%', '50%', 'x'), size('0', '0', '0 0 0 5')], [[512, 512], [512, 512], [512, 512]]);
+});
+
+// An XML text as elements of a browser's document, as far as counting asks for them.
+function elementOf({ name, attributes, children, text }) {
+    const [, localName] = /([^:]+)$/.exec(name);
+    return { localName, id: attributes.get('id') ?? '', textContent: text, children: children.map(elementOf), getAttribute: (one) => attributes.get(one) ?? null, attributes: [...attributes].map(([one, value]) => ({ localName: one.split(':').at(-1), value })) };
+}
+const drawn = (inside, more = '') => drawnOf(elementOf(readXml(`<svg ${more}>${inside}</svg>`)));
+
+test('what a drawing comes to, as often as its parts are drawn', () => {
+    assert.deepEqual([drawn(''), drawn('<g><path/><path/></g>'), drawn('<defs><path id="a"/><g/></defs>'), drawn('<use href="#none"/><a href="#b"><g id="b"/></a>')], [1, 4, 1, 4]);
+    for (const href of ['href="#a"', 'xlink:href=" #a"', 'href="#%61"']) assert.equal(drawn(`<defs><g id="a"><path/></g></defs><use ${href}/><use ${href}/>`), 7);
+    const tenfold = (count, line, first = '<path id="a0"/>') => drawn(`<defs>${first}${Array.from({ length: count }, (_, at) => line(`a${at + 1}`, `#a${at}`)).join('')}</defs><use href="#a${count}"/>`);
+    const uses = (id, of) => `<g id="${id}">${`<use href="${of}"/>`.repeat(10)}</g>`;
+    assert.deepEqual([tenfold(2, uses), tenfold(4, uses) > 20000, tenfold(400, uses)], [223, true, Infinity]);
+    const pattern = '<pattern id="a0"><path/></pattern>';
+    const paths = '<path/>'.repeat(10);
+    for (const way of ['fill="url(#a)"', 'stroke="url( \'#a\' ) red"', 'style="x:1;fill:url(#a)"', 'style="f\\69 ll:\\75rl(#a)"', 'style="--x:url(#a)"', 'marker-mid="url(#a)"', 'class="b c"']) {
+        const sheet = '<style>/*{*/.x,.c { fill:url(#a)} .d{} #e{fill:#a}</style>';
+        assert.equal(drawn(`${sheet}<pattern id="a"><path/></pattern><g ${way}>${paths}</g>`), 34, way); // what is in a group inherits it
+        assert.ok(tenfold(5, (id, of) => `<pattern id="${id}"><g ${way.replace('#a', of)}>${paths}</g></pattern>`, pattern + sheet) > 20000 || way.startsWith('class'), way);
+    }
+    assert.ok(tenfold(6, (id, of) => `<g fill="url(${of})"><pattern id="${id}">${paths}</pattern></g>`, pattern) > 20000, 'around a pattern');
+    for (const way of ['clip-path', 'mask', 'filter']) assert.equal(drawn(`<mask id="a"><path/></mask><g ${way}="url(#a)">${paths}</g>`), 14, way); // as a whole
+    for (const rule of ['path{fill:url(#a)}', '@media all{path{}fill:url(#a)}', '.x{ .y{} fill:url(#a)}']) assert.ok(drawn(`<style>${rule}</style><clipPath id="a"/>${'<path/>'.repeat(10)}`) >= 21, rule);
+    for (const round of ['<use id="a" href="#a"/>', '<g id="a"><use href="#b"/></g><g id="b"><use href="#a"/></g>', '<pattern id="a"><path fill="url(#a)"/></pattern><path fill="url(#a)"/>']) assert.equal(drawn(round), Infinity, round);
 });
 
 test('an image with few colours keeps them', () => {

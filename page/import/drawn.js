@@ -1,0 +1,75 @@
+// How much a browser draws of an SVG drawing: each element, as often as `use`, patterns, markers, masks, clips and filters repeat it.
+
+/** The elements that a drawing may come to. */
+export const MOST_DRAWN = 20000;
+
+const GRADIENTS = new Set(['linearGradient', 'radialGradient']);
+const TARGETS = new Set(['pattern', 'marker', 'mask', 'clipPath', 'filter']); // drawn where an address names them
+const HIDDEN = new Set([...GRADIENTS, ...TARGETS, 'defs', 'symbol', 'style', 'script', 'title', 'desc', 'metadata']);
+const STYLED = /^(fill|stroke|mask|filter|clip-path|marker(-\w+)?)$/;
+const ONCE = /^(href|mask|filter|clip-path)$/; // for an element as a whole: what is inside inherits the others
+
+const plainCss = (text) => text.replace(/\/\*[^]*?\*\//g, ' ').replace(/\\([0-9a-f]{1,6})\s?/gi, (_, code) => String.fromCharCode(parseInt(code, 16))).replaceAll('\\', '');
+
+// The addresses in CSS declarations, as [property, id].
+const addressesIn = (text) => plainCss(text).split(';').flatMap((one) => [...one.matchAll(/url\([\s"']*#([^"')]+)/gi)].map(([, id]) => [one.split(':')[0].trim().toLowerCase(), id.trim()]));
+
+// Addresses in the rules of style sheets by the classes that they are for, or '*' for any other selector.
+function rulesOf(sheets) {
+  const rules = new Map();
+  const parts = plainCss(sheets).split(/([{}])/);
+  for (let at = 0; at < parts.length; at += 2) {
+    const found = addressesIn(parts[at + 1] === '{' ? parts[at].slice(0, parts[at].lastIndexOf(';') + 1) : parts[at]);
+    const selector = parts[at - 1] === '{' ? parts[at - 2].split(';').at(-1) : '';
+    for (const name of /^\s*(\.[\w-]+[\s,]*)+$/.test(selector) ? selector.match(/[\w-]+/g) : ['*']) rules.set(name, [...(rules.get(name) ?? []), ...found]);
+  }
+  return rules;
+}
+
+// All elements as Map to { plus, times }: the elements whose counts are added to its own, and those by whose counts it is multiplied.
+function partsOf(root) {
+  const all = [root];
+  const ids = new Map();
+  for (const element of all) {
+    if (element.id && !ids.has(element.id)) ids.set(element.id, element);
+    for (const child of element.children) all.push(child);
+  }
+  const rules = rulesOf(all.filter((one) => one.localName === 'style').map((one) => one.textContent).join('\n'));
+  const parts = new Map(all.map((element) => [element, { plus: [...element.children].filter((one) => !HIDDEN.has(one.localName)), times: [], inherited: [] }]));
+  for (const element of all) {
+    const own = parts.get(element);
+    const addresses = ['*', ...(element.getAttribute('class') ?? '').split(/\s+/)].flatMap((name) => rules.get(name) ?? []);
+    for (const { localName, value } of element.attributes) {
+      if (localName === 'href' && element.localName !== 'a' && value.trim()[0] === '#') addresses.push(['href', value.trim().slice(1)]);
+      else if (localName === 'style' || STYLED.test(localName)) addresses.push(...addressesIn(localName === 'style' ? value : `${localName}:${value}`));
+    }
+    for (const [property, id] of addresses) {
+      const target = ids.get(id) ?? ids.get(unescape(id.replace(/[\t\n\r]/g, '')));
+      if (target && !GRADIENTS.has(target.localName)) (ONCE.test(property) ? own.plus : own.times).push(target);
+    }
+    const passed = own.times.length ? [...new Set([...own.inherited, ...own.times])] : own.inherited;
+    for (const child of element.children) parts.get(child).inherited = passed;
+    if (TARGETS.has(element.localName)) own.times = passed;
+  }
+  return parts;
+}
+
+/** How many elements the browser draws of an SVG element; Infinity where one is part of itself. */
+export function drawnOf(root) {
+  const parts = partsOf(root);
+  const [counts, begun, waiting] = [new Map(), new Set(), [root]];
+  const sum = (elements) => elements.reduce((total, one) => total + counts.get(one), 1);
+  while (waiting.length) {
+    const element = waiting.at(-1);
+    const { plus, times } = parts.get(element);
+    const missing = counts.has(element) ? [] : [...plus, ...times].filter((one) => !counts.has(one));
+    if (missing.some((one) => begun.has(one))) return Infinity;
+    begun.add(element);
+    if (!missing.length) {
+      if (!counts.has(element)) counts.set(element, sum(plus) * sum(times));
+      waiting.pop();
+    }
+    for (const one of missing) waiting.push(one);
+  }
+  return counts.get(root);
+}
