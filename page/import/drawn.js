@@ -9,7 +9,10 @@ const HIDDEN = new Set([...GRADIENTS, ...TARGETS, 'defs', 'symbol', 'style', 'sc
 const STYLED = /^(fill|stroke|mask|filter|clip-path|marker(-\w+)?)$/;
 const ONCE = /^(href|mask|filter|clip-path)$/; // for an element as a whole: what is inside inherits the others
 
-const plainCss = (text) => text.replace(/\/\*[^]*?\*\//g, ' ').replace(/\\([0-9a-f]{1,6})\s?/gi, (_, code) => String.fromCharCode(parseInt(code, 16))).replaceAll('\\', '');
+// What stands outside of comments, one that has no end among them.
+const uncommented = (text) => text.split('/*').map((part, at) => (at ? part.slice((`${part}*/`).indexOf('*/') + 2) : part)).join(' ');
+
+const plainCss = (text) => uncommented(text).replace(/\\([0-9a-f]{1,6})\s?/gi, (_, code) => String.fromCharCode(parseInt(code, 16))).replaceAll('\\', '');
 
 // The addresses in CSS declarations, as [property, id].
 const addressesIn = (text) => plainCss(text).split(';').flatMap((one) => [...one.matchAll(/url\([\s"']*#([^"')]+)/gi)].map(([, id]) => [one.split(':')[0].trim().toLowerCase(), id.trim()]));
@@ -21,16 +24,19 @@ function rulesOf(sheets) {
   for (let at = 0; at < parts.length; at += 2) {
     const found = addressesIn(parts[at + 1] === '{' ? parts[at].slice(0, parts[at].lastIndexOf(';') + 1) : parts[at]);
     const selector = parts[at - 1] === '{' ? parts[at - 2].split(';').at(-1) : '';
-    for (const name of /^\s*(\.[\w-]+[\s,]*)+$/.test(selector) ? selector.match(/[\w-]+/g) : ['*']) rules.set(name, [...(rules.get(name) ?? []), ...found]);
+    for (const name of /^\s*(\.[\w-]+[\s,]*)+$/.test(selector) ? selector.match(/[\w-]+/g) : ['*']) rules.set(name, rules.get(name) ?? []).get(name).push(...found);
   }
   return rules;
 }
 
-// All elements as Map to { plus, times }: the elements whose counts are added to its own, and those by whose counts it is multiplied.
+// All elements as Map to { plus, times }: the elements whose counts are added to its own, and those by whose counts it is multiplied. Null
+// where there are more elements, or addresses, than are looked at.
 function partsOf(root) {
   const all = [root];
   const ids = new Map();
+  let told = 0;
   for (const element of all) {
+    if (all.length > MOST_DRAWN) return null;
     if (element.id && !ids.has(element.id)) ids.set(element.id, element);
     for (const child of element.children) all.push(child);
   }
@@ -43,6 +49,8 @@ function partsOf(root) {
       if (localName === 'href' && element.localName !== 'a' && value.trim()[0] === '#') addresses.push(['href', value.trim().slice(1)]);
       else if (localName === 'style' || STYLED.test(localName)) addresses.push(...addressesIn(localName === 'style' ? value : `${localName}:${value}`));
     }
+    told += addresses.length + own.inherited.length;
+    if (told > 50 * MOST_DRAWN) return null;
     for (const [property, id] of addresses) {
       const target = ids.get(id) ?? ids.get(unescape(id.replace(/[\t\n\r]/g, '')));
       if (target && !GRADIENTS.has(target.localName)) (ONCE.test(property) ? own.plus : own.times).push(target);
@@ -57,6 +65,7 @@ function partsOf(root) {
 /** How many elements the browser draws of an SVG element; Infinity where one is part of itself. */
 export function drawnOf(root) {
   const parts = partsOf(root);
+  if (!parts) return Infinity;
   const [counts, begun, waiting] = [new Map(), new Set(), [root]];
   const sum = (elements) => elements.reduce((total, one) => total + counts.get(one), 1);
   while (waiting.length) {
