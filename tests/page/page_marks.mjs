@@ -46,7 +46,7 @@ export async function helpOnPhones({ browser, url, folder }) {
     await page.run(() => runAction('play'));
     await page.until(() => document.querySelector('#play-help'), 3000 * SLACK);
     const high = await page.run(() => ['play-bar', 'play-palette'].reduce((sum, id) => sum + document.getElementById(id).getBoundingClientRect().height, 0));
-    assert.ok(high <= 130, `${high} px of 844 are for buttons`);
+    assert.ok(high <= 160, `${high} px of 844 are for buttons`);
     await page.tap('#play-help');
     await page.until(() => document.querySelector('.help li'), 3000 * SLACK);
     const told = await trial.text('.help');

@@ -226,5 +226,5 @@ export async function certificates({ trial, page, folder }) {
     await trial.open(ppmOf(AMBIGUOUS), 'pair');
     await trial.judged();
     assert.equal(await page.run(() => certificateText()), null);
-    assert.match(await trial.text('#said'), /another picture has these clues/);
+    assert.match(await trial.text('#said'), /second solution/);
 }
