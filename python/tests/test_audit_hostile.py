@@ -10,6 +10,7 @@ import json
 import os
 import pty
 import resource
+import shutil
 import signal
 import struct
 import subprocess
@@ -468,6 +469,20 @@ class Strangers(Case):
                 self.assertEqual([one.givens for one in (second, third)], [str(mine / name) + "/" for name in ("b", "c")])
             else:
                 self.assertEqual([one.beside for one in (first, second, third)], [(), ((1, str(mine / "b") + "/"),), ((1, str(mine / "c") + "/"),)])
+        found = finding.find([str(self.site)], finding.Places(None, str(mine)))
+        next(found)
+        shutil.rmtree(mine)
+        mine.mkdir()
+        self.assertEqual(next(found).givens, str(mine / "b") + "/")
+
+    def test_a_timeout_of_a_task_on_a_worker_is_no_wait(self):
+        """What the scheduler has not answered yet is waited for; a task that failed by a TimeoutError of its own is told."""
+        future = unittest.mock.Mock(**{"result.side_effect": TimeoutError("Connection timed out")}, status="pending")
+        judging = object.__new__(cluster.Cluster)
+        self.assertIsNone(judging._result(future, []))
+        future.status = "error"
+        with self.assertRaisesRegex(cluster.Failure, "Connection timed out"):
+            judging._result(future, [])
 
     def test_each_puzzle_has_its_own_certificates_alone(self):
         """Those that were written of it, in a folder of their own and beside the puzzles, whatever puzzles and folders are called."""

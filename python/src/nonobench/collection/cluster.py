@@ -94,11 +94,11 @@ class Cluster:
         """The answers of a pack in order, where they are there within a moment."""
         try:
             found = [Answer(*answer) for answer in future.result(timeout=TICK)]
-        except (asyncio.TimeoutError, TimeoutError):
-            return None
         except Broken as error:
             raise Failure(f"a worker of the scheduler: {error}") from error
-        except Exception as error:  # whatever a worker, or the way to it, failed by
+        except Exception as error:  # whatever a worker, or the way to it, failed by: that may be a TimeoutError, too
+            if isinstance(error, (asyncio.TimeoutError, TimeoutError)) and future.status != "error":
+                return None
             raise Failure(f"the scheduler's workers: {type(error).__name__}: {error}") from error
         return sorted([*found, *told], key=lambda answer: answer.number)
 

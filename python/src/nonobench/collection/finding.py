@@ -205,6 +205,7 @@ def _identity(folder: str) -> Optional[tuple[int, int]]:
 
 
 _meant = functools.lru_cache(maxsize=None)(_identity)  # that of a folder when it was first asked for
+_open: list[int] = []  # the folders that are meant: no other one gets the number of a folder that is open
 
 
 @functools.lru_cache(maxsize=4)
@@ -277,7 +278,11 @@ def begin(places: Places) -> None:
     """Forgets what lay in folders, and notes which ones are meant."""
     for cached in (_listed, _folder, pictures_in, _meant):
         cached.cache_clear()
+    while _open:
+        os.close(_open.pop())
     for way in filter(None, places[:2]):
+        with contextlib.suppress(OSError):
+            _open.append(os.open(way, os.O_RDONLY | getattr(os, "O_DIRECTORY", 0)))
         _meant(way)
 
 
