@@ -548,7 +548,7 @@ class Running(Case):
         for certify, wanted in (("certs", "nonobench-audit: unique, but no certificate made in time or memory: 1\n"), (None, "")):
             said = io.StringIO()
             with contextlib.redirect_stderr(said):
-                counts.warn(arguments.Options(["site"], certify=certify), False, [])
+                counts.warn(arguments.Options(["site"], certify=certify), False, {})
             self.assertEqual(said.getvalue(), wanted)
 
     @pytest.mark.since("0.7.0")

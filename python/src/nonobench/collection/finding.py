@@ -276,8 +276,10 @@ def picture_of(folder: Folder, called: str, certificate: str) -> Optional[Found]
 
 def begin(places: Places) -> None:
     """Forgets what lay in folders, and notes which ones are meant."""
-    for cached in (_listed, _folder, pictures_in, _meant):
-        cached.cache_clear()
+    _listed.cache_clear()
+    _folder.cache_clear()
+    pictures_in.cache_clear()
+    _meant.cache_clear()
     while _open:
         os.close(_open.pop())
     for way in filter(None, places[:2]):
