@@ -177,14 +177,14 @@ test('beside letters numbers have one size, that of the longest, where it is rea
     const sizesOn = (more) => {
         const [sheet] = sheets([doc], more);
         const sizes = textsOf(sheet).filter(({ text }) => /^\d+[ab●▲■]$/.test(text)).map(({ 'font-size': size }) => size);
-        return { count: new Set(sizes).size, least: Math.min(...sizes), share: Math.min(...sizes) / sheet.cell };
+        return { count: new Set(sizes).size, smallest: Math.min(...sizes), share: Math.min(...sizes) / sheet.cell };
     };
     for (const show of ['letters', 'signs']) {
-        const { count, least } = sizesOn({ show });
-        assert.ok(count === 1 && least >= 2, `${show}: ${count} sizes, the least ${least} mm`);
+        const { count, smallest } = sizesOn({ show });
+        assert.ok(count === 1 && smallest >= 2, `${show}: ${count} sizes, the least ${smallest} mm`);
     }
     const [small, large] = [sizesOn({ show: 'letters', paper: 'a5', perSheet: 6 }), sizesOn({ show: 'letters' })];
-    assert.ok(small.count === 2 && small.least < 2, 'of a cell of 3 mm the short ones stay as large as they may be');
+    assert.ok(small.count === 2 && small.smallest < 2, 'of a cell of 3 mm the short ones stay as large as they may be');
     assert.ok(Math.abs(small.share - large.share) < 0.01);
 });
 
