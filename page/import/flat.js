@@ -133,7 +133,7 @@ function mergedDown(groups) {
 const triplesOf = (groups, most) => groups.filter(({ least }) => least <= most).map(({ triple }) => triple);
 
 /** At most so many of the own colours of flat art, the most used first. */
-export const flatPalette = (image, most) => triplesOf(once(image, 'palette flat', () => mergedDown(weighed(groupsOf(image)))), most);
+export const flatPalette = (image, most) => triplesOf(once(image, 'merged', () => mergedDown(weighed(groupsOf(image)))), most);
 
 /** How many colours flat art has of some area each; 0 where an image is none. */
 export function countFlat(image, least = 0.01) {

@@ -31,7 +31,8 @@ export async function imageOfSvg(text, most) {
   const root = new DOMParser().parseFromString(text, 'image/svg+xml').documentElement;
   if (root.localName !== 'svg') throw new FileFault(phrase('import.browserDoesNotRead'));
   for (const one of root.querySelectorAll('set, animate')) one.remove(); // they could give an element another address
-  if (drawnOf(root) > MOST_DRAWN || /data:image\/svg/i.test(root.outerHTML.replace(/[\s\\]/g, ''))) throw new FileFault(phrase('formats.thereTooManyElements'));
+  const written = () => new XMLSerializer().serializeToString(root);
+  if (drawnOf(root) > MOST_DRAWN || /data:image\/svg/i.test(written().replace(/[\s\\]/g, ''))) throw new FileFault(phrase('formats.thereTooManyElements'));
   const told = { width: root.getAttribute('width'), height: root.getAttribute('height'), viewBox: root.getAttribute('viewBox') };
   const size = sizeOfSvg(told);
   const longer = Math.max(...size);
@@ -39,7 +40,7 @@ export async function imageOfSvg(text, most) {
   if (!told.viewBox) root.setAttribute('viewBox', `0 0 ${size.join(' ')}`);
   root.setAttribute('width', String(width));
   root.setAttribute('height', String(height));
-  const address = URL.createObjectURL(new Blob([new XMLSerializer().serializeToString(root)], { type: 'image/svg+xml' }));
+  const address = URL.createObjectURL(new Blob([written()], { type: 'image/svg+xml' }));
   try {
     const image = new Image(width, height);
     image.src = address;

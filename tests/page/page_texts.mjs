@@ -133,9 +133,9 @@ test('lines by their names and places, a verdict and what opens a dialog, in wor
 
 // ---- no text elsewhere
 
-// Modules whose texts no user reads, or that are the same in all languages: commands of a session, what goes into files, the line of a
-// grade (docs/FORMATS.md), faults inside the page.
-const INSIDE = ['base/names.js', 'document/cover.js', 'document/named.js', 'draw/surface.js', 'engine/answers.js', 'engine/bench.js', 'engine/client.js', 'engine/opening.js', 'engine/serve.js', 'formats/palettes.js', 'formats/ppm_notes.js', 'formats/webpbn.js', 'library/keeper.js', 'library/shelf.js', 'repair/asker.js'];
+// Modules whose texts no user reads, or that are the same in all languages: commands of a session, what goes into files, names in them, the
+// line of a grade (docs/FORMATS.md), faults inside the page.
+const INSIDE = ['base/names.js', 'document/cover.js', 'document/named.js', 'draw/surface.js', 'engine/answers.js', 'engine/bench.js', 'engine/client.js', 'engine/opening.js', 'engine/serve.js', 'formats/palettes.js', 'formats/ppm_notes.js', 'formats/webpbn.js', 'import/drawn.js', 'library/keeper.js', 'library/shelf.js', 'repair/asker.js'];
 const KEYS = /^report\.csv$|^(Escape|Enter|Tab|Home|End|Page(Up|Down)|Arrow(Up|Down|Left|Right)|Backspace|Delete|Shift|Control|Ctrl|Alt|Meta|Space)(\+|$)|^(Ctrl|Alt)\+|^(Abort|QuotaExceeded)Error$|^(Undo|Redo)Empty$|^(Memory|NoChange|TwoColoursOnly|Files)$|^NS_|\.js$|\.zip$/;
 const COMMAND = /^(paint|fill|pin|unpin|colour (add|set)|insert|delete|swap|recolour|write|why|allow) ?(\{|\d|off|row|column|non|ppm|$)/;
 const STYLE = /px\b|%|rgb\(|hsl\(|sans-serif|prefers-|translate\(|^@page|:not\(|^<iframe |^nonobench|^(work|card|data|https?):|[a-z], [a-z]+, [a-z]+$|^width \{\}\n|– nonobench$|^row-clue|^(palette|spots|tone) \{\}|^\.\.aa/;
