@@ -77,7 +77,7 @@ export class Keeper {
   // A card of a record that has none, or a damaged one; null where the record is damaged too.
   async cardAnew(id) {
     const value = await this.shelf.get(RECORD + id).catch(() => null);
-    return readRecord(value) ? readCard(cardOf(value)) : null;
+    try { return readRecord(value) ? readCard(cardOf(value)) : null; } catch { return null; } // what JSON cannot write
   }
 
   /** The first of some cards whose picture is this document, as `isSame` compares it; null where none is. */

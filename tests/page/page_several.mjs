@@ -11,7 +11,7 @@ import { Judge } from '../../page/engine/judging.js';
 import { ppmTextOf } from '../../page/formats/ppm_notes.js';
 import { readGivens, readGround } from '../../page/formats/published.js';
 import { webpbnText } from '../../page/formats/webpbn.js';
-import { writeZip } from '../../page/formats/zip.js';
+import { writeZip, zipEntries } from '../../page/formats/zip.js';
 import { readZip } from '../../page/test/zips.mjs';
 import { readArchive } from '../../page/import/archives.js';
 import { docsOfUnit, grouped, hasCertificate } from '../../page/import/beside.js';
@@ -374,4 +374,13 @@ test('no text of a table is a formula of a spreadsheet', () => {
     for (const text of ['', '1', 'a=1', "'=1", '\u22121']) assert.equal(valueText(text), `"${text}"`);
     assert.equal(valueText('="'), `"'="""`);
     assert.equal(valueText('b;=1;2; -3; "=4'), `"b;'=1;2;' -3;' ""=4"`);
+});
+
+test('an archive whose files lie over one another is damaged', () => {
+    const one = writeZip([{ name: 'a.ppm', bytes: new Uint8Array(1000) }]);
+    const [at, end] = [new DataView(one.buffer).getUint32(one.length - 6, true), one.slice(-22)];
+    for (const place of [8, 10]) new DataView(end.buffer).setUint16(place, 3, true);
+    const thrice = Uint8Array.from([...one.slice(0, at), ...[1, 2, 3].flatMap(() => [...one.slice(at, -22)]), ...end]);
+    assert.equal(zipEntries(one).length, 1);
+    assert.throws(() => zipEntries(thrice), /damaged/);
 });
