@@ -140,8 +140,9 @@ def front_of(path: str) -> str:
     return (os.path.basename(os.path.realpath(path)) or "root") + "/"
 
 
-def find(paths: list[str], places: Places = Places()) -> Iterator[Found]:
-    """The files of paths in order, and what goes with them, beside them or in folders of the same shape.
+def find(paths: list[str], places: Places = Places(), is_anew: bool = True) -> Iterator[Found]:
+    """The files of paths in order, and what goes with them, beside them or in folders of the same shape. A search that goes on beside
+    another one is not made anew: what that one noted of folders stays.
 
     Folders that links lead to are not searched, nor is what is hidden. What is named by a path itself is, but in a collection of
     strangers: there a link is a file that cannot be read.
@@ -150,7 +151,8 @@ def find(paths: list[str], places: Places = Places()) -> Iterator[Found]:
     if places.is_untrusted:
         certificates, givens = (way and os.path.realpath(way) for way in places[:2])
         places = Places(certificates, givens, True)
-    begin(places)
+    if is_anew:
+        begin(places)
     for path in outer:
         real = _real(path) if places.is_untrusted else path
         if os.path.isdir(path) and not (places.is_untrusted and os.path.islink(real)):

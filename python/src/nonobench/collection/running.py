@@ -184,7 +184,7 @@ class Run:
         options = self._options
 
         def count() -> None:
-            self._progress.expect(sum(is_in_share(found.name, options.shard) for found in find(options.paths)))
+            self._progress.expect(sum(is_in_share(found.name, options.shard) for found in find(options.paths, is_anew=False)))
 
         if not options.is_quiet:
             threading.Thread(target=count, daemon=True).start()
