@@ -471,6 +471,7 @@ class Strangers(Case):
                 self.assertEqual([one.beside for one in (first, second, third)], [(), ((1, str(mine / "b") + "/"),), ((1, str(mine / "c") + "/"),)])
         found = finding.find([str(self.site)], finding.Places(None, str(mine)))
         next(found)
+        self.assertEqual(len(list(finding.find([str(self.site)], is_anew=False))), 3)
         shutil.rmtree(mine)
         mine.mkdir()
         self.assertEqual(next(found).givens, str(mine / "b") + "/")
