@@ -5,6 +5,7 @@ import { readFileSync } from 'node:fs';
 import { dirname, join } from 'node:path';
 import test from 'node:test';
 import { fileURLToPath, pathToFileURL } from 'node:url';
+import { TRIED } from '../tests/waits.mjs';
 import { load as loadEngine } from './nonobench.mjs';
 
 const root = join(dirname(fileURLToPath(import.meta.url)), '..');
@@ -13,7 +14,7 @@ const bytes = readFileSync(join(folder, 'nonobench-check.wasm')), script = readF
 const { Fault, load } = await import(pathToFileURL(join(folder, 'nonobench-check.mjs')).href);
 const engine = await loadEngine(readFileSync(process.env.WASM ?? join(root, 'web', 'out', 'nonobench.wasm')));
 const text = (...parts) => readFileSync(join(root, ...parts), 'utf8');
-const VERSION = /VERSION: &str = "([^"]+)"/.exec(text('crates', 'program_options', 'src', 'version.rt'))[1];
+const VERSION = TRIED ?? /VERSION: &str = "([^"]+)"/.exec(text('crates', 'program_options', 'src', 'version.rt'))[1];
 
 const PICTURE = 'P3 2 2 255 0 0 0 255 255 255 255 255 255 0 0 0\n';
 const CERTIFICATE = 'nonocert 2\ngiven 1 1\nline r 1\nline c 1\nline r 2\ndone\n';
