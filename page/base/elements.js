@@ -42,6 +42,9 @@ export function svgPart(name, attributes, ...children) {
   return element;
 }
 
+/** Whether the page is pressed with fingers, which have no keys and drop nothing. */
+export const hasFingers = () => matchMedia('(pointer: coarse)').matches;
+
 /**
  * Keeps the strokes of fingers on an element from the browser's own gestures: behind a quick one Chromium would take the next tap,
  * wherever it is, for the end of a fling, and make no click of it.

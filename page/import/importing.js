@@ -1,7 +1,7 @@
 // A picture into a puzzle: a dialog with the image, the part that is taken, the size in cells, the colours, and what comes of it,
 // drawn anew at each change, with its verdict.
 
-import { make } from '../base/elements.js';
+import { hasFingers, make } from '../base/elements.js';
 import { capital, clamp } from '../base/words.js';
 import { MOST_CELLS, MOST_COLOURS } from '../document/limits.js';
 import { COLOUR_NAMES } from '../document/named.js';
@@ -90,7 +90,7 @@ class Importing {
     this.facts = make('p', { role: 'status', class: 'faint', id: 'import-facts' });
     this.verdict = make('p', { role: 'status', id: 'import-verdict' });
     this.content = make('div', { class: 'importing' },
-      make('div', { class: 'pictures' }, make('figure', {}, this.source.canvas, make('figcaption', {}, matchMedia('(pointer: coarse)').matches ? phrase('import.tapToKeep') : phrase('import.dragOverImageSelect'))), make('figure', {}, this.preview, this.facts, this.verdict, this.alike.element)),
+      make('div', { class: 'pictures' }, make('figure', {}, this.source.canvas, make('figcaption', {}, hasFingers() ? phrase('import.tapToKeep') : phrase('import.dragOverImageSelect'))), make('figure', {}, this.preview, this.facts, this.verdict, this.alike.element)),
       make('div', { class: 'choices' }, this.sizes(), this.inkChoices(), this.lights()), this.parts(),
       make('datalist', { id: 'colour-names' }, ...COLOUR_NAMES.map((name) => make('option', { value: name }))));
   }

@@ -1,6 +1,6 @@
 // The start screen: a new picture, a file, what the browser keeps, and examples.
 
-import { $, make } from '../base/elements.js';
+import { $, hasFingers, make } from '../base/elements.js';
 import { on } from '../base/events.js';
 import { capital, freeName, opening, sizeText } from '../base/words.js';
 import { emptyDoc } from '../document/document.js';
@@ -52,7 +52,7 @@ async function newName() {
 function openCard() {
   return make('section', { class: 'card', 'aria-labelledby': 'open-title' },
     make('h2', { id: 'open-title' }, phrase('start.openPicture')),
-    make('p', {}, matchMedia('(pointer: coarse)').matches ? phrase('start.tapToChoose') : phrase('start.dropFileHerePaste')),
+    make('p', {}, hasFingers() ? phrase('start.tapToChoose') : phrase('start.dropFileHerePaste')),
     make('p', { class: 'faint' }, phrase('start.pngJpegGifWebp')),
     make('button', { type: 'button', class: 'main', id: 'open-go', onclick: () => chooseFile() }, phrase('start.chooseFile')));
 }

@@ -1,6 +1,6 @@
 // Help: a tour, what a certificate is for, the keys, and which page this is.
 
-import { make } from '../base/elements.js';
+import { hasFingers, make } from '../base/elements.js';
 import { built } from '../engine/client.js';
 import { phrase } from '../texts/phrase.js';
 import { actions, addAction, keyText } from './actions.js';
@@ -23,7 +23,7 @@ const CERTIFICATE = [
 ];
 
 // What fingers press has no keys: such as “(m)” and “(h shows them)” are left out for them.
-const toFingers = (text) => (matchMedia('(pointer: coarse)').matches ? text.replace(/\s\([a-z](\s[^)]*)?\)/g, '') : text);
+const toFingers = (text) => (hasFingers() ? text.replace(/\s\([a-z](\s[^)]*)?\)/g, '') : text);
 const part = (title, ...content) => make('section', {}, make('h3', {}, title), ...content);
 const paragraphs = (texts) => texts.map((text) => make('p', {}, text));
 
