@@ -121,6 +121,79 @@ export async function numbersAreToldOf({ browser, url, folder }) {
     }
 }
 
+/** On a tablet fingers get what phones have, 44 px, and the header with the name of the file is within the window; keys stand apart from the tools' names. */
+export async function tabletForFingers({ browser, url, folder }) {
+    for (const [language, width, height] of [['en', 768, 1024], ['de', 768, 1024], ['fr', 768, 1024], ['de', 1024, 768]]) {
+        const where = `${language}, ${width} by ${height}`;
+        const { page, trial } = await fresh(browser, url, folder, `tablet-${language}-${width}`, { size: { width, height, touch: true }, before: `try { localStorage.setItem('nonobench-language', '${language}'); } catch {}` });
+        await trial.open(ppmOf(['a.....', '.a....', '......', '...aaa', '...aaa', '...aaa']), 'tablet');
+        await trial.judged();
+        await page.run(() => { say('', '', { name: 'Do', run: () => {} }); });
+        const small = (within) => page.run((wanted) => [...document.querySelectorAll(wanted)].filter((one) => one.checkVisibility() && one.getBoundingClientRect().height < 43.9).map((one) => one.outerHTML.slice(0, 80)), within);
+        assert.deepEqual(await small('#tools :is(button, select), header button, aside :is(button, select), .lines input, #said button'), [], where);
+        await page.tap('#menus > button');
+        await page.until(() => document.querySelector('.menu:popover-open'), 3000 * SLACK);
+        assert.deepEqual(await small('.menu:popover-open button'), [], where);
+        await page.run(() => { document.querySelector('.menu:popover-open').hidePopover(); runAction('print'); });
+        await page.until(() => document.querySelector('dialog[open] #print-show'), 5000 * SLACK);
+        assert.deepEqual(await small('dialog[open] :is(button, select)'), [], where);
+        await page.press('Escape');
+        const [over, wide, title, gaps] = await page.run(() => {
+            const one = document.getElementById('title');
+            const away = [...document.querySelectorAll('#tool-row button')].map((button) => {
+                const text = document.createRange();
+                text.selectNodeContents(button.querySelector('span'));
+                return button.querySelector('kbd').getBoundingClientRect().left - text.getBoundingClientRect().right;
+            });
+            return [document.querySelector('header').scrollWidth - innerWidth, one.getBoundingClientRect().right - innerWidth, one.getBoundingClientRect().width, Math.min(...away)];
+        });
+        assert.ok(over <= 0 && wide <= 0 && title > 40, `${where}: ${[over, wide, title]}`);
+        assert.ok(gaps >= 4, `${where}: ${gaps} px between a tool and its key`);
+        await trial.example('heart');
+        await page.until(() => !document.getElementById('publish-do').hidden, 10000 * SLACK);
+        assert.deepEqual(await small('#fit-row button'), [], where);
+        assert.deepEqual(await page.run(() => [document.getElementById('fit-row')].map((row) => row.scrollHeight - row.clientHeight)), [0], `${where}: what leads to its publication is seen whole`);
+        await page.shot(`${folder}/tablet-${language}-${width}.png`);
+        assert.deepEqual(page.faults, []);
+        await page.close();
+    }
+}
+
+/** The verdict's line on phones: what is told beside the verdict is whole, no button breaks or is cut, and what opens the colours lies beside their rings. */
+export async function verdictLineOnPhones({ browser, url, folder }) {
+    for (const language of ['en', 'de', 'fr']) {
+        for (const size of [UPRIGHT[1], LYING[1]]) {
+            const where = `${language}, ${size.join(' by ')}`;
+            const { page, trial } = await fresh(browser, url, folder, `line-${language}-${size[0]}`, { size: { width: size[0], height: size[1], touch: true }, before: `try { localStorage.setItem('nonobench-language', '${language}'); } catch {}` });
+            await trial.open(ppmOf(['a.........', '.a........', '..a.......', '...a......', '....a.....']), 'line');
+            assert.equal(await trial.judged(), 'ambiguous');
+            const look = () => page.run(() => {
+                const line = document.getElementById('verdict-line').getBoundingClientRect();
+                const [texts, buttons] = ['#verdict, #verdict-short', '#verdict-line button'].map((all) => [...document.querySelectorAll(all)].filter((one) => one.checkVisibility()));
+                const edges = buttons.map((one) => one.getBoundingClientRect());
+                const isCut = (one) => {
+                    const text = document.createRange();
+                    text.selectNodeContents(one);
+                    const { left, top, right, bottom } = text.getBoundingClientRect();
+                    return right > Math.min(line.right, innerWidth) || bottom > line.bottom + 0.5 || edges.some((edge) => left < edge.right && right > edge.left && top < edge.bottom && bottom > edge.top);
+                };
+                const [chosen, opens] = ['#palette [aria-checked="true"]', '#colours-open'].map((one) => document.querySelector(one).getBoundingClientRect());
+                return { texts: texts.map((one) => one.id), cut: texts.filter(isCut).map((one) => one.id), out: edges.filter(({ right, height }) => right > Math.min(line.right, innerWidth) + 0.5 || height > 50).length, ring: Math.max(opens.top - chosen.bottom, opens.left - chosen.right) };
+            });
+            const { ring, ...found } = await look();
+            await page.shot(`${folder}/line-${language}-${size[0]}.png`);
+            const whole = { texts: size === UPRIGHT[1] ? ['verdict', 'verdict-short'] : ['verdict'], cut: [], out: 0 };
+            assert.deepEqual(found, whole, where);
+            await page.tap('#verdict-open');
+            const { ring: _, ...opened } = await look();
+            assert.deepEqual(opened, whole, `${where}: More`);
+            assert.ok(ring >= 4.5, `${where}: ${ring} px between the chosen colour and what opens the colours`);
+            assert.deepEqual(page.faults, []);
+            await page.close();
+        }
+    }
+}
+
 /** A phone that lies has its tools, its palette and the verdict beside the picture, large enough for fingers. */
 export async function lyingPhone({ browser, url, folder }) {
     for (const size of LYING) {
