@@ -1,6 +1,7 @@
 // Print for books: the picture at hand, and on wish others of the library, as sheets, for the browser's print or as SVG.
 
 import { $, choiceOf, make, say } from '../base/elements.js';
+import { on } from '../base/events.js';
 import { gradeName, verdictName } from '../base/names.js';
 import { clamp, opening, sizeText } from '../base/words.js';
 import { docOf, runsOf } from '../document/document.js';
@@ -24,7 +25,7 @@ const SHOWN = { colours: phrase('view.colours'), letters: phrase('export.letters
 const MARGINS = [5, 40]; // millimetres
 const LEAST_CELL = 3; // millimetres that are filled easily
 const USUAL = { paper: 'a4', isWide: false, margin: 12, perSheet: 1, show: 'colours', answers: true, hasGrade: false };
-const chosen = { ...USUAL }; // as it was chosen last
+const chosen = { ...USUAL }; // as it was chosen last; `show` for the open puzzle alone
 const page = { rule: -1 }; // the place of the rule for the size of paper, in the page's style
 
 /** What somebody who solves the puzzle should not be left to find out. */
@@ -36,6 +37,8 @@ export const WARNINGS = {
 /** The puzzle at hand with its clues, as the engine told them. */
 export const atHand = () => ({ doc: docOf(bench.state), clues: bench.state.clues, name: bench.name, grade: gradeAtHand()?.word ?? null, verdict: bench.state.verdict.word });
 
+// How colours are told before one chooses: where they cannot be told apart, by letters.
+const shownFirst = (near) => (near && chosen.show === 'colours' ? 'letters' : chosen.show);
 const sheetsFor = (puzzles, options) => sheetsOf(puzzles.map((one) => entryOf(one, options)), { ...options, texts: SHEET_TEXTS });
 
 // ---- the browser's print
@@ -91,7 +94,7 @@ function printFields(near, graded) {
     paper: choice('print-paper', PAPER_NAMES, chosen.paper), wide: tick('print-wide', chosen.isWide),
     margin: make('input', { type: 'number', id: 'print-margin', min: MARGINS[0], max: MARGINS[1], value: chosen.margin }),
     perSheet: choice('print-count', Object.fromEntries(Object.keys(GRIDS).map((count) => [count, count])), chosen.perSheet),
-    show: choice('print-show', SHOWN, near && chosen.show === 'colours' ? 'letters' : chosen.show),
+    show: choice('print-show', SHOWN, shownFirst(near)),
     answers: tick('print-answers', chosen.answers), grade: tick('print-grade', chosen.hasGrade),
   };
   if (near) fields.show.querySelector('[value="colours"]').disabled = true;
@@ -163,18 +166,19 @@ async function printPuzzle() {
   await showNotes();
   const way = await openDialog({ title: phrase('export.print'), content, wide: true, buttons: [{ name: svgName, value: 'svg' }, { name: opening(phrase('export.print')), value: 'print', main: true }] });
   if (!way) return;
-  Object.assign(chosen, readFields(fields));
+  const options = readFields(fields);
+  Object.assign(chosen, options, options.show === shownFirst(nearText(bench.state)) && { show: chosen.show }); // what was only proposed is not chosen
   const records = [];
   for (const { id, name, grade } of others.chosen()) {
     const record = await keep.keeper.record(id);
     if (!record) return say(phrase('import.certificateSays', { name, text: phrase('library.pictureLibraryDamagedCould') }), 'alarm');
     records.push({ ...record, grade });
   }
-  const alike = records.find(({ doc }) => chosen.show === 'colours' && nearText(doc));
+  const alike = records.find(({ doc }) => options.show === 'colours' && nearText(doc));
   if (alike) return say(phrase('export.printLettersSigns', { name: alike.name, near: nearText(alike.doc) }), 'alarm');
   const opened = await withClues(records);
   if (!opened) return;
-  const sheets = sheetsFor([titled(), ...opened].sort(byName), chosen);
+  const sheets = sheetsFor([titled(), ...opened].sort(byName), options);
   if (way === 'svg') return saveSvg(sheets, isZip(sheets));
   fillPrint(sheets);
   globalThis.print();
@@ -183,9 +187,10 @@ async function printPuzzle() {
 /** Adds print to the menu File. */
 export function startPrinting() {
   addAction({ id: 'print', name: opening(phrase('export.print')), key: 'Ctrl+P', place: 'file', group: 'export', run: printPuzzle });
+  on('opened', () => { chosen.show = USUAL.show; });
   // What is opened by the browser's own print, without the dialog, is a sheet too.
   addEventListener('beforeprint', () => {
-    if (bench.state && !$('print').children.length) fillPrint(sheetsFor([atHand()], { ...chosen, show: nearText(bench.state) && chosen.show === 'colours' ? 'letters' : chosen.show }));
+    if (bench.state && !$('print').children.length) fillPrint(sheetsFor([atHand()], { ...chosen, show: shownFirst(nearText(bench.state)) }));
   });
   addEventListener('afterprint', () => $('print').replaceChildren());
 }

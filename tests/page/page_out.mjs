@@ -475,6 +475,30 @@ export async function othersPoint(hands, { page, trial, own }) {
     assert.match(sheet.content.toString(), />darker blue<[^]*>lighter blue</);
 }
 
+/** Letters that are only proposed, for colours too near, are not chosen: the next puzzle is shown in colours, and so is this one once its colours are apart. Who chooses has it again for that puzzle. */
+export async function lettersAskedAnew({ trial, page }) {
+    const [near, apart] = [{ '.': '255 255 255', a: '0 0 0', b: '12 12 12' }, { '.': '255 255 255', a: '0 0 0', b: '200 40 40' }].map((colours) => ppmOf(['ab', '.a'], colours));
+    const proposed = async (fields = {}) => {
+        await page.run(() => { runAction('print'); });
+        const show = await page.until(() => document.querySelector('dialog[open] #print-show')?.value, 5000 * SLACK);
+        await page.press('Escape');
+        await page.until(() => !document.querySelector('dialog[open]'), 3000 * SLACK);
+        await printWith(page, fields);
+        return [show, await page.run(() => [...document.querySelectorAll('.printed text')].some((one) => one.textContent === '1b'))];
+    };
+    await trial.open(near, 'near');
+    assert.deepEqual(await proposed(), ['letters', true]);
+    await page.run(() => bench.become((doc) => ({ ...doc, colours: [doc.colours[0], doc.colours[1], [200, 40, 40]] })));
+    assert.deepEqual(await proposed(), ['colours', false], 'its colours are apart');
+    await trial.open(near, 'near');
+    assert.deepEqual(await proposed(), ['letters', true], 'another that wants them');
+    await trial.open(apart, 'apart');
+    assert.deepEqual(await proposed({ 'print-show': 'letters' }), ['colours', true], 'the next, where one chooses them');
+    assert.deepEqual(await proposed(), ['letters', true], 'chosen for this puzzle');
+    await trial.open(apart, 'next');
+    assert.deepEqual(await proposed(), ['colours', false], 'chosen for the one before');
+}
+
 /** That tints look alike on paper is said as long as the sheet has them: not beside letters or symbols. */
 export async function tintsOnPaper({ browser, url, folder }) {
     const { page, trial } = await fresh(browser, url, folder, 'tints');
