@@ -455,6 +455,7 @@ class Strangers(Case):
             self.put(f"{name}/x.ppm", p3(UNIQUE))
             (mine / name).mkdir(parents=True)
             (mine / name / "x.background").write_text("0,0,200")
+            (mine / name / "x.cert").write_text(CERT)
         for places in (finding.Places(None, str(mine)), finding.Places(str(mine), None)):
             found = finding.find([str(self.site)], places)
             first = next(found)
@@ -468,13 +469,72 @@ class Strangers(Case):
                 self.assertEqual((first.givens, first.background), (None, str(mine / "a" / "x.background")))
                 self.assertEqual([one.givens for one in (second, third)], [str(mine / name) + "/" for name in ("b", "c")])
             else:
-                self.assertEqual([one.beside for one in (first, second, third)], [(), ((1, str(mine / "b") + "/"),), ((1, str(mine / "c") + "/"),)])
+                self.assertEqual([one.beside for one in (first, second, third)], [((1, os.path.join(mine, way)),) for way in ("a/x.cert", "b/", "c/")])
         found = finding.find([str(self.site)], finding.Places(None, str(mine)))
         next(found)
         self.assertEqual(len(list(finding.find([str(self.site)], is_anew=False))), 3)
         shutil.rmtree(mine)
         mine.mkdir()
         self.assertEqual(next(found).givens, str(mine / "b") + "/")
+
+    def test_a_run_whose_operators_folder_changes_is_an_error(self):
+        """What comes, goes or is written in it meanwhile is told in the end; what the run itself writes is no change."""
+        mine, aside = self.folder / "mine", self.folder / "aside"
+        for name in ("a", "b", "c/deep/est"):
+            self.put(f"{name}/x.ppm", p3(UNIQUE))
+
+        def run(change, *words, before=str):
+            """Its status and what it said, where the first puzzle is found before a change."""
+            for place in (mine, aside):
+                shutil.rmtree(place, ignore_errors=True)
+            for name in ("a", "c/deep/est"):
+                (mine / name).mkdir(parents=True)
+                (mine / name / "x.background").write_text("255,255,255")
+                (mine / name / "x.cert").write_text(CERT)
+            changes, said = iter((change,)), io.StringIO()
+            before()
+
+            def is_in_share(*words):
+                next(changes, str)()
+                return finding.is_in_share(*words)
+
+            with unittest.mock.patch.object(running, "is_in_share", is_in_share), contextlib.redirect_stderr(said):
+                return running.main([*map(str, (self.site, "--quiet", "--jobs", 1, "--seconds", PATIENCE, "--allow-flaw", "any", *words))]), said.getvalue()
+
+        def replaced():
+            (mine / "c").rename(aside)
+            shutil.copytree(aside, mine / "c")
+            (mine / "c/deep/est/x.background").write_text("255,255,255 ")
+            (mine / "c/deep/est/x.cert").write_text(f"{CERT}x")
+
+        def put(name, text="x"):
+            return lambda: (mine / name).write_text(text)
+
+        changes = {
+            "c/deep/est": [lambda: shutil.rmtree(mine / "c"), lambda: shutil.rmtree(mine / "c/deep/est"), replaced],
+            "a": [lambda: shutil.rmtree(mine), lambda: mine.rename(aside), lambda: (shutil.rmtree(mine), mine.mkdir())],
+        }
+        for option, end in (("--givens", "background"), ("--certificates", "cert")):
+            more = {"c/deep/est": lambda: (mine / "c/deep/est" / f"x.{end}").unlink(), "a": put(f"a/x.{end}"), "": put(f"x.{end}")}
+            for folder, change in ((folder, change) for folder in more for change in (*changes.get(folder, ()), more[folder])):
+                with self.subTest((option, folder)):
+                    status, said = run(change, option, mine)
+                    self.assertEqual(status, 3)
+                    self.assertIn(f"{os.path.join(mine, folder, '')}: something in it came, went or was written while it was read\n", said)
+            for change in (str, put("note"), put("a/x.txt"), lambda: (mine / "new").mkdir(), lambda: (mine / "b").mkdir()):
+                self.assertEqual(run(change, option, mine, "--jsonl", mine / "rows", "--csv", mine / "c/rows"), (0, ""))
+        # The run's own, or files beside the puzzles.
+        self.assertEqual(run(str, "--certificates", mine, "--givens", mine, "--certify", mine), (0, ""))
+        self.assertTrue((mine / "b" / "x.cert").exists())
+        for option in ("--certificates", "--givens"):
+            self.assertEqual(run(lambda: self.put("b/x.cert", CERT) and self.put("b/x.background", "white"), option, self.site), (0, ""))
+
+        def linked():
+            (mine / "c").rename(aside)
+            os.symlink("../aside", mine / "c")
+
+        self.assertEqual(run(str, "--givens", mine, before=linked), (0, ""))
+        self.assertEqual(run((mine / "c").unlink, "--givens", mine, before=linked)[0], 3)
 
     def test_a_timeout_of_a_task_on_a_worker_is_no_wait(self):
         """What the scheduler has not answered yet is waited for; a task that failed by a TimeoutError of its own is told."""

@@ -13,6 +13,7 @@ from pathlib import Path
 import nonobench
 import pytest
 from nonobench import check_site
+from nonobench.collection import finding
 
 pytestmark = pytest.mark.since("0.7.0")
 EXAMPLES = Path(__file__).resolve().parent.parent.parent / "examples"
@@ -402,6 +403,30 @@ def test_shares(site, checked):
     (site / "10.cert").rename(site / "10.proof")
     assert checked("site", "--shard", "2/3")[1] == [line.replace("10.cert", "10.proof") for line in printed[1]]
     assert set(printed[2]) <= {*checked("site", "--shard", "3/3")[1]}
+
+
+@pytest.mark.parametrize("option", ("--givens", "--certificates", None))
+@pytest.mark.parametrize("change", ("mv own/b gone", "rm own/b/2.*", "rm -r own", "rm -r own; mkdir own", "echo x > own/b/2.givens; echo x > own/b/2.cert"))
+def test_an_operators_folder_that_changes_meanwhile_is_told(site, checked, tmp_path, monkeypatch, option, change):
+    for name in ("a/1", "b/2"):
+        pair(site, name, CROSS, ONE, givens="given 1 1\n")
+        pair(tmp_path / "own", name, None, ONE, givens="given 1 1\n")
+    words = ["site", "--jobs", "1"] if option is None else ["site", "--jobs", "1", option, "own"]
+    assert checked(*words) == (0, [])
+    real, changes = finding.picture_of, iter((change,))
+
+    def picture_of(*words):
+        found = real(*words)
+        subprocess.run(next(changes, ":"), shell=True, check=True)
+        return found
+
+    monkeypatch.setattr(finding, "picture_of", picture_of)
+    status, lines = checked(*words)
+    if option is None:  # a folder that is not asked
+        assert (status, lines) == (0, [])
+    else:
+        assert status == 3
+        assert any(line in lines for line in (f"{tmp_path}/own/{name}/: {finding.CHANGED}" for name in "ab"))
 
 
 def test_certificates_in_a_folder_of_their_own(site, checked, tmp_path):

@@ -28,7 +28,6 @@ from .worker import Worker
 
 ACCEPTED, REFUSED, WRONG, UNREAD = range(4)  # the exit statuses; WRONG is that of wrong arguments
 INTERRUPTED = 130
-ENDINGS = tuple(f".{ending}" for ending in finding.ENDINGS)  # of certificates
 PACK = 64  # certificates that wait for a worker, for each one
 
 ABOUT = """Checks each certificate (NAME.cert) below FOLDER with the picture NAME.ppm, a plain PPM text. It prints a line for each that fails: whose certificate is refused, or which has a flaw for which it is not fit to be published. The cells that are published with a puzzle are those of NAME.givens, a line
@@ -39,7 +38,7 @@ STATUSES = """status:
   0  every certificate is accepted, names published givens alone, and its puzzle has no flaw
   1  some are refused, have flaws, or take too much time or memory
   2  the arguments are wrong
-  3  a file is missing or cannot be read, a folder cannot be searched, or there is nothing to check"""
+  3  a file is missing or cannot be read, a folder cannot be searched or changes meanwhile, or there is nothing to check"""
 
 
 class Answer(NamedTuple):
@@ -67,7 +66,7 @@ class Site:
         # The real paths, of which nothing below them may be a link.
         self._folder, *held = (folder and os.path.realpath(folder) for folder in (told.folder, self._certificates, published))
         self._places = finding.Places(*held, told.untrusted)
-        finding.begin(self._places)
+        finding.begin()
         self._shard = told.shard
         self.unsearched: list[Answer] = []
         self.unread: list[Answer] = []  # in whose place another certificate is
@@ -86,14 +85,14 @@ class Site:
                     for entry in entries:
                         if entry.is_dir(follow_symlinks=False):
                             waiting.append(entry.path)
-                        elif entry.name.lower().endswith(ENDINGS):
+                        elif entry.name.lower().endswith(finding.HELD):
                             found.append(entry.path)
                         elif self._is_apart and not os.path.exists(entry.path):
                             self.unsearched.append(Answer(entry.path, UNREAD, "this is a link"))
             except OSError as error:
                 self.unsearched.append(Answer(os.path.join(place, ""), UNREAD, error.strerror))
-        newer = {os.path.splitext(file)[0] for file in found if file.lower().endswith(ENDINGS[0])}
-        older = sorted(file for file in found if not file.lower().endswith(ENDINGS[0]) and os.path.splitext(file)[0] in newer)
+        newer = {os.path.splitext(file)[0] for file in found if file.lower().endswith(finding.HELD[0])}
+        older = sorted(file for file in found if not file.lower().endswith(finding.HELD[0]) and os.path.splitext(file)[0] in newer)
         self.unread += [Answer(file, ACCEPTED, "not read, since a .cert is there") for file in older]
         names = [os.path.relpath(file, self._certificates) for file in sorted({*found}.difference(older))]
         # One that comes in the place of an older one is in its share.
@@ -201,7 +200,8 @@ def _run(told: argparse.Namespace) -> int:
     if not names and told.shard[1] == 1:
         site.unsearched.append(Answer(os.path.join(told.certificates or told.folder, ""), UNREAD, "there is no certificate"))
     counts = {ACCEPTED: 0, REFUSED: 0, UNREAD: 0}
-    for answer in itertools.chain(site.unsearched, Checks(told).answers(site.pairs(names))):
+    changed = (Answer(folder, UNREAD, finding.CHANGED) for folder in finding.changed())  # once the others are answered
+    for answer in itertools.chain(site.unsearched, Checks(told).answers(site.pairs(names)), changed):
         counts[answer.status] += 1
         if answer.status != ACCEPTED:
             print(line_of(answer), flush=True)

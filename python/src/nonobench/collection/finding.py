@@ -14,7 +14,10 @@ ENDINGS = ("cert", "proof")  # of certificates: the second is an older one, and 
 SUFFIXES = frozenset((".ppm", ".pgm", ".pbm", ".pnm", ".png", ".gif", ".bmp", ".webp", ".non", ".xml"))
 Names = frozenset[str]
 NONE: Names = frozenset()
+Listed = Optional[frozenset[tuple[Any, ...]]]  # names, whether each is a folder's, and of an operator's file what a change of it changes
+HELD, TOLD = tuple(f".{ending}" for ending in ENDINGS), (".givens", ".background")  # what counts in folders of the operator's
 MADE = (".cert", ".ppm", ".givens", ".background")  # what an audit writes, below a folder of the same shape
+CHANGED = "something in it came, went or was written while it was read"
 NO_NAME = "\0"  # in what nothing is written to, since folders have its names
 Named = tuple[int, str, str]  # a certificate: the puzzle of the file that it is for, from 1; how its name ends; its path
 _NUMBER = re.compile(r"(.+)\.([1-9][0-9]{0,5})", re.DOTALL)
@@ -27,6 +30,7 @@ class Places(NamedTuple):
     certificates: Optional[str] = None
     givens: Optional[str] = None
     is_untrusted: bool = False
+    is_written: bool = False  # whether the run itself writes certificates there
 
 
 class Found(NamedTuple):
@@ -150,9 +154,9 @@ def find(paths: list[str], places: Places = Places(), is_anew: bool = True) -> I
     outer = without_nested(paths)
     if places.is_untrusted:
         certificates, givens = (way and os.path.realpath(way) for way in places[:2])
-        places = Places(certificates, givens, True)
+        places = places._replace(certificates=certificates, givens=givens)
     if is_anew:
-        begin(places)
+        begin()
     for path in outer:
         real = _real(path) if places.is_untrusted else path
         if os.path.isdir(path) and not (places.is_untrusted and os.path.islink(real)):
@@ -198,28 +202,15 @@ def _steps(real: str, prefix: str, front: str, places: Places) -> Iterator[Any]:
             yield _found(folder, name)
 
 
-def _identity(folder: str) -> Optional[tuple[int, int]]:
-    """What tells a folder from all others; nothing where it is missing."""
-    with contextlib.suppress(OSError):
-        about = os.stat(folder)
-        return about.st_dev, about.st_ino
-    return None
+_noted: dict[tuple[str, tuple[str, ...]], int] = {}  # digests of what lay in the operator's folders when each was first listed
 
 
-_meant = functools.lru_cache(maxsize=None)(_identity)  # that of a folder when it was first asked for
-_open: list[int] = []  # the folders that are meant: no other one gets the number of a folder that is open
-
-
-@functools.lru_cache(maxsize=4)
-def _listed(folder: str, within: Optional[str] = None) -> Optional[frozenset[tuple[str, bool]]]:
-    """The names in a folder, each with whether it is a folder's: none where the folder is missing, nothing where it cannot be listed, as
-    behind a link that leads nowhere, or where that which it is within is no longer the one of the beginning.
-    """
-    if within is not None and _identity(within) != _meant(within):
-        return None
+def _scanned(folder: str, ends: tuple[str, ...]) -> Listed:
     try:
         with os.scandir(folder or ".") as entries:
-            return frozenset((entry.name, entry.is_dir(follow_symlinks=False)) for entry in entries)
+            kept = [entry for entry in entries if not ends or entry.is_symlink() or entry.name.lower().endswith(ends)]
+            abouts = (entry.stat(follow_symlinks=False) if ends else None for entry in kept)
+            return frozenset((one.name, one.is_dir(follow_symlinks=False), about and (about.st_size, about.st_mtime_ns)) for one, about in zip(kept, abouts))
     except (FileNotFoundError, NotADirectoryError):
         while folder and not os.path.lexists(folder):
             folder = os.path.dirname(folder)
@@ -228,17 +219,46 @@ def _listed(folder: str, within: Optional[str] = None) -> Optional[frozenset[tup
         return None
 
 
-def _names(listed: Optional[frozenset[tuple[str, bool]]], is_of_folders: bool = True) -> Optional[Names]:
-    return None if listed is None else frozenset(name for name, is_folder in listed if is_of_folders or not is_folder)
+@functools.lru_cache(maxsize=4)
+def _listed(folder: str, ends: tuple[str, ...] = ()) -> Listed:
+    """The names in a folder, each with whether it is a folder's: none where the folder is missing, nothing where it cannot be listed, as
+    behind a link that leads nowhere. Of an operator's folder links, and names with some endings; nothing where it has changed.
+    """
+    listed = _scanned(folder, ends)
+    return listed if not ends or _noted.setdefault((folder, ends), hash(listed)) == hash(listed) else None
+
+
+@functools.lru_cache(maxsize=None)
+def _note(way: Optional[str], ends: tuple[str, ...]) -> None:
+    """Notes what lies in a folder of the operator's, and in those in it, before the first is read."""
+    waiting = [os.path.join(way, "")] if way is not None and ends else []
+    while waiting:
+        outer = waiting.pop()
+        _noted[outer, ends] = hash(_scanned(outer, ends))
+        with contextlib.suppress(OSError), os.scandir(outer) as entries:
+            waiting += [f"{outer}{entry.name}/" for entry in entries if entry.is_dir(follow_symlinks=False)]
+
+
+def changed() -> Iterator[str]:
+    """A folder of the operator's in which files came, went or were written since it was first listed."""
+    yield from [folder for (folder, ends), noted in _noted.items() if hash(_scanned(folder, ends)) != noted][:1]
+
+
+def _names(listed: Listed, is_of_folders: bool = True) -> Optional[Names]:
+    return None if listed is None else frozenset(name for name, is_folder, *_ in listed if is_of_folders or not is_folder)
 
 
 @functools.lru_cache(maxsize=4)
-def _folder(prefix: str, real: str, front: str, listed: Optional[frozenset[tuple[str, bool]]], places: Places) -> Folder:
+def _folder(prefix: str, real: str, front: str, listed: Listed, places: Places) -> Folder:
     names = _names(listed)
-    held_in, told_in = (real if way is None else os.path.join(way, front) for way in (places.certificates, places.givens))
+    held_in, told_in = (real if way is None else os.path.join(way, front) for way in places[:2])
+    apart = [way is not None and os.path.realpath(place) != os.path.realpath(real) for way, place in zip(places[:2], (held_in, told_in))]
+    ends = HELD if apart[0] and not places.is_written else (), TOLD if apart[1] else ()
+    for way, of in zip(places[:2], ends):
+        _note(way, of)
     beside = frozenset() if places.is_untrusted else listed
-    held = _names(beside if places.certificates is None else _listed(held_in, places.certificates), False)
-    told = _names(beside if places.givens is None else _listed(told_in, places.givens))
+    held = _names(beside if places.certificates is None else _listed(held_in, ends[0]), False)
+    told = _names(beside if places.givens is None else _listed(told_in, ends[1]))
     unlisted = [place or "." for place, listed in ((real, names), (held_in, held)) if listed is None]
     certificates: dict[str, list[Named]] = {}
     for called, ending, name in ((*os.path.splitext(name), name) for name in sorted(held or ())):
@@ -255,7 +275,6 @@ def _folder(prefix: str, real: str, front: str, listed: Optional[frozenset[tuple
     taken = folders.union(parts[1] for parts in map(_NUMBER.fullmatch, folders) if parts and parts[0] != f"{parts[1]}.1")
     taken.update(stem for stem, of in ofs.items() if of in sets)
     whole = tuple((1, ENDINGS[0], place) for place in unlisted)
-    apart = [way is not None and os.path.realpath(place) != os.path.realpath(real) for way, place in zip(places[:2], (held_in, told_in))]
     kinds = stems, frozenset(sets), frozenset(ofs.values()), frozenset(taken)
     return Folder(prefix, real, front, files, *kinds, certificates, apart[0], told, told_in, apart[1], whole)
 
@@ -276,18 +295,11 @@ def picture_of(folder: Folder, called: str, certificate: str) -> Optional[Found]
     return of if of or _is_puzzle(folder, short) else _found(folder, short)
 
 
-def begin(places: Places) -> None:
-    """Forgets what lay in folders, and notes which ones are meant."""
-    _listed.cache_clear()
-    _folder.cache_clear()
-    pictures_in.cache_clear()
-    _meant.cache_clear()
-    while _open:
-        os.close(_open.pop())
-    for way in filter(None, places[:2]):
-        with contextlib.suppress(OSError):
-            _open.append(os.open(way, os.O_RDONLY | getattr(os, "O_DIRECTORY", 0)))
-        _meant(way)
+def begin() -> None:
+    """Forgets what lay in folders."""
+    _noted.clear()
+    for kept in (_listed, _note, _folder, pictures_in):
+        kept.cache_clear()
 
 
 def _found(folder: Folder, name: str) -> Found:

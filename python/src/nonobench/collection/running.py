@@ -15,7 +15,7 @@ from .._library import version
 from . import certificates
 from .arguments import Options, options_of
 from .earlier import Earlier, content_before, read_row, to_check
-from .finding import Places, find, is_among, is_in_share, order_of
+from .finding import CHANGED, Places, changed, find, is_among, is_in_share, order_of
 from .outputs import CLOSED, Failure, Lines, Sheet, Table, hold_streams, kept_folder, lines_of, telling
 from .progress import Progress
 from .rows import Row, printable, row_of, text_of
@@ -192,7 +192,8 @@ class Run:
     def _tasks(self, settings: Settings) -> Iterator[Task]:
         options = self._options
         number = -1
-        places = Places(options.certificates, options.givens, options.is_untrusted)
+        is_written = options.certify is not None and options.certificates is not None and is_among(options.certify, [options.certificates])
+        places = Places(options.certificates, options.givens, options.is_untrusted, is_written)
         for found in find(options.paths, places):
             if not is_in_share(found.name, options.shard):
                 self._is_elsewhere = True
@@ -229,6 +230,7 @@ class Run:
             failures.append(Failure(f"{options.certificates}: no certificate in it is of one of these puzzles"))
         if is_whole and not self._tally.total and not self._is_elsewhere:
             failures.append(Failure(f"no puzzles in {', '.join(options.paths)}"))
+        failures += [Failure(f"{folder}: {CHANGED}") for folder in changed() if is_whole]
         failures += self._close(is_whole)
         self._progress.close()
         for words in dict.fromkeys(map(str, failures)):
