@@ -14,6 +14,8 @@ const uncommented = (text) => text.split('/*').map((part, at) => (at ? part.slic
 
 const plainCss = (text) => uncommented(text).replace(/\\([0-9a-f]{1,6})\s?/gi, (_, code) => String.fromCharCode(parseInt(code, 16))).replaceAll('\\', '');
 
+const isLong = (text) => text.split(/[{;(\\]|\/\*/, MOST_DRAWN + 1).length > MOST_DRAWN; // CSS with more in it than is looked at
+
 // The addresses in CSS declarations, as [property, id].
 const addressesIn = (text) => plainCss(text).split(';').flatMap((one) => [...one.matchAll(/url\([\s"']*#([^"')]+)/gi)].map(([, id]) => [one.split(':')[0].trim().toLowerCase(), id.trim()]));
 
@@ -40,12 +42,15 @@ function partsOf(root) {
     if (element.id && !ids.has(element.id)) ids.set(element.id, element);
     for (const child of element.children) all.push(child);
   }
-  const rules = rulesOf(all.filter((one) => one.localName === 'style').map((one) => one.textContent).join('\n'));
+  const sheets = all.filter((one) => one.localName === 'style').map((one) => one.textContent).join('\n');
+  if (isLong(sheets)) return null;
+  const rules = rulesOf(sheets);
   const parts = new Map(all.map((element) => [element, { plus: [...element.children].filter((one) => !HIDDEN.has(one.localName)), times: [], inherited: [] }]));
   for (const element of all) {
     const own = parts.get(element);
     const addresses = ['*', ...(element.getAttribute('class') ?? '').split(/\s+/)].flatMap((name) => rules.get(name) ?? []);
     for (const { localName, value } of element.attributes) {
+      if (isLong(value)) return null;
       if (localName === 'href' && element.localName !== 'a' && value.trim()[0] === '#') addresses.push(['href', value.trim().slice(1)]);
       else if (localName === 'style' || STYLED.test(localName)) addresses.push(...addressesIn(localName === 'style' ? value : `${localName}:${value}`));
     }

@@ -124,6 +124,15 @@ test('what a drawing comes to, as often as its parts are drawn', () => {
     for (const round of ['<use id="a" href="#a"/>', '<g id="a"><use href="#b"/></g><g id="b"><use href="#a"/></g>', '<pattern id="a"><path fill="url(#a)"/></pattern><path fill="url(#a)"/>']) assert.equal(drawn(round), Infinity, round);
 });
 
+test('a drawing with more CSS than is looked at is not drawn, and is told soon', () => {
+    const begun = process.cpuUsage().user;
+    for (const css of ['/**/', '/*', 'a{}', '.a{}', ';', 'url(#a)', 'url\\28 #a)', 'x{fill:url(#a)}']) {
+        assert.equal(drawn(`<style>${css.repeat(100)}</style><path style="${css.repeat(100)}"/>`), 2, css);
+        for (const inside of [`<style>${css.repeat(500000)}</style>`, `<path style="${css.repeat(500000)}"/>`, `<path fill="${css.repeat(500000)}"/>`]) assert.equal(drawn(inside), Infinity, css);
+    }
+    assert.ok(process.cpuUsage().user - begun < 10e6 * Number(process.env.SLACK ?? 3), 'seconds');
+});
+
 test('an image with few colours keeps them', () => {
     const image = imageOf(['wwwww', 'wkrgy', 'wwwww'], COLOURS);
     assert.deepEqual(paletteFor(image, 5).map(String).sort(), Object.values(COLOURS).map(String).sort());

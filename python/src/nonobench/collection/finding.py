@@ -21,6 +21,7 @@ CHANGED = "something in it came, went or was written while it was read"
 NO_NAME = "\0"  # in what nothing is written to, since folders have its names
 Named = tuple[int, str, str]  # a certificate: the puzzle of the file that it is for, from 1; how its name ends; its path
 _NUMBER = re.compile(r"(.+)\.([1-9][0-9]{0,5})", re.DOTALL)
+_noted: dict[tuple[str, tuple[str, ...]], int] = {}  # digests of what lay in the operator's folders when each was first listed
 _LIKE_BYTES = re.compile(rb"\\(?=x(?:[89a-f][0-9a-f]|5c))")
 
 
@@ -200,9 +201,6 @@ def _steps(real: str, prefix: str, front: str, places: Places) -> Iterator[Any]:
             yield _steps(real + name + "/", prefix + name + "/", front + name + "/", places)
         elif os.path.splitext(name)[1].lower() in SUFFIXES:
             yield _found(folder, name)
-
-
-_noted: dict[tuple[str, tuple[str, ...]], int] = {}  # digests of what lay in the operator's folders when each was first listed
 
 
 def _scanned(folder: str, ends: tuple[str, ...]) -> Listed:
