@@ -207,7 +207,7 @@ def _scanned(folder: str, ends: tuple[str, ...]) -> Listed:
     try:
         with os.scandir(folder or ".") as entries:
             kept = [entry for entry in entries if not ends or entry.is_symlink() or entry.name.lower().endswith(ends)]
-            abouts = (entry.stat(follow_symlinks=False) if ends else None for entry in kept)
+            abouts = (entry.stat(follow_symlinks=False) if ends and os.path.lexists(entry) else None for entry in kept)  # too long a path has none
             return frozenset((one.name, one.is_dir(follow_symlinks=False), about and (about.st_size, about.st_mtime_ns)) for one, about in zip(kept, abouts))
     except (FileNotFoundError, NotADirectoryError):
         while folder and not os.path.lexists(folder):
