@@ -507,11 +507,16 @@ class Strangers(Case):
             (mine / "c/deep/est/x.background").write_text("255,255,255 ")
             (mine / "c/deep/est/x.cert").write_text(f"{CERT}x")
 
+        def as_it_was():
+            """Put anew, with the same sizes and times."""
+            (mine / "c").rename(aside)
+            shutil.copytree(aside, mine / "c")
+
         def put(name, text="x"):
             return lambda: (mine / name).write_text(text)
 
         changes = {
-            "c/deep/est": [lambda: shutil.rmtree(mine / "c"), lambda: shutil.rmtree(mine / "c/deep/est"), replaced],
+            "c/deep/est": [lambda: shutil.rmtree(mine / "c"), lambda: shutil.rmtree(mine / "c/deep/est"), replaced, as_it_was],
             "a": [lambda: shutil.rmtree(mine), lambda: mine.rename(aside), lambda: (shutil.rmtree(mine), mine.mkdir())],
         }
         for option, end in (("--givens", "background"), ("--certificates", "cert")):
@@ -535,6 +540,17 @@ class Strangers(Case):
 
         self.assertEqual(run(str, "--givens", mine, before=linked), (0, ""))
         self.assertEqual(run((mine / "c").unlink, "--givens", mine, before=linked)[0], 3)
+
+        def to(name):
+            current.unlink(missing_ok=True)
+            current.symlink_to(self.folder / name)
+
+        current = self.folder / "current"
+        for words in ((), ("--untrusted",)):  # a link that is switched
+            for option in ("--givens", "--certificates"):
+                status, said = run(lambda: to("site"), option, current, *words, before=lambda: to("mine"))
+                self.assertEqual(status, 3)
+                self.assertIn(f"{current}", said)
 
     def test_a_timeout_of_a_task_on_a_worker_is_no_wait(self):
         """What the scheduler has not answered yet is waited for; a task that failed by a TimeoutError of its own is told."""

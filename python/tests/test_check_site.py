@@ -406,7 +406,7 @@ def test_shares(site, checked):
 
 
 @pytest.mark.parametrize("option", ("--givens", "--certificates", None))
-@pytest.mark.parametrize("change", ("mv own/b gone", "rm own/b/2.*", "rm -r own", "rm -r own; mkdir own", "echo x > own/b/2.givens; echo x > own/b/2.cert"))
+@pytest.mark.parametrize("change", ("mv own/b gone", "rm own/b/2.*", "rm -r own", "rm -r own; mkdir own", "mv own gone; ln -s gone own", "echo x > own/b/2.givens; echo x > own/b/2.cert"))
 def test_an_operators_folder_that_changes_meanwhile_is_told(site, checked, tmp_path, monkeypatch, option, change):
     for name in ("a/1", "b/2"):
         pair(site, name, CROSS, ONE, givens="given 1 1\n")
@@ -426,7 +426,7 @@ def test_an_operators_folder_that_changes_meanwhile_is_told(site, checked, tmp_p
         assert (status, lines) == (0, [])
     else:
         assert status == 3
-        assert any(line in lines for line in (f"{tmp_path}/own/{name}/: {finding.CHANGED}" for name in "ab"))
+        assert any(line in lines for line in (*(f"{tmp_path}/own/{name}/: {finding.CHANGED}" for name in "ab"), f"own: {finding.CHANGED}"))
 
 
 def test_certificates_in_a_folder_of_their_own(site, checked, tmp_path):

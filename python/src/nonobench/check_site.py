@@ -66,7 +66,7 @@ class Site:
         # The real paths, of which nothing below them may be a link.
         self._folder, *held = (folder and os.path.realpath(folder) for folder in (told.folder, self._certificates, published))
         self._places = finding.Places(*held, told.untrusted)
-        finding.begin()
+        finding.begin(told.certificates, told.givens)
         self._shard = told.shard
         self.unsearched: list[Answer] = []
         self.unread: list[Answer] = []  # in whose place another certificate is

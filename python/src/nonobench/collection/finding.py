@@ -22,6 +22,7 @@ NO_NAME = "\0"  # in what nothing is written to, since folders have its names
 Named = tuple[int, str, str]  # a certificate: the puzzle of the file that it is for, from 1; how its name ends; its path
 _NUMBER = re.compile(r"(.+)\.([1-9][0-9]{0,5})", re.DOTALL)
 _noted: dict[tuple[str, tuple[str, ...]], int] = {}  # digests of what lay in the operator's folders when each was first listed
+_meant: dict[str, str] = {}  # the real paths of the operator's folders
 _LIKE_BYTES = re.compile(rb"\\(?=x(?:[89a-f][0-9a-f]|5c))")
 
 
@@ -153,11 +154,10 @@ def find(paths: list[str], places: Places = Places(), is_anew: bool = True) -> I
     strangers: there a link is a file that cannot be read.
     """
     outer = without_nested(paths)
-    if places.is_untrusted:
-        certificates, givens = (way and os.path.realpath(way) for way in places[:2])
-        places = places._replace(certificates=certificates, givens=givens)
     if is_anew:
-        begin()
+        begin(*places[:2])
+    if places.is_untrusted:
+        places = Places(*(way and os.path.realpath(way) for way in places[:2]), *places[2:])
     for path in outer:
         real = _real(path) if places.is_untrusted else path
         if os.path.isdir(path) and not (places.is_untrusted and os.path.islink(real)):
@@ -208,7 +208,7 @@ def _scanned(folder: str, ends: tuple[str, ...]) -> Listed:
         with os.scandir(folder or ".") as entries:
             kept = [entry for entry in entries if not ends or entry.is_symlink() or entry.name.lower().endswith(ends)]
             abouts = (entry.stat(follow_symlinks=False) if ends and os.path.lexists(entry) else None for entry in kept)  # too long a path has none
-            return frozenset((one.name, one.is_dir(follow_symlinks=False), about and (about.st_size, about.st_mtime_ns)) for one, about in zip(kept, abouts))
+            return frozenset((one.name, one.is_dir(follow_symlinks=False), about and (about.st_ino, about.st_size, about.st_mtime_ns, about.st_ctime_ns)) for one, about in zip(kept, abouts))
     except (FileNotFoundError, NotADirectoryError):
         while folder and not os.path.lexists(folder):
             folder = os.path.dirname(folder)
@@ -238,8 +238,9 @@ def _note(way: Optional[str], ends: tuple[str, ...]) -> None:
 
 
 def changed() -> Iterator[str]:
-    """A folder of the operator's in which files came, went or were written since it was first listed."""
-    yield from [folder for (folder, ends), noted in _noted.items() if hash(_scanned(folder, ends)) != noted][:1]
+    """A folder of the operator's in which files came, went or were written since it was first listed, or a link that leads elsewhere."""
+    moved = [way for way, real in _meant.items() if os.path.realpath(way) != real]
+    yield from [*moved, *(folder for (folder, ends), noted in _noted.items() if hash(_scanned(folder, ends)) != noted)][:1]
 
 
 def _names(listed: Listed, is_of_folders: bool = True) -> Optional[Names]:
@@ -293,9 +294,11 @@ def picture_of(folder: Folder, called: str, certificate: str) -> Optional[Found]
     return of if of or _is_puzzle(folder, short) else _found(folder, short)
 
 
-def begin() -> None:
-    """Forgets what lay in folders."""
+def begin(*ways: Optional[str]) -> None:
+    """Forgets what lay in folders, and notes where the operator's are."""
     _noted.clear()
+    _meant.clear()
+    _meant.update((way, os.path.realpath(way)) for way in ways if way is not None)
     for kept in (_listed, _note, _folder, pictures_in):
         kept.cache_clear()
 
