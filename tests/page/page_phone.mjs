@@ -121,34 +121,45 @@ export async function numbersAreToldOf({ browser, url, folder }) {
     }
 }
 
-/** On a tablet fingers get what phones have, 44 px, and the header with the name of the file is within the window; keys stand apart from the tools' names. */
+/** On a tablet fingers get what phones have, 44 px, and the header with the name of the file is within the window; keys stand apart from the tools' names and within their buttons, the panel does not scroll sideways, and the first proposals are seen whole. */
 export async function tabletForFingers({ browser, url, folder }) {
-    for (const [language, width, height] of [['en', 768, 1024], ['de', 768, 1024], ['fr', 768, 1024], ['de', 1024, 768]]) {
+    for (const [language, width, height] of [['en', 768, 1024], ['de', 768, 1024], ['fr', 768, 1024], ['de', 1024, 768], ['fr', 1024, 768]]) {
         const where = `${language}, ${width} by ${height}`;
         const { page, trial } = await fresh(browser, url, folder, `tablet-${language}-${width}`, { size: { width, height, touch: true }, before: `try { localStorage.setItem('nonobench-language', '${language}'); } catch {}` });
+        const small = (within) => page.run((wanted) => [...document.querySelectorAll(wanted)].filter((one) => one.checkVisibility() && one.getBoundingClientRect().height < 43.9).map((one) => one.outerHTML.slice(0, 80)), within);
+        const pressed = ':is(button, select, input:not([type=checkbox], [type=radio]), label:has(> [type=checkbox]), summary)';
+        assert.deepEqual(await small(`#start ${pressed}`), [], `${where}: the start`);
         await trial.open(ppmOf(['a.....', '.a....', '......', '...aaa', '...aaa', '...aaa']), 'tablet');
         await trial.judged();
         await page.run(() => { say('', '', { name: 'Do', run: () => {} }); });
-        const small = (within) => page.run((wanted) => [...document.querySelectorAll(wanted)].filter((one) => one.checkVisibility() && one.getBoundingClientRect().height < 43.9).map((one) => one.outerHTML.slice(0, 80)), within);
-        assert.deepEqual(await small('#tools :is(button, select), header button, aside :is(button, select), .lines input, #said button'), [], where);
+        assert.deepEqual(await small(`#tools ${pressed}, header button, aside ${pressed}, #said button`), [], where);
+        assert.equal(await page.run(() => { const panel = document.querySelector('aside'); return panel.scrollWidth - panel.clientWidth; }), 0, `${where}: the panel`);
+        await page.run(() => { runAction('fix'); });
+        await page.until(() => document.querySelector('#fix-list button .use'), 10000 * SLACK);
+        await page.shot(`${folder}/tablet-fix-${language}-${width}.png`);
+        assert.deepEqual(await small(`#fix ${pressed}`), [], `${where}: proposals`);
+        const seen = await page.run(() => document.getElementById('fix').getBoundingClientRect().bottom - document.querySelector('#fix-list button').getBoundingClientRect().bottom);
+        assert.ok(seen >= 0, `${where}: ${-seen} px of the first proposal are below the panel`);
+        await page.run(() => { document.getElementById('fix-close').click(); });
         await page.tap('#menus > button');
         await page.until(() => document.querySelector('.menu:popover-open'), 3000 * SLACK);
         assert.deepEqual(await small('.menu:popover-open button'), [], where);
         await page.run(() => { document.querySelector('.menu:popover-open').hidePopover(); runAction('print'); });
         await page.until(() => document.querySelector('dialog[open] #print-show'), 5000 * SLACK);
-        assert.deepEqual(await small('dialog[open] :is(button, select)'), [], where);
+        assert.deepEqual(await small(`dialog[open] ${pressed}`), [], where);
         await page.press('Escape');
-        const [over, wide, title, gaps] = await page.run(() => {
+        const [over, wide, title, gaps, within] = await page.run(() => {
             const one = document.getElementById('title');
             const away = [...document.querySelectorAll('#tool-row button')].map((button) => {
                 const text = document.createRange();
                 text.selectNodeContents(button.querySelector('span'));
                 return button.querySelector('kbd').getBoundingClientRect().left - text.getBoundingClientRect().right;
             });
-            return [document.querySelector('header').scrollWidth - innerWidth, one.getBoundingClientRect().right - innerWidth, one.getBoundingClientRect().width, Math.min(...away)];
+            return [document.querySelector('header').scrollWidth - innerWidth, one.getBoundingClientRect().right - innerWidth, one.getBoundingClientRect().width, Math.min(...away),
+                Math.min(...[...document.querySelectorAll('#tool-row button')].map((button) => button.getBoundingClientRect().right - button.querySelector('kbd').getBoundingClientRect().right))];
         });
         assert.ok(over <= 0 && wide <= 0 && title > 40, `${where}: ${[over, wide, title]}`);
-        assert.ok(gaps >= 4, `${where}: ${gaps} px between a tool and its key`);
+        assert.ok(gaps >= 4 && within >= 4, `${where}: ${gaps} px between a tool and its key, ${within} px to the edge`);
         await trial.example('heart');
         await page.until(() => !document.getElementById('publish-do').hidden, 10000 * SLACK);
         assert.deepEqual(await small('#fit-row button'), [], where);
@@ -159,10 +170,10 @@ export async function tabletForFingers({ browser, url, folder }) {
     }
 }
 
-/** The verdict's line on phones: what is told beside the verdict is whole, no button breaks or is cut, and what opens the colours lies beside their rings. */
+/** The header of phones is within the window. The verdict's line: what is told beside the verdict is whole, no button breaks, is cut or stands alone in a row, and what opens the colours lies beside their rings. */
 export async function verdictLineOnPhones({ browser, url, folder }) {
     for (const language of ['en', 'de', 'fr']) {
-        for (const size of [UPRIGHT[1], LYING[1]]) {
+        for (const size of [UPRIGHT[1], [320, 568], ...LYING]) {
             const where = `${language}, ${size.join(' by ')}`;
             const { page, trial } = await fresh(browser, url, folder, `line-${language}-${size[0]}`, { size: { width: size[0], height: size[1], touch: true }, before: `try { localStorage.setItem('nonobench-language', '${language}'); } catch {}` });
             await trial.open(ppmOf(['a.........', '.a........', '..a.......', '...a......', '....a.....']), 'line');
@@ -180,9 +191,12 @@ export async function verdictLineOnPhones({ browser, url, folder }) {
                 const [chosen, opens] = ['#palette [aria-checked="true"]', '#colours-open'].map((one) => document.querySelector(one).getBoundingClientRect());
                 return { texts: texts.map((one) => one.id), cut: texts.filter(isCut).map((one) => one.id), out: edges.filter(({ right, height }) => right > Math.min(line.right, innerWidth) + 0.5 || height > 50).length, ring: Math.max(opens.top - chosen.bottom, opens.left - chosen.right) };
             });
+            const [over, least, high] = await page.run(() => [document.querySelector('header').scrollWidth - innerWidth, Math.min(...[...document.querySelectorAll('header button')].filter((one) => one.checkVisibility()).map((one) => one.offsetWidth)), document.getElementById('verdict-line').offsetHeight]);
+            assert.ok(over <= 0 && least >= (size[0] === 320 ? 36 : 44), `${where}: the header is ${over} px too wide, its least button ${least} px`);
+            assert.ok(high <= (size[0] > 600 && language === 'de' ? 68 : 50), `${where}: the line is ${high} px high`);
             const { ring, ...found } = await look();
             await page.shot(`${folder}/line-${language}-${size[0]}.png`);
-            const whole = { texts: size === UPRIGHT[1] ? ['verdict', 'verdict-short'] : ['verdict'], cut: [], out: 0 };
+            const whole = { texts: size[0] < 601 ? ['verdict', 'verdict-short'] : ['verdict'], cut: [], out: 0 };
             assert.deepEqual(found, whole, where);
             await page.tap('#verdict-open');
             const { ring: _, ...opened } = await look();
