@@ -98,6 +98,14 @@ class Cluster(Case):
         self.assertIn("nonobench-audit: no scheduler answers at tcp://127.0.0.1:1", said)
         self.assertIn("nonobench-audit: no scheduler", self.run_audit("site", "--scheduler", "nonsense://", status=3).stderr)
 
+    def test_too_few_open_files(self):
+        self.put("one.ppm", p3(UNIQUE))
+        for limit in range(5, 10):
+            words = ["sh", "-c", f'ulimit -n {limit}; exec "$@"', "sh", *self.words("site", "--scheduler", self.address)]
+            done = subprocess.run(words, cwd=self.folder, env=self.env(), capture_output=True, text=True, check=False, timeout=PATIENCE)
+            with self.subTest(limit):
+                self.assertEqual((done.returncode, done.stderr), (3, "nonobench-audit: [Errno 24] Too many open files\n"))
+
 
 def address_in(place):
     """The address that a scheduler has written into a file; nothing until it stands there whole."""

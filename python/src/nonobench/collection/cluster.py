@@ -8,6 +8,7 @@ from __future__ import annotations
 import asyncio
 import itertools
 import marshal
+import socket
 import zlib
 from collections import deque
 from typing import Any, Callable, Iterator, Optional
@@ -22,6 +23,7 @@ MOST_FILES = 256  # in a pack
 MOST_BYTES = 2 << 20
 RETRIES = 5
 CONNECTING = 10.0  # seconds
+OPEN = 16  # files that Dask has open, about
 
 Plain = tuple[Any, ...]
 
@@ -49,6 +51,8 @@ class Cluster:
 
     def start(self) -> None:
         """Finds the scheduler."""
+        for one in [socket.socket() for _ in range(OPEN)]:  # where there are fewer, Dask breaks halfway, and prints a traceback in the end
+            one.close()
         try:
             import distributed
         except ImportError:
@@ -86,9 +90,7 @@ class Cluster:
 
     def _submit(self, tasks: list[Task]) -> Any:
         pack = zlib.compress(marshal.dumps([tuple(task) for task in tasks]), 1)
-        return self._client.submit(
-            judge_pack, version(), tuple(self._settings), self._seconds, pack, retries=RETRIES, pure=False
-        )
+        return self._client.submit(judge_pack, version(), tuple(self._settings), self._seconds, pack, retries=RETRIES, pure=False)
 
     def _result(self, future: Any, told: list[Answer]) -> Optional[list[Answer]]:
         """The answers of a pack in order, where they are there within a moment."""
