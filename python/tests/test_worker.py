@@ -18,7 +18,7 @@ import unittest
 from pathlib import Path
 
 sys.path.insert(0, str(Path(__file__).resolve().parent))
-from processes import children, is_running  # noqa: E402
+from processes import children, is_running, seen  # noqa: E402
 
 import pytest  # noqa: E402
 import nonobench  # noqa: E402
@@ -30,6 +30,8 @@ DIAGONAL = b"P3 2 2 255 0 0 0 255 255 255 255 255 255 0 0 0\n"
 GIVEN = b"nonocert 2\ngiven 1 1\nline r 1\nline c 1\nline r 2\ndone\n"
 LEMMAS = b"nonolemma 1\ngiven 1 1\nline r 1\nline c 1\nline r 2\ndone\n"
 TILE = b"P3 1 1 1 0 0 0"
+# White, and three colours in turn along each line: it has so many solutions that no certificate of all cells ends in time.
+ENDLESS = b"P3 60 60 3 " + b"".join(b"%d 0 0 " % at if at else b"3 3 3 " for at in ((row + column) % 4 for row in range(60) for column in range(60)))
 
 
 class Workers(unittest.TestCase):
@@ -357,9 +359,9 @@ class Ends(unittest.TestCase):
             self.assert_ends(pid)
         self.assertEqual(len(os.listdir("/proc/self/fd")), before)
 
-    def assert_ends(self, pid):
+    def assert_ends(self, pid, seconds=300):
         """Waits until a process is gone."""
-        until = time.monotonic() + 300
+        until = time.monotonic() + seconds
         while is_running(pid) and time.monotonic() < until:
             time.sleep(0.05)
         self.assertFalse(is_running(pid))
@@ -375,6 +377,25 @@ class Ends(unittest.TestCase):
             run = subprocess.run([sys.executable, "-c", textwrap.dedent(program) + end], env={**os.environ, "PYTHONPATH": str(PACKAGE)},
                                  capture_output=True, text=True, check=False)
             self.assert_ends(int(run.stdout))
+
+    def test_a_program_that_is_killed_during_a_call(self):
+        program = f"""
+            import nonobench
+            worker = nonobench.Worker(seconds=99999)
+            worker.clues({DIAGONAL!r})
+            print(worker._process.pid, flush=True)
+            worker.verdict({ENDLESS!r})
+        """
+        run = subprocess.Popen([sys.executable, "-c", textwrap.dedent(program)], env={**os.environ, "PYTHONPATH": str(PACKAGE)},
+                               stdout=subprocess.PIPE, text=True)
+        with run:
+            pid = int(run.stdout.readline())
+            self.addCleanup(lambda: is_running(pid) and os.kill(pid, signal.SIGKILL))
+            while seen(pid).cpu < 1:  # so that it judges
+                self.assertTrue(is_running(pid))
+                time.sleep(0.05)
+            run.kill()
+        self.assert_ends(pid, 30)
 
 
 # What a stranger may have put into the current folder, or into one of PYTHONPATH. Each file says that it was run.

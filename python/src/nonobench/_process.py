@@ -75,7 +75,7 @@ class Child:
         words = [sys.executable, "-I", *flags, "-c", _START, FOLDER, f"nonobench.{module}", str(memory), *folders]
         env = {**os.environ, "NONOBENCH_LIBRARY": PATH}
         with theirs:
-            self._process = subprocess.Popen(words, stdin=theirs.fileno(), stdout=subprocess.DEVNULL, env=env, **more)
+            self._process = subprocess.Popen(words, stdin=theirs.fileno(), stdout=subprocess.PIPE, env=env, **more)
         self.pid = self._process.pid
         self.is_stopped = False
         self.end = weakref.finalize(self, _end, self._process, self._stream, os.getpid())
@@ -168,8 +168,8 @@ def _end(process: subprocess.Popen[bytes], stream: socket.socket, owner: int) ->
     """Ends a process. In a child that was forked, this closes the child's end of the stream, and the process goes on."""
 
     def end() -> None:
-        process.kill()
-        process.wait()
+        with process:
+            process.kill()
 
     if os.getpid() == owner:
         uninterrupted(end)

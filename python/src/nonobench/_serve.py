@@ -107,11 +107,16 @@ def _allow(processor: int) -> None:
 
 
 def serve(memory: int) -> None:
-    """Answers questions until nobody asks any more. One that takes too long ends the process, whoever still waits."""
+    """Answers questions until nobody asks any more. What ends the process: a question that takes too long, and the end of who asks."""
+    import fcntl
+
     alarm = ctypes.CDLL(None).alarm
     begin(memory)
-    while True:
-        try:
+    for command, value in ((fcntl.F_SETSIG, 9), (fcntl.F_SETOWN, os.getpid()), (fcntl.F_SETFL, os.O_WRONLY | os.O_ASYNC)):
+        fcntl.fcntl(1, command, value)  # killed with who asks, where the system closes the other end of its standard output
+    try:
+        os.write(1, b"\n")  # an error where that end is closed by now
+        while True:
             number, (bounds, *files) = receive()
             kind, seconds, processor = map(int, bounds.split())
             alarm(seconds)
@@ -119,5 +124,5 @@ def serve(memory: int) -> None:
             status, texts = answer(kind, *files)
             alarm(0)
             write(STREAM, framed(number, b"%d" % status, *texts))
-        except (EOFError, OSError, MemoryError):
-            return
+    except (EOFError, OSError, MemoryError):
+        return

@@ -28,10 +28,10 @@ class Worker(Questions):
             worker.check(picture, certificate)
 
     Threads may share a worker: their calls are made one after another. `seconds` bounds the time by the clock, and `processor` the
-    processor time of a call, in whole seconds. `memory` bounds the process, in bytes; if that is not enough, the call raises
-    MemoryError. The first call starts the process. It ends with `close`, with the `with`, with the last reference to the worker, and
-    with this program; where a signal ends that while a call waits, `seconds` later. It also ends if an exception is raised while a
-    call waits, for example by Ctrl-C or a task queue's limit. So a late answer is never taken for the answer to a later question.
+    processor time of a call, in whole seconds. `memory` bounds the process, in bytes; if that is not enough, the call raises MemoryError.
+    The first call starts the process. It ends with `close`, with the `with`, with the last reference to the worker, with this program,
+    and if an exception is raised while a call waits, for example by Ctrl-C or a task queue's limit. So a late answer is never taken for
+    the answer to a later question.
     """
 
     def __init__(self, seconds: float = 10.0, memory: int = 1 << 30, processor: Optional[int] = None) -> None:
