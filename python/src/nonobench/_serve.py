@@ -109,7 +109,6 @@ def _allow(processor: int) -> None:
 def serve(memory: int) -> None:
     """Answers questions until nobody asks any more. What ends the process: a question that takes too long, and the end of who asks."""
     import fcntl
-
     alarm = ctypes.CDLL(None).alarm
     begin(memory)
     for command, value in ((fcntl.F_SETSIG, 9), (fcntl.F_SETOWN, os.getpid()), (fcntl.F_SETFL, os.O_WRONLY | os.O_ASYNC)):

@@ -23,7 +23,6 @@ MOST_FILES = 256  # in a pack
 MOST_BYTES = 2 << 20
 RETRIES = 5
 CONNECTING = 10.0  # seconds
-OPEN = 16  # files that Dask has open, about
 
 Plain = tuple[Any, ...]
 
@@ -51,7 +50,7 @@ class Cluster:
 
     def start(self) -> None:
         """Finds the scheduler."""
-        for one in [socket.socket() for _ in range(OPEN)]:  # where there are fewer, Dask breaks halfway, and prints a traceback in the end
+        for one in [socket.socket() for _ in range(16)]:  # if so few cannot be opened, Dask breaks halfway, and prints a traceback
             one.close()
         try:
             import distributed

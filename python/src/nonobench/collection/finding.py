@@ -22,7 +22,7 @@ NO_NAME = "\0"  # in what nothing is written to, since folders have its names
 Named = tuple[int, str, str]  # a certificate: the puzzle of the file that it is for, from 1; how its name ends; its path
 _NUMBER = re.compile(r"(.+)\.([1-9][0-9]{0,5})", re.DOTALL)
 _noted: dict[tuple[str, tuple[str, ...]], int] = {}  # digests of what lay in the operator's folders when each was first listed
-_meant: dict[str, str] = {}  # the real paths of the operator's folders
+_meant: list[tuple[str, str]] = []  # the operator's folders, and their real paths
 _LIKE_BYTES = re.compile(rb"\\(?=x(?:[89a-f][0-9a-f]|5c))")
 
 
@@ -239,8 +239,8 @@ def _note(way: Optional[str], ends: tuple[str, ...]) -> None:
 
 def changed() -> Iterator[str]:
     """A folder of the operator's in which files came, went or were written since it was first listed, or a link that leads elsewhere."""
-    moved = [way for way, real in _meant.items() if os.path.realpath(way) != real]
-    yield from [*moved, *(folder for (folder, ends), noted in _noted.items() if hash(_scanned(folder, ends)) != noted)][:1]
+    written = (folder for (folder, ends), noted in _noted.items() if hash(_scanned(folder, ends)) != noted)
+    yield from [*(way for way, real in _meant if os.path.realpath(way) != real), *written][:1]
 
 
 def _names(listed: Listed, is_of_folders: bool = True) -> Optional[Names]:
@@ -297,8 +297,7 @@ def picture_of(folder: Folder, called: str, certificate: str) -> Optional[Found]
 def begin(*ways: Optional[str]) -> None:
     """Forgets what lay in folders, and notes where the operator's are."""
     _noted.clear()
-    _meant.clear()
-    _meant.update((way, os.path.realpath(way)) for way in ways if way is not None)
+    _meant[:] = [(way, os.path.realpath(way)) for way in ways if way is not None]
     for kept in (_listed, _note, _folder, pictures_in):
         kept.cache_clear()
 
