@@ -1,39 +1,16 @@
-// Few colours for a photo: boxes of colours cut where they spread most (Heckbert's median cut, 1982, cut at the mean), or what is
-// salient, one after the other; then a little k-means (Lloyd) of each. What stands best for the parts of the image is taken.
+// Few colours for a photo: a little k-means (Lloyd), begun with what is salient, one after the other, and some times with colours that
+// are drawn (k-means++, Arthur and Vassilvitskii, 2007). What stands best for the parts of the image is taken.
 
 import { farness, nearestOf, once, spotsOf, weightOf } from './spots.js';
 
 const KMEANS_ROUNDS = 16;
 const POWERS = [1, 0.5]; // of the area of a part that looks alike
 const LEAST_PART = 0.004; // of the area: a smaller part is none
-const AROUND = 0.1 ** 2; // within that of Oklab colours are of a part that looks alike
+const AROUND = 0.1 ** 2; // within that of Oklab colours look alike
+const APART = 0.05 ** 2; // within that of its leader a colour is of a part
+const DRAWS = 6;
 const FARTHEST = 9; // of a place from none
 const BIN = 0.025; // a side of the boxes of Oklab in which colours are taken as one
-
-// The axis along which spots spread most, their mean there, and how much they spread, by weight.
-function spreadOf(spots) {
-  const weight = weightOf(spots);
-  let best = { axis: 0, mean: 0, spread: -1 };
-  for (let axis = 0; axis < 3; axis++) {
-    const mean = spots.reduce((sum, { lab, weight: many }) => sum + many * lab[axis], 0) / weight;
-    const spread = spots.reduce((sum, { lab, weight: many }) => sum + many * (lab[axis] - mean) ** 2, 0);
-    if (spread > best.spread) best = { axis, mean, spread };
-  }
-  return best;
-}
-
-function cutBoxes(spots, most) {
-  const boxes = [{ spots, ...spreadOf(spots) }];
-  while (boxes.length < most) {
-    const at = boxes.reduce((best, box, index) => (box.spots.length > 1 && (best < 0 || box.spread > boxes[best].spread) ? index : best), -1);
-    if (at < 0) break;
-    const { spots: all, axis, mean } = boxes[at];
-    let sides = [all.filter(({ lab }) => lab[axis] < mean), all.filter(({ lab }) => lab[axis] >= mean)];
-    if (!sides[0].length || !sides[1].length) sides = [all.slice(0, 1), all.slice(1)]; // alike but for rounding
-    boxes.splice(at, 1, ...sides.map((side) => ({ spots: side, ...spreadOf(side) })));
-  }
-  return boxes.map((box) => box.spots);
-}
 
 const meanOf = (spots, field) => {
   const weight = weightOf(spots);
@@ -80,13 +57,24 @@ function salientGroups(spots, most) {
   return groupedAround(taken, spots).filter((group) => group.length);
 }
 
+// Groups around spots that are drawn, each by its weight times the distance to those before it.
+function drawnGroups(spots, most, chance) {
+  const taken = [];
+  while (taken.length < most) {
+    const shares = spots.map(({ lab, weight }) => weight * farFrom(taken, lab));
+    let left = chance() * shares.reduce((sum, one) => sum + one, 0);
+    taken.push(spots[Math.max(0, shares.findIndex((one) => (left -= one) <= 0))].lab);
+  }
+  return groupedAround(taken, spots).filter((group) => group.length);
+}
+
 // The parts of an image by their colours: around the spot that most looks like, what is near to it; then so on with what is left.
 function partsOf(spots) {
   const [leaders, parts] = [[], []];
   const total = weightOf(spots);
   for (const spot of [...spots].sort((one, other) => other.area - one.area)) {
     const at = leaders.length ? nearestOf(leaders, spot.lab) : -1;
-    if (at >= 0 && farness(leaders[at], spot.lab) < AROUND) parts[at].push(spot);
+    if (at >= 0 && farness(leaders[at], spot.lab) < APART) parts[at].push(spot);
     else parts[leaders.push(spot.lab) - 1] = [spot];
   }
   return parts.filter((part) => weightOf(part) >= total * LEAST_PART);
@@ -108,12 +96,14 @@ function movedGroups(spots, begun) {
   return groups;
 }
 
-// The groups of spots that stand best for an image: of some that are begun in two ways, by some weights.
+// The groups of spots that stand best for an image: of some that are begun in two ways, by some weights. The same image has the same.
 function bestGroups(spots, most) {
   const parts = partsOf(spots);
+  let state = 1;
+  const chance = () => (state = (state * 48271) % 2147483647) / 2147483647;
   let best = { miss: Infinity, groups: [] };
   for (const weighed of POWERS.map((power) => weighedBy(spots, power))) {
-    for (const begun of [cutBoxes(weighed, most), salientGroups(weighed, most)]) {
+    for (const begun of [salientGroups(weighed, most), ...Array.from({ length: DRAWS }, () => drawnGroups(weighed, most, chance))]) {
       const groups = movedGroups(weighed, begun);
       const miss = missOf(parts, groups.map((group) => meanOf(group, 'lab')));
       if (miss < best.miss) best = { miss, groups };
