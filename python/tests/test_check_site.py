@@ -388,6 +388,17 @@ def test_folders_in_folders_without_an_end(site, checked, tmp_path):
 TOO_LONG = "/: File name too long"
 
 
+def test_a_folder_is_gone_through_once_whatever_names_alternate(site, checked, monkeypatch):
+    for one in range(3):
+        pair(site, f"{one}", CROSS)
+        for folder in range(5):
+            pair(site, f"{one}d{folder}/x", CROSS)
+    searched, search = [], finding._scanned
+    monkeypatch.setattr(finding, "_scanned", lambda place, ends: searched.append(place) or search(place, ends))
+    assert len(checked("site")[1]) == 18
+    assert len(searched) == len(set(searched)) == 16
+
+
 def test_shares(site, checked):
     names = [f"{number:02}" for number in range(11)]
     for name in names:

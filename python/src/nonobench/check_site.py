@@ -72,7 +72,7 @@ class Site:
         self.unread: list[Answer] = []  # in whose place another certificate is
 
     def certificates(self) -> list[str]:
-        """The certificates of a share, in order, below their folder. What is called so and is no folder is among them.
+        """The certificates of a share, in order, one folder after another. What is called so and is no folder is among them.
 
         One with the older ending .proof counts where no .cert stands beside it, and is told otherwise.
         """
@@ -94,7 +94,7 @@ class Site:
         newer = {os.path.splitext(file)[0] for file in found if file.lower().endswith(finding.HELD[0])}
         older = sorted(file for file in found if not file.lower().endswith(finding.HELD[0]) and os.path.splitext(file)[0] in newer)
         self.unread += [Answer(file, ACCEPTED, "not read, since a .cert is there") for file in older]
-        names = [os.path.relpath(file, self._certificates) for file in sorted({*found}.difference(older))]
+        names = sorted((os.path.relpath(file, self._certificates) for file in {*found}.difference(older)), key=os.path.split)
         # One that comes in the place of an older one is in its share.
         return [name for name in names if finding.is_in_share(finding.shown(os.path.splitext(name)[0]), self._shard)]
 

@@ -165,7 +165,7 @@ def find(paths: list[str], places: Places = Places(), is_anew: bool = True) -> I
             yield from _below(real, prefix, front_of(path) if len(outer) > 1 else "", places)
         else:
             folder, real = (os.path.join(os.path.dirname(way), "") for way in (path, real))
-            yield _found(_folder(folder, real, "", _listed(real), places), os.path.basename(path))
+            yield _found(_folder(folder, real, "", _listed(real, ()), places), os.path.basename(path))
 
 
 def _real(path: str) -> str:
@@ -218,7 +218,7 @@ def _scanned(folder: str, ends: tuple[str, ...]) -> Listed:
 
 
 @functools.lru_cache(maxsize=4)
-def _listed(folder: str, ends: tuple[str, ...] = ()) -> Listed:
+def _listed(folder: str, ends: tuple[str, ...]) -> Listed:
     """The names in a folder, each with whether it is a folder's: none where the folder is missing, nothing where it cannot be listed, as
     behind a link that leads nowhere. Of an operator's folder links, and names with some endings; nothing where it has changed.
     """
@@ -281,7 +281,7 @@ def _folder(prefix: str, real: str, front: str, listed: Listed, places: Places) 
 @functools.lru_cache(maxsize=4)
 def pictures_in(real: str, front: str, places: Places) -> Folder:
     """A folder of which the plain PPM pictures alone count as puzzles."""
-    listed = _listed(real)
+    listed = _listed(real, ())
     kept = None if listed is None else frozenset(one for one in listed if one[1] or one[0].endswith(".ppm"))
     return _folder(real, real, front, kept, places)
 
