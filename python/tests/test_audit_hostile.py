@@ -784,6 +784,22 @@ class Names(Case):
                 done = self.run_audit(*paths, "--certify", "out", status=status)
                 self.assertEqual("the same names" in done.stderr, status == 2)
 
+    def test_many_paths_are_told_apart_in_time_that_grows_with_them(self):
+        """Their folder is searched as often for a hundred of them as for ten."""
+        (self.site / "certs").mkdir()
+        for at in range(100):
+            self.put(f"{at}.ppm", "")
+        for options in (("--certify", self.site / "certs"), ("--certify", self.folder, "--ppm", self.folder / "out"), ()):
+            counts = []
+            for many in (10, 100):
+                words = [*(str(self.site / f"{at}.ppm") for at in range(many)), *map(str, options)]
+                with unittest.mock.patch.object(os, "scandir", side_effect=os.scandir) as search, unittest.mock.patch.object(os.path, "realpath", side_effect=os.path.realpath) as real:
+                    self.assertEqual(len(arguments.options_of(words).paths), many)
+                counts.append((search.call_count, real.call_count))
+            with self.subTest(options):
+                self.assertEqual(counts[0][0], counts[1][0])
+                self.assertLessEqual(counts[1][1], 10 * counts[0][1])
+
     @pytest.mark.since("0.7.0")
     def test_givens_are_not_those_of_another_path_that_is_called_alike(self):
         for name in ("bob/in/one.ppm", "eve/in/one.ppm", "eve/in/two.ppm", "eve/one.ppm.ppm", "ann/one.ppm.ppm", "two/one.ppm", "two/one.png"):

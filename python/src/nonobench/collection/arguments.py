@@ -12,7 +12,7 @@ from typing import Optional, Sequence
 
 from .._answers import FLAW_KINDS
 from .._library import version
-from .finding import ENDINGS, MADE, SUFFIXES, find, front_of, is_among, is_behind_link, unreached, without_nested
+from .finding import ENDINGS, MADE, SUFFIXES, find, folders_of, front_of, is_among, is_behind_link, unreached, without_nested
 from .readers import ground_of
 
 _ENDINGS = frozenset((*SUFFIXES, ".givens", ".background", *(f".{ending}" for ending in ENDINGS)))
@@ -184,7 +184,9 @@ def _refuse_inputs(parser: argparse.ArgumentParser, told: argparse.Namespace) ->
 
 def _refuse_twins(parser: argparse.ArgumentParser, paths: list[str], option: str) -> None:
     """Two paths must not give one certificate its name, as `SET.3` of the third puzzle in SET.xml; nor have the givens of one puzzle."""
-    named = [(name, path) for path in dict.fromkeys(map(os.path.normpath, paths)) for name in _names_of(path, option)]
+    every, is_written = dict.fromkeys(map(os.path.normpath, paths)), option in ("certify", "ppm")
+    stems = {found.path: found.stem for found in find([path for path in every if is_written and not os.path.isdir(path)])}
+    named = [(name, path) for path in every for name in _names_of(path, is_written, stems)]
     seen = dict(named)
     for name, path in named:
         numbered = re.fullmatch(r"(.+)\.[1-9][0-9]*", name, re.DOTALL)
@@ -194,16 +196,15 @@ def _refuse_twins(parser: argparse.ArgumentParser, paths: list[str], option: str
             parser.error(f"--{option} would give {other!r} and {path!r} the same names")
 
 
-def _names_of(path: str, option: str) -> list[str]:
+def _names_of(path: str, is_written: bool, stems: dict[str, str]) -> list[str]:
     """What certificates of a path are called, or the folder of several, which may be called like one that is written. What is read may
     be called after the whole name of a file.
     """
-    is_written = option in ("certify", "ppm")
     if os.path.isdir(path):
         stem, ending = os.path.splitext(front_of(path)[:-1])
         return [front_of(path), *([stem] if is_written and ending in MADE else [])]
     name = os.path.basename(path)
-    return [next(find([path])).stem] if is_written else [name, os.path.splitext(name)[0]]
+    return [stems[path]] if is_written else [name, os.path.splitext(name)[0]]
 
 
 def _refuse_publishing(parser: argparse.ArgumentParser, told: argparse.Namespace) -> None:
@@ -218,12 +219,15 @@ def _refuse_publishing(parser: argparse.ArgumentParser, told: argparse.Namespace
 
 def _refuse_certifying(parser: argparse.ArgumentParser, told: argparse.Namespace) -> None:
     """Certificates are written beside their own puzzles or beside none: others below a path would take them for theirs."""
-    outer = without_nested(told.paths)
+    outer, among = without_nested(told.paths), folders_of(told.paths)
+    places: dict[str, str] = {}
     for path in outer:
         is_folder = os.path.isdir(path)
-        own = os.path.realpath(path if is_folder else os.path.dirname(path))
         to = os.path.realpath(os.path.join(told.certify, front_of(path) if is_folder and len(outer) > 1 else ""))
-        if to != own and is_among(to, told.paths) and os.path.isdir(to) and any(True for _ in find([to])):
+        if to != os.path.realpath(path if is_folder else os.path.dirname(path)):
+            places.setdefault(to, path)
+    for to, path in places.items():
+        if is_among(to, among) and os.path.isdir(to) and any(True for _ in find([to])):
             parser.error(f"--certify {told.certify!r}: certificates of {path!r} would lie beside other puzzles, in {to!r}")
 
 

@@ -125,17 +125,24 @@ def _is_within(path: str, outer: str) -> bool:
     return path == outer or path.startswith(outer.rstrip("/") + "/")
 
 
-def is_among(name: str, paths: list[str]) -> bool:
-    """Whether a place lies in a folder of paths."""
-    folders = (path if os.path.isdir(path) else os.path.dirname(path) or "." for path in paths)
-    return any(_is_within(_real(name), os.path.realpath(folder)) for folder in folders)
+def folders_of(paths: list[str]) -> Names:
+    """The real folders of paths, and those in which they lie as files."""
+    return frozenset(os.path.realpath(path if os.path.isdir(path) else os.path.dirname(path) or ".") for path in paths)
+
+
+def is_among(name: str, folders: Names) -> bool:
+    """Whether a place lies in one of real folders."""
+    place = _real(name)
+    while place not in folders and place != "/":
+        place = os.path.dirname(place)
+    return place in folders
 
 
 def is_behind_link(name: str, paths: list[str]) -> bool:
     """Whether a place is a link in a folder of paths, or lies behind one."""
     place, outer = os.path.join(os.getcwd(), name), ""
     while place != outer:
-        if os.path.islink(place) and is_among(place, paths):
+        if os.path.islink(place) and is_among(place, folders_of(paths)):
             return True
         place, outer = os.path.dirname(place), place
     return False

@@ -15,7 +15,7 @@ from .._library import version
 from . import certificates
 from .arguments import Options, options_of
 from .earlier import Earlier, content_before, read_row, to_check
-from .finding import CHANGED, Places, changed, find, is_among, is_in_share, order_of
+from .finding import CHANGED, Places, changed, find, folders_of, is_among, is_in_share, order_of
 from .outputs import CLOSED, Failure, Lines, Sheet, Table, hold_streams, kept_folder, lines_of, telling
 from .progress import Progress
 from .rows import Row, printable, row_of, text_of
@@ -177,7 +177,7 @@ class Run:
 
     def _flags(self, name: str) -> int:
         """What an output is opened with: among files of strangers it may have become a link by now."""
-        return os.O_NOFOLLOW if self._options.is_untrusted and name != "-" and is_among(name, self._options.paths) else 0
+        return os.O_NOFOLLOW if self._options.is_untrusted and name != "-" and is_among(name, folders_of(self._options.paths)) else 0
 
     def _count_files(self) -> None:
         """Counts the files beside the run, so that it can be told how long it takes."""
@@ -192,7 +192,7 @@ class Run:
     def _tasks(self, settings: Settings) -> Iterator[Task]:
         options = self._options
         number = -1
-        is_written = options.certify is not None and options.certificates is not None and is_among(options.certify, [options.certificates])
+        is_written = options.certify is not None and options.certificates is not None and is_among(options.certify, folders_of([options.certificates]))
         places = Places(options.certificates, options.givens, options.is_untrusted, is_written)
         for found in find(options.paths, places):
             if not is_in_share(found.name, options.shard):
