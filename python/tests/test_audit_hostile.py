@@ -520,7 +520,7 @@ class Strangers(Case):
             "a": [lambda: shutil.rmtree(mine), lambda: mine.rename(aside), lambda: (shutil.rmtree(mine), mine.mkdir())],
         }
         for option, end in (("--givens", "background"), ("--certificates", "cert")):
-            more = {"c/deep/est": lambda: (mine / "c/deep/est" / f"x.{end}").unlink(), "a": put(f"a/x.{end}"), "": put(f"x.{end}")}
+            more = {"c/deep/est": lambda: (mine / "c/deep/est" / f"x.{end}").unlink(), "a": put(f"a/x.{end}"), "": put(f"x.{end}"), "b": lambda: ((mine / "b").mkdir(), put(f"b/x.{end}")())}
             for folder, change in ((folder, change) for folder in more for change in (*changes.get(folder, ()), more[folder])):
                 with self.subTest((option, folder)):
                     status, said = run(change, option, mine)

@@ -172,7 +172,7 @@ def find(paths: list[str], places: Places = Places(), is_anew: bool = True) -> I
             yield from _below(real, prefix, front_of(path) if len(outer) > 1 else "", places)
         else:
             folder, real = (os.path.join(os.path.dirname(way), "") for way in (path, real))
-            yield _found(_folder(folder, real, "", _listed(real, ()), places), os.path.basename(path))
+            yield _found(_folder(folder, real, "", _listed(real, "", ()), places), os.path.basename(path))
 
 
 def _real(path: str) -> str:
@@ -225,12 +225,14 @@ def _scanned(folder: str, ends: tuple[str, ...]) -> Listed:
 
 
 @functools.lru_cache(maxsize=4)
-def _listed(folder: str, ends: tuple[str, ...]) -> Listed:
+def _listed(way: str, front: str, ends: tuple[str, ...]) -> Listed:
     """The names in a folder, each with whether it is a folder's: none where the folder is missing, nothing where it cannot be listed, as
     behind a link that leads nowhere. Of an operator's folder links, and names with some endings; nothing where it has changed.
     """
+    folder = os.path.join(way, front)
     listed = _scanned(folder, ends)
-    return listed if not ends or _noted.setdefault((folder, ends), hash(listed)) == hash(listed) else None
+    is_unseen = listed is None or os.path.realpath(folder) != os.path.join(os.path.realpath(way), front).rstrip("/")  # by _note
+    return listed if not ends or _noted.setdefault((folder, ends), hash(listed if is_unseen else NONE)) == hash(listed) else None
 
 
 @functools.lru_cache(maxsize=None)
@@ -263,8 +265,8 @@ def _folder(prefix: str, real: str, front: str, listed: Listed, places: Places) 
     for way, of in zip(places[:2], ends):
         _note(way, of)
     beside = frozenset() if places.is_untrusted else listed
-    held = _names(beside if places.certificates is None else _listed(held_in, ends[0]), False)
-    told = _names(beside if places.givens is None else _listed(told_in, ends[1]))
+    held = _names(beside if places.certificates is None else _listed(places.certificates, front, ends[0]), False)
+    told = _names(beside if places.givens is None else _listed(places.givens, front, ends[1]))
     unlisted = [place or "." for place, listed in ((real, names), (held_in, held)) if listed is None]
     certificates: dict[str, list[Named]] = {}
     for called, ending, name in ((*os.path.splitext(name), name) for name in sorted(held or ())):
@@ -288,7 +290,7 @@ def _folder(prefix: str, real: str, front: str, listed: Listed, places: Places) 
 @functools.lru_cache(maxsize=4)
 def pictures_in(real: str, front: str, places: Places) -> Folder:
     """A folder of which the plain PPM pictures alone count as puzzles."""
-    listed = _listed(real, ())
+    listed = _listed(real, "", ())
     kept = None if listed is None else frozenset(one for one in listed if one[1] or one[0].endswith(".ppm"))
     return _folder(real, real, front, kept, places)
 
