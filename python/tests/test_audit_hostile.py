@@ -646,6 +646,24 @@ class Strangers(Case):
             self.run_audit("site", "--untrusted", "--csv", name, status=0)
         self.assertIn("site/one.ppm", kept.read_text())
 
+    def test_certificates_and_pictures_go_through_no_link_that_comes_later(self):
+        self.put("sub/one.ppm", p3(UNIQUE))
+        out, secret = self.folder.resolve() / "out", self.folder / "secret"
+        out.mkdir()
+        secret.mkdir()
+        kept = {f"one.{ending}": "precious" for ending in ("cert", "ppm", "givens")}
+        for name, text in kept.items():
+            (secret / name).write_text(text)
+        os.symlink("../secret", out / "sub")
+        for options in (("--certify", "out"), ("--ppm", "out")):
+            row = self.rows_of("site", "--untrusted", *options, status=3)["sub/one.ppm"]
+            self.assertRegex(row["note"], "^its (certificate|picture) was not written: Not a directory$")
+        self.assertIn("Not a directory", certificates.write(f"{out}/sub/deep/one", CERT))
+        self.assertEqual({place.name: place.read_text() for place in secret.iterdir()}, kept)
+        self.rows_of("site", "--certify", "out", "--ppm", "out", status=0)  # a link of the operator's own, where nobody else writes
+        self.assertEqual((secret / "one.ppm").read_bytes(), p3(UNIQUE))
+        self.assertFalse((secret / "one.givens").exists())
+
     def test_over_a_scheduler_too(self):
         os.symlink("/dev/zero", self.site / "one.ppm")
         settings = running.settings_of(arguments.options_of([str(self.site), "--untrusted"]))

@@ -85,6 +85,8 @@ def options_of(words: list[str]) -> Options:
     for name in (told.jsonl, told.csv, told.html, told.certify, told.publish):
         if told.is_untrusted and name not in (None, "-") and is_behind_link(name, told.paths):
             parser.error(f"{name!r} is a link in a folder of strangers, or lies behind one")
+    if told.is_untrusted:  # what becomes a link later is an error
+        told.certify, told.publish = (name and os.path.realpath(name) for name in (told.certify, told.publish))
     nested = unreached(told.paths)
     if nested is not None:
         parser.error(f"{nested[0]!r} lies in {nested[1]!r}, whose search leaves it out: name it in a run of its own")

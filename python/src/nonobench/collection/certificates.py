@@ -4,9 +4,10 @@ from __future__ import annotations
 
 import base64
 import contextlib
+import functools
 import os
 import zlib
-from typing import TYPE_CHECKING, Optional
+from typing import TYPE_CHECKING, Iterator, Optional
 
 from .._answers import Assessment, fault_of, givens_of
 from .._hints import hint_of
@@ -88,8 +89,8 @@ def publish(puzzle: Puzzle, name: str) -> str:
     if all(_lies(f"{name}.{ending}", data) for ending, data in parts.items()):
         return ""
     for ending in reversed(parts):
-        with contextlib.suppress(OSError, ValueError):
-            os.unlink(f"{name}.{ending}")
+        with contextlib.suppress(OSError, ValueError), _opened(os.path.dirname(name)) as folder:
+            os.unlink(f"{os.path.basename(name)}.{ending}", dir_fd=folder)
     return next(filter(None, (_put("picture", f"{name}.{ending}", data) for ending, data in parts.items() if data)), "")
 
 
@@ -104,36 +105,51 @@ def _put(word: str, path: str, data: bytes) -> str:
     if NO_NAME in path:
         return f"{unwritten(word)}: a folder among the puzzles has its name"
     try:
-        try:
-            _write_new(path, data)
-        except FileNotFoundError:
-            os.makedirs(os.path.dirname(path), exist_ok=True)
-            _write_new(path, data)
-        except FileExistsError:
-            _replace(path, data)
+        with _opened(os.path.dirname(path)) as folder:
+            try:
+                _write_new(os.path.basename(path), data, folder)
+            except FileExistsError:
+                _replace(os.path.basename(path), data, folder)
     except (OSError, ValueError) as error:
         return f"{unwritten(word)}: {one_line(getattr(error, 'strerror', None) or str(error))}"
     return ""
 
 
-def _replace(path: str, data: bytes) -> None:
-    """Puts a file in the place of another one. Until then it has a short name that no other process has, on whichever machine."""
-    new = os.path.join(os.path.dirname(path), f".{os.urandom(12).hex()}.new")
-    _write_new(new, data)
+@contextlib.contextmanager
+def _opened(path: str) -> Iterator[int]:
+    """A folder of an absolute path that leads through no link, made where there is none."""
+    flags = os.O_PATH | os.O_DIRECTORY | os.O_NOFOLLOW | os.O_CLOEXEC
+    folder = os.open("/", flags)
     try:
-        os.replace(new, path)
+        for part in filter(None, path.split("/")):
+            if not os.access(part, os.F_OK, dir_fd=folder):
+                with contextlib.suppress(FileExistsError):
+                    os.mkdir(part, dir_fd=folder)
+            outer, folder = folder, os.open(part, flags, dir_fd=folder)
+            os.close(outer)
+        yield folder
+    finally:
+        os.close(folder)
+
+
+def _replace(name: str, data: bytes, folder: int) -> None:
+    """Puts a file in the place of another one. Until then it has a short name that no other process has, on whichever machine."""
+    new = f".{os.urandom(12).hex()}.new"
+    _write_new(new, data, folder)
+    try:
+        os.replace(new, name, src_dir_fd=folder, dst_dir_fd=folder)
     except OSError:
-        os.unlink(new)
+        os.unlink(new, dir_fd=folder)
         raise
 
 
-def _write_new(path: str, data: bytes) -> None:
+def _write_new(name: str, data: bytes, folder: int) -> None:
     """Writes a file that is not there yet, or none."""
-    with open(path, "xb", buffering=0) as file:
+    with open(name, "xb", buffering=0, opener=functools.partial(os.open, mode=0o666, dir_fd=folder)) as file:
         try:
             write_all(file.fileno(), data)
         except OSError:
-            os.unlink(path)
+            os.unlink(name, dir_fd=folder)
             raise
 
 

@@ -132,7 +132,7 @@ def folders_of(paths: list[str]) -> Names:
 
 def is_among(name: str, folders: Names) -> bool:
     """Whether a place lies in one of real folders."""
-    place = _real(name)
+    place = real_place(name)
     while place not in folders and place != "/":
         place = os.path.dirname(place)
     return place in folders
@@ -166,7 +166,7 @@ def find(paths: list[str], places: Places = Places(), is_anew: bool = True) -> I
     if places.is_untrusted:
         places = Places(*(way and os.path.realpath(way) for way in places[:2]), *places[2:])
     for path in outer:
-        real = _real(path) if places.is_untrusted else path
+        real = real_place(path) if places.is_untrusted else path
         if os.path.isdir(path) and not (places.is_untrusted and os.path.islink(real)):
             prefix, real = ("" if way == "." else os.path.join(way, "") for way in (path, real))
             yield from _below(real, prefix, front_of(path) if len(outer) > 1 else "", places)
@@ -175,7 +175,7 @@ def find(paths: list[str], places: Places = Places(), is_anew: bool = True) -> I
             yield _found(_folder(folder, real, "", _listed(real, "", ()), places), os.path.basename(path))
 
 
-def _real(path: str) -> str:
+def real_place(path: str) -> str:
     """A path of which nothing but its last part may be a link."""
     folder, name = os.path.split(path)
     return os.path.realpath(path) if name in ("", ".", "..") else os.path.join(os.path.realpath(folder), name)

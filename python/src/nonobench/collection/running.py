@@ -15,7 +15,7 @@ from .._library import version
 from . import certificates
 from .arguments import Options, options_of
 from .earlier import Earlier, content_before, read_row, to_check
-from .finding import CHANGED, Places, changed, find, folders_of, is_among, is_in_share, order_of
+from .finding import CHANGED, Places, changed, find, folders_of, is_among, is_in_share, order_of, real_place
 from .outputs import CLOSED, Failure, Lines, Sheet, Table, hold_streams, kept_folder, lines_of, telling
 from .progress import Progress
 from .rows import Row, printable, row_of, text_of
@@ -201,7 +201,8 @@ class Run:
             number += 1
             self._beside += len(found.beside)
             self._unread += found.unread
-            to, published = (name and os.path.join(name, found.stem) for name in (options.certify, options.publish))
+            ways = (name and os.path.join(name, found.stem) for name in (options.certify, options.publish))
+            to, published = (way and (way if options.is_untrusted else real_place(way)) for way in ways)
             rows = [] if self._earlier is None else self._earlier.rows(found.name)
             before = content_before(rows, settings.made, settings.limit, to, published)
             rows = rows if before else []
