@@ -745,7 +745,7 @@ class Running(Case):
             Path(os.fsdecode(os.path.join(os.fsencode(self.site), name))).write_bytes(p3(picture))
         rows = self.rows("site", "--allow", "9", status=1)
         self.assertEqual({name: row["verdict"] for name, row in rows.items()}, {
-            "site/\\xff.ppm": "ambiguous", "site/\\x5cxff.ppm": "unique", "site/\\x5cx5cxff.ppm": "unique", "site/\\x41.ppm": "unique"})
+            "site/\\xff.ppm": "ambiguous", "site/\\x5cxff.ppm": "unique", "site/\\x5cx5cxff.ppm": "unique", "site/\\x5cx41.ppm": "unique"})
         self.run_audit("merge", "rows.jsonl", "--jsonl", "joined", status=1)
         self.assertEqual((self.folder / "joined").read_bytes(), (self.folder / "rows.jsonl").read_bytes())
 

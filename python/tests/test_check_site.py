@@ -14,6 +14,7 @@ import nonobench
 import pytest
 from nonobench import check_site
 from nonobench.collection import finding
+from nonobench.collection.rows import csv_cells, table_line
 
 pytestmark = pytest.mark.since("0.7.0")
 EXAMPLES = Path(__file__).resolve().parent.parent.parent / "examples"
@@ -362,11 +363,21 @@ def test_odd_names(site, checked, tmp_path):
     for end, text in (("ppm", DIAGONAL), ("cert", cut)):
         Path(f"{odd}.{end}").write_text(text)
     assert checked("site") == (1, [
-        "site/line\\x0afeed\\x1b[31m\\x2028\\x202e.cert: certificate Ended at line 2",
+        "site/line\\nfeed\\x1b[31m\\u2028\\u202e.cert: certificate Ended at line 2",
         "site/\\xff.cert: certificate Ended at line 2",
     ])
     pair(tmp_path / "-name", "x")
     assert checked("--", "-name") == (0, [])
+
+
+def test_no_two_names_are_printed_alike(site, checked):
+    names = (b"a\nb", b"a\\nb", b"a\\x0ab", b"a\\x5cnb", b"a\x85b", b"a\xc2\x85b", b"a\\x85b", b"a\\u0085b", b"a\x1b4d", "a\u1b4d".encode())
+    for name in names:
+        Path(os.fsdecode(bytes(site) + b"/" + name + b".cert")).write_text("")
+        Path(os.fsdecode(bytes(site) + b"/" + name + b".ppm")).write_text(DIAGONAL)
+    assert len({*checked("site")[1]}) == len(names)
+    rows = [{"file": finding.shown(os.fsdecode(name)), "verdict": "error"} for name in names]
+    assert len({*map(table_line, rows)}) == len({str(csv_cells(row)) for row in rows}) == len(names)
 
 
 def test_folders_in_folders_without_an_end(site, checked, tmp_path):

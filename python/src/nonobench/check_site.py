@@ -24,6 +24,7 @@ from .collection.arguments import _above_0, _memory, _seconds, _shard, add_allow
 from .collection.outputs import hold_streams
 from .collection.puzzles import Triple, Unreadable, one_line
 from .collection.readers import bytes_of, ground_beside
+from .collection.rows import printable
 from .worker import Worker
 
 ACCEPTED, REFUSED, WRONG, UNREAD = range(4)  # the exit statuses; WRONG is that of wrong arguments
@@ -168,9 +169,8 @@ class Checks:
 
 def line_of(answer: Answer) -> str:
     """What is printed of an answer, in one line, whatever its name holds, and in signs that the output has."""
-    name = "".join(sign if sign.isprintable() else f"\\x{ord(sign):02x}" for sign in finding.shown(answer.file))
     coding = sys.stdout.encoding or "utf-8"
-    return f"{name}: {one_line(answer.why)}".encode(coding, "backslashreplace").decode(coding)
+    return f"{printable(finding.shown(answer.file))}: {one_line(answer.why)}".encode(coding, "backslashreplace").decode(coding)
 
 
 def main(words: Optional[list[str]] = None) -> int:

@@ -23,7 +23,6 @@ Named = tuple[int, str, str]  # a certificate: the puzzle of the file that it is
 _NUMBER = re.compile(r"(.+)\.([1-9][0-9]{0,5})", re.DOTALL)
 _noted: dict[tuple[str, tuple[str, ...]], int] = {}  # digests of what lay in the operator's folders when each was first listed
 _meant: list[tuple[str, str]] = []  # the operator's folders, and their real paths
-_LIKE_BYTES = re.compile(rb"\\(?=x(?:[89a-f][0-9a-f]|5c))")
 
 
 class Places(NamedTuple):
@@ -67,10 +66,8 @@ class Folder(NamedTuple):
 
 
 def shown(path: str) -> str:
-    """A path in letters: bytes that are no UTF-8 stand as \\xNN. So does a backslash of a name that looks so: no two files are called
-    alike.
-    """
-    return _LIKE_BYTES.sub(rb"\\x5c", os.fsencode(path)).decode("utf-8", "backslashreplace")
+    """A path in letters: bytes that are no UTF-8 stand as \\xNN, and so does a backslash: no two files are called alike."""
+    return os.fsencode(path).replace(b"\\", rb"\x5c").decode("utf-8", "backslashreplace")
 
 
 def order_of(name: str) -> str:
