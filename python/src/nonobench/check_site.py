@@ -22,7 +22,7 @@ from ._library import version
 from .collection import finding
 from .collection.arguments import _above_0, _memory, _seconds, _shard, add_allowed
 from .collection.outputs import hold_streams
-from .collection.puzzles import Triple, Unreadable, one_line
+from .collection.puzzles import Triple, Unreadable, need, one_line
 from .collection.readers import bytes_of, ground_beside
 from .collection.rows import printable
 from .worker import Worker
@@ -50,12 +50,7 @@ class Answer(NamedTuple):
     why: str = ""
 
 
-class Pair(NamedTuple):
-    """A certificate, and the picture that it is for."""
-
-    file: str  # as it is shown
-    certificate: str
-    found: finding.Found
+Pair = tuple[str, str, finding.Found]  # a certificate as it is shown, and its path; and the picture that it is for
 
 
 class Site:
@@ -109,18 +104,17 @@ class Site:
             if found is None:
                 self.unread.append(Answer(file, ACCEPTED, "not read, since its picture has another certificate"))
             else:
-                yield Pair(file, certificate, found)
+                yield file, certificate, found
 
 
 def _background(path: Optional[str]) -> Optional[Triple]:
     """The background of a picture; nothing for white."""
     try:
         ground = ground_beside(b"white" if path is None else _read("its background: ", path))
-        if ground.is_corner:
-            raise ValueError("must be white or R,G,B")
-        return ground.triple
     except ValueError as error:
         raise Unreadable(f"its background {error}") from error
+    need(not ground.is_corner, "its background must be white or R,G,B")
+    return ground.triple
 
 
 def _read(whose: str, path: str) -> bytes:

@@ -187,8 +187,8 @@ def _refuse_inputs(parser: argparse.ArgumentParser, told: argparse.Namespace) ->
 def _refuse_twins(parser: argparse.ArgumentParser, paths: list[str], option: str) -> None:
     """Two paths must not give one certificate its name, as `SET.3` of the third puzzle in SET.xml; nor have the givens of one puzzle."""
     every, is_written = dict.fromkeys(map(os.path.normpath, paths)), option in ("certify", "ppm")
-    stems = {found.path: found.stem for found in find([path for path in every if is_written and not os.path.isdir(path)])}
-    named = [(name, path) for path in every for name in _names_of(path, is_written, stems)]
+    stems = {found.path: [found.stem] for found in find([path for path in every if is_written and not os.path.isdir(path)])}
+    named = [(name, path) for path in every for name in stems.get(path) or _names_of(path, is_written)]
     seen = dict(named)
     for name, path in named:
         numbered = re.fullmatch(r"(.+)\.[1-9][0-9]*", name, re.DOTALL)
@@ -198,15 +198,11 @@ def _refuse_twins(parser: argparse.ArgumentParser, paths: list[str], option: str
             parser.error(f"--{option} would give {other!r} and {path!r} the same names")
 
 
-def _names_of(path: str, is_written: bool, stems: dict[str, str]) -> list[str]:
-    """What certificates of a path are called, or the folder of several, which may be called like one that is written. What is read may
-    be called after the whole name of a file.
-    """
-    if os.path.isdir(path):
-        stem, ending = os.path.splitext(front_of(path)[:-1])
-        return [front_of(path), *([stem] if is_written and ending in MADE else [])]
-    name = os.path.basename(path)
-    return [stems[path]] if is_written else [name, os.path.splitext(name)[0]]
+def _names_of(path: str, is_written: bool) -> list[str]:
+    """What a folder's certificates lie in, and like which of them that is called; or what is read for a file is called after."""
+    name = front_of(path) if os.path.isdir(path) else os.path.basename(path)
+    stem, ending = os.path.splitext(name.rstrip("/"))
+    return [name, stem] if not os.path.isdir(path) or is_written and ending in MADE else [name]
 
 
 def _refuse_publishing(parser: argparse.ArgumentParser, told: argparse.Namespace) -> None:

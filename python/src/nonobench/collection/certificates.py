@@ -76,8 +76,7 @@ def numbered_name(name: str, number: int) -> str:
 def write(name: str, text: str) -> str:
     """Writes a certificate. Answers a note why it could not be written, and then nothing is left of it; empty where it was.
 
-    One that is there already stays until the new one is whole. A new file is written in its place: its row comes later, so that
-    `--resume` does it again where a run ends in between.
+    One that is there already stays until the new one is whole.
     """
     return _put("certificate", f"{name}.cert", text.encode("ascii"))
 
@@ -106,10 +105,7 @@ def _put(word: str, path: str, data: bytes) -> str:
         return f"{unwritten(word)}: a folder among the puzzles has its name"
     try:
         with _opened(os.path.dirname(path)) as folder:
-            try:
-                _write_new(os.path.basename(path), data, folder)
-            except FileExistsError:
-                _replace(os.path.basename(path), data, folder)
+            _write(os.path.basename(path), data, folder)
     except (OSError, ValueError) as error:
         return f"{unwritten(word)}: {one_line(getattr(error, 'strerror', None) or str(error))}"
     return ""
@@ -132,24 +128,17 @@ def _opened(path: str) -> Iterator[int]:
         os.close(folder)
 
 
-def _replace(name: str, data: bytes, folder: int) -> None:
-    """Puts a file in the place of another one. Until then it has a short name that no other process has, on whichever machine."""
+def _write(name: str, data: bytes, folder: int) -> None:
+    """Puts a file in a folder, also in the place of another one, or leaves none. Until it is whole it has a short name that no other
+    process has, on whichever machine.
+    """
     new = f".{os.urandom(12).hex()}.new"
-    _write_new(new, data, folder)
-    try:
-        os.replace(new, name, src_dir_fd=folder, dst_dir_fd=folder)
-    except OSError:
-        os.unlink(new, dir_fd=folder)
-        raise
-
-
-def _write_new(name: str, data: bytes, folder: int) -> None:
-    """Writes a file that is not there yet, or none."""
-    with open(name, "xb", buffering=0, opener=functools.partial(os.open, mode=0o666, dir_fd=folder)) as file:
+    with open(new, "xb", buffering=0, opener=functools.partial(os.open, mode=0o666, dir_fd=folder)) as file:
         try:
             write_all(file.fileno(), data)
-        except OSError:
-            os.unlink(name, dir_fd=folder)
+            os.replace(new, name, src_dir_fd=folder, dst_dir_fd=folder)
+        except (OSError, ValueError):
+            os.unlink(new, dir_fd=folder)
             raise
 
 

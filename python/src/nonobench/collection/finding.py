@@ -5,9 +5,11 @@ from __future__ import annotations
 import contextlib
 import functools
 import hashlib
+import itertools
 import os
 import re
 from collections import Counter
+from pathlib import Path
 from typing import Any, Iterator, NamedTuple, Optional
 
 ENDINGS = ("cert", "proof")  # of certificates: the second is an older one, and counts where a puzzle has none of the first
@@ -95,24 +97,18 @@ def without_nested(paths: list[str]) -> list[str]:
 def unreached(paths: list[str]) -> Optional[tuple[str, str]]:
     """A path that lies in another one, and that the search of this does not find; with that other one."""
     kept = without_nested(paths)
-    for path in sorted({os.path.normpath(path) for path in paths}.difference(kept)):
-        outer = next(outer for outer in kept if _is_within(path, outer))
-        if not _finds(outer, path):
-            return path, outer
-    return None
+    nested = sorted({os.path.normpath(path) for path in paths}.difference(kept))
+    pairs = ((path, next(outer for outer in kept if _is_within(path, outer))) for path in nested)
+    return next((pair for pair in pairs if not _finds(pair[1], pair[0])), None)
 
 
 def _finds(outer: str, path: str) -> bool:
     """Whether the search of a folder finds a path that lies in it: nothing hidden, and not by a link to a folder."""
-    if any(part[0] == "." for part in os.path.relpath(path, outer).split("/")):
-        return False
     if not os.path.isdir(path) and os.path.splitext(path)[1].lower() not in SUFFIXES:
         return False
-    while path != outer:
-        if os.path.islink(path) and os.path.isdir(path):
-            return False
-        path = os.path.dirname(path) or "."
-    return True
+    parts = os.path.relpath(path, outer).split("/")
+    ways = (os.path.join(outer, way) for way in itertools.accumulate(parts, os.path.join))
+    return not any(part[0] == "." for part in parts) and not any(os.path.islink(way) and os.path.isdir(way) for way in ways)
 
 
 def _is_within(path: str, outer: str) -> bool:
@@ -129,20 +125,14 @@ def folders_of(paths: list[str]) -> Names:
 
 def is_among(name: str, folders: Names) -> bool:
     """Whether a place lies in one of real folders."""
-    place = real_place(name)
-    while place not in folders and place != "/":
-        place = os.path.dirname(place)
-    return place in folders
+    place = Path(real_place(name))
+    return any(str(way) in folders for way in (place, *place.parents))
 
 
 def is_behind_link(name: str, paths: list[str]) -> bool:
     """Whether a place is a link in a folder of paths, or lies behind one."""
-    place, outer = os.path.join(os.getcwd(), name), ""
-    while place != outer:
-        if os.path.islink(place) and is_among(place, folders_of(paths)):
-            return True
-        place, outer = os.path.dirname(place), place
-    return False
+    place, folders = Path(os.getcwd(), name), folders_of(paths)
+    return any(os.path.islink(way) and is_among(str(way), folders) for way in (place, *place.parents))
 
 
 def front_of(path: str) -> str:
@@ -315,7 +305,8 @@ def _found(folder: Folder, name: str) -> Found:
     # What is called after the whole name is that of the puzzle with this name and a suffix, where there is one. But strangers do not say
     # whose files the operator's are.
     told, of = folder.told or NONE, stem if folder.stems[name] and not folder.is_apart else name
-    givens, background = (next(iter(_named(of, stem, end, told, folder.told_in)), None) for end in (".givens", ".background"))
+    ways = ([folder.told_in + called for called in called_beside(of, stem, end) if called in told] for end in TOLD)
+    givens, background = (next(iter(way), None) for way in ways)
     if folder.told is None:
         givens = folder.told_in or "."
     newer = {of for of, ending, _ in beside if ending == ENDINGS[0]}
@@ -372,11 +363,6 @@ def _whole(folder: Folder, called: str) -> str:
 def _is_puzzle(folder: Folder, name: str) -> bool:
     """Whether a name is that of a puzzle's file in a folder."""
     return name in folder.names and os.path.splitext(name)[1].lower() in SUFFIXES
-
-
-def _named(name: str, stem: str, end: str, names: Names, prefix: str) -> list[str]:
-    """The files that go with a puzzle and have an ending."""
-    return [prefix + called for called in called_beside(name, stem, end) if called in names]
 
 
 def called_beside(name: str, stem: str, end: str) -> list[str]:

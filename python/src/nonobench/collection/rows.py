@@ -170,7 +170,7 @@ def flaw_words(row: Row) -> list[str]:
 def printable(text: str) -> str:
     """A text in one line, that a terminal can show. What bytes of a name stand as, no letter does."""
     escaped = (f"\\u{ord(sign):04x}" if "\x7f" < sign < "\u0100" else sign.encode("unicode_escape").decode("ascii") for sign in text)
-    return "".join(sign if sign.isprintable() else word for sign, word in zip(text, escaped))
+    return text if text.isprintable() else "".join(sign if sign.isprintable() else word for sign, word in zip(text, escaped))
 
 
 def csv_cells(row: Row) -> list[Any]:
