@@ -98,7 +98,7 @@ class Site:
         """Certificates with their pictures, by the one rule of names."""
         for name in names:
             front = os.path.join(os.path.dirname(name), "")
-            folder = finding.pictures_in(os.path.join(self._folder, front), front, self._places)
+            folder = finding.pictures_in(self._folder, front, self._places)
             file, certificate = (os.path.join(way, name) for way in (self._certificates, self._places.certificates or ""))
             found = finding.picture_of(folder, os.path.splitext(os.path.basename(name))[0], certificate)
             if found is None:

@@ -275,9 +275,9 @@ def _folder(prefix: str, real: str, front: str, listed: Listed, places: Places) 
 
 
 @functools.lru_cache(maxsize=4)
-def pictures_in(real: str, front: str, places: Places) -> Folder:
-    """A folder of which the plain PPM pictures alone count as puzzles."""
-    listed = _listed(real, "", ())
+def pictures_in(way: str, front: str, places: Places) -> Folder:
+    """A folder in another one, of which the plain PPM pictures alone count as puzzles."""
+    listed, real = _listed(way, front, ()), os.path.join(way, front)
     kept = None if listed is None else frozenset(one for one in listed if one[1] or one[0].endswith(".ppm"))
     return _folder(real, real, front, kept, places)
 
