@@ -58,7 +58,7 @@ STATED = [
     ('docs/FORMATS.md', 'name cells, at most N a line', 1, [('page/formats/ppm_notes.js', 'places.length; at \\+=')]),
     ('docs/FORMATS.md', 'stored or deflated, of at most N MiB each', MIB, [('page/formats/zip.js', 'MOST_ENTRY =')]),
     ('docs/FORMATS.md', 'a picture is searched for up to N seconds', 1000, [('page/import/reading.js', 'MOST_SEARCH =')]),
-    ('docs/FORMATS.md', 'a regular one of at most N MiB', MIB, [FILES]),
+    ('docs/FORMATS.md', 'Files are regular, of at most N MiB', MIB, [FILES]),
     ('docs/FORMATS.md', 'or is longer than N MiB, the row has an error', MIB, [FILES]),
     ('docs/FORMATS.md', 'An image of more than N by 120 pixels', 1, [IMAGE]),
     ('docs/FORMATS.md', '(N + s) dr dr', 1, [(REDMEAN, r'    weighted\(')]),
