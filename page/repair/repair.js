@@ -5,6 +5,7 @@
 // `say` puts lines to a proved session that shows the board's picture, and gives its text or a promise of it. Every proposal was
 // judged by the session. `give` looks for cells to give, `mix` for some of both, and `aim` for a grade.
 
+import { drawing } from '../base/chance.js';
 import { Aiming } from './aiming.js';
 import { Asker } from './asker.js';
 import { climb, dive } from './descents.js';
@@ -49,12 +50,6 @@ class Limit {
   }
 }
 
-// Numbers from 0 to 1, the same each time.
-function drawing() {
-  let state = 11;
-  return () => (state = (state * 48271) % 2147483647) / 2147483647;
-}
-
 // A descent: by the engine's second pictures, or where many cells are open by line logic alone.
 async function descend(search, isDusty, options) {
   await (isDusty ? climb : dive)(search, { steps: STEPS, ...options });
@@ -62,7 +57,7 @@ async function descend(search, isDusty, options) {
 }
 
 async function forOneSolution(search, limit) {
-  const draw = drawing();
+  const draw = drawing(11);
   await search.all(1, Infinity, MOST_ONES);
   if (search.isDone) return;
   await search.all(2, 450, MOST_TWOS);
@@ -86,7 +81,7 @@ async function forOneSolution(search, limit) {
 }
 
 async function forLines(search, limit) {
-  const draw = drawing();
+  const draw = drawing(11);
   await search.all(1, 1000, MOST_ONES);
   if (search.isDone) return;
   await search.all(2, 300, MOST_TWOS);
