@@ -34,13 +34,12 @@ pub(crate) fn explain(
                 cells: board.cells(line.axis),
                 before: why.before,
                 root: why.root,
-                late: marks.before_last_level(),
             };
             match board.automaton(line) {
                 Some(automaton) => {
-                    sweep.see(automaton, marks, question);
-                    sweep.ask(why.of);
-                    sweep.drop_all(automaton);
+                    sweep.see(automaton, marks, question)?;
+                    sweep.ask(automaton, why.of);
+                    sweep.drop_all(automaton, marks);
                     sweep.tell(premises)
                 }
                 None => Ok(()),

@@ -97,11 +97,6 @@ impl Marks {
         self.levels.first().copied().unwrap_or(self.count())
     }
 
-    /// How many events come before the level at hand.
-    pub(crate) fn before_last_level(&self) -> u32 {
-        self.levels.last().copied().unwrap_or(NEVER)
-    }
-
     /// How many events come before the level after a given one, if there is such a level.
     pub(crate) fn before_level(&self, level: u32) -> Option<u32> {
         self.levels.get(level as usize).copied()

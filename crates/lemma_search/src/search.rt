@@ -74,7 +74,7 @@ impl<'a> Search<'a> {
                 literals: Vec::new(alloc),
                 spare: Vec::new(alloc),
                 levels: Vec::new(alloc),
-                sweep: Sweep::new(),
+                sweep: Sweep::new(alloc),
                 kept: Vec::new(alloc),
             },
         })

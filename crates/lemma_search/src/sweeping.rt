@@ -1,53 +1,49 @@
-//! Why a line excludes colours: it is swept from its first cell, and each exclusion that it can do without is dropped.
+//! Why a line excludes colours: each exclusion that it can do without is dropped, the latest first.
 
-ghost use Rattle.std.specs.Prelude.{◌≤◌};
+ghost use Rattle.std.specs.Prelude.{◌<◌, ◌≤◌};
 
 use crate::atom::{Atom, Literal, bit, first_colour, without_first};
 use crate::automaton::{Automaton, START};
 use crate::marks::{Marks, NEVER};
 use picture::{Axis, LineId, MAX_COLOURS};
-use std::alloc::AllocError;
+use std::alloc::{AllocError, Global};
 use trail::Cell;
 
 // How many cells a line can have.
 const MOST_CELLS: u8 = 127;
 
-/// An evaluation of a line: only what the events before `before` excluded counts, what those before `root` excluded needs no
-/// reason, and those from `late` on are of the last level.
+/// An evaluation of a line: only what the events before `before` excluded counts, and what those before `root` excluded needs no
+/// reason.
 #[derive(Clone, Copy, Debug, PartialEq, Eq)]
 pub(crate) struct Question {
     pub line: LineId,
     pub cells: u8,
     pub before: u32,
     pub root: u32,
-    pub late: u32,
 }
 
-// A cell in a question: the colours that may be there, those whose exclusion may be needed, and those of them that are tried without.
+// A cell in a question: the colours that may be there, and those whose exclusion may be needed.
 #[derive(Clone, Copy)]
 struct Seen {
     open: u16,
     gone: u16,
-    tried: u16,
 }
 
-const UNSEEN: Seen = Seen {
-    open: 0,
-    gone: 0,
-    tried: 0,
-};
+const UNSEEN: Seen = Seen { open: 0, gone: 0 };
 
 impl Question {
-    // A cell as the question sees it.
-    fn see(self, marks: &Marks, place: u8, own: u16) -> Seen {
-        let cell = Cell::on(self.line, place);
-        let left = marks.left(cell);
-        let mut seen = Seen {
-            open: left,
-            gone: 0,
-            tried: 0,
-        };
-        let mut rest = own & !left;
+    // A cell as the question sees it, and the times of the events that may be needed.
+    fn see(
+        self,
+        marks: &Marks,
+        at: u8,
+        own: u16,
+        times: &mut Vec<u32>,
+    ) -> Result<Seen, AllocError> {
+        let cell = Cell::on(self.line, at);
+        let mut seen = UNSEEN;
+        seen.open = marks.left(cell);
+        let mut rest = own & !seen.open;
         for _ in 0..MAX_COLOURS {
             if rest == 0 {
                 break;
@@ -55,19 +51,14 @@ impl Question {
             let colour = first_colour(rest);
             rest = without_first(rest);
             let when = marks.when(Atom { cell, colour });
-            if when == NEVER || when < self.root {
-                continue;
-            }
-            if when >= self.before {
+            if self.root <= when && when < self.before {
+                seen.gone |= bit(colour);
+                times.push(when)?;
+            } else if self.before <= when && when != NEVER {
                 seen.open |= bit(colour);
-                continue;
-            }
-            seen.gone |= bit(colour);
-            if when >= self.late {
-                seen.tried |= bit(colour);
             }
         }
-        seen
+        Ok(seen)
     }
 }
 
@@ -79,23 +70,27 @@ fn place_on(line: LineId, cell: Cell) -> u8 {
     }
 }
 
-/// The evaluation that was asked about last, its cells as it saw them and as the question at hand leaves them, and the states behind
-/// each cell from which the line can end.
+/// The evaluation that was asked about last, its cells as it saw them and as the question at hand leaves them, the events that may be
+/// needed, and for each cell the states with which the line can come to it, and those behind it from which the line can end.
 #[derive(Drop)]
 pub(crate) struct Sweep {
     question: Option<Question>,
     whole: [Seen; 128],
+    times: Vec<u32>,
     seen: [Seen; 128],
+    from: [u128; 128],
     behind: [u128; 128],
 }
 
 impl Sweep {
     /// Nothing asked yet.
-    pub(crate) fn new() -> Sweep {
+    pub(crate) fn new(alloc: Global) -> Sweep {
         Sweep {
             question: None,
             whole: [UNSEEN; 128],
+            times: Vec::new(alloc),
             seen: [UNSEEN; 128],
+            from: [0; 128],
             behind: [0; 128],
         }
     }
@@ -115,81 +110,97 @@ impl Sweep {
     }
 
     /// Looks at the cells of an evaluation, if it is not the one that was asked about last.
-    pub(crate) fn see(&mut self, automaton: &Automaton, marks: &Marks, question: Question) {
+    pub(crate) fn see(
+        &mut self,
+        automaton: &Automaton,
+        marks: &Marks,
+        question: Question,
+    ) -> Result<(), AllocError> {
         if self.question == Some(question) {
-            return;
+            return Ok(());
         }
         self.question = Some(question);
+        self.times.clear();
         let own = automaton.own();
         for place in 0..self.cells() {
-            self.whole[usize::from(place)] = question.see(marks, place, own);
+            let seen = question.see(marks, place, own, &mut self.times)?;
+            self.whole[usize::from(place)] = seen;
         }
+        self.times.sort_unstable();
+        self.times.dedup();
+        Ok(())
     }
 
     /// Asks why a cell loses the colours of a literal, or, of None, why no colours fit at all.
-    pub(crate) fn ask(&mut self, of: Option<Literal>) {
-        for place in 0..self.cells() {
-            self.seen[usize::from(place)] = self.whole[usize::from(place)];
-        }
+    pub(crate) fn ask(&mut self, automaton: &Automaton, of: Option<Literal>) {
+        self.seen = self.whole;
         if let (Some(question), Some(gone)) = (self.question, of) {
             let place = place_on(question.line, gone.cell);
             if place < self.cells() {
-                self.seen[usize::from(place)] = Seen {
-                    open: gone.colours,
-                    gone: 0,
-                    tried: 0,
-                };
+                self.seen[usize::from(place)] = UNSEEN;
+                self.seen[usize::from(place)].open = gone.colours;
+            }
+        }
+        self.come(automaton, 0, START, false);
+        self.end(automaton, self.cells(), automaton.ends, false);
+    }
+
+    /// Drops the exclusions that the answer can do without, the latest first.
+    pub(crate) fn drop_all(&mut self, automaton: &Automaton, marks: &Marks) {
+        for i in (0..self.times.len()).rev() {
+            let at = self.times.get(i).copied().unwrap_or(NEVER);
+            if let (Some(question), Some(event)) = (self.question, marks.event(at)) {
+                let place = place_on(question.line, event.gone.cell);
+                if place < self.cells() {
+                    self.drop_at(automaton, place, event.gone.colours);
+                }
             }
         }
     }
 
-    /// Drops the exclusions that the answer can do without, those of the last level first.
-    pub(crate) fn drop_all(&mut self, automaton: &Automaton) {
-        let cells = self.cells();
-        self.look_behind(automaton, automaton.ends, cells);
-        let changed = self.drop_tried(automaton);
-        if changed > 0 && changed <= MOST_CELLS {
-            let ends = self.behind[usize::from(changed) - 1];
-            self.look_behind(automaton, ends, changed);
+    // Drops the exclusions of some colours of a cell, where the answer can do without them.
+    fn drop_at(&mut self, automaton: &Automaton, place: u8, colours: u16)
+        requires { place < MOST_CELLS }
+    {
+        let at = usize::from(place);
+        let mut cell = self.seen[at];
+        let tried = cell.gone & colours;
+        let dropped = droppable(automaton, tried, self.from[at], self.behind[at]);
+        if dropped != 0 {
+            cell.open |= dropped;
+            cell.gone &= !dropped;
+            self.seen[at] = cell;
+            let from = automaton.forward(cell.open, self.from[at]);
+            self.come(automaton, place + 1, from, true);
+            let to = automaton.backward(cell.open, self.behind[at]);
+            self.end(automaton, place, to, true);
         }
-        for place in 0..cells {
-            let cell = &mut self.seen[usize::from(place)];
-            cell.tried = cell.gone;
-        }
-        let _ = self.drop_tried(automaton);
     }
 
-    // Finds the states behind the first cells, of which those behind the last of them are known.
-    fn look_behind(&mut self, automaton: &Automaton, ends: u128, cells: u8)
+    // Finds with which states the line can come to the cells from a place on; if it does so again, as far as they change.
+    fn come(&mut self, automaton: &Automaton, first: u8, mut from: u128, again: bool) {
+        for place in first..self.cells() {
+            let at = usize::from(place);
+            if again && self.from[at] == from {
+                break;
+            }
+            self.from[at] = from;
+            from = automaton.forward(self.seen[at].open, from);
+        }
+    }
+
+    // Finds from which states behind each of the first cells the line can end; if it does so again, as far as they change.
+    fn end(&mut self, automaton: &Automaton, cells: u8, mut to: u128, again: bool)
         requires { cells ≤ MOST_CELLS }
     {
-        let mut to = ends;
         for place in (0..cells).rev() {
             let at = usize::from(place);
+            if again && self.behind[at] == to {
+                break;
+            }
             self.behind[at] = to;
             to = automaton.backward(self.seen[at].open, to);
         }
-    }
-
-    // Drops exclusions that are to be tried, from the first cell on. Answers how many cells there are up to the last changed one.
-    fn drop_tried(&mut self, automaton: &Automaton) -> u8 {
-        let mut changed = 0;
-        let mut from = START;
-        for place in 0..self.cells() {
-            let at = usize::from(place);
-            let mut cell = self.seen[at];
-            if cell.tried != 0 {
-                let dropped = droppable(automaton, cell.tried, from, self.behind[at]);
-                cell.open |= dropped;
-                cell.gone &= !dropped;
-                self.seen[at] = cell;
-                if dropped != 0 {
-                    changed = place + 1;
-                }
-            }
-            from = automaton.forward(cell.open, from);
-        }
-        changed
     }
 
     /// Adds the exclusions that are left to the premises.

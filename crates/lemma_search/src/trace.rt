@@ -87,7 +87,7 @@ impl<'a> Trace<'a> {
             needed: Vec::new(alloc),
             next: vec![in alloc; NEVER; LINES]?,
             premises: Vec::new(alloc),
-            sweep: Sweep::new(),
+            sweep: Sweep::new(alloc),
             used: Vec::new(alloc),
             lemmas: Vec::new(alloc),
             root: 0,
