@@ -14,7 +14,7 @@ const MOST: f64 = 1e100;
 const SCALE: f64 = 1e-100;
 
 // By how much what happened before counts less after each conflict.
-const DECAY: f64 = 0.95;
+const DECAY: f64 = 0.88;
 
 // A heap with places of 32 bits is not higher.
 const HEIGHT: u32 = 32;

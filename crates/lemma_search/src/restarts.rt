@@ -1,7 +1,7 @@
 //! How many conflicts come between restarts: Luby's sequence.
 
 // The unit of the sequence.
-const UNIT: u32 = 64;
+const UNIT: u32 = 32;
 
 /// Counts conflicts up to the next restart.
 #[derive(Clone, Copy)]
