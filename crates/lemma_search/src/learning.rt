@@ -59,11 +59,7 @@ impl<'a> Search<'a> {
     }
 
     fn explain_event(&mut self, event: Event) -> Result<(), AllocError> {
-        let gone = Literal {
-            colours: event.needed,
-            ..event.gone
-        };
-        self.explain(event.reason, Some(gone), event.since)
+        self.explain(event.reason, Some(event.literal()), event.since)
     }
 
     // Marks the events of the premises as needed, and answers how many of a level were not before.
@@ -187,10 +183,7 @@ impl<'a> Search<'a> {
                 continue;
             };
             self.marks.set_needed(at, 0);
-            let literal = Literal {
-                colours: event.needed,
-                ..event.gone
-            };
+            let literal = event.literal();
             if literal.colours == 0 {
                 continue;
             }

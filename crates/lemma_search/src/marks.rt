@@ -25,6 +25,16 @@ pub(crate) struct Event {
     pub kept: Option<Kept>,
 }
 
+impl Event {
+    /// The literal of its cell with the colours that are needed.
+    pub(crate) fn literal(self) -> Literal {
+        Literal {
+            colours: self.needed,
+            ..self.gone
+        }
+    }
+}
+
 /// A part of the premises that are kept: its first place, and the one after its last.
 #[derive(Clone, Copy, Debug, PartialEq, Eq)]
 pub(crate) struct Kept {

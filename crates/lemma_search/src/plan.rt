@@ -44,6 +44,13 @@ pub(crate) struct Known {
     pub way: Way,
 }
 
+// Nothing is known of a lemma.
+const UNKNOWN: Known = Known {
+    hints: Span { start: 0, end: 0 },
+    uses: 0,
+    way: Way::Left,
+};
+
 /// What is to be told: the steps and their hints, the search's lemmas, and what is known of each.
 #[derive(Drop)]
 pub(crate) struct Plan<'a> {
@@ -110,8 +117,7 @@ impl<'a> Plan<'a> {
                     self.add_hint(*reason)?;
                 }
             }
-            Step::Root(reason) => self.add_hint(reason)?,
-            Step::End(reason) => self.add_hint(reason)?,
+            Step::Root(reason) | Step::End(reason) => self.add_hint(reason)?,
             Step::Done => {}
         }
         let end = self.hints.len();
@@ -137,25 +143,15 @@ impl<'a> Plan<'a> {
     fn add(&mut self, stage: Stage) -> Result<(), AllocError> {
         self.stages.push(stage)?;
         if let Stage::Lemma(_, hints) = stage {
-            self.lemmas.push(Known {
-                hints,
-                uses: 0,
-                way: Way::Left,
-            })?;
+            self.lemmas.push(Known { hints, ..UNKNOWN })?;
         }
         Ok(())
     }
 
     /// What is known of a lemma.
     pub(crate) fn lemma(&self, number: u32) -> Known {
-        match self.lemmas.get(number as usize) {
-            Some(known) => *known,
-            None => Known {
-                hints: Span { start: 0, end: 0 },
-                uses: 0,
-                way: Way::Left,
-            },
-        }
+        let known = self.lemmas.get(number as usize);
+        known.copied().unwrap_or(UNKNOWN)
     }
 
     pub(crate) fn hint(&self, at: usize) -> Option<Told> {

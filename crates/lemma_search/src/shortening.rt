@@ -1,6 +1,6 @@
 //! Leaving out of a lemma what follows from the rest of it by one reason.
 
-use crate::atom::{Literal, has, small};
+use crate::atom::{has, small};
 use crate::marks::{Event, Kept, Reason};
 use crate::search::Search;
 use std::alloc::AllocError;
@@ -59,11 +59,7 @@ impl<'a> Search<'a> {
         if is_whole && let Some(kept) = event.kept {
             return Ok(kept);
         }
-        let gone = Literal {
-            colours: event.needed,
-            ..event.gone
-        };
-        self.explain(event.reason, Some(gone), event.since)?;
+        self.explain(event.reason, Some(event.literal()), event.since)?;
         let start = small(self.learning.kept.len());
         self.learning
             .kept

@@ -326,11 +326,7 @@ impl<'a> Trace<'a> {
                 noted.told
             }
         };
-        let gone = Literal {
-            colours: event.needed,
-            ..event.gone
-        };
-        self.explain(event.reason, Some(gone), event.since, self.root)?;
+        self.explain(event.reason, Some(event.literal()), event.since, self.root)?;
         for i in noted.uses.start..noted.uses.end {
             if let Some(atom) = self.used.get(i).copied() {
                 self.premises.push(atom)?;
