@@ -177,12 +177,12 @@ impl<E: LineEngine + Drop, A: Agenda + Drop> Bench<E, A> {
     }
 
     /// Whether another picture of the present one's size has its clues and, in the givens, its colours: Unique if there is none,
-    /// Ambiguous with such a picture, and Undecided only if an allowance is set and the search of a part takes more splits. Where
-    /// another filling of a part is kept, nothing is searched. Else the parts about which nothing is known are searched in order,
-    /// up to the first that has another filling or is broken off at the allowance. What the searches that ended found is kept. So
-    /// a verdict that was decided is answered without a search until an accepted edit, undo or redo drops the filling that it
-    /// showed or, where it was Unique, leaves a part about which nothing is known. Where memory runs out nothing changes but
-    /// `calls`.
+    /// else Ambiguous with such a picture. It is Undecided only if an allowance is set and the search of a part takes more splits.
+    /// Where another filling of a part is kept, nothing is searched. Else the parts about which nothing is known are searched in
+    /// order, up to the first that has another filling or is broken off at the allowance. What the searches that ended found is
+    /// kept. So a verdict that was decided is answered without a search until an accepted edit, undo or redo drops the filling
+    /// that it showed or, where it was Unique, leaves a part about which nothing is known. Where memory runs out nothing changes
+    /// but `calls`.
     pub fn verdict(&mut self) -> Result<Verdict<'_>, AllocError>
         ensures* keeps { sem 𝓛 (follows_so (the_row E.row A.row E.LineEngine A.Agenda)
             (the_row E.row A.row E.LineEngine A.Agenda)
@@ -389,8 +389,8 @@ impl<E: LineEngine + Drop, A: Agenda + Drop> Bench<E, A> {
     }
 
     /// Whether a colour from 0 to 15 can be in a cell of the picture: Possible exactly where the map leaves it, Given exactly where
-    /// the givens exclude it, and else the step of the book that excludes it, with those of its premises that this exclusion alone
-    /// needs. No line is evaluated.
+    /// the givens exclude it. Else it is the step of the book that excludes it, with those of its premises that this exclusion
+    /// alone needs. No line is evaluated.
     pub fn why(&self, row: u8, col: u8, colour: u8) -> Result<Why, AllocError>
         requires in_rows { row < length self.now.history.document.rows }
         requires in_columns { col < width_of self.now.history.document.rows }
