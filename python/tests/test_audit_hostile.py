@@ -818,6 +818,31 @@ class Names(Case):
                 self.assertEqual(counts[0][0], counts[1][0])
                 self.assertLessEqual(counts[1][1], 10 * counts[0][1])
 
+    def test_a_folder_is_listed_once_whatever_paths_lie_in_folders_in_it(self):
+        paths = [self.put(name, "") for at in range(3) for name in (f"{at}.ppm", *(f"{at}d{folder}/x.ppm" for folder in range(6)))]
+        for is_untrusted in (False, True):
+            searched, search = [], finding._scanned
+            with unittest.mock.patch.object(finding, "_scanned", lambda *place: searched.append(place) or search(*place)):
+                found = list(finding.find(paths[::-1], finding.Places(is_untrusted=is_untrusted)))
+            self.assertEqual([one.name for one in found], sorted(map(str, paths), key=finding.order_of))
+            self.assertEqual((len(searched), len(set(searched))), (19, 19))
+
+    def test_work_grows_with_the_paths_and_not_with_their_square(self):
+        """Of names, where each path has a folder of its own and all have theirs in one; and of paths that lie in others."""
+        counts = []
+        for many in (20, 200):
+            paths = [self.put(f"{many}/{at}/{at}.ppm", "") for at in range(many)]
+            for at in range(many):
+                self.put(f"own{many}/{at}.cert", "")
+            own = str(self.site / f"own{many}")
+            with unittest.mock.patch.object(os.path, "splitext", side_effect=os.path.splitext) as names, unittest.mock.patch.object(finding, "_is_within", side_effect=finding._is_within) as pairs:
+                found = list(finding.find(paths, finding.Places(own, own, True)))
+                nested = finding.unreached([*map(str, paths), *(os.path.dirname(path) for path in paths)])
+            self.assertEqual(([len(one.beside) for one in found], nested), ([1] * many, None))
+            counts.append((names.call_count, pairs.call_count))
+        for few, more in zip(*counts):
+            self.assertLessEqual(more, 15 * few)
+
     @pytest.mark.since("0.7.0")
     def test_givens_are_not_those_of_another_path_that_is_called_alike(self):
         for name in ("bob/in/one.ppm", "eve/in/one.ppm", "eve/in/two.ppm", "eve/one.ppm.ppm", "ann/one.ppm.ppm", "two/one.ppm", "two/one.png"):

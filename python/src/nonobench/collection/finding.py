@@ -85,21 +85,20 @@ def is_in_share(name: str, shard: tuple[int, int]) -> bool:
 
 def without_nested(paths: list[str]) -> list[str]:
     """The paths in the order of names, each once and without those that lie in another one."""
-    every = {os.path.normpath(path) for path in paths}
-    kept: list[str] = []
-    for path in sorted(every, key=lambda path: order_of(shown(path))):
-        outers = [*kept[-1:], *(["."] if "." in every and path != "." else [])]
-        if not any(_is_within(path, outer) for outer in outers):
-            kept.append(path)
-    return kept
+    return [path for path, outer in _outers(paths).items() if path == outer]
 
 
 def unreached(paths: list[str]) -> Optional[tuple[str, str]]:
     """A path that lies in another one, and that the search of this does not find; with that other one."""
-    kept = without_nested(paths)
-    nested = sorted({os.path.normpath(path) for path in paths}.difference(kept))
-    pairs = ((path, next(outer for outer in kept if _is_within(path, outer))) for path in nested)
-    return next((pair for pair in pairs if not _finds(pair[1], pair[0])), None)
+    return next((pair for pair in sorted(_outers(paths).items()) if pair[0] != pair[1] and not _finds(pair[1], pair[0])), None)
+
+
+def _outers(paths: list[str]) -> dict[str, str]:
+    """The paths in the order of names, each with the outermost one in which it lies, or with itself."""
+    every, outers, last = {os.path.normpath(path) for path in paths}, {}, ""
+    for path in sorted(every, key=lambda path: order_of(shown(path))):
+        last = outers[path] = next((way for way in (last, ".") if way in every and _is_within(path, way)), path)
+    return outers
 
 
 def _finds(outer: str, path: str) -> bool:
@@ -147,7 +146,7 @@ def find(paths: list[str], places: Places = Places(), is_anew: bool = True) -> I
     Folders that links lead to are not searched, nor is what is hidden. What is named by a path itself is, but in a collection of
     strangers: there a link is a file that cannot be read.
     """
-    outer = without_nested(paths)
+    outer, held = without_nested(paths), list[Folder]()  # those that paths may still be in
     if is_anew:
         begin(*places[:2])
     if places.is_untrusted:
@@ -159,7 +158,11 @@ def find(paths: list[str], places: Places = Places(), is_anew: bool = True) -> I
             yield from _below(real, prefix, front_of(path) if len(outer) > 1 else "", places)
         else:
             folder, real = (os.path.join(os.path.dirname(way), "") for way in (path, real))
-            yield _found(_folder(folder, real, "", _listed(real, "", ()), places), os.path.basename(path))
+            while held and not folder.startswith(held[-1].prefix):
+                held.pop()
+            if not held or held[-1].prefix != folder:
+                held.append(_folder(folder, real, "", _listed(real, "", ()), places))
+            yield _found(held[-1], os.path.basename(path))
 
 
 def real_place(path: str) -> str:
@@ -239,8 +242,21 @@ def changed() -> Iterator[str]:
     yield from [*(way for way, real in _meant if os.path.realpath(way) != real), *written][:1]
 
 
+@functools.lru_cache(maxsize=8)
 def _names(listed: Listed, is_of_folders: bool = True) -> Optional[Names]:
     return None if listed is None else frozenset(name for name, is_folder, *_ in listed if is_of_folders or not is_folder)
+
+
+@functools.lru_cache(maxsize=4)
+def _held(place: str, listed: Listed) -> dict[str, list[Named]]:
+    certificates: dict[str, list[Named]] = {}
+    for called, ending, name in ((*os.path.splitext(name), name) for name in sorted(_names(listed, False) or ())):
+        number = _NUMBER.fullmatch(called)
+        if ending[1:].lower() in ENDINGS:
+            certificates.setdefault(called, []).append((1, ending[1:].lower(), place + name))
+        if ending[1:].lower() in ENDINGS and number:
+            certificates.setdefault(number[1] + "/", []).append((int(number[2]), ending[1:].lower(), place + name))
+    return certificates
 
 
 @functools.lru_cache(maxsize=4)
@@ -252,18 +268,11 @@ def _folder(prefix: str, real: str, front: str, listed: Listed, places: Places) 
     for way, of in zip(places[:2], ends):
         _note(way, of)
     beside = frozenset() if places.is_untrusted else listed
-    held = _names(beside if places.certificates is None else _listed(places.certificates, front, ends[0]), False)
+    held = beside if places.certificates is None else _listed(places.certificates, front, ends[0])
     told = _names(beside if places.givens is None else _listed(places.givens, front, ends[1]))
-    unlisted = [place or "." for place, listed in ((real, names), (held_in, held)) if listed is None]
-    certificates: dict[str, list[Named]] = {}
-    for called, ending, name in ((*os.path.splitext(name), name) for name in sorted(held or ())):
-        number = _NUMBER.fullmatch(called)
-        if ending[1:].lower() in ENDINGS:
-            certificates.setdefault(called, []).append((1, ending[1:].lower(), held_in + name))
-        if ending[1:].lower() in ENDINGS and number:
-            certificates.setdefault(number[1] + "/", []).append((int(number[2]), ending[1:].lower(), held_in + name))
+    unlisted = [place or "." for place, one in ((real, listed), (held_in, held)) if one is None]
     files = _names(listed, False) or NONE
-    puzzles = [(stem, suffix.lower()) for stem, suffix in map(os.path.splitext, files) if suffix.lower() in SUFFIXES]
+    puzzles = [(stem, suffix.lower()) for stem, suffix in (os.path.splitext(name) for name in files) if suffix.lower() in SUFFIXES]
     stems, sets = Counter(stem for stem, _ in puzzles), {stem for stem, suffix in puzzles if suffix == ".xml"}
     ofs = {parts[0]: parts[1] for parts in map(_NUMBER.fullmatch, stems) if parts}
     folders = {os.path.splitext(name)[0] for name in (names or NONE) - files if name.endswith(MADE)}
@@ -271,7 +280,7 @@ def _folder(prefix: str, real: str, front: str, listed: Listed, places: Places) 
     taken.update(stem for stem, of in ofs.items() if of in sets)
     whole = tuple((1, ENDINGS[0], place) for place in unlisted)
     kinds = stems, frozenset(sets), frozenset(ofs.values()), frozenset(taken)
-    return Folder(prefix, real, front, files, *kinds, certificates, apart[0], told, told_in, apart[1], whole)
+    return Folder(prefix, real, front, files, *kinds, _held(held_in, held), apart[0], told, told_in, apart[1], whole)
 
 
 @functools.lru_cache(maxsize=4)
@@ -294,8 +303,8 @@ def begin(*ways: Optional[str]) -> None:
     """Forgets what lay in folders, and notes where the operator's are."""
     _noted.clear()
     _meant[:] = [(way, os.path.realpath(way)) for way in ways if way is not None]
-    for kept in (_listed, _note, _folder, pictures_in):
-        kept.cache_clear()
+    for forget in (_listed.cache_clear, _note.cache_clear, _folder.cache_clear, pictures_in.cache_clear):
+        forget()
 
 
 def _found(folder: Folder, name: str) -> Found:
