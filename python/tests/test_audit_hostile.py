@@ -27,7 +27,7 @@ from odd_images import BITS, FRAMES, GAMMA, SMALL, odd_images  # noqa: E402
 from processes import children, seen  # noqa: E402
 from test_audit import p3_of_letters  # noqa: E402
 
-from nonobench.collection import arguments, certificates, cluster, finding, outputs, readers, running, serving, workers  # noqa: E402
+from nonobench.collection import arguments, certificates, cluster, finding, outputs, readers, report, running, serving, workers  # noqa: E402
 from nonobench.collection.outputs import Failure, Output  # noqa: E402
 
 SIGN = b"\x89PNG\r\n\x1a\n"
@@ -645,6 +645,51 @@ class Strangers(Case):
         for name in ("mine", "/dev/stdout"):
             self.run_audit("site", "--untrusted", "--csv", name, status=0)
         self.assertIn("site/one.ppm", kept.read_text())
+
+    def test_outputs_go_through_no_link_that_comes_later(self):
+        """Whenever a stranger puts a link in the place of their folder, or a pipe in theirs: nothing is written elsewhere, and nothing waits."""
+        for name in ("one.ppm", "two.ppm"):
+            self.put(name, p3(UNIQUE))
+        secret, sub, old = self.folder / "secret", self.site / "sub", self.site / "old"
+        for folder in (secret, sub):
+            folder.mkdir()
+        for name in ("rows", "rows.new"):
+            (secret / name).write_text("precious")
+
+        def run(*words, at, swaps=True):
+            """A run in which the folder is swapped before something is done, or the file; with its status."""
+            do = getattr(*at)
+
+            def done(*parts, **more):
+                if swaps and not old.exists():
+                    sub.rename(old)
+                    os.symlink("../secret", sub)
+                elif not swaps:
+                    (sub / "rows").unlink()
+                    os.mkfifo(sub / "rows")
+                return do(*parts, **more)
+
+            words = [str(self.site), "--untrusted", "--quiet", "--jobs", "1", words[0], str(sub / "rows"), *words[1:]]
+            with unittest.mock.patch.object(*at, done), contextlib.redirect_stderr(io.StringIO()):
+                status = running.main(words)
+            if old.exists():
+                sub.unlink()
+                old.rename(sub)
+            self.assertEqual({place.name: place.read_text() for place in secret.iterdir()}, {"rows": "precious", "rows.new": "precious"})
+            return status
+
+        for option in ("--jsonl", "--csv", "--html"):
+            with self.subTest(option):
+                self.assertEqual(run(option, at=(workers.Pool, "start")), 3)
+                self.assertEqual(list(sub.iterdir()), [])
+        self.assertEqual(run("--html", at=(report.Report, "close")), 0)
+        self.assertIn("two.ppm", (sub / "rows").read_text())
+        (sub / "rows").unlink()
+        for at, name in enumerate("dcba"):  # a row is put before others, or what a pipe had is
+            self.put(f"{name}.ppm", p3(UNIQUE))
+            place = ((outputs.Lines, "_put_in_order"), (running, "Earlier"))[at % 2]
+            with self.subTest(name):
+                self.assertEqual(run("--jsonl", *(["--resume"] if at else []), at=place, swaps=at < 3), 0)
 
     def test_certificates_and_pictures_go_through_no_link_that_comes_later(self):
         self.put("sub/one.ppm", p3(UNIQUE))

@@ -12,7 +12,7 @@ from typing import Optional, Sequence
 
 from .._answers import FLAW_KINDS
 from .._library import version
-from .finding import ENDINGS, MADE, SUFFIXES, find, folders_of, front_of, is_among, is_behind_link, unreached, without_nested
+from .finding import ENDINGS, MADE, SUFFIXES, find, folders_of, front_of, is_among, is_behind_link, real_place, unreached, without_nested
 from .readers import ground_of
 
 _ENDINGS = frozenset((*SUFFIXES, ".givens", ".background", *(f".{ending}" for ending in ENDINGS)))
@@ -45,6 +45,7 @@ class Options:
     """What is asked for."""
 
     paths: list[str]
+    among: Sequence[str] = ()  # the outputs in folders of strangers, by paths without a link
     jsonl: Optional[str] = None
     csv: Optional[str] = None
     html: Optional[str] = None
@@ -82,11 +83,8 @@ def options_of(words: list[str]) -> Options:
         if ".." in path.split("/") and os.path.realpath(os.path.normpath(path)) != os.path.realpath(path):
             parser.error(f"{path!r} goes back behind a link: name {os.path.realpath(path)!r}")
     _refuse_inputs(parser, told)
-    for name in (told.jsonl, told.csv, told.html, told.certify, told.publish):
-        if told.is_untrusted and name not in (None, "-") and is_behind_link(name, told.paths):
-            parser.error(f"{name!r} is a link in a folder of strangers, or lies behind one")
-    if told.is_untrusted:  # what becomes a link later is an error
-        told.certify, told.publish = (name and os.path.realpath(name) for name in (told.certify, told.publish))
+    if told.is_untrusted:
+        _hold_outputs(parser, told)
     nested = unreached(told.paths)
     if nested is not None:
         parser.error(f"{nested[0]!r} lies in {nested[1]!r}, whose search leaves it out: name it in a run of its own")
@@ -103,6 +101,17 @@ def options_of(words: list[str]) -> Options:
     if told.seconds is None and told.allowance is None:
         told.seconds = Options.seconds
     return Options(**vars(told))
+
+
+def _hold_outputs(parser: argparse.ArgumentParser, told: argparse.Namespace) -> None:
+    """Where outputs are: what becomes a link in a folder of strangers later is an error."""
+    files, folders = (told.jsonl, told.csv, told.html), folders_of(told.paths)
+    real = {name: real_place(name) for name in files if name not in (None, "-") and is_among(name, folders)}
+    for name in (*files, told.certify, told.publish):
+        if name not in (None, "-") and is_behind_link(name, told.paths):
+            parser.error(f"{name!r} is a link in a folder of strangers, or lies behind one")
+    told.jsonl, told.csv, told.html = (real.get(name, name) for name in files)
+    told.certify, told.publish, told.among = *(name and os.path.realpath(name) for name in (told.certify, told.publish)), tuple(real.values())
 
 
 def _parser() -> argparse.ArgumentParser:

@@ -88,7 +88,7 @@ def publish(puzzle: Puzzle, name: str) -> str:
     if all(_lies(f"{name}.{ending}", data) for ending, data in parts.items()):
         return ""
     for ending in reversed(parts):
-        with contextlib.suppress(OSError, ValueError), _opened(os.path.dirname(name)) as folder:
+        with contextlib.suppress(OSError, ValueError), opened(os.path.dirname(name)) as folder:
             os.unlink(f"{os.path.basename(name)}.{ending}", dir_fd=folder)
     return next(filter(None, (_put("picture", f"{name}.{ending}", data) for ending, data in parts.items() if data)), "")
 
@@ -104,7 +104,7 @@ def _put(word: str, path: str, data: bytes) -> str:
     if NO_NAME in path:
         return f"{unwritten(word)}: a folder among the puzzles has its name"
     try:
-        with _opened(os.path.dirname(path)) as folder:
+        with opened(os.path.dirname(path)) as folder:
             _write(os.path.basename(path), data, folder)
     except (OSError, ValueError) as error:
         return f"{unwritten(word)}: {one_line(getattr(error, 'strerror', None) or str(error))}"
@@ -112,7 +112,7 @@ def _put(word: str, path: str, data: bytes) -> str:
 
 
 @contextlib.contextmanager
-def _opened(path: str) -> Iterator[int]:
+def opened(path: str) -> Iterator[int]:
     """A folder of an absolute path that leads through no link, made where there is none."""
     flags = os.O_PATH | os.O_DIRECTORY | os.O_NOFOLLOW | os.O_CLOEXEC
     folder = os.open("/", flags)

@@ -12,7 +12,7 @@ import stat
 import sys
 import time
 from array import array
-from typing import Any, BinaryIO, Callable, ContextManager, Iterator, Union
+from typing import Any, BinaryIO, Callable, ContextManager, Iterator, Optional, Union
 
 from .rows import COLUMNS, HEAD, Row, csv_cells, table_line
 
@@ -87,10 +87,11 @@ class _Messages(io.FileIO):
             return len(data)
 
 
-def _opened(name: str, flags: int) -> BinaryIO:
+def _opened(name: str, is_plain: bool, folder: Optional[int]) -> BinaryIO:
     """A file to write to. Nothing waits for somebody to read a pipe: that there is nobody is told, now or later."""
-    if flags or not os.path.exists(name) or not stat.S_ISFIFO(os.stat(name).st_mode):
-        return os.fdopen(os.open(name, os.O_RDWR | os.O_CREAT | os.O_APPEND | os.O_CLOEXEC | flags, 0o666), "r+b", buffering=0)
+    flags = os.O_NOFOLLOW if is_plain else 0
+    if is_plain or not os.path.exists(name) or not stat.S_ISFIFO(os.stat(name).st_mode):
+        return os.fdopen(os.open(name, os.O_RDWR | os.O_CREAT | os.O_APPEND | os.O_CLOEXEC | flags, 0o666, dir_fd=folder), "r+b", buffering=0)
     handle = os.open(name, os.O_WRONLY | os.O_NONBLOCK | os.O_CLOEXEC)
     os.set_blocking(handle, True)
     return os.fdopen(handle, "wb", buffering=0)
@@ -98,12 +99,12 @@ def _opened(name: str, flags: int) -> BinaryIO:
 
 class Output:
     """Bytes on their way to a file, or to standard output, which is called `-`. What a file had is kept until something is written.
-    With flags, for one that nobody named and that then takes another's place, or one among strangers, no link or pipe that lies there is
-    one.
+    For one that nobody named and that then takes another's place, or one among strangers, no link or pipe that lies there is one. The
+    latter has a handle of its folder, and is there, whatever has the name of that by now.
     """
 
-    def __init__(self, name: str, keeps: bool = False, flags: int = 0) -> None:
-        self.name = name
+    def __init__(self, name: str, keeps: bool = False, folder: Optional[int] = None, is_new: bool = False) -> None:
+        self.name, self._folder, is_plain = name, folder, is_new or folder is not None
         self._held = bytearray()
         self._since = 0.0
         self._is_old = False  # whether the file still has what it had
@@ -111,14 +112,17 @@ class Output:
             if name == "-":
                 self.file: BinaryIO = os.fdopen(os.dup(1), "wb", buffering=0)
                 return
-            self.file = _opened(name, flags)
-            if flags and not is_regular(self.file):
+            self.file = _opened(self._way(name), is_plain, folder)
+            if is_plain and not is_regular(self.file):
                 raise Failure(f"{name}: this is not a file")
             if is_regular(self.file):  # a device such as /dev/null may have several runs
                 locked(name, self.file)
-                if not os.path.samestat(os.stat(name), os.fstat(self.file.fileno())):  # put in its place since
+                if not os.path.samestat(os.stat(self._way(name), dir_fd=folder), os.fstat(self.file.fileno())):  # put in its place since
                     raise Failure(f"{name}: another run writes to it")
                 self._is_old = not keeps
+
+    def _way(self, name: str) -> str:
+        return name if self._folder is None else os.path.basename(name)
 
     def _empty(self) -> None:
         """Takes away what the file had."""
@@ -147,7 +151,16 @@ class Output:
     def take_mode_of(self, name: str) -> None:
         """Lets those alone read the file who can read one, whose place it is to take."""
         with contextlib.suppress(FileNotFoundError):
-            os.fchmod(self.file.fileno(), stat.S_IMODE(os.stat(name).st_mode))
+            os.fchmod(self.file.fileno(), stat.S_IMODE(os.stat(self._way(name), dir_fd=self._folder).st_mode))
+
+    def take_place_of(self, name: str) -> None:
+        """Takes the place of a file in the same folder."""
+        os.replace(self._way(self.name), self._way(name), src_dir_fd=self._folder, dst_dir_fd=self._folder)
+
+    def remove(self) -> None:
+        """Leaves no file."""
+        with contextlib.suppress(OSError):
+            os.unlink(self._way(self.name), dir_fd=self._folder)
 
     def close(self) -> None:
         """Writes what waits, and lets others write."""
@@ -161,8 +174,8 @@ class Output:
 class Sink:
     """Rows on their way into an output."""
 
-    def __init__(self, name: str, keeps: bool = False, flags: int = 0) -> None:
-        self._output = Output(name, keeps, flags)
+    def __init__(self, name: str, keeps: bool = False, folder: Optional[int] = None, is_new: bool = False) -> None:
+        self._output = Output(name, keeps, folder, is_new)
 
     def flush(self) -> None:
         """Writes what has waited for a moment."""
@@ -176,9 +189,10 @@ class Sink:
 class Lines(Sink):
     """Rows as lines of JSON. Rows of an earlier run stay where they are, until all are put in order in the end."""
 
-    def __init__(self, name: str, is_resumed: bool, flags: int = 0) -> None:
-        super().__init__(name, is_resumed, flags)
-        self._name = os.path.realpath(name) if os.path.islink(name) and not flags else name
+    def __init__(self, name: str, is_resumed: bool, folder: Optional[int] = None) -> None:
+        super().__init__(name, is_resumed, folder)
+        self._name = os.path.realpath(name) if os.path.islink(name) and folder is None else name
+        self._folder = folder
         self._end = 0
         self._order = array("Q")
         self.has_places = name != "-" and is_regular(self._output.file)  # where rows can be put in order in the end
@@ -213,15 +227,19 @@ class Lines(Sink):
         file = self._output.file
         if all(before < after for before, after in zip(self._order, self._order[1:])) and len(self._order) == _count(file):
             return
-        new = Output(f"{self._name}.new", flags=os.O_NOFOLLOW)
+        new = Output(f"{self._name}.new", False, self._folder, is_new=True)
         with contextlib.closing(new), telling(self._name):
-            with open(self._name, "rb") as lines:
+            with self.again() as lines:
                 for place in self._order:
                     lines.seek(place)
                     new.put(lines.readline())
             new.flush()
             new.take_mode_of(self._name)
-            os.replace(new.name, self._name)
+            new.take_place_of(self._name)
+
+    def again(self) -> BinaryIO:
+        """The file, to be read: among strangers itself, whatever has its name by now."""
+        return open(self._name if self._folder is None else f"/proc/self/fd/{self._output.file.fileno()}", "rb")
 
 
 def _count(file: BinaryIO) -> int:
@@ -252,8 +270,8 @@ def _cut_torn_line(file: BinaryIO, name: str) -> int:
 class Sheet(Sink):
     """Rows for spreadsheets: CSV in UTF-8."""
 
-    def __init__(self, name: str, flags: int = 0) -> None:
-        super().__init__(name, flags=flags)
+    def __init__(self, name: str, folder: Optional[int] = None) -> None:
+        super().__init__(name, folder=folder)
         self._writer = csv.writer(self, lineterminator="\r\n")
         self._writer.writerow(COLUMNS)
 

@@ -92,6 +92,7 @@ class Run:
 
     def __init__(self, options: Options) -> None:
         self._options = options
+        self._stack = contextlib.ExitStack()
         self._tally = Tally(options.allowed)
         self._progress = Progress(options.is_quiet or options.is_merge)
         self._lines: Optional[Lines] = None
@@ -112,7 +113,7 @@ class Run:
         """Audits a collection."""
         options = self._options
         settings = settings_of(options)
-        with contextlib.ExitStack() as stack:
+        with self._stack as stack:
             for name in {options.certify, options.publish}:
                 if name is not None:
                     stack.callback(os.close, kept_folder(name, options.shard != (1, 1)))
@@ -124,8 +125,8 @@ class Run:
             stack.callback(source.close)
             source.start()
             self._open()
-            if options.is_resumed and options.jsonl is not None:
-                self._earlier = Earlier(options.jsonl)
+            if options.is_resumed and options.jsonl is not None and self._lines is not None:
+                self._earlier = Earlier(options.jsonl, self._lines)
             self._count_files()
             tasks = self._tasks(settings)
             status = self._guarded(lambda: self._take_all(source.answers(tasks, lambda: self._size > MOST_WAITING)))
@@ -164,20 +165,21 @@ class Run:
         """Opens what is written, so that what cannot be is told before anything is done."""
         options = self._options
         if options.jsonl is not None:
-            self._lines = Lines(options.jsonl, options.is_resumed, self._flags(options.jsonl))
+            self._lines = Lines(options.jsonl, options.is_resumed, self._folder_of(options.jsonl))
             self._sinks.append(self._lines)
         if options.csv is not None:
-            self._sinks.append(Sheet(options.csv, self._flags(options.csv)))
+            self._sinks.append(Sheet(options.csv, self._folder_of(options.csv)))
         if options.html is not None:
             from .report import Report
 
-            self._sinks.append(Report(options.html, options.title, self._tally))
+            self._sinks.append(Report(options.html, options.title, self._tally, self._folder_of(options.html)))
         if not self._sinks and not options.is_quiet:
             self._sinks.append(Table(self._progress.aside))
 
-    def _flags(self, name: str) -> int:
-        """What an output is opened with: among files of strangers it may have become a link by now."""
-        return os.O_NOFOLLOW if self._options.is_untrusted and name != "-" and is_among(name, folders_of(self._options.paths)) else 0
+    def _folder_of(self, name: str) -> Optional[int]:
+        """The folder of an output among files of strangers, opened through no link: it may have become one by now."""
+        with telling(name):
+            return self._stack.enter_context(certificates.opened(os.path.dirname(name))) if name in self._options.among else None
 
     def _count_files(self) -> None:
         """Counts the files beside the run, so that it can be told how long it takes."""

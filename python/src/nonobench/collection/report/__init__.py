@@ -24,14 +24,14 @@ _FOLDER = Path(__file__).resolve().parent
 class Report(Sink):
     """Gathers rows in a file, and makes the report of them in the end, with what was counted of them."""
 
-    def __init__(self, name: str, title: Optional[str], tally: Tally) -> None:
+    def __init__(self, name: str, title: Optional[str], tally: Tally, folder: Optional[int] = None) -> None:
         self._environment = _environment()
         if os.path.exists(name) and not os.path.isfile(name):
             raise Failure(f"{name}: this is not a file")  # the report takes its place
         self._name = name
         self._title = title
         self._tally = tally
-        super().__init__(f"{name}.new", flags=os.O_NOFOLLOW)
+        super().__init__(f"{name}.new", False, folder, is_new=True)
         self._rows = tempfile.TemporaryFile(dir=os.path.dirname(name) or ".")
         self._sides: Counter[tuple[int, str]] = Counter()
 
@@ -49,10 +49,9 @@ class Report(Sink):
         try:
             with telling(self._name):
                 self._make(is_whole)
-                os.replace(self._output.name, self._name)
+                self._output.take_place_of(self._name)
         except Failure:
-            with contextlib.suppress(OSError):
-                os.unlink(self._output.name)
+            self._output.remove()
             raise
         finally:
             with contextlib.suppress(OSError):
