@@ -39,9 +39,7 @@ class Questions:
     and ValueError for a background that is not a triple of numbers from 0 to 65,535. Without one the background is white.
     """
 
-    def check(
-        self, picture: Bytes, certificate: Bytes, background: Optional[Colour] = None, published: Published = ()
-    ) -> Result:
+    def check(self, picture: Bytes, certificate: Bytes, background: Optional[Colour] = None, published: Published = ()) -> Result:
         """Checks a certificate of a picture, a P3 text, in any of its forms. Raises CertificateFault if it is not accepted.
 
         A puzzle has one solution with the givens that its certificate names, and these may be all cells. So a certificate is

@@ -116,9 +116,7 @@ class Desk:
         """Makes a certificate with lemmas of a picture, and answers the status."""
         return int(_calls.nonobench_prove(self._at, picture, len(picture), background, len(background)))
 
-    def assess(
-        self, puzzle: bytes, non: bool, background: bytes, givens: bytes, certificate: bytes | None, allowance: int
-    ) -> int:
+    def assess(self, puzzle: bytes, non: bool, background: bytes, givens: bytes, certificate: bytes | None, allowance: int) -> int:
         """Assesses a puzzle, by a certificate where there is one, and answers the status."""
         held, is_by = certificate or b"", certificate is not None
         return int(_calls.nonobench_assess(

@@ -63,9 +63,7 @@ def bytes_of(path: Union[str, bytes], most: int = MOST_BYTES, follows: bool = Tr
         raise Unreadable(one_line(getattr(error, "strerror", None) or str(error))) from error
 
 
-def puzzles_of(
-    data: bytes, suffix: str, ground: Ground, givens: Optional[bytes] = None
-) -> Iterator[Union[Puzzle, Unreadable]]:
+def puzzles_of(data: bytes, suffix: str, ground: Ground, givens: Optional[bytes] = None) -> Iterator[Union[Puzzle, Unreadable]]:
     """Each puzzle of a file, or why it is none. What is wrong with the whole file is raised.
 
     The first bytes tell what a file is. Its suffix counts where they do not. A file of givens takes the place of those in XML.
