@@ -682,12 +682,16 @@ class Strangers(Case):
             with self.subTest(option):
                 self.assertEqual(run(option, at=(workers.Pool, "start")), 3)
                 self.assertEqual(list(sub.iterdir()), [])
+        new = sub / "rows.new"  # what an earlier run left, or seems to have left
+        os.link(secret / "rows", new)
         self.assertEqual(run("--html", at=(report.Report, "close")), 0)
         self.assertIn("two.ppm", (sub / "rows").read_text())
         (sub / "rows").unlink()
         for at, name in enumerate("dcba"):  # a row is put before others, or what a pipe had is
             self.put(f"{name}.ppm", p3(UNIQUE))
-            place = ((outputs.Lines, "_put_in_order"), (running, "Earlier"))[at % 2]
+            new.unlink(missing_ok=True)
+            os.link(secret / "rows", new)
+            place = ((outputs.Lines, "_put_in_order"), (outputs.Lines, "again"))[at % 2]
             with self.subTest(name):
                 self.assertEqual(run("--jsonl", *(["--resume"] if at else []), at=place, swaps=at < 3), 0)
 

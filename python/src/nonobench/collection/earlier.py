@@ -7,7 +7,7 @@ import re
 from typing import BinaryIO, Optional
 
 from .certificates import numbered_name
-from .outputs import Failure, Lines, lines_of, telling
+from .outputs import Failure, lines_of
 from .reading_rows import checked_row
 from .rows import Row, row_of, text_of
 from .serving import File
@@ -21,12 +21,11 @@ _FRONT = re.compile(rb'\{"file":("(?:[^"\\]|\\.)*"),(?:"puzzle":([0-9]+),)?"')
 class Earlier:
     """Where the rows of a file of rows are."""
 
-    def __init__(self, name: str, held: Lines) -> None:
+    def __init__(self, name: str, lines: BinaryIO) -> None:
         self._name = name
+        self._lines = lines
         self._places: dict[int, tuple[int, int]] = {}  # by hashes of names: where a row begins, and the number of its line
-        with telling(name):
-            self._lines: BinaryIO = held.again()
-        for number, (place, line) in enumerate(lines_of(self._lines), 1):
+        for number, (place, line) in enumerate(lines_of(lines), 1):
             front = _FRONT.match(line, 0, MOST_FRONT)
             if front is None or not line.endswith(b"}\n"):
                 raise no_row(name, number, "it does not begin or end as one")

@@ -87,24 +87,15 @@ class _Messages(io.FileIO):
             return len(data)
 
 
-def _opened(name: str, is_plain: bool, folder: Optional[int]) -> BinaryIO:
-    """A file to write to. Nothing waits for somebody to read a pipe: that there is nobody is told, now or later."""
-    flags = os.O_NOFOLLOW if is_plain else 0
-    if is_plain or not os.path.exists(name) or not stat.S_ISFIFO(os.stat(name).st_mode):
-        return os.fdopen(os.open(name, os.O_RDWR | os.O_CREAT | os.O_APPEND | os.O_CLOEXEC | flags, 0o666, dir_fd=folder), "r+b", buffering=0)
-    handle = os.open(name, os.O_WRONLY | os.O_NONBLOCK | os.O_CLOEXEC)
-    os.set_blocking(handle, True)
-    return os.fdopen(handle, "wb", buffering=0)
-
-
 class Output:
     """Bytes on their way to a file, or to standard output, which is called `-`. What a file had is kept until something is written.
     For one that nobody named and that then takes another's place, or one among strangers, no link or pipe that lies there is one. The
-    latter has a handle of its folder, and is there, whatever has the name of that by now.
+    former is a new file, and the latter has a handle of its folder, and is there, whatever has the name of that by now.
     """
 
     def __init__(self, name: str, keeps: bool = False, folder: Optional[int] = None, is_new: bool = False) -> None:
-        self.name, self._folder, is_plain = name, folder, is_new or folder is not None
+        self.name = name
+        self._folder = folder
         self._held = bytearray()
         self._since = 0.0
         self._is_old = False  # whether the file still has what it had
@@ -112,17 +103,30 @@ class Output:
             if name == "-":
                 self.file: BinaryIO = os.fdopen(os.dup(1), "wb", buffering=0)
                 return
-            self.file = _opened(self._way(name), is_plain, folder)
-            if is_plain and not is_regular(self.file):
-                raise Failure(f"{name}: this is not a file")
-            if is_regular(self.file):  # a device such as /dev/null may have several runs
-                locked(name, self.file)
-                if not os.path.samestat(os.stat(self._way(name), dir_fd=folder), os.fstat(self.file.fileno())):  # put in its place since
-                    raise Failure(f"{name}: another run writes to it")
-                self._is_old = not keeps
+            self._open(os.O_NOFOLLOW if is_new or folder is not None else 0)
+            if is_new:  # nobody writes to what an earlier run left there; but others may have it open, or by another name
+                os.unlink(self._way(name), dir_fd=folder)
+                self.file.close()
+                self._open(os.O_NOFOLLOW | os.O_EXCL)
+            self._is_old = not keeps and is_regular(self.file)
 
     def _way(self, name: str) -> str:
         return name if self._folder is None else os.path.basename(name)
+
+    def _open(self, flags: int) -> None:
+        """Opens the file. Nothing waits for somebody to read a pipe: that there is nobody is told, now or later."""
+        way = self._way(self.name)
+        is_pipe = not flags and os.path.exists(way) and stat.S_ISFIFO(os.stat(way).st_mode)
+        access = os.O_WRONLY | os.O_NONBLOCK if is_pipe else os.O_RDWR | os.O_CREAT | os.O_APPEND
+        handle = os.open(way, access | os.O_CLOEXEC | flags, 0o666, dir_fd=self._folder)
+        os.set_blocking(handle, True)
+        self.file = io.FileIO(handle, "wb" if is_pipe else "r+b")
+        if is_regular(self.file):  # a device such as /dev/null may have several runs
+            locked(self.name, self.file)
+            if not os.path.samestat(os.stat(way, dir_fd=self._folder), os.fstat(self.file.fileno())):  # put in its place since
+                raise Failure(f"{self.name}: another run writes to it")
+        elif flags:
+            raise Failure(f"{self.name}: this is not a file")
 
     def _empty(self) -> None:
         """Takes away what the file had."""
@@ -148,34 +152,35 @@ class Output:
             while data:
                 data = data[self.file.write(data) :]
 
-    def take_mode_of(self, name: str) -> None:
-        """Lets those alone read the file who can read one, whose place it is to take."""
-        with contextlib.suppress(FileNotFoundError):
-            os.fchmod(self.file.fileno(), stat.S_IMODE(os.stat(self._way(name), dir_fd=self._folder).st_mode))
-
-    def take_place_of(self, name: str) -> None:
-        """Takes the place of a file in the same folder."""
-        os.replace(self._way(self.name), self._way(name), src_dir_fd=self._folder, dst_dir_fd=self._folder)
-
-    def remove(self) -> None:
-        """Leaves no file."""
-        with contextlib.suppress(OSError):
-            os.unlink(self._way(self.name), dir_fd=self._folder)
+    @contextlib.contextmanager
+    def in_place_of(self, name: str) -> Iterator[None]:
+        """Once it is written, takes the place of a file in its folder, for those alone who can read that; or leaves none."""
+        new, old = self._way(self.name), self._way(name)
+        try:
+            with telling(name):
+                yield
+                with contextlib.suppress(FileNotFoundError):
+                    os.fchmod(self.file.fileno(), stat.S_IMODE(os.stat(old, dir_fd=self._folder).st_mode))
+                self.close()
+                os.replace(new, old, src_dir_fd=self._folder, dst_dir_fd=self._folder)
+        except Failure:
+            with contextlib.suppress(OSError):
+                os.unlink(new, dir_fd=self._folder)
+                self.file.close()
+            raise
 
     def close(self) -> None:
         """Writes what waits, and lets others write."""
-        try:
+        with self.file:
             self.flush()
             self._empty()
-        finally:
-            self.file.close()
 
 
 class Sink:
     """Rows on their way into an output."""
 
-    def __init__(self, name: str, keeps: bool = False, folder: Optional[int] = None, is_new: bool = False) -> None:
-        self._output = Output(name, keeps, folder, is_new)
+    def __init__(self, output: Output) -> None:
+        self._output = output
 
     def flush(self) -> None:
         """Writes what has waited for a moment."""
@@ -190,7 +195,7 @@ class Lines(Sink):
     """Rows as lines of JSON. Rows of an earlier run stay where they are, until all are put in order in the end."""
 
     def __init__(self, name: str, is_resumed: bool, folder: Optional[int] = None) -> None:
-        super().__init__(name, is_resumed, folder)
+        super().__init__(Output(name, is_resumed, folder))
         self._name = os.path.realpath(name) if os.path.islink(name) and folder is None else name
         self._folder = folder
         self._end = 0
@@ -224,22 +229,17 @@ class Lines(Sink):
         self._output.close()
 
     def _put_in_order(self) -> None:
-        file = self._output.file
-        if all(before < after for before, after in zip(self._order, self._order[1:])) and len(self._order) == _count(file):
+        if all(before < after for before, after in zip(self._order, self._order[1:])) and len(self._order) == _count(self._output.file):
             return
-        new = Output(f"{self._name}.new", False, self._folder, is_new=True)
-        with contextlib.closing(new), telling(self._name):
-            with self.again() as lines:
-                for place in self._order:
-                    lines.seek(place)
-                    new.put(lines.readline())
-            new.flush()
-            new.take_mode_of(self._name)
-            new.take_place_of(self._name)
+        new = Output(f"{self._name}.new", folder=self._folder, is_new=True)
+        with new.in_place_of(self._name), self.again() as lines:
+            for place in self._order:
+                lines.seek(place)
+                new.put(lines.readline())
 
     def again(self) -> BinaryIO:
-        """The file, to be read: among strangers itself, whatever has its name by now."""
-        return open(self._name if self._folder is None else f"/proc/self/fd/{self._output.file.fileno()}", "rb")
+        """The file itself, to be read, whatever has its name by now."""
+        return open(f"/proc/self/fd/{self._output.file.fileno()}", "rb")
 
 
 def _count(file: BinaryIO) -> int:
@@ -263,7 +263,6 @@ def _cut_torn_line(file: BinaryIO, name: str) -> int:
     if place < end:
         with telling(name):
             file.truncate(place)
-    file.seek(place)
     return place
 
 
@@ -271,7 +270,7 @@ class Sheet(Sink):
     """Rows for spreadsheets: CSV in UTF-8."""
 
     def __init__(self, name: str, folder: Optional[int] = None) -> None:
-        super().__init__(name, folder=folder)
+        super().__init__(Output(name, folder=folder))
         self._writer = csv.writer(self, lineterminator="\r\n")
         self._writer.writerow(COLUMNS)
 
@@ -288,7 +287,7 @@ class Table(Sink):
     """Rows as a table on standard output. Where nobody reads it any more, it ends."""
 
     def __init__(self, clear: Callable[[], ContextManager[None]]) -> None:
-        super().__init__("-")
+        super().__init__(Output("-"))
         self._clear = clear  # takes a bar away before lines are printed
         self.is_closed = False
         self._put(HEAD)

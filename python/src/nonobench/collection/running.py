@@ -125,8 +125,6 @@ class Run:
             stack.callback(source.close)
             source.start()
             self._open()
-            if options.is_resumed and options.jsonl is not None and self._lines is not None:
-                self._earlier = Earlier(options.jsonl, self._lines)
             self._count_files()
             tasks = self._tasks(settings)
             status = self._guarded(lambda: self._take_all(source.answers(tasks, lambda: self._size > MOST_WAITING)))
@@ -167,6 +165,8 @@ class Run:
         if options.jsonl is not None:
             self._lines = Lines(options.jsonl, options.is_resumed, self._folder_of(options.jsonl))
             self._sinks.append(self._lines)
+            if options.is_resumed:
+                self._earlier = Earlier(options.jsonl, self._lines.again())
         if options.csv is not None:
             self._sinks.append(Sheet(options.csv, self._folder_of(options.csv)))
         if options.html is not None:

@@ -12,7 +12,7 @@ from pathlib import Path
 from typing import Any, Optional
 
 from ..._library import version
-from ..outputs import Failure, Sink, telling
+from ..outputs import Failure, Output, Sink, telling
 from ..puzzles import Missing
 from ..rows import FIGURES, GRADES, VERDICTS, Row, flaws_of, name_of, printable, text_of, words_of
 from ..tally import Tally
@@ -31,7 +31,7 @@ class Report(Sink):
         self._name = name
         self._title = title
         self._tally = tally
-        super().__init__(f"{name}.new", False, folder, is_new=True)
+        super().__init__(Output(f"{name}.new", folder=folder, is_new=True))
         self._rows = tempfile.TemporaryFile(dir=os.path.dirname(name) or ".")
         self._sides: Counter[tuple[int, str]] = Counter()
 
@@ -47,12 +47,8 @@ class Report(Sink):
     def close(self, is_whole: bool) -> None:
         """Makes the report of the rows that were put."""
         try:
-            with telling(self._name):
+            with self._output.in_place_of(self._name):
                 self._make(is_whole)
-                self._output.take_place_of(self._name)
-        except Failure:
-            self._output.remove()
-            raise
         finally:
             with contextlib.suppress(OSError):
                 self._rows.close()
@@ -70,8 +66,6 @@ class Report(Sink):
         for chunk in iter(lambda: self._rows.read(1 << 20), b""):
             self._output.put(chunk)
         self._output.put(back.encode("utf-8"))
-        self._output.take_mode_of(self._name)
-        self._output.close()
 
     def _figures(self) -> dict[str, Any]:
         """What the front of the page tells, as numbers and shares."""
