@@ -645,6 +645,8 @@ class Strangers(Case):
         for name in ("mine", "/dev/stdout"):
             self.run_audit("site", "--untrusted", "--csv", name, status=0)
         self.assertIn("site/one.ppm", kept.read_text())
+        self.assertIn("site/none/rows: No such file or directory", self.run_audit("site", "--untrusted", "--csv", "site/none/rows", status=3).stderr)
+        self.assertFalse((self.site / "none").exists())
 
     def test_outputs_go_through_no_link_that_comes_later(self):
         """Whenever a stranger puts a link in the place of their folder, or a pipe in theirs: nothing is written elsewhere, and nothing waits."""

@@ -7,7 +7,7 @@ import contextlib
 import functools
 import os
 import re
-from dataclasses import dataclass
+from dataclasses import dataclass, field
 from typing import Optional, Sequence
 
 from .._answers import FLAW_KINDS
@@ -45,7 +45,7 @@ class Options:
     """What is asked for."""
 
     paths: list[str]
-    among: Sequence[str] = ()  # the outputs in folders of strangers, by paths without a link
+    among: dict[str, str] = field(default_factory=dict)  # the outputs in folders of strangers, and their paths without a link
     jsonl: Optional[str] = None
     csv: Optional[str] = None
     html: Optional[str] = None
@@ -105,13 +105,13 @@ def options_of(words: list[str]) -> Options:
 
 def _hold_outputs(parser: argparse.ArgumentParser, told: argparse.Namespace) -> None:
     """Where outputs are: what becomes a link in a folder of strangers later is an error."""
-    files, folders = (told.jsonl, told.csv, told.html), folders_of(told.paths)
-    real = {name: real_place(name) for name in files if name not in (None, "-") and is_among(name, folders)}
+    folders = folders_of(told.paths)
+    files = [name for name in (told.jsonl, told.csv, told.html) if name not in (None, "-")]
+    told.among = {name: real_place(name) for name in files if is_among(name, folders)}
     for name in (*files, told.certify, told.publish):
-        if name not in (None, "-") and is_behind_link(name, told.paths):
+        if name is not None and is_behind_link(name, folders):
             parser.error(f"{name!r} is a link in a folder of strangers, or lies behind one")
-    told.jsonl, told.csv, told.html = (real.get(name, name) for name in files)
-    told.certify, told.publish, told.among = *(name and os.path.realpath(name) for name in (told.certify, told.publish)), tuple(real.values())
+    told.certify, told.publish = (name and os.path.realpath(name) for name in (told.certify, told.publish))
 
 
 def _parser() -> argparse.ArgumentParser:

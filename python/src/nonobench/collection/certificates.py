@@ -112,13 +112,13 @@ def _put(word: str, path: str, data: bytes) -> str:
 
 
 @contextlib.contextmanager
-def opened(path: str) -> Iterator[int]:
-    """A folder of an absolute path that leads through no link, made where there is none."""
+def opened(path: str, is_made: bool = True) -> Iterator[int]:
+    """A folder of an absolute path that leads through no link; one that is not there may be made."""
     flags = os.O_PATH | os.O_DIRECTORY | os.O_NOFOLLOW | os.O_CLOEXEC
     folder = os.open("/", flags)
     try:
         for part in filter(None, path.split("/")):
-            if not os.access(part, os.F_OK, dir_fd=folder):
+            if is_made and not os.access(part, os.F_OK, dir_fd=folder):
                 with contextlib.suppress(FileExistsError):
                     os.mkdir(part, dir_fd=folder)
             outer, folder = folder, os.open(part, flags, dir_fd=folder)

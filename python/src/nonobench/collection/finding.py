@@ -128,9 +128,9 @@ def is_among(name: str, folders: Names) -> bool:
     return any(str(way) in folders for way in (place, *place.parents))
 
 
-def is_behind_link(name: str, paths: list[str]) -> bool:
-    """Whether a place is a link in a folder of paths, or lies behind one."""
-    place, folders = Path(os.getcwd(), name), folders_of(paths)
+def is_behind_link(name: str, folders: Names) -> bool:
+    """Whether a place is a link in one of real folders, or lies behind one."""
+    place = Path(os.getcwd(), name)
     return any(os.path.islink(way) and is_among(str(way), folders) for way in (place, *place.parents))
 
 

@@ -162,24 +162,23 @@ class Run:
     def _open(self) -> None:
         """Opens what is written, so that what cannot be is told before anything is done."""
         options = self._options
+        folders: dict[str, int] = {}  # of outputs among files of strangers, opened through no link: they may have become one by now
+        for name, place in options.among.items():
+            with telling(name):
+                folders[name] = self._stack.enter_context(certificates.opened(os.path.dirname(place), False))
         if options.jsonl is not None:
-            self._lines = Lines(options.jsonl, options.is_resumed, self._folder_of(options.jsonl))
+            self._lines = Lines(options.jsonl, options.is_resumed, folders.get(options.jsonl))
             self._sinks.append(self._lines)
             if options.is_resumed:
                 self._earlier = Earlier(options.jsonl, self._lines.again())
         if options.csv is not None:
-            self._sinks.append(Sheet(options.csv, self._folder_of(options.csv)))
+            self._sinks.append(Sheet(options.csv, folders.get(options.csv)))
         if options.html is not None:
             from .report import Report
 
-            self._sinks.append(Report(options.html, options.title, self._tally, self._folder_of(options.html)))
+            self._sinks.append(Report(options.html, options.title, self._tally, folders.get(options.html)))
         if not self._sinks and not options.is_quiet:
             self._sinks.append(Table(self._progress.aside))
-
-    def _folder_of(self, name: str) -> Optional[int]:
-        """The folder of an output among files of strangers, opened through no link: it may have become one by now."""
-        with telling(name):
-            return self._stack.enter_context(certificates.opened(os.path.dirname(name))) if name in self._options.among else None
 
     def _count_files(self) -> None:
         """Counts the files beside the run, so that it can be told how long it takes."""
