@@ -20,7 +20,7 @@ from ._answers import Fault, refused_flaws
 from ._hints import hint_of
 from ._library import version
 from .collection import finding
-from .collection.arguments import _above_0, _memory, _seconds, _shard, add_allowed
+from .collection.arguments import _above_0, _folder, _memory, _seconds, _shard, add_allowed
 from .collection.outputs import hold_streams
 from .collection.puzzles import Triple, Unreadable, need, one_line
 from .collection.readers import bytes_of, ground_beside
@@ -224,12 +224,6 @@ def _parser() -> argparse.ArgumentParser:
     parser.add_argument("--quiet", action="store_true", help="no last line with the counts")
     parser.add_argument("--version", action="version", version=f"%(prog)s {version()}")
     return parser
-
-
-def _folder(word: str) -> str:
-    if not os.path.isdir(word):
-        raise argparse.ArgumentTypeError(f"no such folder: {word!r}")
-    return word
 
 
 if __name__ == "__main__":

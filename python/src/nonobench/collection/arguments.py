@@ -88,9 +88,6 @@ def options_of(words: list[str]) -> Options:
     nested = unreached(told.paths)
     if nested is not None:
         parser.error(f"{nested[0]!r} lies in {nested[1]!r}, whose search leaves it out: name it in a run of its own")
-    for folder in (told.certificates, told.givens):
-        if folder is not None and not os.path.isdir(folder):
-            parser.error(f"no such folder: {folder!r}")
     if told.publish is not None:
         _refuse_publishing(parser, told)
     if told.certify is not None:
@@ -127,8 +124,8 @@ def _parser() -> argparse.ArgumentParser:
                        help="write the picture that was judged, with its givens and background, as NAME.ppm below this folder, such as "
                        "that of --certify")
     read = parser.add_argument_group("what is read")
-    read.add_argument("--certificates", metavar="DIR", help="certificates are below this folder, not beside the puzzles")
-    read.add_argument("--givens", metavar="DIR", help="NAME.givens and NAME.background are below this folder, not beside the puzzles")
+    read.add_argument("--certificates", metavar="DIR", type=_folder, help="certificates are below this folder, not beside the puzzles")
+    read.add_argument("--givens", metavar="DIR", type=_folder, help="NAME.givens and NAME.background are below this folder, not beside the puzzles")
     read.add_argument("--untrusted", action="store_true", dest="is_untrusted",
                       help="for files of strangers: nothing beside the puzzles is read, but only what is in the folders of --certificates "
                       "and --givens, and no links")
@@ -184,9 +181,7 @@ def _merge_options(words: list[str]) -> Options:
 
 def _refuse_inputs(parser: argparse.ArgumentParser, told: argparse.Namespace) -> None:
     """An output must not take the place of an input: of a puzzle, of what lies beside one, or of rows to be joined."""
-    for name in (told.jsonl, told.csv, told.html):
-        if name in (None, "-"):
-            continue
+    for name in [name for name in (told.jsonl, told.csv, told.html) if name not in (None, "-")]:
         if os.path.splitext(name)[1].lower() in _ENDINGS:
             parser.error(f"{name!r} is no name for an output: its ending is that of a puzzle, or of what lies beside one")
         if os.path.exists(name) and any(os.path.exists(path) and os.path.samefile(path, name) for path in told.paths):
@@ -236,6 +231,12 @@ def _refuse_certifying(parser: argparse.ArgumentParser, told: argparse.Namespace
     for to, path in places.items():
         if is_among(to, among) and os.path.isdir(to) and any(True for _ in find([to])):
             parser.error(f"--certify {told.certify!r}: certificates of {path!r} would lie beside other puzzles, in {to!r}")
+
+
+def _folder(word: str) -> str:
+    if not os.path.isdir(word):
+        raise argparse.ArgumentTypeError(f"no such folder: {word!r}")
+    return word
 
 
 def _ground(word: str) -> str:

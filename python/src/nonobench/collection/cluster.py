@@ -6,6 +6,7 @@ Each worker needs this package in the same version, and no file of the collectio
 from __future__ import annotations
 
 import asyncio
+import contextlib
 import itertools
 import marshal
 import socket
@@ -31,12 +32,9 @@ def judge_pack(wanted: str, settings: Plain, seconds: Optional[float], pack: byt
     """What a worker of the scheduler does: it judges a pack in a process that can be ended, and answers plain tuples."""
     if version() != wanted:
         raise RuntimeError(f"this worker has version {version()} of nonobench, and not {wanted}")
-    pool = Pool(Settings(*settings), 1, seconds)
-    try:
+    with contextlib.closing(Pool(Settings(*settings), 1, seconds)) as pool:
         tasks = (Task(*task) for task in marshal.loads(zlib.decompress(pack)))
         return [tuple(answer) for answer in pool.answers(tasks) if answer is not None]
-    finally:
-        pool.close()
 
 
 class Cluster:

@@ -126,8 +126,7 @@ class Run:
             source.start()
             self._open()
             self._count_files()
-            tasks = self._tasks(settings)
-            status = self._guarded(lambda: self._take_all(source.answers(tasks, lambda: self._size > MOST_WAITING)))
+            status = self._guarded(lambda: self._take_all(source.answers(self._tasks(settings), lambda: self._size > MOST_WAITING)))
         return status
 
     def merge(self) -> int:
@@ -266,11 +265,10 @@ class Run:
                 self._release(self._next)
                 self._next += 1
                 self._since = time.monotonic()
-        missing = len(self._kept.keys() - self._complete)
-        if missing:
-            for number in sorted(self._complete):
-                self._release(number)
-            raise Failure(f"files that were not answered, and have no rows: {missing}")
+        for number in sorted(self._complete):
+            self._release(number)
+        if self._kept:
+            raise Failure(f"files that were not answered, and have no rows: {len(self._kept)}")
 
     def _tick(self) -> None:
         """Does what is done now and then: rows of the file that comes next are shown before it is complete."""

@@ -193,7 +193,7 @@ class Judging:
         for number, has_more, puzzle in numbered(self._puzzles(task.name, files)):
             if number < task.start:
                 continue
-            place = _place(number, has_more)
+            place = place_of(number, has_more)
             if place:
                 self._answers.put(task.number, "at", str(number), "more" if has_more else "")
             front: Row = {"file": task.name, **place}
@@ -216,7 +216,7 @@ class Judging:
                 row, held = kept.pop(number, (None, b""))
                 if row is None or (row and (isinstance(puzzle, Unreadable) or row.get("sha256") != sha256)):
                     return False
-                if row and _place(number, has_more) != {word: row[word] for word in ("puzzle", "more") if word in row}:
+                if row and place_of(number, has_more) != {word: row[word] for word in ("puzzle", "more") if word in row}:
                     return False
                 published = task.published and certificates.numbered_name(task.published, number)
                 proof = None if task.to is None else held
@@ -305,7 +305,7 @@ def unread(name: str, error: Unreadable, has_times: bool) -> str:
     return text_of({**row, "seconds": 0.0} if has_times else row)
 
 
-def _place(number: int, has_more: bool) -> Row:
+def place_of(number: int, has_more: bool) -> Row:
     """What a row says of its puzzle's place in the file: nothing where it is the only one."""
     return {**({"puzzle": number} if has_more or number > 1 else {}), **({"more": True} if has_more else {})}
 

@@ -12,7 +12,7 @@ from typing import Callable, Iterator, NamedTuple, Optional
 
 from .._process import Child, waited
 from .rows import Row, text_of, unfinished
-from .serving import FULL, GLANCE, Settings, Task
+from .serving import FULL, GLANCE, Settings, Task, place_of
 
 SLACK = 0.25  # seconds that a line may be late
 STUCK = 0.5  # seconds after which others take over what waits for one puzzle
@@ -237,11 +237,7 @@ class Pool:
             self._again.appendleft(task)
         else:
             has_more = hand.has_more or task.has_more
-            row = {"file": task.name}
-            if has_more or task.start > 1:
-                row["puzzle"] = task.start
-            if has_more:
-                row["more"] = True
+            row = {"file": task.name, **place_of(task.start, has_more)}
             row.update(verdict="undecided", error=why, limit=self._settings.limit) if is_late else row.update(verdict="error", error=why)
             yield from self._give_up(task, row, has_more)
 
