@@ -49,16 +49,24 @@ export function kindOfFile(bytes) {
 
 const pairAt = (bytes, at, low) => (low ? bytes[at] + bytes[at + 1] * 256 : bytes[at] * 256 + bytes[at + 1]);
 
-// The size in the frame header of a JPEG: markers follow one another, each with its length.
+// The size in the frame header of a JPEG: markers follow one another, each with its length; one without a length has no place there.
 function sizeOfJpeg(bytes) {
   for (let at = 2; at + 8 < bytes.length;) {
-    if (bytes[at] !== 0xff) return null;
     const marker = bytes[at + 1];
+    if (bytes[at] !== 0xff || marker < 2 || (marker >= 0xd0 && marker < 0xda)) return null;
     if (marker === 0xff) at++;
     else if (marker >= 0xc0 && marker <= 0xcf && marker !== 0xc4 && marker !== 0xc8 && marker !== 0xcc) return [pairAt(bytes, at + 7), pairAt(bytes, at + 5)];
     else at += 2 + pairAt(bytes, at + 2);
   }
   return null;
+}
+
+// The size of a GIF: that of its screen, or more where its first frame reaches beyond.
+function sizeOfGif(bytes) {
+  let at = 13 + (bytes[10] & 128 ? 6 << (bytes[10] & 7) : 0);
+  for (; bytes[at] === 0x21; at++) for (at += 2; bytes[at]; at += bytes[at] + 1);
+  if (bytes[at] !== 0x2c || at + 9 > bytes.length) return null;
+  return [6, 8].map((side) => Math.max(pairAt(bytes, side, true), pairAt(bytes, at + side - 5, true) + pairAt(bytes, at + side - 1, true)));
 }
 
 function sizeOfWebp(bytes) {
@@ -94,7 +102,7 @@ function sizeOfAvif(bytes) {
 export function sizeOfImage(bytes, kind) {
   if (bytes.length < 26) return null;
   if (kind === 'png') return [fourAt(bytes, 16), fourAt(bytes, 20)];
-  if (kind === 'gif') return [pairAt(bytes, 6, true), pairAt(bytes, 8, true)];
+  if (kind === 'gif') return sizeOfGif(bytes);
   if (kind === 'jpeg') return sizeOfJpeg(bytes);
   if (kind === 'bmp') return sizeOfBmp(bytes);
   if (kind === 'avif') return sizeOfAvif(bytes);

@@ -67,9 +67,14 @@ test('the dots of enlarged pixel pictures', () => {
 test('sizes in the heads of files', () => {
     const bytes = (...parts) => Uint8Array.from([...parts.flatMap((part) => (typeof part === 'string' ? [...part].map((sign) => sign.charCodeAt(0)) : part)), ...Array(30).fill(0)]);
     assert.deepEqual(sizeOfImage(bytes('\u0089PNG\r\n\u001a\n', [0, 0, 0, 13], 'IHDR', [0, 0, 3, 1, 0, 1, 0, 2]), 'png'), [769, 65538]);
-    assert.deepEqual(sizeOfImage(bytes('GIF89a', [1, 2, 3, 0]), 'gif'), [513, 3]);
+    const gif = (flags, ...rest) => bytes('GIF89a', [1, 2, 3, 0, flags, 0, 0], ...rest);
+    assert.deepEqual(sizeOfImage(gif(0, ',', [0, 0, 0, 0, 1, 0, 1, 0]), 'gif'), [513, 3]);
+    const extensions = [0x21, 0xf9, 4, 0, 0, 0, 0, 0, 0x21, 0xfe, 2, 44, 44, 1, 44, 0];
+    assert.deepEqual(sizeOfImage(gif(0x80, Array(6).fill(44), extensions, ',', [3, 0, 4, 0, 255, 1, 0, 1]), 'gif'), [514, 260]);
+    assert.equal(sizeOfImage(gif(0, extensions), 'gif'), null);
     assert.deepEqual(sizeOfImage(bytes([0xff, 0xd8, 0xff, 0xe0, 0, 4, 9, 9, 0xff, 0xff, 0xc2, 0, 17, 8, 1, 0, 2, 1]), 'jpeg'), [513, 256]);
     assert.equal(sizeOfImage(bytes([0xff, 0xd8, 0xff, 0xe0, 0, 4, 9, 9, 1]), 'jpeg'), null);
+    assert.equal(sizeOfImage(bytes([0xff, 0xd8, 0xff, 0xd0, 0, 4, 9, 9, 0xff, 0xc0, 0, 17, 8, 1, 0, 2, 1]), 'jpeg'), null);
     assert.deepEqual(sizeOfImage(bytes('RIFF', [0, 0, 0, 0], 'WEBPVP8X', [10, 0, 0, 0, 0, 0, 0, 0, 255, 1, 0, 7, 0, 0]), 'webp'), [512, 8]);
     assert.deepEqual(sizeOfImage(bytes('RIFF', [0, 0, 0, 0], 'WEBPVP8L', [9, 0, 0, 0, 0x2f, 0xff, 0xc1, 0x01, 0]), 'webp'), [512, 8]);
     const bmp = (...size) => bytes('BM', Array(12).fill(0), [40, 0, 0, 0], ...size);
