@@ -253,16 +253,24 @@ class Files(Case):
         self.assertNotIn("set.xml#10002", errors)
 
     def test_folders_however_deep(self):
-        here = os.getcwd()
-        self.addCleanup(os.chdir, here)
-        os.chdir(self.site)
-        for _ in range(1200):
-            os.mkdir("a")
-            os.chdir("a")
-        Path("one.ppm").write_bytes(p3(UNIQUE))
-        os.chdir(here)
-        self.assertEqual(self.errors(), {"a/" * 1200 + "one.ppm": None})
-        subprocess.run(["rm", "-r", self.site / "a"], check=True)  # deeper than Python's own goes
+        """What lies more than 100 folders below its PATH is not searched, and told."""
+        deep, why = "a/" * 100, "more than 100 folders within each other"
+        for name in ("one.ppm", "a/two.ppm", "a/a/three.ppm"):
+            self.put(deep + name, p3(UNIQUE))
+        (self.folder / "mine").mkdir()
+        for words in ((), ("--untrusted", "--givens", "mine")):
+            self.assertEqual(self.errors(*words), {f"{deep}one.ppm": None, f"{deep}a": why})
+        rows = self.rows("site/a", "mine", status=3)  # each PATH is a beginning
+        self.assertEqual({name.removeprefix("site/"): row.get("error") for name, row in rows.items()}, {
+            f"{deep}one.ppm": None, f"{deep}a/two.ppm": None, f"{deep}a/a": why,
+        })
+
+    def test_a_run_that_is_stopped_goes_through_no_folders_again(self):
+        self.put("one.ppm", p3(UNIQUE))
+        stopped = unittest.mock.patch.object(running, "is_in_share", side_effect=running.Stopped(signal.SIGINT))
+        with stopped, unittest.mock.patch.object(running, "changed", return_value=[]) as changed:
+            self.assertEqual(running.main([str(self.site), "--quiet", "--jobs", "1"]), 130)
+        changed.assert_not_called()
 
     def test_no_files(self):
         os.mkfifo(self.site / "pipe.ppm")

@@ -69,18 +69,17 @@ class Site:
 
     def certificates(self) -> list[str]:
         """The certificates of a share, in order, one folder after another. What is called so and is no folder is among them.
-
         One with the older ending .proof counts where no .cert stands beside it, and is told otherwise.
         """
         found: list[str] = []
-        waiting = [self._certificates]
+        waiting = [(self._certificates, 0)]
         while waiting:
-            place = waiting.pop()
+            place, depth = waiting.pop()
             try:
-                with os.scandir(place) as entries:
+                with finding.searched(place, depth) as entries:
                     for entry in entries:
                         if entry.is_dir(follow_symlinks=False):
-                            waiting.append(entry.path)
+                            waiting.append((entry.path, depth + 1))
                         elif entry.name.lower().endswith(finding.HELD):
                             found.append(entry.path)
                         elif self._is_apart and not os.path.exists(entry.path):

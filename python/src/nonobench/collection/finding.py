@@ -3,6 +3,7 @@
 from __future__ import annotations
 
 import contextlib
+import errno
 import functools
 import hashlib
 import itertools
@@ -20,6 +21,7 @@ Listed = Optional[frozenset[tuple[Any, ...]]]  # names, whether each is a folder
 HELD, TOLD = tuple(f".{ending}" for ending in ENDINGS), (".givens", ".background")  # what counts in folders of the operator's
 MADE = (".cert", ".ppm", ".givens", ".background")  # what an audit writes, below a folder of the same shape
 CHANGED = "something in it came, went or was written while it was read"
+DEEPEST = 100  # folders within each other below a PATH: what one costs grows with its depth
 NO_NAME = "\0"  # in what nothing is written to, since folders have its names
 Named = tuple[int, str, str]  # a certificate: the puzzle of the file that it is for, from 1; how its name ends; its path
 _NUMBER = re.compile(r"(.+)\.([1-9][0-9]{0,5})", re.DOTALL)
@@ -46,6 +48,7 @@ class Found(NamedTuple):
     givens: Optional[str]
     background: Optional[str]
     unread: tuple[str, ...] = ()  # the certificates with an older ending that others take the place of
+    why: str = ""  # it cannot be read
 
 
 class Folder(NamedTuple):
@@ -142,7 +145,6 @@ def front_of(path: str) -> str:
 def find(paths: list[str], places: Places = Places(), is_anew: bool = True) -> Iterator[Found]:
     """The files of paths in order, and what goes with them, beside them or in folders of the same shape. A search that goes on beside
     another one is not made anew: what that one noted of folders stays.
-
     Folders that links lead to are not searched, nor is what is hidden. What is named by a path itself is, but in a collection of
     strangers: there a link is a file that cannot be read.
     """
@@ -171,31 +173,25 @@ def real_place(path: str) -> str:
     return os.path.realpath(path) if name in ("", ".", "..") else os.path.join(os.path.realpath(folder), name)
 
 
-def _below(*place: Any) -> Iterator[Found]:
-    """The files of a folder, and of the folders in it, however deep."""
-    folders = [_steps(*place)]
-    while folders:
-        step = next(folders[-1], None)
-        if step is None:
-            folders.pop()
-        elif isinstance(step, Found):
-            yield step
-        else:
-            folders.append(step)
+def searched(folder: str, depth: int) -> Any:
+    """What is in a folder that lies in so many others below its PATH."""
+    if depth > DEEPEST:
+        raise OSError(errno.ELOOP, f"more than {DEEPEST} folders within each other", folder)
+    return os.scandir(folder or ".")
 
 
-def _steps(real: str, prefix: str, front: str, places: Places) -> Iterator[Any]:
-    """The files of a folder and, for each folder in it, the same of that. One that cannot be listed is a file that cannot be read."""
+def _below(real: str, prefix: str, front: str, places: Places, depth: int = 0) -> Iterator[Found]:
+    """The files of a folder, and of the folders in it. One that cannot be listed is a file that cannot be read."""
     try:
-        with os.scandir(real or ".") as entries:
+        with searched(real, depth) as entries:
             folders = {entry.name: entry.is_dir(follow_symlinks=False) for entry in entries if entry.name[0] != "."}
-    except OSError:
-        yield Found(real, shown(prefix.rstrip("/") or real or "."), front, (), None, None)
+    except OSError as error:
+        yield Found(real, shown(prefix.rstrip("/") or real or "."), front, (), None, None, (), error.strerror)
         return
     folder = _folder(prefix, real, front, frozenset(folders.items()), places)
     for name in sorted(folders, key=shown):
         if folders[name]:
-            yield _steps(real + name + "/", prefix + name + "/", front + name + "/", places)
+            yield from _below(real + name + "/", prefix + name + "/", front + name + "/", places, depth + 1)
         elif os.path.splitext(name)[1].lower() in SUFFIXES:
             yield _found(folder, name)
 
@@ -221,19 +217,19 @@ def _listed(way: str, front: str, ends: tuple[str, ...]) -> Listed:
     """
     folder = os.path.join(way, front)
     listed = _scanned(folder, ends)
-    is_unseen = listed is None or os.path.realpath(folder) != os.path.join(os.path.realpath(way), front).rstrip("/")  # by _note
-    return listed if not ends or _noted.setdefault((folder, ends), hash(listed if is_unseen else NONE)) == hash(listed) else None
+    is_seen = ends and listed and os.path.realpath(folder) == os.path.join(os.path.realpath(way), front).rstrip("/")  # by _note
+    return listed if not ends or _noted.setdefault((folder, ends), hash(NONE if is_seen else listed)) == hash(listed) else None
 
 
 @functools.lru_cache(maxsize=None)
 def _note(way: Optional[str], ends: tuple[str, ...]) -> None:
     """Notes what lies in a folder of the operator's, and in those in it, before the first is read."""
-    waiting = [os.path.join(way, "")] if way is not None and ends else []
+    waiting = [(os.path.join(way, ""), 0)] if way is not None and ends else []
     while waiting:
-        outer = waiting.pop()
+        outer, depth = waiting.pop()
         _noted[outer, ends] = hash(_scanned(outer, ends))
-        with contextlib.suppress(OSError), os.scandir(outer) as entries:
-            waiting += [f"{outer}{entry.name}/" for entry in entries if entry.is_dir(follow_symlinks=False)]
+        with contextlib.suppress(OSError), searched(outer, depth) as entries:
+            waiting += [(f"{outer}{entry.name}/", depth + 1) for entry in entries if entry.is_dir(follow_symlinks=False)]
 
 
 def changed() -> Iterator[str]:
@@ -263,7 +259,8 @@ def _held(place: str, listed: Listed) -> dict[str, list[Named]]:
 def _folder(prefix: str, real: str, front: str, listed: Listed, places: Places) -> Folder:
     names = _names(listed)
     held_in, told_in = (real if way is None else os.path.join(way, front) for way in places[:2])
-    apart = [way is not None and os.path.realpath(place) != os.path.realpath(real) for way, place in zip(places[:2], (held_in, told_in))]
+    # Real paths are worked out where both are there alone: what that costs grows with the depth.
+    apart = [place != real and not (os.path.exists(place) and os.path.realpath(place) == os.path.realpath(real)) for place in (held_in, told_in)]
     ends = HELD if apart[0] and not places.is_written else (), TOLD if apart[1] else ()
     for way, of in zip(places[:2], ends):
         _note(way, of)

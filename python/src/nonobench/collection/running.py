@@ -208,7 +208,7 @@ class Run:
             rows = rows if before else []
             self._kept[number] = Kept(tuple((place, row["verdict"]) for place, row in rows), to, found.beside)
             beside = found.beside, found.givens, found.background
-            yield Task(number, found.name, found.path, *beside, to, before, 1, FULL, published, to_check(rows, to, published))
+            yield Task(number, found.name, found.path, *beside, to, before, 1, FULL, published, to_check(rows, to, published), why=found.why)
 
     def _guarded(self, work: Callable[[], None]) -> int:
         """Does the work, and ends what is written whatever comes: what is done is kept."""
@@ -231,7 +231,7 @@ class Run:
             failures.append(Failure(f"{options.certificates}: no certificate in it is of one of these puzzles"))
         if is_whole and not self._tally.total and not self._is_elsewhere:
             failures.append(Failure(f"no puzzles in {', '.join(options.paths)}"))
-        failures += [Failure(f"{folder}: {CHANGED}") for folder in changed() if is_whole]
+        failures += [Failure(f"{folder}: {CHANGED}") for folder in (changed() if is_whole else ())]
         failures += self._close(is_whole)
         self._progress.close()
         for words in dict.fromkeys(map(str, failures)):

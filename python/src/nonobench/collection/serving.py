@@ -65,6 +65,7 @@ class Task(NamedTuple):
     spent: float = 0.0  # the seconds of a try that took too long
     used: float = 0.0  # the seconds that the puzzles before took
     has_more: bool = False  # whether that try came to know of puzzles behind this one
+    why: str = ""  # the file cannot be read
 
 
 def serve(memory: int) -> None:
@@ -363,6 +364,8 @@ def files_of(task: Task, settings: Settings) -> Files:
             return bytes_of(file, is_ours=True)
         return b""  # it is made again
 
+    if task.why:
+        raise Unreadable(task.why)
     beside = tuple((of, bytes_of(held, "its certificate: ")) for of, held in task.beside)
     givens, background = (
         None if file is None else bytes_of(file, f"its {name}: ") for name, file in (("givens", task.givens), ("background", task.background))
