@@ -36,13 +36,13 @@ export const cleanName = (name) => (name ?? '').trim().slice(0, 80).replace(/[\p
 /** A file's name without its ending and without what no file name may have. */
 export const bareName = (name) => cleanName((name ?? '').replace(/\.[A-Za-z0-9]{1,5}$/, ''));
 
-/** A name, or that with a number behind it, that `taken` does not have; it has it from now on. Capitals make no other name, nor does how accents are written. */
+/** A name, or that with a number behind it, that `taken` does not have; it has it from now on, with the number to try next. Capitals make no other name, nor does how accents are written. */
 export function freeName(name, taken) {
-  for (let count = 1; ; count++) {
+  const alike = (text) => text.normalize().toLowerCase();
+  for (let count = taken.get(alike(name)) ?? 1; ; count++) {
     const tried = count === 1 ? name : `${name} ${count}`;
-    const alike = tried.normalize().toLowerCase();
-    if (taken.has(alike)) continue;
-    taken.add(alike);
+    if (taken.has(alike(tried))) continue;
+    taken.set(alike(tried), 1).set(alike(name), count + 1);
     return tried;
   }
 }

@@ -44,8 +44,7 @@ export function docOfNotes(text, image) {
     at = end;
     if (!line.startsWith(`${PPM_NOTE} `)) continue;
     const [word] = line.slice(PPM_NOTE.length + 1).split(' ', 1);
-    if (!notes.has(word)) notes.set(word, []);
-    notes.get(word).push(line.slice(PPM_NOTE.length + word.length + 2));
+    notes.set(word, notes.get(word) ?? []).get(word).push(line.slice(PPM_NOTE.length + word.length + 2));
   }
   const words = (what) => (notes.get(what) ?? []).flatMap((line) => line.split(' '));
   const colours = words('colours').map((word) => word.split(',').map(Number));

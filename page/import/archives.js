@@ -18,7 +18,7 @@ const MANY = 200; // files: more are asked for first
 /** A zip of records, each as an XML file, and of what else goes with them. Null, told, where a record does not open. */
 export async function archiveOf(records, others = [], start = undefined) {
   const opened = await withClues(records, start);
-  const taken = new Set();
+  const taken = new Map();
   return opened && writeZip([...others, ...opened.map(({ name, doc, clues }) => ({ name: `${freeName(cleanName(name), taken)}.xml`, bytes: new TextEncoder().encode(webpbnText(doc, clues)) }))]);
 }
 
@@ -47,8 +47,8 @@ function foldersOf(entries) {
   const folders = new Map();
   for (const { name: path, size, read } of entries) {
     const from = path.lastIndexOf('/') + 1;
-    if (!folders.has(path.slice(0, from))) folders.set(path.slice(0, from), []);
-    folders.get(path.slice(0, from)).push({ path, name: path.slice(from), size, arrayBuffer: read });
+    const folder = path.slice(0, from);
+    folders.set(folder, folders.get(folder) ?? []).get(folder).push({ path, name: path.slice(from), size, arrayBuffer: read });
   }
   return [...folders.values()];
 }
@@ -79,18 +79,14 @@ export async function readArchive(bytes, goesOn = async (text) => true) {
   return { docs, unread, why: faults[0] ?? '' };
 }
 
-const sameText = (one, other) => webpbnText(one) === webpbnText(other);
-
 // Adds documents to the library, but for those that are there: how many were added, and how many were known.
 async function addAll(docs, goesOn) {
   const keeper = await keep.ready();
-  const before = new Set(await keeper.cards()); // each of them is one picture of the archive at most
+  const take = keeper.takerOf(await keeper.cards(), webpbnText); // each of them is one picture of the archive at most
   let [added, known] = [0, 0];
   for (const { name: title, doc } of docs) {
     if (!(await goesOn(phrase('import.picturesAddedOf', { at: added, count: docs.length })))) break;
-    const card = await keeper.cardOfDoc(before, doc, sameText);
-    before.delete(card);
-    if (card) known++;
+    if (await take(doc)) known++;
     else if (await keeper.put(recordOfDoc(doc, title, true))) added++;
     else break;
   }

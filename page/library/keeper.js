@@ -80,14 +80,23 @@ export class Keeper {
     try { return readRecord(value) ? readCard(cardOf(value)) : null; } catch { return null; } // what JSON cannot write
   }
 
-  /** The first of some cards whose picture is this document, as `isSame` compares it; null where none is. */
-  async cardOfDoc(cards, doc, isSame) {
-    const rows = doc.picture.join();
-    for (const card of cards) {
-      const record = card.doc.picture.join() === rows ? await this.record(card.id) : null;
-      if (record && isSame(record.doc, doc)) return card;
-    }
-    return null;
+  /** What takes, of some cards, the first whose picture is a document, as `textOf` tells it; null where none is. Each record is read once. */
+  takerOf(cards, textOf) {
+    const [unread, known] = [new Map(), new Map()]; // cards by their cells, and by the texts of their records
+    const put = (map, key, card) => map.set(key, map.get(key) ?? []).get(key).push(card);
+    for (const card of cards) put(unread, card.doc.picture.join(), card);
+    return async (doc) => {
+      const [rows, text] = [doc.picture.join(), textOf(doc)];
+      const alike = unread.get(rows) ?? [];
+      unread.delete(rows);
+      for (const card of alike) {
+        const record = await this.record(card.id);
+        if (record) put(known, textOf(record.doc), card);
+      }
+      const card = known.get(text)?.shift() ?? null;
+      if (!known.get(text)?.length) known.delete(text);
+      return card;
+    };
   }
 
   /** A record, read, or null where it is none. */

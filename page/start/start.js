@@ -46,7 +46,7 @@ function beginPainting() {
 // A name that no picture of the library has.
 async function newName() {
   const cards = await keep.ready().then((keeper) => keeper.cards()).catch(() => []);
-  return freeName(phrase('start.newName'), new Set(cards.map(({ name }) => name.toLowerCase())));
+  return freeName(phrase('start.newName'), new Map(cards.map(({ name }) => [name.toLowerCase(), 1])));
 }
 
 function openCard() {

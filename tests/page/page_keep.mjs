@@ -105,8 +105,9 @@ test('a name that a stranger chose is one of a file in records, cards and archiv
     const old = bad.map((name, at) => ({ ...record(`${at}`, at), name }));
     for (const names of [old.map((one) => readRecord(one).name), old.map((one) => cardOf(one).name), old.map((one) => readCard({ ...cardOf(one), name: one.name }).name)]) assert.deepEqual(names, good);
     assert.deepEqual(bad.slice(0, -1).map((title) => recordOfDoc(emptyDoc(3, 2), title, true).name), good.slice(0, -1), 'as a set of puzzles names them');
-    const taken = new Set();
-    assert.deepEqual(['../a', '/../a', '.. A', 'e\u0301', '\u00e9'].map((name) => freeName(cleanName(name), taken)), ['.. a', '.. a 2', '.. A 3', 'e\u0301', '\u00e9 2']);
+    const taken = new Map();
+    const names = [['../a', '.. a'], ['/../a', '.. a 2'], ['.. A', '.. A 3'], ['e\u0301', 'e\u0301'], ['\u00e9', '\u00e9 2'], ['b 2', 'b 2'], ['b', 'b'], ['B', 'B 3'], ['b 2', 'b 2 2'], ['b', 'b 4']];
+    assert.deepEqual(names.map(([name]) => freeName(cleanName(name), taken)), names.map(([, free]) => free));
 });
 
 test('a record of the first version brings its picture and its texts', () => {
@@ -240,6 +241,21 @@ test('archives of others: what is no puzzle is left, what is damaged is refused'
     const found = (sign) => Buffer.from(bytes).indexOf(sign, 1);
     for (const at of [found('P3 2'), found('PK\u0001\u0002'), found('PK\u0003\u0004'), bytes.length - 22]) await assert.rejects(readZip(bytes.map((byte, one) => (one === at ? byte ^ 85 : byte))), /damaged/);
     await assert.rejects(readZip(text('PK')), /damaged/);
+});
+
+test('of pictures that have the same cells each record is read once, and is one picture of an archive', async () => {
+    const reads = [];
+    const shelf = memoryShelf();
+    const keeper = new Keeper({ ...shelf, get: (key) => { reads.push(key); return shelf.get(key); } }, () => {});
+    const named = (title) => ({ ...emptyDoc(3, 2), about: { title } });
+    const docs = Array.from({ length: 20 }, (_, at) => named(`${at >> 1}`)); // each twice
+    for (const [at, doc] of docs.entries()) await keeper.put(recordOf(benchOf(doc), `${at}`, at));
+    const take = keeper.takerOf(await keeper.cards(), webpbnText);
+    reads.length = 0;
+    const found = [];
+    for (const doc of [named('x'), painted(docs[0], 1), ...docs, docs[3]]) found.push((await take(doc))?.id ?? '');
+    assert.deepEqual(found, ['', '', ...docs.map((_, at) => `${at ^ 1}`), ''], 'of two the newer one is first');
+    assert.equal(reads.length, 20);
 });
 
 test('which shelf is opened', async () => {
