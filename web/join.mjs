@@ -62,8 +62,8 @@ const hashOf = (text) => `'sha256-${createHash('sha256').update(text).digest('ba
 
 // What the page may do: it runs its own script and style alone, known by their hashes, and fetches nothing. A served page has its
 // manifest with its icon, and the worker that keeps it for use without a network besides.
-const policyOf = (code, style, served) => [
-  "default-src 'none'", `script-src ${hashOf(code)} 'wasm-unsafe-eval'`, `worker-src blob:${served ? " 'self'" : ''}`, ...(served ? ["manifest-src 'self'"] : []), `style-src ${hashOf(style)}`,
+const policyOf = (codes, style, served) => [
+  "default-src 'none'", `script-src ${codes.map(hashOf).join(' ')} 'wasm-unsafe-eval'`, `worker-src blob:${served ? " 'self'" : ''}`, ...(served ? ["manifest-src 'self'"] : []), `style-src ${hashOf(style)}`,
   `img-src data: blob:${served ? " 'self'" : ''}`, 'connect-src blob: data:', "base-uri 'none'", "form-action 'none'",
 ].join('; ');
 
@@ -71,13 +71,14 @@ function pageTexts(version) {
   const worker = Buffer.from(script(join(root, 'page', 'engine', 'worker.js')));
   const packed = gzipSync(Buffer.concat([worker, readFileSync(join(folder, 'nonobench.wasm'))]), { level: 9 });
   packed[9] = 255; // the system that packed it
-  const built = { packed: signsOf(packed), size: packed.length, worker: worker.length, version, commit: commitOf(), trees: treesOf() };
+  const drawing = script(join(root, 'page', 'import', 'frame.js'));
+  const built = { drawing, packed: signsOf(packed), size: packed.length, worker: worker.length, version, commit: commitOf(), trees: treesOf() };
   const icon = Buffer.from(read('page', 'icon.svg')).toString('base64');
   // What must not stand in a script within HTML; esbuild takes care of the end of the script.
   const code = `\n${script(entry).replaceAll('<!--', '<\\!--')}\n`;
   const style = `\n${bundled(join(root, 'page', 'styles', 'index.css'))}\n`;
   const parts = (served) => ({
-    '<!-- head: policy, icon -->': `<meta http-equiv="Content-Security-Policy" content="${policyOf(code, style, served)}">\n<link rel="icon" href="data:image/svg+xml;base64,${icon}">${served ? '\n<link rel="manifest" href="manifest.webmanifest">' : ''}`,
+    '<!-- head: policy, icon -->': `<meta http-equiv="Content-Security-Policy" content="${policyOf([code, drawing], style, served)}">\n<link rel="icon" href="data:image/svg+xml;base64,${icon}">${served ? '\n<link rel="manifest" href="manifest.webmanifest">' : ''}`,
     '<!-- style -->': `<style>${style}</style>`,
     '<!-- built -->': [
       ...EXAMPLES.map((name) => `<script type="text/plain" data-example="${name}">${read('examples', `${name}.ppm`)}</script>`),

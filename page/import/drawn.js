@@ -12,53 +12,67 @@ const ONCE = /^(href|mask|filter|clip-path)$/; // for an element as a whole: wha
 // What stands outside of comments, one that has no end among them.
 const uncommented = (text) => text.split('/*').map((part, at) => (at ? part.slice((`${part}*/`).indexOf('*/') + 2) : part)).join(' ');
 
-const plainCss = (text) => uncommented(text).replace(/\\([0-9a-f]{1,6})\s?/gi, (_, code) => String.fromCharCode(parseInt(code, 16))).replaceAll('\\', '');
+/** A text without the escapes of CSS. */
+export const unescaped = (text) => text.replace(/\\([0-9a-f]{1,6})\s?/gi, (_, code) => String.fromCharCode(parseInt(code, 16))).replaceAll('\\', '');
 
 const isLong = (text) => text.split(/[{;(\\]|\/\*/, MOST_DRAWN + 1).length > MOST_DRAWN; // CSS with more in it than is looked at
 
-// The addresses in CSS declarations, as [property, id].
-const addressesIn = (text) => plainCss(text).split(';').flatMap((one) => [...one.matchAll(/url\([\s"']*#([^"')]+)/gi)].map(([, id]) => [one.split(':')[0].trim().toLowerCase(), id.trim()]));
+// The addresses in plain CSS declarations, as [property, id].
+function addressesIn(text) {
+  return text.split(';').flatMap((one) => {
+    const property = one.split(':', 1)[0].trim().toLowerCase();
+    return Array.from(one.matchAll(/url\([\s"']*#([^"')]+)/gi), ([, id]) => [property, id.trim()]);
+  });
+}
 
-// Addresses in the rules of style sheets by the classes that they are for, or '*' for any other selector.
+// Lists of the addresses in the rules of style sheets by the classes that they are for, or '*' for any other selector.
 function rulesOf(sheets) {
   const rules = new Map();
-  const parts = plainCss(sheets).split(/([{}])/);
+  const parts = unescaped(uncommented(sheets)).split(/([{}])/);
   for (let at = 0; at < parts.length; at += 2) {
     const found = addressesIn(parts[at + 1] === '{' ? parts[at].slice(0, parts[at].lastIndexOf(';') + 1) : parts[at]);
     const selector = parts[at - 1] === '{' ? parts[at - 2].split(';').at(-1) : '';
-    for (const name of /^\s*(\.[\w-]+[\s,]*)+$/.test(selector) ? selector.match(/[\w-]+/g) : ['*']) rules.set(name, rules.get(name) ?? []).get(name).push(...found);
+    for (const name of /^\s*(\.[\w-]+[\s,]*)+$/.test(selector) ? new Set(selector.match(/[\w-]+/g)) : ['*']) if (found.length) rules.set(name, rules.get(name) ?? []).get(name).push(found);
   }
   return rules;
+}
+
+// Lists of the addresses of an element, by its attributes and by rules for its classes; null for one with more in it than is looked at.
+function* addressesOf(element, rules) {
+  for (const { localName, value } of element.attributes) {
+    if (isLong(value)) yield null;
+    else if (localName === 'href' && element.localName !== 'a' && value.trim()[0] === '#') yield [['href', value.trim().slice(1)]];
+    else if (localName === 'style' || STYLED.test(localName)) yield addressesIn(unescaped(uncommented(localName === 'style' ? value : `${localName}:${value}`)));
+  }
+  for (const name of new Set(['*', ...(element.getAttribute('class') ?? '').split(/\s+/)])) yield* rules.get(name) ?? [];
 }
 
 // All elements as Map to { plus, times }: the elements whose counts are added to its own, and those by whose counts it is multiplied. Null
 // where there are more elements, or addresses, than are looked at.
 function partsOf(root) {
-  const all = [root];
-  const ids = new Map();
-  let told = 0;
+  const [all, ids, holding] = [[root], new Map(), new Set()];
   for (const element of all) {
     if (all.length > MOST_DRAWN) return null;
     if (element.id && !ids.has(element.id)) ids.set(element.id, element);
     for (const child of element.children) all.push(child);
   }
+  // Which hold a `use`: the browser fills it with elements also where it draws none of them.
+  for (const one of [...all].reverse()) if (one.localName === 'use' || [...one.children].some((child) => holding.has(child))) holding.add(one);
   const sheets = all.filter((one) => one.localName === 'style').map((one) => one.textContent).join('\n');
   if (isLong(sheets)) return null;
   const rules = rulesOf(sheets);
-  const parts = new Map(all.map((element) => [element, { plus: [...element.children].filter((one) => !HIDDEN.has(one.localName)), times: [], inherited: [] }]));
+  const parts = new Map(all.map((element) => [element, { plus: [...element.children].filter((one) => holding.has(one) || !HIDDEN.has(one.localName)), times: [], inherited: [] }]));
+  let left = 50 * MOST_DRAWN;
   for (const element of all) {
     const own = parts.get(element);
-    const addresses = ['*', ...(element.getAttribute('class') ?? '').split(/\s+/)].flatMap((name) => rules.get(name) ?? []);
-    for (const { localName, value } of element.attributes) {
-      if (isLong(value)) return null;
-      if (localName === 'href' && element.localName !== 'a' && value.trim()[0] === '#') addresses.push(['href', value.trim().slice(1)]);
-      else if (localName === 'style' || STYLED.test(localName)) addresses.push(...addressesIn(localName === 'style' ? value : `${localName}:${value}`));
-    }
-    told += addresses.length + own.inherited.length;
-    if (told > 50 * MOST_DRAWN) return null;
-    for (const [property, id] of addresses) {
-      const target = ids.get(id) ?? ids.get(unescape(id.replace(/[\t\n\r]/g, '')));
-      if (target && !GRADIENTS.has(target.localName)) (ONCE.test(property) ? own.plus : own.times).push(target);
+    left -= own.inherited.length;
+    for (const addresses of addressesOf(element, rules)) {
+      left -= 1 + (addresses?.length ?? left);
+      if (left < 0) return null;
+      for (const [property, id] of addresses) {
+        const target = ids.get(id) ?? ids.get(unescape(id.replace(/[\t\n\r]/g, '')));
+        if (target && !GRADIENTS.has(target.localName)) (ONCE.test(property) ? own.plus : own.times).push(target);
+      }
     }
     const passed = own.times.length ? [...new Set([...own.inherited, ...own.times])] : own.inherited;
     for (const child of element.children) parts.get(child).inherited = passed;

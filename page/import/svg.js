@@ -1,10 +1,11 @@
 // SVG drawings as images of pixels: the browser draws them, as it draws an image of a page, without scripts and without other files.
 
 import { FileFault } from '../document/limits.js';
-import { penOf } from '../draw/small.js';
+import { built } from '../engine/client.js';
 import { phrase } from '../texts/phrase.js';
-import { MOST_DRAWN, drawnOf } from './drawn.js';
+import { MOST_DRAWN, drawnOf, unescaped } from './drawn.js';
 
+const LONGEST = 20000; // ms that the browser may take for a drawing
 const USUAL = 512; // pixels of the longer side: a drawing is as sharp at any size
 const UNITS = { '': 1, px: 1, pt: 4 / 3, pc: 16, in: 96, cm: 96 / 2.54, mm: 9.6 / 2.54, q: 2.4 / 2.54 };
 
@@ -26,13 +27,29 @@ export function sizeOfSvg({ width, height, viewBox }) {
   return ratio ? [wide, high] : [USUAL, USUAL];
 }
 
+/** Whether a `data:` address within a drawing is of anything but pixels or a font: another drawing, or a style sheet. */
+export const hasDocument = (text) => /d(?<!\w\s*d)\s*a\s*t\s*a\s*:(?!\s*(image\/(png|jpe?g|gif|webp|bmp|avif)|(font\/|application\/(x-)?font-)[\w-]+)\s*[;,])/i.test(unescaped(text.replace(/&#\w+;/g, ' ')));
+
+// The pixels of a drawing that tells its size, from a frame without rights: that is a process of its own in browsers such as Chromium, and
+// ends with the frame. Null where the browser does not draw it, nothing where it takes too long.
+function drawnApart(text, width, height) {
+  const frame = Object.assign(document.createElement('iframe'), { sandbox: 'allow-scripts', srcdoc: `<script>${built().drawing}</script>`, hidden: true });
+  const heard = new AbortController();
+  return new Promise((give) => {
+    setTimeout(give, LONGEST);
+    addEventListener('message', ({ source, data }) => source === frame.contentWindow && give(data), heard);
+    frame.onload = () => frame.contentWindow.postMessage({ text, width, height }, '*');
+    document.body.append(frame);
+  }).finally(() => (frame.remove(), heard.abort()));
+}
+
 /** The pixels of a drawing, with `most` a side at most: its own size where that is no smaller than usual. */
 export async function imageOfSvg(text, most) {
   const root = new DOMParser().parseFromString(text, 'image/svg+xml').documentElement;
   if (root.localName !== 'svg') throw new FileFault(phrase('import.browserDoesNotRead'));
-  for (const one of root.querySelectorAll('set, animate')) one.remove(); // they could give an element another address
+  for (const one of root.querySelectorAll('set, animate, foreignObject')) one.remove(); // other addresses of an element; HTML
   const written = () => new XMLSerializer().serializeToString(root);
-  if (drawnOf(root) > MOST_DRAWN || /data:image\/svg/i.test(written().replace(/[\s\\]/g, ''))) throw new FileFault(phrase('formats.thereTooManyElements'));
+  if (drawnOf(root) > MOST_DRAWN || hasDocument(written())) throw new FileFault(phrase('formats.thereTooManyElements'));
   const told = { width: root.getAttribute('width'), height: root.getAttribute('height'), viewBox: root.getAttribute('viewBox') };
   const size = sizeOfSvg(told);
   const longer = Math.max(...size);
@@ -40,17 +57,7 @@ export async function imageOfSvg(text, most) {
   if (!told.viewBox) root.setAttribute('viewBox', `0 0 ${size.join(' ')}`);
   root.setAttribute('width', String(width));
   root.setAttribute('height', String(height));
-  const address = URL.createObjectURL(new Blob([written()], { type: 'image/svg+xml' }));
-  try {
-    const image = new Image(width, height);
-    image.src = address;
-    await image.decode();
-    const pen = penOf(width, height);
-    pen.drawImage(image, 0, 0, width, height);
-    return { width, height, data: pen.getImageData(0, 0, width, height).data };
-  } catch {
-    throw new FileFault(phrase('import.browserDoesNotRead'));
-  } finally {
-    URL.revokeObjectURL(address);
-  }
+  const data = await drawnApart(written(), width, height);
+  if (!data) throw new FileFault(phrase(data === null ? 'import.browserDoesNotRead' : 'formats.thereTooManyElements'));
+  return { width, height, data };
 }

@@ -6,7 +6,7 @@ import { oklabOf } from '../../page/document/colours.js';
 import { dotSize, kindOfFile, scaledTo, sizeOfImage } from '../../page/import/images.js';
 import { drawnOf } from '../../page/import/drawn.js';
 import { readXml } from '../../page/formats/xml.js';
-import { sizeOfSvg } from '../../page/import/svg.js';
+import { hasDocument, sizeOfSvg } from '../../page/import/svg.js';
 import { withoutMargin } from '../../page/import/proposing.js';
 import { withoutSpecks, dithered } from '../../page/import/cells.js';
 import { flatPalette, isFlat } from '../../page/import/flat.js';
@@ -115,7 +115,7 @@ test('what a drawing comes to, as often as its parts are drawn', () => {
     for (const href of ['href="#a"', 'xlink:href=" #a"', 'href="#%61"']) assert.equal(drawn(`<defs><g id="a"><path/></g></defs><use ${href}/><use ${href}/>`), 7);
     const tenfold = (count, line, first = '<path id="a0"/>') => drawn(`<defs>${first}${Array.from({ length: count }, (_, at) => line(`a${at + 1}`, `#a${at}`)).join('')}</defs><use href="#a${count}"/>`);
     const uses = (id, of) => `<g id="${id}">${`<use href="${of}"/>`.repeat(10)}</g>`;
-    assert.deepEqual([tenfold(2, uses), tenfold(4, uses) > 20000, tenfold(400, uses)], [223, true, Infinity]);
+    assert.deepEqual([tenfold(2, uses), tenfold(4, uses) > 20000, tenfold(400, uses)], [467, true, Infinity]);
     const pattern = '<pattern id="a0"><path/></pattern>';
     const paths = '<path/>'.repeat(10);
     for (const way of ['fill="url(#a)"', 'stroke="url( \'#a\' ) red"', 'style="x:1;fill:url(#a)"', 'style="f\\69 ll:\\75rl(#a)"', 'style="--x:url(#a)"', 'marker-mid="url(#a)"', 'class="b c"']) {
@@ -136,6 +136,27 @@ test('a drawing with more CSS than is looked at is not drawn, and is told soon',
         for (const inside of [`<style>${css.repeat(500000)}</style>`, `<path style="${css.repeat(500000)}"/>`, `<path fill="${css.repeat(500000)}"/>`]) assert.equal(drawn(inside), Infinity, css);
     }
     assert.ok(process.cpuUsage().user - begun < 10e6 * Number(process.env.SLACK ?? 3), 'seconds');
+});
+
+test('no product of two numbers of a drawing is worked out before it is bounded', () => {
+    const urls = 'url(#x)'.repeat(19000);
+    const begun = process.cpuUsage().user;
+    drawn(`<style>.a{fill:${urls}}</style><rect class="${'a '.repeat(20000)}"/>`);
+    drawn(`<style>${'.a'.repeat(20000)}{fill:${urls}}</style>`);
+    drawn(`<style>${Array.from({ length: 9000 }, (_, at) => `.a${at}`).join('')}{fill:${urls}}</style><rect class="${Array.from({ length: 9000 }, (_, at) => `a${at}`).join(' ')}"/>`);
+    drawn(`<rect style="fill:${urls}${':'.repeat(2000000)}"/>`);
+    assert.ok(process.cpuUsage().user - begun < 5e6 * Number(process.env.SLACK ?? 3), 'seconds');
+});
+
+test('what the browser builds and does not draw counts too', () => {
+    const within = (inside) => inside.map((uses, at) => `<g id="a${at + 1}"><defs>${uses}</defs></g>`).join('');
+    assert.ok(drawn(`<defs>${within(Array.from({ length: 6 }, (_, at) => `<use href="#a${at}"/>`.repeat(10)))}</defs>`) > 20000);
+    assert.equal(drawn('<defs><path/><path/></defs>'), 1);
+});
+
+test('an address within a drawing is of pixels or a font', () => {
+    for (const one of ['href="data:image/svg+xml,a"', 'url(\'\\64 ata:image/svg+xml,a\')', 'href="da&#xA;ta:image/svg+xml"', '"\\000064\nata:image/svg+xml"', '@import "data:text/css,a"', 'href=" data:text/html,a"', 'url(DATA:,a)']) assert.ok(hasDocument(one), one);
+    for (const one of ['href="data:image/png;base64,a"', 'href="data:image/jpeg,a"', 'url(data:font/woff2;base64,a)', 'url("data:application/x-font-woff;charset=utf-8;base64,a")', '<text>Map data: somebody</text>']) assert.ok(!hasDocument(one), one);
 });
 
 test('an image with few colours keeps them', () => {
