@@ -305,3 +305,27 @@ export async function noOldVerdict({ browser, url, folder }) {
     await page.press('Escape');
     await page.close();
 }
+
+// A drawing that the browser draws in seconds: masks of masks, 11,111 rectangles in all.
+const masked = (at) => (at < 0 ? '' : ` mask="url(#m${at})"`);
+const MASKS = [0, 1, 2, 3].map((at) => `<mask id="m${at}">${`<rect width="900" height="900" fill="white"${masked(at - 1)}/>`.repeat(10)}</mask>`).join('');
+
+/** While the browser draws a drawing, the page goes on. */
+export async function drawingApart({ browser, url, folder }) {
+    const { page } = await fresh(browser, url, folder, 'drawing-apart');
+    const drawing = `<svg xmlns="http://www.w3.org/2000/svg" width="900" height="900">${MASKS}<rect width="900" height="900" fill="red"${masked(3)}/></svg>`;
+    const { taken, longest } = await page.run(async (text) => {
+        const files = new DataTransfer();
+        files.items.add(new File([text], 'x.svg', { type: 'image/svg+xml' }));
+        const begun = performance.now();
+        window.dispatchEvent(new ClipboardEvent('paste', { clipboardData: files, bubbles: true }));
+        let [last, longest] = [begun, 0];
+        while (!document.querySelector('dialog[open] #import-facts') && !/too many elements/.test(document.getElementById('said').textContent)) {
+            await new Promise((go) => setTimeout(go, 20));
+            [longest, last] = [Math.max(longest, performance.now() - last), performance.now()];
+        }
+        return { taken: last - begun, longest };
+    }, drawing);
+    assert.ok(longest < taken / 3, `the page stood still for ${longest} of ${taken} ms`);
+    await page.close();
+}
