@@ -3,6 +3,8 @@
 /** The elements that a drawing may come to. */
 export const MOST_DRAWN = 20000;
 
+const MOST_ATTRIBUTES = 100; // of an element: to look at each takes the browser a time like the square of their number
+
 const GRADIENTS = new Set(['linearGradient', 'radialGradient']);
 const TARGETS = new Set(['pattern', 'marker', 'mask', 'clipPath', 'filter']); // drawn where an address names them
 const HIDDEN = new Set([...GRADIENTS, ...TARGETS, 'defs', 'symbol', 'style', 'script', 'title', 'desc', 'metadata']);
@@ -17,11 +19,14 @@ export const unescaped = (text) => text.replace(/\\([0-9a-f]{1,6})\s?/gi, (_, co
 
 const isLong = (text) => text.split(/[{;(\\]|\/\*/, MOST_DRAWN + 1).length > MOST_DRAWN; // CSS with more in it than is looked at
 
-// The addresses in plain CSS declarations, as [property, id].
+// An address of a property: the id as it is told, and without its escapes.
+const addressOf = (property, id) => [property, id.trim(), unescape(id.trim().replace(/[\t\n\r]/g, ''))];
+
+// The addresses in plain CSS declarations.
 function addressesIn(text) {
   return text.split(';').flatMap((one) => {
     const property = one.split(':', 1)[0].trim().toLowerCase();
-    return Array.from(one.matchAll(/url\([\s"']*#([^"')]+)/gi), ([, id]) => [property, id.trim()]);
+    return Array.from(one.matchAll(/url\([\s"']*#([^"')]+)/gi), ([, id]) => addressOf(property, id));
   });
 }
 
@@ -39,9 +44,10 @@ function rulesOf(sheets) {
 
 // Lists of the addresses of an element, by its attributes and by rules for its classes; null for one with more in it than is looked at.
 function* addressesOf(element, rules) {
+  if (element.attributes.length > MOST_ATTRIBUTES) yield null;
   for (const { localName, value } of element.attributes) {
     if (isLong(value)) yield null;
-    else if (localName === 'href' && element.localName !== 'a' && value.trim()[0] === '#') yield [['href', value.trim().slice(1)]];
+    else if (localName === 'href' && element.localName !== 'a' && value.trim()[0] === '#') yield [addressOf('href', value.trim().slice(1))];
     else if (localName === 'style' || STYLED.test(localName)) yield addressesIn(unescaped(uncommented(localName === 'style' ? value : `${localName}:${value}`)));
   }
   for (const name of new Set(['*', ...(element.getAttribute('class') ?? '').split(/\s+/)])) yield* rules.get(name) ?? [];
@@ -69,8 +75,8 @@ function partsOf(root) {
     for (const addresses of addressesOf(element, rules)) {
       left -= 1 + (addresses?.length ?? left);
       if (left < 0) return null;
-      for (const [property, id] of addresses) {
-        const target = ids.get(id) ?? ids.get(unescape(id.replace(/[\t\n\r]/g, '')));
+      for (const [property, id, plain] of addresses) {
+        const target = ids.get(id) ?? ids.get(plain);
         if (target && !GRADIENTS.has(target.localName)) (ONCE.test(property) ? own.plus : own.times).push(target);
       }
     }

@@ -145,6 +145,7 @@ test('no product of two numbers of a drawing is worked out before it is bounded'
     drawn(`<style>${'.a'.repeat(20000)}{fill:${urls}}</style>`);
     drawn(`<style>${Array.from({ length: 9000 }, (_, at) => `.a${at}`).join('')}{fill:${urls}}</style><rect class="${Array.from({ length: 9000 }, (_, at) => `a${at}`).join(' ')}"/>`);
     drawn(`<rect style="fill:${urls}${':'.repeat(2000000)}"/>`);
+    drawn(`<style>*{fill:url(#${'%41'.repeat(300000)})}</style>${'<rect/>'.repeat(15000)}`);
     assert.ok(process.cpuUsage().user - begun < 5e6 * Number(process.env.SLACK ?? 3), 'seconds');
 });
 
@@ -152,6 +153,7 @@ test('what the browser builds and does not draw counts too', () => {
     const within = (inside) => inside.map((uses, at) => `<g id="a${at + 1}"><defs>${uses}</defs></g>`).join('');
     assert.ok(drawn(`<defs>${within(Array.from({ length: 6 }, (_, at) => `<use href="#a${at}"/>`.repeat(10)))}</defs>`) > 20000);
     assert.equal(drawn('<defs><path/><path/></defs>'), 1);
+    for (const count of [100, 101]) assert.equal(drawn(`<path ${Array.from({ length: count }, (_, at) => `a${at}=""`).join(' ')}/>`), count > 100 ? Infinity : 2);
 });
 
 test('an address within a drawing is of pixels or a font', () => {
