@@ -18,6 +18,7 @@ import { saveArchive } from './archives.js';
 import { docsOfUnit, hasCertificate } from './beside.js';
 import { HEADS, Row } from './rows.js';
 
+const MOST_ROWS = 2000;
 const MOST_SECONDS = 30; // for a picture
 const MEND_SECONDS = 3; // for a search of repairs
 
@@ -29,10 +30,9 @@ async function rowsOf(units, imageDocs) {
     try {
       const { docs, left } = await docsOfUnit(unit, imageDocs);
       if (!docs.length) throw new FileFault(phrase('import.notPuzzleImageScaled'));
-      docs.forEach((doc, at) => {
-        const name = at ? `${own} ${at + 1}` : own;
-        rows.push(doc.fault ? new Row(name, null, faultText(doc.fault)) : new Row(name, doc));
-      });
+      const shown = docs.slice(0, Math.max(0, MOST_ROWS - rows.length));
+      for (const [at, doc] of shown.entries()) rows.push(new Row(at ? `${own} ${at + 1}` : own, doc.fault ? null : doc, doc.fault && faultText(doc.fault)));
+      if (shown.length < docs.length) rows.push(new Row(own, null, phrase('import.othersLeftOut', { most: MOST_ROWS })));
       for (const { name } of left) rows.push(new Row(name, null, phrase('import.noPictureGoes')));
     } catch (fault) {
       rows.push(new Row(unit.fault ? unit.file.name : own, null, faultText(fault)));

@@ -663,6 +663,7 @@ export const DE = /** @type {const} */ ({
   'import.given': '{cells|# Feld|# Felder} vorgegeben',
   'import.ofAll': '{count} von {all}',
   'import.noPictureGoes': 'hier ist kein Bild, zu dem sie gehört',
+  'import.othersLeftOut': 'mehr als {most} Rätsel: die übrigen bleiben weg',
   'import.severalOfName': 'ein Ordner oder mehrere Dateien heißen wie sie oder wie eine Datei, die zu ihr gehört',
   'import.otherBackground': 'ihr eigener Hintergrund ist nicht der aus der Datei neben ihr',
   'import.certificatesNotChecked': 'Zertifikate werden hier nicht geprüft: Öffnen Sie das Bild, und ziehen Sie sein Zertifikat auf die Seite.',

@@ -663,6 +663,7 @@ export const EN = /** @type {const} */ ({
   'import.given': '{cells|# cell|# cells} given',
   'import.ofAll': '{count} of {all}',
   'import.noPictureGoes': 'no picture here goes with it',
+  'import.othersLeftOut': 'more than {most} puzzles: the others are left out',
   'import.severalOfName': 'a folder or several files have its name, or that of a file that goes with it',
   'import.otherBackground': 'its own background is not that of the file beside it',
   'import.certificatesNotChecked': 'Certificates are not checked here: open the picture, and drop its certificate on the page.',

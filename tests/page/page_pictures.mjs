@@ -306,6 +306,13 @@ export async function noOldVerdict({ browser, url, folder }) {
     await page.close();
 }
 
+// Drops files, each a name and a text.
+const dropFiles = (page, files) => page.run((all) => {
+    const dataTransfer = new DataTransfer();
+    for (const [name, text] of all) dataTransfer.items.add(new File([text], name));
+    setTimeout(() => document.body.dispatchEvent(new DragEvent('drop', { dataTransfer, bubbles: true, cancelable: true })));
+}, files);
+
 // A drawing that the browser draws in seconds: masks of masks, 11,111 rectangles in all.
 const masked = (at) => (at < 0 ? '' : ` mask="url(#m${at})"`);
 const MASKS = [0, 1, 2, 3].map((at) => `<mask id="m${at}">${`<rect width="900" height="900" fill="white"${masked(at - 1)}/>`.repeat(10)}</mask>`).join('');
@@ -314,18 +321,29 @@ const MASKS = [0, 1, 2, 3].map((at) => `<mask id="m${at}">${`<rect width="900" h
 export async function drawingApart({ browser, url, folder }) {
     const { page } = await fresh(browser, url, folder, 'drawing-apart');
     const drawing = `<svg xmlns="http://www.w3.org/2000/svg" width="900" height="900">${MASKS}<rect width="900" height="900" fill="red"${masked(3)}/></svg>`;
-    const { taken, longest } = await page.run(async (text) => {
-        const files = new DataTransfer();
-        files.items.add(new File([text], 'x.svg', { type: 'image/svg+xml' }));
+    await dropFiles(page, [['x.svg', drawing]]);
+    const { taken, longest } = await page.run(async () => {
         const begun = performance.now();
-        window.dispatchEvent(new ClipboardEvent('paste', { clipboardData: files, bubbles: true }));
         let [last, longest] = [begun, 0];
         while (!document.querySelector('dialog[open] #import-facts') && !/too many elements/.test(document.getElementById('said').textContent)) {
             await new Promise((go) => setTimeout(go, 20));
             [longest, last] = [Math.max(longest, performance.now() - last), performance.now()];
         }
         return { taken: last - begun, longest };
-    }, drawing);
+    });
     assert.ok(longest < taken / 3, `the page stood still for ${longest} of ${taken} ms`);
+    await page.close();
+}
+
+/** A file of more puzzles than a table shows: the first are there, and the others are told. */
+export async function morePuzzlesThanRows({ browser, url, folder }) {
+    const { page } = await fresh(browser, url, folder, 'more-puzzles');
+    const line = (type) => `<clues type="${type}"><line><count>1</count></line></clues>`;
+    const one = `<puzzle><color name="black" char="X">000</color>${line('columns')}${line('rows')}<solution><image>|X|</image></solution></puzzle>`;
+    await dropFiles(page, [['many.xml', `<puzzleset>${one.repeat(2100)}</puzzleset>`], ['one.ppm', ppmOf(['a'])]]);
+    await page.until(() => document.querySelectorAll('#several tbody tr').length > 0, 20000 * SLACK);
+    const rows = await page.run(() => [...document.querySelectorAll('#several tbody tr')].slice(1999).map((row) => row.textContent));
+    assert.match(rows[0], /^many 2000/);
+    assert.deepEqual(rows[1], 'manymore than 2,000 puzzles: the others are left out');
     await page.close();
 }
