@@ -622,6 +622,19 @@ class Running(Case):
         self.assertEqual(nonobench.check(p3(LEARNT), certificates.unpacked(last[4]).encode()).givens, ())
         self.assertEqual({**json.loads(known[3]), **json.loads(last[3])}, json.loads(last[3]))
 
+    @pytest.mark.since("0.7.4")
+    def test_what_goes_to_workers_elsewhere_is_bounded(self):
+        # They hold it several times: packed, unpacked, and once more on its way to the process that judges.
+        place = self.put("one.ppm", p3(LEARNT))
+        for at in range(5):
+            with open(self.folder / f"{at}.cert", "wb") as file:
+                file.truncate(16 << 20)
+        beside = tuple((1, str(self.folder / f"{at}.cert")) for at in range(5))
+        task = serving.Task(0, "one.ppm", str(place), beside, None, None, None, "", 1, serving.FULL)
+        here, elsewhere = (serving.Settings("", "", 1024, 9_999, "white", False, is_sent) for is_sent in (False, True))
+        self.assertEqual(len(serving.files_of(task, here).beside), 5)
+        self.assertRaisesRegex(Unreadable, "^out of memory: more than 64 MiB$", serving.files_of, task, elsewhere)
+
     @pytest.mark.since("0.7.0")
     def test_a_note_that_a_certificate_was_not_written_goes_before_the_grade(self):
         answers = Answers()

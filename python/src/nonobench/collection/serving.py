@@ -30,6 +30,7 @@ FULL, GLANCE = 0, 1
 FEW_SPLITS = 100  # of a puzzle that took too long, to tell at least its size and what line logic leaves open
 SPARE = 8 << 20  # bytes
 DIES_WITH_PARENT = 1  # of prctl: PR_SET_PDEATHSIG
+MOST_SENT = 64  # MiB of a file with what lies beside it that go to workers elsewhere, which hold them several times
 
 File = Union[str, bytes]
 
@@ -344,7 +345,8 @@ def files_of(task: Task, settings: Settings) -> Files:
     """The bytes of a task's files. Raises Unreadable, which names what lies beside the file where that is not read. All together
     they are no more than the memory that judges them.
     """
-    room = settings.memory << 20
+    most = min(settings.memory, MOST_SENT) if settings.is_inline else settings.memory
+    room = most << 20
 
     def bytes_of(file: Optional[File], whose: str = "", is_ours: bool = not settings.is_untrusted) -> bytes:
         nonlocal room
@@ -356,7 +358,7 @@ def files_of(task: Task, settings: Settings) -> Files:
             raise Unreadable(f"{whose}{error}") from error
         room -= len(data)
         if room < 0:
-            raise Unreadable(f"out of memory: more than {settings.memory} MiB")
+            raise Unreadable(f"out of memory: more than {most} MiB")
         return data
 
     def made(file: File) -> bytes:
