@@ -649,7 +649,10 @@ class Strangers(Case):
         with unittest.mock.patch.object(arguments, "is_behind_link", return_value=False), contextlib.redirect_stderr(io.StringIO()) as said:
             self.assertEqual(running.main([str(self.site), "--untrusted", "--quiet", "--csv", str(self.site / "rows")]), 3)
         self.assertIn("Too many levels of symbolic links", said.getvalue())
-        self.assertEqual(kept.read_text(), "")
+        with unittest.mock.patch.object(arguments, "is_behind_link", return_value=False), contextlib.redirect_stderr(io.StringIO()):
+            for option in (*options, "--certify", "--ppm"):
+                self.assertEqual(running.main([str(self.site), "--untrusted", "--quiet", "--jobs", "1", option, str(self.site / "sub" / "x")]), 3, option)
+        self.assertEqual((kept.read_text(), os.listdir(secret)), ("", []))
         for name in ("mine", "/dev/stdout"):
             self.run_audit("site", "--untrusted", "--csv", name, status=0)
         self.assertIn("site/one.ppm", kept.read_text())

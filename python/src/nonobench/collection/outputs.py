@@ -14,6 +14,7 @@ import time
 from array import array
 from typing import Any, BinaryIO, Callable, ContextManager, Iterator, Optional, Union
 
+from .certificates import opened
 from .rows import COLUMNS, HEAD, Row, csv_cells, table_line
 
 SOME = 1 << 16  # bytes that are written together
@@ -48,13 +49,17 @@ def locked(name: str, file: Union[BinaryIO, int], is_shared: bool = False) -> No
         pass  # a system of files without locks
 
 
-def kept_folder(name: str, is_shared: bool) -> int:
-    """Makes a folder where there is none, and keeps other runs from writing to it, as long as the handle is open."""
-    with telling(name):
-        os.makedirs(name, exist_ok=True)
-        if not os.access(name, os.W_OK | os.X_OK):
+def kept_folder(name: str, is_shared: bool, has_no_link: bool) -> int:
+    """Makes a folder where there is none, and keeps other runs from writing to it, as long as the handle is open. An absolute path may be
+    one without a link.
+    """
+    with telling(name), contextlib.ExitStack() as stack:
+        if not has_no_link:
+            os.makedirs(name, exist_ok=True)
+        place = f"/proc/self/fd/{stack.enter_context(opened(name))}" if has_no_link else name
+        if not os.access(place, os.W_OK | os.X_OK):
             raise PermissionError(errno.EACCES, os.strerror(errno.EACCES))
-        handle = os.open(name, os.O_RDONLY | os.O_DIRECTORY | os.O_CLOEXEC)
+        handle = os.open(place, os.O_RDONLY | os.O_DIRECTORY | os.O_CLOEXEC)
     locked(name, handle, is_shared)
     return handle
 

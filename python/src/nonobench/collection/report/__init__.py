@@ -32,7 +32,7 @@ class Report(Sink):
         self._title = title
         self._tally = tally
         super().__init__(Output(f"{name}.new", folder=folder, is_new=True))
-        self._rows = tempfile.TemporaryFile(dir=os.path.dirname(name) or ".")
+        self._rows = tempfile.TemporaryFile(dir=(os.path.dirname(name) or ".") if folder is None else f"/proc/self/fd/{folder}")
         self._sides: Counter[tuple[int, str]] = Counter()
 
     def put(self, text: str, row: Row) -> None:
