@@ -13,6 +13,7 @@ import { recordOfDoc } from '../library/records.js';
 import { download } from '../library/saving.js';
 import { LANGUAGE, phrase } from '../texts/phrase.js';
 import { openDialog } from '../view/dialogs.js';
+import { Progress } from '../view/progress.js';
 import { secondsChosen } from '../view/verdict.js';
 import { saveArchive } from './archives.js';
 import { docsOfUnit, hasCertificate } from './beside.js';
@@ -22,10 +23,11 @@ const MOST_ROWS = 2000;
 const MOST_SECONDS = 30; // for a picture
 const MEND_SECONDS = 3; // for a search of repairs
 
-/** The rows of units: one for each picture, read or not, and one for each file that none is read from. */
-async function rowsOf(units, imageDocs) {
+/** The rows of units, until the user stops it: one for each picture, read or not, and one for each file that none is read from. */
+async function rowsOf(units, imageDocs, progress) {
   const rows = [];
-  for (const unit of units) {
+  for (const [at, unit] of units.entries()) {
+    if (!(await progress.goesOn(phrase('import.filesRead', { at, count: units.length })))) break;
     const own = bareName(unit.file.name);
     try {
       const { docs, left } = await docsOfUnit(unit, imageDocs);
@@ -139,9 +141,9 @@ class Table {
 
 /** Shows the units of several files in a table; `imageDocs` is as for docsOfUnit. */
 export async function takeSeveral(units, imageDocs) {
-  say(`${phrase('import.files', { files: units.length })} …`);
-  const rows = await rowsOf(units, imageDocs);
-  say('');
+  const progress = new Progress(phrase('import.files', { files: units.length }), '');
+  const rows = await rowsOf(units, imageDocs, progress);
+  progress.end();
   return showRows(rows, units.some(hasCertificate) ? [make('p', { class: 'faint' }, phrase('import.certificatesNotChecked'))] : []);
 }
 
