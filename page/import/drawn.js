@@ -71,7 +71,8 @@ function partsOf(root) {
   let left = 50 * MOST_DRAWN;
   for (const element of all) {
     const own = parts.get(element);
-    left -= own.inherited.length;
+    left -= own.inherited.length + (element.getAttribute('class') ?? '').length / 2; // as many names at most
+    if (left < 0) return null;
     for (const addresses of addressesOf(element, rules)) {
       left -= 1 + (addresses?.length ?? left);
       if (left < 0) return null;

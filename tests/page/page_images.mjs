@@ -153,6 +153,7 @@ test('what the browser builds and does not draw counts too', () => {
     const within = (inside) => inside.map((uses, at) => `<g id="a${at + 1}"><defs>${uses}</defs></g>`).join('');
     assert.ok(drawn(`<defs>${within(Array.from({ length: 6 }, (_, at) => `<use href="#a${at}"/>`.repeat(10)))}</defs>`) > 20000);
     assert.equal(drawn('<defs><path/><path/></defs>'), 1);
+    for (const count of [10000, 10000000]) assert.equal(drawn(`<path class="${'a'.repeat(count)}"/>`), count > 10000 ? Infinity : 2);
     for (const count of [100, 101]) assert.equal(drawn(`<path ${Array.from({ length: count }, (_, at) => `a${at}=""`).join(' ')}/>`), count > 100 ? Infinity : 2);
 });
 
