@@ -6,7 +6,7 @@ import { oklabOf } from '../../page/document/colours.js';
 import { dotSize, kindOfFile, scaledTo, sizeOfImage } from '../../page/import/images.js';
 import { drawnOf } from '../../page/import/drawn.js';
 import { readXml } from '../../page/formats/xml.js';
-import { hasDocument, sizeOfSvg } from '../../page/import/svg.js';
+import { hasDocument, sizeOfSvg } from '../../page/import/drawing.js';
 import { withoutMargin } from '../../page/import/proposing.js';
 import { withoutSpecks, dithered } from '../../page/import/cells.js';
 import { flatPalette, isFlat } from '../../page/import/flat.js';
