@@ -169,6 +169,8 @@ static void test_places(void) {
 
 /* A black cell, the only picture with its clues. */
 static const char TILE[] = "P3 1 1 1 0 0 0";
+/* One solution, of which line logic leaves cells open: a proof is searched for. */
+static const char OPEN[] = "P3 2 5 1 0 0 0 1 1 1 1 1 1 0 0 0 1 1 1 0 0 0 1 1 1 0 0 0 0 0 0 1 1 1";
 
 /* Certificates that are made, and checked again. What both calls answer to pictures with and without another one. */
 static void test_certificates(void) {
@@ -412,6 +414,8 @@ static void *call_each(void *given) {
     *holds = *holds && nonobench_certify(TILE, strlen(TILE), NULL, &found, NULL) == NONOBENCH_DONE && found.certificate;
     free(found.certificate);
     *holds = *holds && nonobench_prove_picture(TILE, strlen(TILE), NULL, &found, NULL) == NONOBENCH_DONE && found.certificate;
+    free(found.certificate);
+    *holds = *holds && nonobench_prove_picture(OPEN, strlen(OPEN), NULL, &found, NULL) == NONOBENCH_DONE && found.certificate;
     free(found.certificate);
     free(picture);
     return NULL;

@@ -87,10 +87,13 @@ function sizeOfBmp(bytes) {
   return [18, 22].map((at) => Math.abs(view.getInt32(at, true)));
 }
 
-// The size of an AVIF: that of the largest of its items, by their properties `ispe`.
+// The size of an AVIF: that of the largest of its items, by their properties `ispe`; null where they are not at hand, or it is a sequence.
 function sizeOfAvif(bytes) {
-  let size = null;
-  for (let at = bytes.indexOf(0x69); at >= 0 && at + 16 <= bytes.length; at = bytes.indexOf(0x69, at + 1)) {
+  let [at, size] = [0, null];
+  while (at + 8 <= bytes.length && !bytesBegin(bytes, 'meta', at + 4)) at += Math.max(8, fourAt(bytes, at));
+  const end = at + fourAt(bytes, at);
+  if (!(end <= bytes.length) || bytesBegin(bytes, 'avis', 8)) return null;
+  for (at = bytes.indexOf(0x69, at); at >= 0 && at + 16 <= end; at = bytes.indexOf(0x69, at + 1)) {
     if (!bytesBegin(bytes, 'ispe', at)) continue;
     const found = [fourAt(bytes, at + 8), fourAt(bytes, at + 12)];
     if (!size || found[0] * found[1] > size[0] * size[1]) size = found;

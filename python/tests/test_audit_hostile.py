@@ -652,7 +652,13 @@ class Strangers(Case):
         with unittest.mock.patch.object(arguments, "is_behind_link", return_value=False), contextlib.redirect_stderr(io.StringIO()):
             for option in (*options, "--certify", "--ppm"):
                 self.assertEqual(running.main([str(self.site), "--untrusted", "--quiet", "--jobs", "1", option, str(self.site / "sub" / "x")]), 3, option)
+        with unittest.mock.patch.object(arguments, "is_behind_link", return_value=False), contextlib.redirect_stderr(io.StringIO()):
+            for option in (*options, "--certify"):  # also by a way of the operator's own
+                self.assertEqual(running.main([str(self.site), "--untrusted", "--quiet", "--jobs", "1", option, str(self.folder / "way" / "sub" / "x")]), 3, option)
         self.assertEqual((kept.read_text(), os.listdir(secret)), ("", []))
+        os.link(kept, self.site / "linked")
+        for option in options[:2]:
+            self.assertIn("site/linked: it has other names, too", self.run_audit("site", "--untrusted", option, "site/linked", status=3).stderr)
         for name in ("mine", "/dev/stdout"):
             self.run_audit("site", "--untrusted", "--csv", name, status=0)
         self.assertIn("site/one.ppm", kept.read_text())

@@ -81,7 +81,10 @@ test('sizes in the heads of files', () => {
     assert.deepEqual([sizeOfImage(bmp([3, 1, 0, 0], [2, 0, 0, 0]), 'bmp'), sizeOfImage(bmp([3, 0, 0, 0], [254, 255, 255, 255]), 'bmp')], [[259, 2], [3, 2]]);
     assert.deepEqual(sizeOfImage(bytes('BM', Array(12).fill(0), [12, 0, 0, 0, 9, 1, 7, 0]), 'bmp'), [265, 7]);
     const ispe = (wide, high) => ['ispe', [0, 0, 0, 0, 0, 0, 0, wide, 0, 0, 0, high]];
-    assert.deepEqual(sizeOfImage(bytes([0, 0, 0, 28], 'ftypavif', Array(16).fill(0), [0, 0, 0, 20], ...ispe(8, 4), [0, 0, 0, 20], ...ispe(90, 70)), 'avif'), [90, 70]);
+    const avif = (length, ...before) => bytes([0, 0, 0, 28], 'ftypavif', Array(16).fill(0), ...before, [0, 0, 0, length], 'meta', [0, 0, 0, 20], ...ispe(8, 4), [0, 0, 0, 20], ...ispe(90, 70));
+    assert.deepEqual(sizeOfImage(avif(48), 'avif'), [90, 70]);
+    assert.deepEqual(sizeOfImage(avif(48, [0, 0, 0, 28], 'free', [0, 0, 0, 20], ...ispe(2, 2)), 'avif'), [90, 70]);
+    assert.equal(sizeOfImage(avif(200), 'avif'), null);
     assert.equal(sizeOfImage(bytes([0, 0, 0, 28], 'ftypavif', Array(16).fill(0)), 'avif'), null);
     assert.equal(sizeOfImage(new Uint8Array(3), 'png'), null);
 });

@@ -12,7 +12,7 @@ from typing import Optional, Sequence
 
 from .._answers import FLAW_KINDS
 from .._library import version
-from .finding import ENDINGS, MADE, SUFFIXES, find, folders_of, front_of, is_among, is_behind_link, place_among, real_place, unreached, without_nested
+from .finding import ENDINGS, MADE, SUFFIXES, find, folders_of, front_of, is_among, is_behind_link, place_among, unreached, without_nested
 from .readers import ground_of
 
 _ENDINGS = frozenset((*SUFFIXES, ".givens", ".background", *(f".{ending}" for ending in ENDINGS)))
@@ -105,7 +105,7 @@ def _hold_outputs(parser: argparse.ArgumentParser, told: argparse.Namespace) -> 
     folders = folders_of(told.paths)
     files = [name for name in (told.jsonl, told.csv, told.html) if name not in (None, "-")]
     wanted = [name for name in (*files, told.certify, told.publish) if name is not None]
-    places = {name: place_among(name, told.paths) or (real_place(name) if is_among(name, folders) else None) for name in wanted}
+    places = {name: place_among(name, folders) for name in wanted}
     for name in wanted:
         if is_behind_link(name, folders):
             parser.error(f"{name!r} is a link in a folder of strangers, or lies behind one")

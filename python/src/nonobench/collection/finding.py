@@ -131,12 +131,13 @@ def is_among(name: str, folders: Names) -> bool:
     return any(str(way) in folders for way in (place, *place.parents))
 
 
-def place_among(name: str, paths: list[str]) -> Optional[str]:
-    """Where a name leads in one of the folders of paths, if it does: its letters tell, since what is a folder now may soon be a link."""
-    place = os.path.abspath(name)
-    for outer in (os.path.abspath(path if os.path.isdir(path) else os.path.dirname(path)) for path in paths):
-        if _is_within(place, outer):
-            return os.path.normpath(os.path.join(os.path.realpath(outer), os.path.relpath(place, outer)))
+def place_among(name: str, folders: Names) -> Optional[str]:
+    """Where a name leads in one of real folders, if it does. From there on its letters tell: what is a folder now may soon be a link."""
+    place = Path(os.path.abspath(name))
+    for way in reversed((place, *place.parents)):
+        real = os.path.realpath(way)
+        if real in folders:
+            return os.path.normpath(os.path.join(real, place.relative_to(way)))
     return None
 
 

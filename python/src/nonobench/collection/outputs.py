@@ -113,6 +113,8 @@ class Output:
                 os.unlink(self._way(name), dir_fd=folder)
                 self.file.close()
                 self._open(os.O_NOFOLLOW | os.O_EXCL)
+            elif folder is not None and os.fstat(self.file.fileno()).st_nlink > 1:  # strangers may name a file of the operator's
+                raise Failure(f"{name}: it has other names, too")
             self._is_old = not keeps and is_regular(self.file)
 
     def _way(self, name: str) -> str:
