@@ -1,7 +1,7 @@
 // A certificate that comes in: checked against the picture at hand by the proved checker.
 
 import { say } from '../base/elements.js';
-import { columnOf, rowOf } from '../document/document.js';
+import { columnOf, docOf, rowOf, sameDoc } from '../document/document.js';
 import { plainOf } from '../engine/assessing.js';
 import { bench } from '../engine/bench.js';
 import { startEngine } from '../engine/client.js';
@@ -37,14 +37,16 @@ export async function checkedCertificate(certificate, doc, engine = startEngine(
   }
 }
 
-/** Checks a certificate against the picture at hand, and tells what came of it. */
+/** Checks a certificate against the picture at hand, and tells what came of it, unless another one is at hand by then. */
 export async function takeCertificate(certificate, name) {
   if (!bench.state) {
     say(phrase('import.certificateOpenPictureFirst', { name }), 'alarm');
     return false;
   }
   await asSeen();
-  const { proves, text } = await checkedCertificate(certificate, bench.state);
+  const doc = docOf(bench.state);
+  const { proves, text } = await checkedCertificate(certificate, doc);
+  if (!bench.state || !sameDoc(doc, bench.state)) return false;
   say(`${proves ? '✓ ' : ''}${phrase('import.certificateSays', { name, text })}`, proves ? '' : 'alarm');
   return proves;
 }

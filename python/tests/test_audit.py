@@ -634,6 +634,9 @@ class Running(Case):
         here, elsewhere = (serving.Settings("", "", 1024, 9_999, "white", False, is_sent) for is_sent in (False, True))
         self.assertEqual(len(serving.files_of(task, here).beside), 5)
         self.assertRaisesRegex(Unreadable, "^out of memory: more than 64 MiB$", serving.files_of, task, elsewhere)
+        kept = tuple((number, "", file) for number, file in beside)  # those that were made before are made again
+        files = serving.files_of(task._replace(beside=(), kept=kept), elsewhere)
+        self.assertEqual([len(held) >> 20 for *_, held in files.kept], [16, 16, 16, 0, 0])
 
     @pytest.mark.since("0.7.0")
     def test_a_note_that_a_certificate_was_not_written_goes_before_the_grade(self):

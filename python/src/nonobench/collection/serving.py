@@ -362,8 +362,11 @@ def files_of(task: Task, settings: Settings) -> Files:
         return data
 
     def made(file: File) -> bytes:
+        nonlocal room
+        left = room
         with contextlib.suppress(Unreadable):
             return bytes_of(file, is_ours=True)
+        room = left
         return b""  # it is made again
 
     if task.why:
@@ -372,8 +375,8 @@ def files_of(task: Task, settings: Settings) -> Files:
     givens, background = (
         None if file is None else bytes_of(file, f"its {name}: ") for name, file in (("givens", task.givens), ("background", task.background))
     )
-    kept = tuple((number, text, made(held)) for number, text, held in task.kept)
-    return Files(bytes_of(task.file), beside, givens, background, kept)
+    file = bytes_of(task.file)
+    return Files(file, beside, givens, background, tuple((number, text, made(held)) for number, text, held in task.kept))
 
 
 def _content(files: Files, sha256: str) -> str:
