@@ -66,7 +66,7 @@ STATED = [
     ('docs/FORMATS.md', 'dg dg + (N - s) db db', 1, [(REDMEAN, r'\+ weighted\((?=1)')]),
     ('docs/FORMATS.md', 'a PPM picture N pixels a side', 1, [('page/formats/ppm.js', 'MOST_PIXELS =')]),
     ('docs/FORMATS.md', 'MiB, and N pixels by its header', 1, [('page/import/decoding.js', 'MOST_DECODED =')]),
-    ('docs/FORMATS.md', 'Images of more than N pixels a side', 1, [('page/import/decoding.js', 'MOST_SIDE =')]),
+    ('docs/FORMATS.md', 'Images above N pixels a side', 1, [('page/import/decoding.js', 'MOST_SIDE =')]),
     ('docs/FORMATS.md', 'and draws at most N elements', 1, [('page/import/drawn.js', 'MOST_DRAWN =')]),
     (
         'docs/FORMATS.md',
