@@ -35,7 +35,7 @@ extern "C" {
 
 /* How many bytes of stack a call needs at the most, whatever it is passed: measured, not proved. Half of that is too little for some
  * calls, and then the system ends the process. Threads have more unless they ask for less. */
-#define NONOBENCH_STACK ((size_t)131072)
+#define NONOBENCH_STACK ((size_t)196608)
 
 /* What a call answers. */
 enum {

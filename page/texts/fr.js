@@ -663,7 +663,7 @@ export const FR = /** @type {const} */ ({
   'import.given': '{cells|# case donnée|# de cases données|# cases données}',
   'import.ofAll': '{count} sur {all}',
   'import.noPictureGoes': 'aucune image ici ne va avec',
-  'import.othersLeftOut': 'plus de {most} grilles : les autres sont laissées de côté',
+  'import.othersLeftOut': 'plus de {most} grilles : les autres sont laissées de côté',
   'import.severalOfName': 'un dossier ou plusieurs fichiers ont son nom, ou celui d’un fichier qui va avec',
   'import.otherBackground': 'son propre fond n’est pas celui du fichier à côté',
   'import.certificatesNotChecked': 'Les certificats ne sont pas vérifiés ici : ouvrez l’image, puis déposez son certificat sur la page.',

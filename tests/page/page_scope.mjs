@@ -46,19 +46,21 @@ test('no room that writes files or sheets works out clues: those are the engine\
     assert.deepEqual(given, ['readWebpbnSet', 'readWebpbn'], 'what compares a file\'s clues with its picture stays there');
 });
 
-test('each module is reached from main or the worker', () => {
+const ENTRIES = ['main.js', 'engine/worker.js', 'import/frame.js']; // of the page, of the worker, and of the frame in which drawings are drawn
+
+test('each module is reached from main, the worker or the frame', () => {
     const reached = new Set();
     const go = (file) => {
         if (reached.has(file) || file.startsWith('..')) return;
         reached.add(file);
         for (const other of importsOf(file)) go(fileOf(file, other));
     };
-    for (const first of ['main.js', 'engine/worker.js']) go(first);
+    for (const first of ENTRIES) go(first);
     assert.deepEqual(modules.filter((file) => !reached.has(file) && dirname(file) !== 'repair'), []);
 });
 
 test('what is worked out without a document is imported without one', async () => {
-    for (const file of modules.filter((one) => ['texts', 'base', 'document', 'formats', 'engine', 'repair', 'library', 'import'].includes(dirname(one)) && one !== 'engine/worker.js')) {
+    for (const file of modules.filter((one) => ['texts', 'base', 'document', 'formats', 'engine', 'repair', 'library', 'import'].includes(dirname(one)) && !ENTRIES.includes(one))) {
         await import(join(page, file));
     }
 });

@@ -16,7 +16,7 @@ HERE = Path(__file__).parent
 CROSS = 'P3\n2 2\n1\n0 0 0 1 1 1\n1 1 1 0 0 0\n'
 ALL_GIVEN = 'nonocert 2\ngiven 1 1\ngiven 1 2\ngiven 2 1\ngiven 2 2\ndone\n'
 # How many bytes of stack are left for some calls: with those of the header they are done (Windows keeps some for itself).
-STACKS = (512, 2048, 5000, 9000, 15000, 25000, 131072 + 32768)
+STACKS = (512, 2048, 5000, 9000, 15000, 25000, 196608 + 32768)
 # Linux ends the process by a signal, and Windows by an exception; 8 is said where wine ends the thread alone (stack.c).
 ENDED_BY_OVERFLOW = {-signal.SIGSEGV, 0xC00000FD & 0xFF, 0xC0000005 & 0xFF, 8}
 # How many pictures are made by chance.
