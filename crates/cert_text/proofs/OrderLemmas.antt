@@ -5,7 +5,7 @@ use Rattle.std.specs.List.{AllByRecursion}
 use Rattle.std.proofs.lemmas.List.{append-nil, length-take-le, take_more}
 use Rattle.picture.proofs.ColourLaws.{every_append}
 use Rattle.cert_text.specs.declared.cert_line.CertLine.{CertLine}
-use Rattle.cert_text.specs.Cert.{AreOrdered, AreRuns, IsRun, ShareWord, rank}
+use Rattle.cert_text.specs.Cert.{AreLongest, AreOrdered, AreRuns, IsLongest, IsRun, ShareWord, rank}
 use Rattle.cert_text.specs.declared.cert_line.CellNumber.{CellNumber}
 
 -- all cells are in order exactly if those that are left are, from a rank on
@@ -54,6 +54,34 @@ run_more (step ∷ steps) (suc k) d some l few s r =
     let next : suc (k + 1) ≡ suc k + 1 = omega arith in
     subst (λ (n : ℕ). IsRun (take n (step ∷ steps))) next (omega (arith, few, length-take-le (k + 1) steps (omega (arith, short))), all)
 
+last_of_all : (P : CertLine → Type 0) (steps : List CertLine) (last : CertLine) → AllByRecursion P (steps ++ last ∷ []) → P last
+last_of_all P [] last all = all.0
+last_of_all P (step ∷ steps) last all = last_of_all P steps last all.1
+
+module _ (step : CertLine) (steps : List CertLine) (k : ℕ) (l : k < length steps) where
+  all_next : IsRun (take (suc k + 1) (step ∷ steps)) → IsRun (take (suc (k + 1)) (step ∷ steps))
+  all_next r = let next : suc k + 1 ≡ suc (k + 1) = omega arith in subst (λ (n : ℕ). IsRun (take n (step ∷ steps))) next r
+
+  next_fits : IsRun (take (suc k + 1) (step ∷ steps)) → suc k < 1000
+  next_fits r = omega (arith, (all_next r).0, length-take-le (k + 1) steps (omega (arith, l)))
+
+  next_shares : (d : CertLine) → IsRun (take (suc k + 1) (step ∷ steps)) → ShareWord step (get_or steps k d)
+  next_shares d r = last_of_all (ShareWord step) (take k steps) (get_or steps k d)
+      (subst (λ (ss : List CertLine). AllByRecursion (ShareWord step) ss) (take_more steps k d l) (all_next r).1)
+
+-- a run that has one step more has room for it
+pub run_fits : (steps : List CertLine) (count : ℕ) → 0 < count → count < length steps → IsRun (take (count + 1) steps) → count < 1000
+run_fits [] count some l r = absurd (omega (arith, l))
+run_fits (step ∷ steps) zero some l r = absurd (omega (arith, some))
+run_fits (step ∷ steps) (suc k) some l r = next_fits step steps k (omega (arith, l)) r
+
+-- and that step shares the word of the first
+pub run_shares : (steps : List CertLine) (count : ℕ) (d : CertLine) → 0 < count → count < length steps → IsRun (take (count + 1) steps)
+    → ShareWord (get_or steps 0 d) (get_or steps count d)
+run_shares [] count d some l r = absurd (omega (arith, l))
+run_shares (step ∷ steps) zero d some l r = absurd (omega (arith, some))
+run_shares (step ∷ steps) (suc k) d some l r = next_shares step steps k (omega (arith, l)) d r
+
 -- the runs so far, and one more
 pub runs_more : (runs : List ℕ) (run : ℕ) (rest steps : List CertLine) → run ≤ length rest → IsRun (take run rest) → ((more : List ℕ) → AreRuns more rest → AreRuns (runs ++ more) steps)
     → (more : List ℕ) → AreRuns more (drop run rest) → AreRuns ((runs ++ run ∷ []) ++ more) steps
@@ -63,3 +91,11 @@ runs_more runs run rest steps l r so_far more m = rw append_assoc (so_far (run �
 pub runs_end : (runs : List ℕ) (rest steps : List CertLine) → length rest ≡ 0 → ((more : List ℕ) → AreRuns more rest → AreRuns (runs ++ more) steps) → AreRuns runs steps
 runs_end runs [] steps e so_far = subst (λ (ns : List ℕ). AreRuns ns steps) (append-nil runs) (so_far [] refl)
 runs_end runs (step ∷ rest) steps e so_far = absurd (omega (arith, e))
+
+-- runs that are as long as they can be, so far
+pub longest_more : (runs : List ℕ) (run : ℕ) (rest steps : List CertLine) → IsLongest run rest → ((more : List ℕ) → AreLongest more rest → AreLongest (runs ++ more) steps)
+    → (more : List ℕ) → AreLongest more (drop run rest) → AreLongest ((runs ++ run ∷ []) ++ more) steps
+longest_more runs run rest steps l so_far more m = rw append_assoc (so_far (run ∷ more) (l, m))
+
+pub longest_end : (runs : List ℕ) (rest steps : List CertLine) → ((more : List ℕ) → AreLongest more rest → AreLongest (runs ++ more) steps) → AreLongest runs steps
+longest_end runs rest steps so_far = subst (λ (ns : List ℕ). AreLongest ns steps) (append-nil runs) (so_far [] tt)

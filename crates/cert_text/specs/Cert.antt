@@ -80,6 +80,15 @@ abbrev pub AreRuns : List ℕ → List CertLine → Type 0
 AreRuns [] steps = steps ≡ []
 AreRuns (run ∷ runs) steps = (run ≤ length steps) × IsRun (take run steps) × AreRuns runs (drop run steps)
 
+-- the run that steps begin with cannot take the step behind it
+abbrev pub IsLongest : ℕ → List CertLine → Type 0
+IsLongest run steps = run < length steps → IsRun (take (run + 1) steps) → ⊥
+
+-- each run is as long as a line can have it
+abbrev pub AreLongest : List ℕ → List CertLine → Type 0
+AreLongest [] steps = Unit {0}
+AreLongest (run ∷ runs) steps = IsLongest run steps × AreLongest runs (drop run steps)
+
 abbrev pub HasRuns : Form → List ℕ → List CertLine → Type 0
 HasRuns LemmaRuns runs steps = AreRuns runs steps
 HasRuns _ runs steps = runs ≡ []

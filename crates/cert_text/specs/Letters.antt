@@ -1,6 +1,6 @@
 -- Colours by their letters.
-use Rattle.std.specs.Prelude.{◌≡◌, ℕ, ◌+◌, ◌-◌, ◌^◌, ◌&&◌, bit_and, List, [], ◌∷◌, codes, Option, None, Some, nat_le}
-use Rattle.std.specs.Prelude.{◌==◌, if◌then◌else◌, refl}
+use Rattle.std.specs.Prelude.{ℕ, ◌+◌, ◌-◌, ◌^◌, ◌&&◌, bit_and, List, [], ◌∷◌, Option, None, Some, nat_le}
+use Rattle.std.specs.Prelude.{◌==◌, if◌then◌else◌}
 use Rattle.std.specs.List.{flat_map, range_with_len}
 use Rattle.picture.specs.Numbers.{has_byte}
 
@@ -32,17 +32,3 @@ letter_where colours k = if bit_and colours (2 ^ k) == 0 then [] else letter k �
 
 abbrev pub letters_text : ℕ → List ℕ
 letters_text colours = flat_map (letter_where colours) (range_with_len 0 16)
-
--- ---- worked words
-
-reads_letters : colours_named (codes ".bo") ≡ Some 32773
-unfolding colours_behind
-reads_letters = refl
-
-letters_rise : colours_named (codes "ba") ≡ None
-unfolding colours_behind
-letters_rise = refl
-
-none_twice : colours_named (codes "aa") ≡ None
-unfolding colours_behind
-none_twice = refl

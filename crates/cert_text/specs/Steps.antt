@@ -1,9 +1,7 @@
 -- The steps that a line of a certificate's text has, below the givens.
 use Rattle.std.specs.Prelude.{◌≡◌, ℕ, List, [], ◌∷◌, length, codes, Option, None, Some, option_and_then, option_map}
-use Rattle.std.specs.Prelude.{◌++◌, nat_le, if◌then◌else◌, refl}
+use Rattle.std.specs.Prelude.{◌++◌, nat_le, if◌then◌else◌}
 use Rattle.std.specs.Borrow.{Bor}
-use Rattle.picture.specs.Numbers.{number_spelled, value_after}
-use Rattle.picture.specs.declared.line_id.Axis.TheVariants.{Across, Down}
 use Rattle.cert_text.specs.declared.cert_line.CertLine.{CertLine}
 use Rattle.cert_text.specs.declared.cert_line.CertLine.TheVariants.{Line, Use, Split, Dead, Broken, Done, Part, Lemma}
 use Rattle.cert_text.specs.declared.cert_line.CertLine.TheVariants.{Deny, Forget}
@@ -12,7 +10,7 @@ use Rattle.cert_text.specs.declared.form.Form.TheVariants.{Tree, GivenTree, Lemm
 use Rattle.cert_text.specs.declared.runs.RunWord.{RunWord}
 use Rattle.cert_text.specs.declared.runs.RunWord.TheVariants.{Lines, Uses, Forgets}
 use Rattle.cert_text.specs.Cert.{AreOfForm, IsRun}
-use Rattle.cert_text.specs.Text.{cell_named, is_word, joined_named, lemma_named, line_named, line_number}
+use Rattle.cert_text.specs.Text.{cell_named, is_word, joined_named, lemma_named, line_named}
 use Rattle.cert_text.specs.Text.{literal_named}
 use Rattle.cert_text.specs.Text.{three_of, words_of}
 
@@ -138,45 +136,3 @@ abbrev pub IsPushed : Form → Option (List CertLine) → List CertLine → List
 IsPushed form steps old new None = steps ≡ None
 IsPushed form steps old new (Some n) = (pushed : List CertLine) × ((steps ≡ Some pushed) × (new ≡ old ++ pushed)
     × (n ≡ length pushed) × AreOfForm form pushed × IsRun pushed)
-
--- ---- worked lines
-
-reads_line : tree_line (codes "line r 3") ≡ Some (Line (line_number Across 3))
-unfolding tree_line number_spelled value_after
-reads_line = refl
-
-refuses_leading_zero : tree_line (codes "line r 01") ≡ None
-unfolding tree_line number_spelled value_after
-refuses_leading_zero = refl
-
-takes_nought : tree_line (codes "line r 0") ≡ Some (Line (line_number Across 0))
-unfolding tree_line number_spelled value_after
-takes_nought = refl
-
-refuses_four_digits : tree_line (codes "line r 1000") ≡ None
-unfolding tree_line number_spelled value_after
-refuses_four_digits = refl
-
-reads_use : lemma_line (codes "use 70") ≡ Some (Use 70)
-unfolding lemma_line number_spelled value_after
-reads_use = refl
-
-refuses_large : lemma_line (codes "use 65536") ≡ None
-unfolding lemma_line number_spelled value_after
-refuses_large = refl
-
-refuses_six_words : lemma_line (codes "part 1 2 a b c") ≡ None
-unfolding lemma_line
-refuses_six_words = refl
-
-reads_lines : run_line (codes "line r12 c7") ≡ Some (Line (line_number Across 12) ∷ Line (line_number Down 7) ∷ [])
-unfolding run_line each_named number_spelled value_after
-reads_lines = refl
-
-refuses_apart : run_line (codes "line r 12") ≡ None
-unfolding run_line each_named number_spelled value_after
-refuses_apart = refl
-
-reads_dead : run_line (codes "dead l 3") ≡ Some (Broken 3 ∷ [])
-unfolding run_line each_named number_spelled value_after
-reads_dead = refl

@@ -2,7 +2,7 @@
 
 ghost use Rattle.std.specs.Prelude.{◌≡◌, ◌+◌, ◌<◌, ◌≤◌, ◌↔◌, length, take, IfOk, IsTrue};
 ghost use Rattle.std.specs.List.{AllByRecursion};
-ghost use Rattle.cert_text.specs.Cert.{AreOfForm, AreOrdered, AreRuns, CanHaveGivens, HasRuns, IsCert, IsOfForm, IsOfLemmas, IsOfTree, IsRun, IsWritable, ShareWord, certificate, place_of};
+ghost use Rattle.cert_text.specs.Cert.{AreLongest, AreOfForm, AreOrdered, AreRuns, CanHaveGivens, HasRuns, IsCert, IsLongest, IsOfForm, IsOfLemmas, IsOfTree, IsRun, IsWritable, ShareWord, certificate, place_of};
 
 use crate::cert_line::{CellNumber, CertLine, Literal};
 use crate::form::Form;
@@ -211,6 +211,7 @@ fn is_run(steps: &[CertLine]) -> bool
 fn run_at(steps: &[CertLine]) -> usize
     requires { 0 < length steps.now }
     ensures run { IsRun (take result steps.now) }
+    ensures longest { IsLongest result steps.now }
     ensures some { 0 < result }
     ensures few { result ≤ length steps.now }
     ensures most { result ≤ MAX_RUN }
@@ -225,7 +226,8 @@ fn run_at(steps: &[CertLine]) -> usize
 /// How many steps each line has, for a certificate of the form `LemmaRuns` with these steps: as many as a line can have
 /// together.
 pub fn runs_of(alloc: Global, steps: &[CertLine]) -> Result<Vec<u16>, AllocError>
-    ensures { IfOk result (λ runs. AreRuns runs.items steps.now) }
+    ensures runs { IfOk result (λ runs. AreRuns runs.items steps.now) }
+    ensures longest { IfOk result (λ runs. AreLongest runs.items steps.now) }
 {
     let mut runs = Vec::new(alloc);
     let mut rest = steps;

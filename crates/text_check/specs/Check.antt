@@ -27,8 +27,8 @@ givens_count_text (cell ∷ cells) = codes ", givens " ++ decimal (length (cell 
 abbrev pub accepted_text : List CellNumber → List ℕ
 accepted_text givens = codes "certificate accepted" ++ (givens_count_text givens ++ 10 ∷ [])
 
--- What is to be shown for a picture's text and a certificate's text: the error of the first of the two readers and the
--- checker that refuses, as a host has it, or the line where none does.
+-- What is shown for the texts of a picture and a certificate: the first error of the two readers and the checker, as a
+-- host has it, or else the line.
 abbrev pub IsCheckBy : {F : Type 0} → (CheckFault → F) → Result Content PpmFault → Result Certificate CertFault
     → Result (List ℕ) F → Type 0
 IsCheckBy has (Err fault) certificate shown = shown ≡ Err (has (fault_of fault))

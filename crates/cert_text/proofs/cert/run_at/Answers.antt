@@ -1,5 +1,5 @@
 use Rattle.std.proofs.Common.{arith, rules}
-use Rattle.cert_text.proofs.OrderLemmas.{one_is_run, run_more}
+use Rattle.cert_text.proofs.OrderLemmas.{one_is_run, run_fits, run_more}
 use Rattle.cert_text.proofs.cert.run_at.Goals as goal
 
 pub loop-count-init : goal.loop-count-init
@@ -14,3 +14,7 @@ loop-count-preserved c =
       few = omega arith;
       most = omega arith;
     }
+
+pub returns-else-count-lt-MAX_RUN-clause-longest : goal.returns-else-count-lt-MAX_RUN-clause-longest
+returns-else-count-lt-MAX_RUN-clause-longest c = λ l r.
+    absurd (omega (arith, c.if-count-lt-MAX_RUN.false, run_fits c.args.steps.now c.loop-count.count c.loop-count.invariant.some l r))
