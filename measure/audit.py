@@ -51,7 +51,7 @@ def pictures(count, seed):
         while not waiting[wanted]:
             source = random.Random(f"{seed} {number}")
             number += 1
-            text = p3(blobs(source, SIDE, source.randint(2, 5), 5))
+            text = p3(blobs(source, SIDE, source.randint(2, 5)))
             ruling = nonobench.verdict(text, ALLOWANCE).ruling
             if ruling in waiting:
                 waiting[ruling].append(text)

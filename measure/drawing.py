@@ -1,11 +1,11 @@
 """Draws pictures to measure on, as rows of colours from 0, and writes them as P3 texts."""
 
 
-def blobs(rng, side, colours, part=6):
-    """Discs of a radius below the given part of the side."""
+def blobs(rng, side, colours):
+    """Discs of a radius below a fifth of the side."""
     cells = [[0] * side for _ in range(side)]
     for _ in range(side):
-        row, col, size = rng.randrange(side), rng.randrange(side), rng.randrange(2, max(3, side // part))
+        row, col, size = rng.randrange(side), rng.randrange(side), rng.randrange(2, max(3, side // 5))
         colour = rng.randrange(colours)
         for r in range(max(0, row - size), min(side, row + size)):
             for c in range(max(0, col - size), min(side, col + size)):
