@@ -4,14 +4,12 @@
 NATIVE is a folder with the sources `nonoref.cpp` and `treecert.cpp`, P3 files in `pictures/` and `hard/`, and sessions in
 `sessions/`, each named after one of these pictures, as `NUMBER-KIND_PICTURE.txt`. The sources are built in a folder that is deleted
 at the end. They settle, judge and write trees in the same way, with words of 64 bits for pictures of at most 63 cells a side. It
-needs g++, valgrind, and the programs `nonobench`, `tables` and `search_tables` that bash .ci/run leaves. A FIGURE is one of these;
-without any, all are measured:
+needs g++, valgrind, and the programs `nonobench` and `tables` that bash .ci/run leaves. A FIGURE is one of these; without any, all are
+measured:
 
-settle    forcing lines until nothing follows: `settle` of `search_tables`, compared with the evaluations of `nonoref map`
 line      an evaluation and leaving out by `tables`, in instructions; lines that are open and half settled
 strokes   sessions with `map` after each edit instead of their questions, without opening and start
-verdict   a session of one `verdict`, without the start; then compared with the search in the fixed order
-judge     a verdict of at most 10,000 splits on `hard/`, compared with the search in the fixed order, without the start
+verdict   a session of one `verdict`, without the start
 certify   a session of one `certify` on `hard/`, compared with treecert, without the starts
 
 A start is what a picture of one cell takes. It prints a row for each picture or session, and the median and the largest of each
@@ -26,23 +24,16 @@ from pathlib import Path
 
 sys.dont_write_bytecode = True
 ROOT = Path(__file__).resolve().parent.parent
-sys.path.insert(0, str(ROOT / 'tests/references'))
-from reference.pictures import read_ppm  # noqa: E402
-
 OURS = ROOT / 'crates/nonobench/out/nonobench'
 TABLES = ROOT / 'crates/tables/out/tables'
-SEARCHES = ROOT / 'crates/search_tables/out/search_tables'
 SECONDS = 60
-ALLOWED = 'allow 10000\nverdict\n'
 CELL = 'P3\n1 1\n255\n0 0 0\n'
-FIGURES = ('settle', 'line', 'strokes', 'verdict', 'judge', 'certify')
+FIGURES = ('line', 'strokes', 'verdict', 'certify')
 
 
-def collected(words, said='', within=None):
-    """The instructions of a run, or of a function with all that it calls; and what it printed. None where it takes too long."""
+def collected(words, said=''):
+    """The instructions of a run, and what it printed. None where it takes too long."""
     tool = ['valgrind', '--tool=callgrind', '--callgrind-out-file=/dev/null']
-    if within:
-        tool.append(f'--toggle-collect={within}')
     try:
         run = subprocess.run(tool + [str(w) for w in words], input=said, capture_output=True, text=True, timeout=50 * SECONDS)
     except subprocess.TimeoutExpired:
@@ -84,17 +75,6 @@ class Table:
             print(f'{self.figure}: median {statistics.median(self.ratios):.2f}, largest {max(self.ratios):.2f}, of {len(self.ratios)}')
 
 
-def settle(native, folder, start):
-    table = Table('settle', 'picture', 'nonobench', 'native', 'times')
-    for picture in sorted((folder / 'pictures').glob('*.ppm')):
-        rows = read_ppm(picture.read_bytes()).rows
-        puzzle = '/'.join(''.join('.abcdefghijklmno'[k] for k in row) for row in rows)
-        ours, _ = collected([SEARCHES], f'settle mask inorder {puzzle}\n', '*force_crossing*')
-        theirs, _ = collected([native, 'map', picture], '', '*Solver*::eval(*')
-        table.row(picture.stem, ours, theirs)
-    table.end()
-
-
 def line(native, folder, start):
     print(f'\nline\n{"cells":>8} {"blocks":>8} {"settled":>8} {"evaluation":>12} {"leave_out":>12} {"times":>8}')
     swept, rounds = [], 200
@@ -133,33 +113,18 @@ def strokes(native, folder, start):
     table.end()
 
 
-def verdict(native, folder, start):
-    asked = 'verdict\n'
-    for order in ([], ['--d20']):
-        table = Table('verdict in the fixed order' if order else 'verdict', 'picture', 'nonobench', 'native', 'times')
-        for picture in sorted((folder / 'pictures').glob('*.ppm')):
-            if not ends([OURS, 'work', picture], asked) or not ends([native, *order, 'work', picture], asked):
-                table.row(picture.stem, None, None)
-                continue
-            ours, _ = collected([OURS, 'work', picture], asked)
-            theirs, _ = collected([native, *order, 'work', picture], asked)
-            table.row(picture.stem, less(ours, start[0]), less(theirs, start[1]))
-        table.end()
-
-
-def judge(native, folder, start):
-    table = Table('judge', 'picture', 'nonobench', 'native', 'times')
-    for picture in sorted((folder / 'hard').glob('*.ppm')):
-        if not ends([native, '--d20', 'verdict', picture]):
-            print(f'{picture.stem:>28} the native search takes too long', flush=True)
-            continue
-        ours, said = collected([OURS, 'work', picture], ALLOWED)
-        if 'undecided' in said:
-            print(f'{picture.stem:>28} more than 10,000 splits', flush=True)
-            continue
-        theirs, _ = collected([native, '--d20', 'verdict', picture])
-        table.row(picture.stem, less(ours, start[0]), less(theirs, start[1]))
+def compared(table, pictures, asked, theirs, starts):
+    """A row for each picture: a session of one command, and a native program on it, both without their starts."""
+    for picture in sorted(pictures.glob('*.ppm')):
+        runs = ([OURS, 'work', picture], asked), theirs(picture)
+        costs = [collected(*run)[0] for run in runs] if all(ends(*run) for run in runs) else (None, None)
+        table.row(picture.stem, *map(less, costs, starts))
     table.end()
+
+
+def verdict(native, folder, start):
+    table = Table('verdict', 'picture', 'nonobench', 'native', 'times')
+    compared(table, folder / 'pictures', 'verdict\n', lambda picture: ([native, 'work', picture], 'verdict\n'), start)
 
 
 def certify(native, folder, start):
@@ -167,14 +132,7 @@ def certify(native, folder, start):
     writer = native.with_name('treecert')
     build(folder / 'treecert.cpp', writer)
     begun = collected([writer, native.with_name('cell.ppm')])[0]
-    for picture in sorted((folder / 'hard').glob('*.ppm')):
-        if not ends([OURS, 'work', picture], 'certify\n') or not ends([writer, picture]):
-            table.row(picture.stem, None, None)
-            continue
-        ours, _ = collected([OURS, 'work', picture], 'certify\n')
-        theirs, _ = collected([writer, picture])
-        table.row(picture.stem, less(ours, start[0]), less(theirs, begun))
-    table.end()
+    compared(table, folder / 'hard', 'certify\n', lambda picture: ([writer, picture],), (start[0], begun))
 
 
 def build(source, program):
@@ -187,7 +145,7 @@ def main():
     words = sys.argv[1:]
     if not words or any(word not in FIGURES for word in words[1:]):
         sys.exit(__doc__)
-    for program in (OURS, TABLES, SEARCHES):
+    for program in (OURS, TABLES):
         if not program.exists():
             sys.exit(f'this needs {program}, which bash .ci/run leaves')
     folder = Path(words[0])
