@@ -1,10 +1,9 @@
 #!/usr/bin/env python3
-"""Compares proofs by lemmas with certificates and with a native trial: measure/lemmas.py NATIVE PROGRAM [BEFORE]
+"""Compares proofs by lemmas with certificates and with a native trial: measure/lemmas.py NATIVE PROGRAM
 
 NATIVE is a folder with P3 files in `pictures/` and `hard/`, and the sources `lemcert.cpp` and `lemcheck_min.cpp` of the trial in
-`lemmas/`. PROGRAM is `nonobench`, and BEFORE an earlier one. It needs g++ and valgrind. Of each picture it prints the bytes of its
-certificate and of its proof, and the instructions with which each proof is checked: ours by `check`, the trial's by its checker. Then,
-with BEFORE, the instructions of `verdict` and of `certify` as a multiple of those of BEFORE. What a picture of one cell takes is
+`lemmas/`. PROGRAM is `nonobench`. It needs g++ and valgrind. Of each picture it prints the bytes of its certificate and of its proof,
+and the instructions with which each proof is checked: ours by `check`, the trial's by its checker. What a picture of one cell takes is
 subtracted. A picture that takes more than 10 seconds is left out, and counted.
 """
 import statistics
@@ -73,30 +72,11 @@ def proofs(pictures, work, program, maker, checker):
     print(f'checks: median {statistics.median(ratios):.2f} times the trial, largest {max(ratios):.2f}')
 
 
-def answers(pictures, work, program, before):
-    """What verdicts and certificates cost, compared with an earlier program."""
-    cell = work / 'cell.ppm'
-    for asked in ('verdict', 'certify'):
-        start, earlier = (native.collected([one, 'work', cell], f'{asked}\n')[0] for one in (program, before))
-        ratios = []
-        for picture in pictures:
-            words = [one for one in (program, before) if answer(said([one, 'work', picture], f'{asked}\n')) != 'open']
-            if len(words) < 2:
-                print(f'{asked}: {picture.stem}: answered by {len(words)} of the two programs', flush=True)
-                continue
-            ours, theirs = (native.collected([one, 'work', picture], f'{asked}\n')[0] for one in (program, before))
-            ratios.append((native.less(ours, start) / native.less(theirs, earlier), picture.stem))
-        ratios.sort()
-        print(f'{asked}: median {statistics.median(ratio for ratio, _ in ratios):.3f} of {len(ratios)}; least '
-              + ', '.join(f'{name} {ratio:.2f}' for ratio, name in ratios[:3]) + '; largest '
-              + ', '.join(f'{name} {ratio:.2f}' for ratio, name in ratios[-3:]), flush=True)
-
-
 def main():
     words = [Path(word) for word in sys.argv[1:]]
-    if len(words) not in (2, 3):
+    if len(words) != 2:
         sys.exit(__doc__)
-    folder, program = words[:2]
+    folder, program = words
     pictures = sorted((folder / 'pictures').glob('*.ppm')) + sorted((folder / 'hard').glob('*.ppm'))
     with tempfile.TemporaryDirectory() as name:
         work = Path(name)
@@ -104,8 +84,6 @@ def main():
         subprocess.run(['g++', '-std=c++17', '-O2', '-w', '-o', maker, folder / 'lemmas/lemcert.cpp', '-lpthread'], check=True)
         subprocess.run(['g++', '-std=c++17', '-O2', '-w', '-o', checker, folder / 'lemmas/lemcheck_min.cpp'], check=True)
         proofs(pictures, work, program, maker, checker)
-        if len(words) == 3:
-            answers(pictures, work, program, words[2])
 
 
 if __name__ == '__main__':
