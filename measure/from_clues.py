@@ -2,9 +2,9 @@
 """Opens puzzles of which only the clues are known: measure/from_clues.py PROGRAM [FOLDER ..]
 
 PROGRAM is `nonobench`. It opens .non texts without a goal, so it has to find a picture first. The puzzles are made here, always the same
-ones: blobs, lines, icons, caves, rings and noise of 20 to 40 cells a side, noise of several densities, rings upon rings, chequers and
-stripes. Of each P3 picture in the folders that has one colour besides white, the clues are a puzzle too. Each may take 10 seconds of
-processor time. It prints a row for each with its seconds, and at the end how many are open.
+ones: blobs, lines, icons (symmetric), caves (a cellular automaton), rings and noise of 20 to 40 cells a side, noise of several densities,
+rings upon rings, chequers and stripes. Of each P3 picture in the folders that has one colour besides white, the clues are a puzzle too.
+Each may take 10 seconds of processor time. It prints a row for each with its seconds, and at the end how many are open.
 """
 import math
 import random
@@ -17,7 +17,6 @@ from pathlib import Path
 sys.dont_write_bytecode = True
 ROOT = Path(__file__).resolve().parent.parent
 sys.path.insert(0, str(ROOT / 'tests/references'))
-import unseen  # noqa: E402
 from reference.non import write_non  # noqa: E402
 from reference.pictures import read_ppm  # noqa: E402
 
@@ -28,14 +27,79 @@ CHEQUERS = ((20, 2), (30, 2), (40, 2), (60, 2), (30, 3), (60, 3), (60, 5))
 STRIPES = ((30, 4), (60, 4), (60, 7), (60, 10), (40, 5))
 
 
-def cells(side, is_filled):
+def disc(cells, row, col, high, wide, colour, hollow=0.0):
+    for r in range(len(cells)):
+        for c in range(len(cells[0])):
+            d = ((r - row) / high) ** 2 + ((c - col) / wide) ** 2
+            if hollow <= d <= 1:
+                cells[r][c] = colour
+
+
+def blobs(rng, h, w, k):
+    cells = [[0] * w for _ in range(h)]
+    for _ in range(rng.randrange(4, 4 + (h + w) // 3)):
+        disc(cells, rng.randrange(h), rng.randrange(w), rng.uniform(1, h / 5), rng.uniform(1, w / 5), rng.randrange(k))
+    return cells
+
+
+def rings(rng, h, w, k):
+    cells = [[0] * w for _ in range(h)]
+    for _ in range(rng.randrange(4, 4 + (h + w) // 5)):
+        high, wide = rng.uniform(2, h / 3), rng.uniform(2, w / 3)
+        disc(cells, rng.randrange(h), rng.randrange(w), high, wide, rng.randrange(1, k), max(0.0, 1 - 3.2 / min(high, wide)))
+    return cells
+
+
+def lines(rng, h, w, k):
+    cells = [[0] * w for _ in range(h)]
+    for _ in range(rng.randrange(5, 5 + (h + w) // 4)):
+        r, c, colour, thick = rng.randrange(h), rng.randrange(w), rng.randrange(1, k), rng.choice((1, 1, 2))
+        angle, length = rng.uniform(0, 2 * math.pi), rng.uniform(4, max(h, w))
+        for step in range(int(2 * length)):
+            y, x = r + math.sin(angle) * step / 2, c + math.cos(angle) * step / 2
+            for dy in range(thick):
+                if 0 <= int(y) + dy < h and 0 <= int(x) < w:
+                    cells[int(y) + dy][int(x)] = colour
+    return cells
+
+
+def smooth(cells, rng, rounds):
+    h, w = len(cells), len(cells[0])
+    for _ in range(rounds):
+        new = [[0] * w for _ in range(h)]
+        for r in range(h):
+            for c in range(w):
+                near = [cells[y][x] for y in range(max(0, r - 1), min(h, r + 2)) for x in range(max(0, c - 1), min(w, c + 2))]
+                full = [x for x in near if x]
+                new[r][c] = max(set(full), key=lambda x: (full.count(x), -x)) if 2 * len(full) > len(near) else 0
+        cells = new
+    return cells
+
+
+def icons(rng, h, w, k):
+    half = (w + 1) // 2
+    cells = [[rng.randrange(1, k) if rng.random() < 0.52 else 0 for _ in range(half)] for _ in range(h)]
+    cells = smooth(cells, rng, rng.choice((1, 2)))
+    return [row + row[:w - half][::-1] for row in cells]
+
+
+def caves(rng, h, w, k):
+    return smooth([[rng.randrange(1, k) if rng.random() < 0.5 else 0 for _ in range(w)] for _ in range(h)], rng, 2)
+
+
+def noise(rng, h, w, k):
+    density = rng.uniform(0.15, 0.85)
+    return [[rng.randrange(1, k) if rng.random() < density else 0 for _ in range(w)] for _ in range(h)]
+
+
+def square(side, is_filled):
     """A square picture of what is filled."""
     return [[int(is_filled(row, col)) for col in range(side)] for row in range(side)]
 
 
-def from_unseen():
-    """Pictures of the kinds of unseen.py, in one colour."""
-    for kind in (unseen.blobs, unseen.lines, unseen.icons, unseen.caves, unseen.rings, unseen.noise):
+def of_kinds():
+    """Pictures of six kinds, in one colour."""
+    for kind in (blobs, lines, icons, caves, rings, noise):
         rng = random.Random(f'{kind.__name__}7')
         for number in range(6):
             height, width = rng.randrange(20, 41), rng.randrange(20, 41)
@@ -46,16 +110,16 @@ def periodic():
     """Pictures with regular patterns, and noise."""
     for side, percent in NOISE:
         rng = random.Random(side * 100 + percent)
-        yield f'noise-{side}-d{percent}', cells(side, lambda row, col: rng.random() < percent / 100)
+        yield f'noise-{side}-d{percent}', square(side, lambda row, col: rng.random() < percent / 100)
     for number, (one, other, side) in enumerate(RINGS):
         def ring(row, col, wide, part):
             return math.floor(math.hypot(row - side * part, col - side * part) / wide)
-        yield f'moire-{number}', cells(side, lambda row, col: (ring(row, col, one, .3) + ring(row, col, other, .7)) % 2)
-        yield f'square-{number}', cells(side, lambda row, col: math.floor(((row - side / 2) ** 2 + (col - side / 2) ** 2) / (one * 6)) % 2)
+        yield f'moire-{number}', square(side, lambda row, col: (ring(row, col, one, .3) + ring(row, col, other, .7)) % 2)
+        yield f'square-{number}', square(side, lambda row, col: math.floor(((row - side / 2) ** 2 + (col - side / 2) ** 2) / (one * 6)) % 2)
     for side, wide in CHEQUERS:
-        yield f'chequers-{side}-t{wide}', cells(side, lambda row, col: (row // wide + col // wide) % 2)
+        yield f'chequers-{side}-t{wide}', square(side, lambda row, col: (row // wide + col // wide) % 2)
     for side, period in STRIPES:
-        yield f'stripes-{side}-p{period}', cells(side, lambda row, col: (row + col) % period < period // 2)
+        yield f'stripes-{side}-p{period}', square(side, lambda row, col: (row + col) % period < period // 2)
 
 
 def of_folder(folder):
@@ -81,7 +145,7 @@ def seconds_to_open(program, puzzle):
 def main():
     if len(sys.argv) < 2:
         sys.exit(__doc__)
-    pictures = [*from_unseen(), *periodic()]
+    pictures = [*of_kinds(), *periodic()]
     for folder in sys.argv[2:]:
         pictures += of_folder(folder)
     left = []
