@@ -20,15 +20,26 @@ from pathlib import Path
 
 sys.dont_write_bytecode = True
 ROOT = Path(__file__).resolve().parent.parent
-sys.path[:0] = [str(ROOT / "measure"), str(ROOT / "python" / "src")]
-from drawing import blobs  # noqa: E402
-
+sys.path.insert(0, str(ROOT / "python" / "src"))
 import nonobench  # noqa: E402
 
 SIDE = 20
 TRIPLES = ("255 255 255", "20 20 20", "200 30 30", "30 90 200", "40 160 60")
 ALLOWANCE = 20_000
 PROGRAM = [sys.executable, "-m", "nonobench.audit"]
+
+
+def blobs(rng, colours):
+    """Discs of a radius below a fifth of the side."""
+    cells = [[0] * SIDE for _ in range(SIDE)]
+    for _ in range(SIDE):
+        row, col, size = rng.randrange(SIDE), rng.randrange(SIDE), rng.randrange(2, SIDE // 5)
+        colour = rng.randrange(colours)
+        for r in range(max(0, row - size), min(SIDE, row + size)):
+            for c in range(max(0, col - size), min(SIDE, col + size)):
+                if (r - row) ** 2 + (c - col) ** 2 <= size * size:
+                    cells[r][c] = colour
+    return cells
 
 
 def p3(rows):
@@ -45,7 +56,7 @@ def pictures(count, seed):
         while not waiting[wanted]:
             source = random.Random(f"{seed} {number}")
             number += 1
-            text = p3(blobs(source, SIDE, source.randint(2, 5)))
+            text = p3(blobs(source, source.randint(2, 5)))
             ruling = nonobench.verdict(text, ALLOWANCE).ruling
             if ruling in waiting:
                 waiting[ruling].append(text)

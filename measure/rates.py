@@ -22,17 +22,22 @@ ROOT = Path(__file__).resolve().parent.parent
 sys.path.insert(0, str(ROOT / "python" / "src"))
 
 import nonobench  # noqa: E402
-from drawing import noise, text  # noqa: E402
 
 ROUNDS = 3
 SIDE, COLOURS = 20, 3
+
+
+def noise(rng):
+    """A P3 text in which, of a hundred cells, 90 are no background."""
+    cells = [rng.randrange(1, COLOURS) if rng.random() < 0.9 else 0 for _ in range(SIDE * SIDE)]
+    return f"P3\n{SIDE} {SIDE}\n255\n" + "".join(f"{k * 16} {255 - k * 16} 0\n" if k else "255 255 255\n" for k in cells)
 
 
 def pairs_of(count):
     """So many pictures that have one solution, each with its certificate, and how many had several."""
     source, pairs, others = random.Random(20), [], 0
     while len(pairs) < count:
-        picture = text(noise(source, SIDE, COLOURS)).encode()
+        picture = noise(source).encode()
         certificate = nonobench.audit(picture, allowance=1000).certificate
         if certificate:
             pairs.append((picture, certificate))
