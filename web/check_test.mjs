@@ -5,6 +5,7 @@ import { readFileSync } from 'node:fs';
 import { dirname, join } from 'node:path';
 import test from 'node:test';
 import { fileURLToPath, pathToFileURL } from 'node:url';
+import { faultBy, mustCheckForms, mustCheckPublished, refusedInTurn } from '../tests/cases.mjs';
 import { TRIED } from '../tests/waits.mjs';
 import { load as loadEngine } from './nonobench.mjs';
 
@@ -20,17 +21,6 @@ const PICTURE = 'P3 2 2 255 0 0 0 255 255 255 255 255 255 0 0 0\n';
 const CERTIFICATE = 'nonocert 2\ngiven 1 1\nline r 1\nline c 1\nline r 2\ndone\n';
 const ALL = 'nonocert 2\ngiven 1 1\ngiven 1 2\ngiven 2 1\ngiven 2 2\ndone\n';
 
-// A picture of white, black (a) and red (b) cells, of its rows joined by /.
-function pictureOf(rows) {
-  const lines = rows.split('/'), triples = { '.': '255 255 255', a: '0 0 0', b: '255 0 0' };
-  return `P3\n${lines[0].length} ${lines.length}\n255\n${[...lines.join('')].map((cell) => triples[cell]).join('\n')}\n`;
-}
-
-// The lines of a file of cases whose texts need no more than \n.
-const casesOf = (kind) => text('tests', 'cases', `${kind}.case`).split('\n')
-  .filter((line) => line !== '' && !line.startsWith('#') && !/\\[^n]/.test(line)).map((line) => line.replaceAll('\\n', '\n'));
-const placesOf = (word) => (word === 'any' ? word : word === '-' ? [] : word.split(';').map((place) => place.split(',').map(Number)));
-
 // The answer that is told, which the whole module gives too.
 function answerOf(checker, picture, certificate, options) {
   const answer = checker.check(picture, certificate, options);
@@ -38,15 +28,7 @@ function answerOf(checker, picture, certificate, options) {
   return answer;
 }
 
-function faultOf(call) {
-  try {
-    call();
-  } catch (fault) {
-    assert.ok(fault instanceof Fault, String(fault));
-    return [fault.kind, fault.text];
-  }
-  return assert.fail('nothing was thrown');
-}
+const faultOf = (call) => faultBy(Fault, call);
 
 test('it is small, and imports nothing', () => {
   assert.ok(bytes.length + script.length <= 100000, `${bytes.length} and ${script.length} bytes`);
@@ -56,25 +38,12 @@ test('it is small, and imports nothing', () => {
 
 test('certificates of all forms are answered as the cases say', async () => {
   const checker = await load(bytes);
-  for (const kind of ['certificates', 'lemmas']) {
-    const cases = casesOf(kind);
-    for (const line of cases) {
-      const [, rows, lines, wanted] = /^(\S+) ([^]*) => (.*)$/.exec(line), refused = wanted.startsWith('! ');
-      const { accepted, text: said } = answerOf(checker, pictureOf(rows), lines, { givens: 'any' });
-      assert.deepEqual([accepted, said], refused ? [false, wanted.slice(2)] : [true, `${wanted}\n`], line);
-    }
-    assert.ok(cases.length > 40, `${cases.length}`);
-  }
+  mustCheckForms((picture, certificate) => answerOf(checker, picture, certificate, { givens: 'any' }));
 });
 
 test('a certificate is accepted where its givens are among those that are published', async () => {
-  const checker = await load(bytes), cases = casesOf('published');
-  for (const line of cases) {
-    const [, rows, published, lines, given, wanted] = /^(\S+) (\S+) ([^]*) => (\S+) (.*)$/.exec(line), refused = wanted.startsWith('! ');
-    const answer = answerOf(checker, pictureOf(rows), lines, { givens: placesOf(published) });
-    assert.deepEqual(answer, { accepted: !refused, status: refused ? 1 : 0, text: refused ? wanted.slice(2) : `${wanted}\n`, givens: placesOf(given) }, line);
-  }
-  assert.ok(cases.length > 30, `${cases.length}`);
+  const checker = await load(bytes);
+  mustCheckPublished((picture, certificate, givens) => answerOf(checker, picture, certificate, { givens }));
 });
 
 test('givens as places and as a file, and what is refused', async () => {
@@ -129,18 +98,8 @@ test('an option is a property of the object itself', async () => {
 
 test('each growth refused in turn is told as out of memory, and the call can be made again', async () => {
   const checker = await load(bytes), certificate = text('examples', 'diagonal.cert'), picture = text('examples', 'diagonal.ppm');
-  let refused = 0;
-  for (let nth = 1; ; nth += 1) {
-    checker.refuse(nth);
-    try {
-      assert.equal(checker.check(picture, certificate).accepted, true);
-      break;
-    } catch (fault) {
-      assert.deepEqual([fault.kind, fault.text], ['memory', 'memory']);
-      refused += 1;
-    }
-  }
-  checker.refuse(0);
+  const { answer, refused } = refusedInTurn(checker, () => checker.check(picture, certificate));
+  assert.equal(answer.accepted, true);
   assert.ok(refused > 5, `${refused}`);
   const before = checker.memory;
   for (let turn = 0; turn < 200; turn += 1) assert.equal(checker.check(picture, certificate).accepted, true);

@@ -7,6 +7,7 @@ import { existsSync, readFileSync, readdirSync } from 'node:fs';
 import { dirname, join } from 'node:path';
 import { fileURLToPath } from 'node:url';
 import { parseArgs } from 'node:util';
+import { bytesOf, casesOf, pairOf } from '../tests/cases.mjs';
 import { Chance } from './chance.mjs';
 import { Program, inChromium, inNode } from './sides.mjs';
 
@@ -55,38 +56,18 @@ async function sessions() {
   return count;
 }
 
-const SIGNS = { n: 10, r: 13, t: 9, v: 11, f: 12 };
-const SAMPLES = { '.': '255 255 255', a: '0 0 0', b: '255 0 0' };
-
-// The bytes of a worked row's text, whose signs are those of printf.
-function bytesOf(text) {
-  const parts = text.match(/\\x[0-9a-f]{2}|\\[nrtvf]|[^\\]/gu) ?? [];
-  return Buffer.concat(parts.map((part) => {
-    if (part[0] !== '\\') return Buffer.from(part);
-    return Buffer.from([part[1] === 'x' ? parseInt(part.slice(2), 16) : SIGNS[part[1]]]);
-  }));
-}
-
-// The P3 text of a row's picture: its rows with `/` between them.
-function pictureOf(cells) {
-  const rows = cells.split('/');
-  return `P3\n${rows[0].length} ${rows.length}\n255\n${[...rows.join('')].map((cell) => SAMPLES[cell]).join('\n')}\n`;
-}
-
 // The worked rows of tests/cases.
 const ROWS = {
   pictures: (name, text) => ask(name, { call: 'clues', file: bytesOf(text), options: { format: 'ppm' } }),
   puzzles: (name, text) => session(name, bytesOf(text), 'write non\n', { format: 'non' }),
-  certificates: (name, text) => check(name, pictureOf(text.slice(0, text.indexOf(' '))), bytesOf(text.slice(text.indexOf(' ') + 1)), undefined),
+  certificates: (name, text) => check(name, ...pairOf(text), undefined),
 };
 ROWS.lemmas = ROWS.certificates;
 
 async function rows() {
   let count = 0;
   for (const [kind, run] of Object.entries(ROWS)) {
-    for (const row of readFileSync(join(root, 'tests', 'cases', `${kind}.case`), 'utf8').split('\n')) {
-      if (row === '' || row.startsWith('#')) continue;
-      const text = row.slice(0, row.lastIndexOf(' => '));
+    for (const [text] of casesOf(kind)) {
       await run(`a row of ${kind}: '${text}'`, text);
       count += 1;
     }

@@ -9,6 +9,7 @@ import test from 'node:test';
 import { fileURLToPath } from 'node:url';
 import { setFlagsFromString } from 'node:v8';
 import { runInNewContext } from 'node:vm';
+import { faultBy, mustCheckForms, mustCheckPublished, pictureOf, refusedInTurn } from '../tests/cases.mjs';
 import { TRIED, waits } from '../tests/waits.mjs';
 import { Fault, hintOf, load, readAssessment } from './nonobench.mjs';
 
@@ -52,16 +53,7 @@ function assessPlainly(calls, cell, [file, size, word, wordSize, givens, givensS
   return calls.nonobench_assess(cell, file, size, 0, word, wordSize, 1, givens, givensSize, 1, cert, certSize, 0);
 }
 
-// What a call throws.
-function faultOf(call) {
-  try {
-    call();
-  } catch (fault) {
-    assert.ok(fault instanceof Fault, String(fault));
-    return [fault.kind, fault.text];
-  }
-  return assert.fail('nothing was thrown');
-}
+const faultOf = (call) => faultBy(Fault, call);
 
 test('a picture and a puzzle are opened and answer', async () => {
   const engine = await fresh();
@@ -123,17 +115,8 @@ test('the clues of a picture and a puzzle, and each growth refused in turn', asy
   assert.equal(engine.clues('P3 2 1 255 1 2 3 4 5 6\n', { background: '4,5,6' }), 'r 1: 1a\nc 1: 1a\nc 2: 0\n');
   assert.deepEqual(faultOf(() => engine.clues('P4\n')), ['open', 'ppm NotP3 at byte 0']);
   assert.deepEqual(faultOf(() => engine.clues('width 2\n')), ['open', 'non MissingSize']);
-  let refused = 0, said = null;
-  for (; said === null; refused += 1) {
-    engine.refuse(refused + 1);
-    try {
-      said = engine.clues(DIAGONAL);
-    } catch (fault) {
-      assert.deepEqual([fault.kind, fault.text], ['memory', 'memory'], `${refused}`);
-    }
-    engine.refuse(0);
-  }
-  assert.equal(said, clues);
+  const { answer, refused } = refusedInTurn(engine, () => engine.clues(DIAGONAL));
+  assert.equal(answer, clues);
   assert.ok(refused > 10, `${refused}`);
 });
 
@@ -576,29 +559,9 @@ test('a certificate is accepted, and what is wrong is said', { skip: waits('0.7.
   assert.equal(bench.say('undo\n'), 'refused: UndoEmpty\n');
 });
 
-// The bytes of a text of cases, as printf reads it: here \n alone.
-const unescaped = (text) => text.replaceAll('\\n', '\n');
-
-// A picture of white, black (a) and red (b) cells, of its rows joined by /.
-function pictureOf(rows) {
-  const lines = rows.split('/'), triples = { '.': '255 255 255', a: '0 0 0', b: '255 0 0' };
-  return `P3\n${lines[0].length} ${lines.length}\n255\n${[...lines.join('')].map((cell) => triples[cell]).join('\n')}\n`;
-}
-
-const placesOf = (word) => (word === '-' ? [] : word.split(';').map((place) => place.split(',').map(Number)));
-
 test('a certificate is accepted where its givens are among those that are published', { skip: waits('0.7.0') }, async () => {
   const engine = await fresh();
-  let count = 0;
-  for (const line of text('tests', 'cases', 'published.case').split('\n')) {
-    if (line === '' || line.startsWith('#')) continue;
-    const [, rows, published, lines, given, answer] = /^(\S+) (\S+) (.*) => (\S+) (.*)$/.exec(line);
-    const refused = answer.startsWith('! '), givens = published === 'any' ? 'any' : placesOf(published);
-    const wanted = { accepted: !refused, status: refused ? 1 : 0, text: refused ? answer.slice(2) : `${answer}\n`, givens: placesOf(given) };
-    assert.deepEqual(engine.check(pictureOf(rows), unescaped(lines), { givens }), wanted, line);
-    count += 1;
-  }
-  assert.ok(count > 30, `${count}`);
+  mustCheckPublished((picture, certificate, givens) => engine.check(picture, certificate, { givens }));
 });
 
 test('a certificate with lemmas that is made is accepted, with a byte changed it is refused or proves the same, and none proves two solutions', { skip: waits('0.7.0') }, async () => {
@@ -623,17 +586,7 @@ test('a certificate with lemmas that is made is accepted, with a byte changed it
 
 test('certificates of all forms are answered as the cases say', { skip: waits('0.7.0') }, async () => {
   const engine = await fresh();
-  for (const kind of ['certificates', 'lemmas']) {
-    let count = 0;
-    for (const line of text('tests', 'cases', `${kind}.case`).split('\n')) {
-      if (line === '' || line.startsWith('#') || /\\[^n]/.test(line)) continue;
-      const [, rows, lines, answer] = /^(\S+) (.*) => (.*)$/.exec(line), refused = answer.startsWith('! ');
-      const { accepted, text: said } = engine.check(pictureOf(rows), unescaped(lines), { givens: 'any' });
-      assert.deepEqual([accepted, said], refused ? [false, answer.slice(2)] : [true, `${answer}\n`], line);
-      count += 1;
-    }
-    assert.ok(count > 40, `${count}`);
-  }
+  mustCheckForms((picture, certificate) => engine.check(picture, certificate, { givens: 'any' }));
 });
 
 test('what is read of a certificate is what was checked, also where its memory is shared', { skip: waits('0.7.0') }, async () => {
@@ -809,23 +762,12 @@ test('each growth refused in turn while a certificate is checked or made is a fa
     [() => engine.prove(unique), made], [() => engine.prove(DIAGONAL), { ruling: 'ambiguous', certificate: null, proof: null }],
   ];
   for (const [call, wanted] of asked) {
-    let refused = 0;
     const turns = () => {
-      for (let nth = 1; ; nth += 1) {
-        engine.refuse(nth);
-        let answer = null;
-        try {
-          answer = call();
-        } catch (fault) {
-          assert.deepEqual([fault.kind, fault.text], ['memory', 'memory'], `${nth}`);
-        }
-        engine.refuse(0);
-        if (answer) return assert.deepEqual(answer, wanted, `${nth}`);
-        refused += 1;
-      }
+      const { answer, refused } = refusedInTurn(engine, call);
+      assert.deepEqual(answer, wanted);
+      assert.ok(refused > 10, `${refused}`);
     };
     turns();
-    assert.ok(refused > 10, `${refused}`);
     assert.equal(taken(calls, turns), 0);
   }
 });
