@@ -1,4 +1,4 @@
-// The two sides that web/compare.mjs compares: the native program, and the module in node or in headless Chromium. Each has a call
+// The two sides that web/compare.mjs compares: the native program, and the module in node. Each has a call
 // `answer`, which gives {out, said, status}: what is written, what is said on standard error, and the status. It is asked
 // {call: 'work', file, lines, options}, {call: 'check', file, certificate, givens, options}, where there may be no givens,
 // {call: 'prove', file, options} or {call: 'clues', file, options}, as bytes.
@@ -47,7 +47,7 @@ export class Program {
   }
 }
 
-// What an engine answers, as the program would. It runs in a page too, so it uses nothing that stands beside it.
+// What an engine answers, as the program would.
 function answerOf(engine, { call, file, lines, certificate, givens = 'any', options }) {
   const answered = (out) => ({ out, said: '', status: 0 });
   const refused = (text, status) => ({ out: '', said: `nonobench: ${text}\n`, status });
@@ -72,32 +72,8 @@ function answerOf(engine, { call, file, lines, certificate, givens = 'any', opti
   }
 }
 
-/** The module in node. */
-export async function inNode(module) {
+/** The call of the module. */
+export async function answerBy(module) {
   const engine = await load(module);
-  return { answer: (asked) => answerOf(engine, asked), end() {} };
-}
-
-/** The module in a page of headless Chromium. Bytes go there as base64. */
-export async function inChromium(module) {
-  const { Browser } = await import('../tests/page/page_browser.mjs');
-  const browser = new Browser();
-  const page = await browser.page();
-  const coded = (bytes) => (bytes === undefined ? undefined : Buffer.from(bytes).toString('base64'));
-  await page.run(async (script, packed, source) => {
-    const { load: make } = await import(URL.createObjectURL(new Blob([script], { type: 'text/javascript' })));
-    const bytesOf = (text) => Uint8Array.from(atob(text), (sign) => sign.charCodeAt(0));
-    const engine = await make(bytesOf(packed));
-    const answer = (0, eval)(`(${source})`);
-    window.answer = (asked) => {
-      const whole = { ...asked };
-      for (const name of ['file', 'lines', 'certificate', 'givens']) if (asked[name] !== undefined) whole[name] = bytesOf(asked[name]);
-      return answer(engine, whole);
-    };
-  }, readFileSync(new URL('nonobench.mjs', import.meta.url), 'utf8'), coded(module), answerOf.toString());
-  return {
-    answer: ({ call, options, ...files }) =>
-      page.run((asked) => window.answer(asked), { call, options, ...Object.fromEntries(Object.entries(files).map(([name, bytes]) => [name, coded(bytes)])) }),
-    end: () => browser.close(),
-  };
+  return (asked) => answerOf(engine, asked);
 }
