@@ -16,6 +16,7 @@ import { FR } from '../page/texts/fr.js';
 const [root, folder, entry = join(root, 'page', 'main.js')] = process.argv.slice(2);
 // How many bytes the page may have. tests/page/page_limit.mjs tries how soon it is ready.
 const MOST = 1048576;
+const FOLDERS = ['crates', 'web', 'page', 'examples']; // what the page is made of
 const EXAMPLES = ['balloon', 'heart', 'mushroom', 'boat']; // the first is to be mended
 const TEXTS = { en: EN, de: DE, fr: FR };
 const MANIFEST = {
@@ -25,28 +26,24 @@ const MANIFEST = {
 
 const read = (...parts) => readFileSync(join(root, ...parts), 'utf8');
 
-// What git calls the folders that the page is made of, where they are in a repository.
-function treesOf() {
-  const folders = ['crates', 'web', 'page', 'examples'];
+// What git says of the repository; nothing where it is none.
+function git(...words) {
   try {
-    const names = folders.map((folder) => `HEAD:${folder}`);
-    const said = execFileSync('git', ['-C', root, 'rev-parse', ...names], { encoding: 'utf8', stdio: ['ignore', 'pipe', 'ignore'] });
-    return Object.fromEntries(said.trim().split('\n').map((name, at) => [folders[at], name.slice(0, 12)]));
-  } catch {
-    return {};
-  }
-}
-
-// The last commit that changed what the page is made of. A later one, which puts the built page into the repository, has the same
-// page. A clone without its history does not know it.
-function commitOf() {
-  const git = (...words) => execFileSync('git', ['-C', root, ...words], { encoding: 'utf8', stdio: ['ignore', 'pipe', 'ignore'] }).trim();
-  try {
-    return git('rev-parse', '--is-shallow-repository') === 'true' ? '' : git('log', '-1', '--format=%H', '--', 'crates', 'web', 'page', 'examples').slice(0, 12);
+    return execFileSync('git', ['-C', root, ...words], { encoding: 'utf8', stdio: ['ignore', 'pipe', 'ignore'] }).trim();
   } catch {
     return '';
   }
 }
+
+// What git calls the folders that the page is made of, where they are in a repository.
+function treesOf() {
+  const names = git('rev-parse', ...FOLDERS.map((folder) => `HEAD:${folder}`)).split('\n');
+  return names[0] ? Object.fromEntries(FOLDERS.map((folder, at) => [folder, names[at].slice(0, 12)])) : {};
+}
+
+// The last commit that changed what the page is made of. A later one, which puts the built page into the repository, has the same
+// page. A clone without its history does not know it.
+const commitOf = () => (git('rev-parse', '--is-shallow-repository') === 'true' ? '' : git('log', '-1', '--format=%H', '--', ...FOLDERS).slice(0, 12));
 
 // What a module comes to with all that it imports. What esbuild warns of is an error.
 function bundled(file, ...words) {
