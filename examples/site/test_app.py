@@ -111,14 +111,6 @@ class Site(Case):
         self.assertEqual(answer.status_code, 409)
 
     @pytest.mark.since("0.7.0")
-    def test_cells_that_a_certificate_with_lemmas_gives_are_shown(self):
-        self.assertEqual(self.bring(CROSS, EMPTY_LEMMAS).status_code, 303)
-        page = self.client.get("/puzzles/1").text
-        self.assertEqual(len(re.findall("<td>", page)), 3)
-        self.assertIn('<td class="given" style="background: rgb(255, 255, 255); color: black">\N{MULTIPLICATION SIGN}</td>', page)
-        self.assertIn("with the 1 framed", page)
-
-    @pytest.mark.since("0.7.0")
     def test_certificates_with_lemmas_that_are_refused(self):
         for text, reason in (
             (b"nonolemma 3\n" + DIAGONAL_LEMMAS[12:], "This is not a certificate. (line 1)"),
