@@ -36,8 +36,7 @@ async function watched(others = {}) {
   }
 }
 
-// How many bytes more than before the blocks have that are held after a function ran. The heap tells that since 0.7.0.
-const told = { skip: waits('0.7.0') };
+// How many bytes more than before the blocks have that are held after a function ran.
 function taken(calls, run) {
   const before = calls.nonobench_held();
   run();
@@ -170,7 +169,7 @@ test('lengths past the memory are refused, and the module goes on', async () => 
   assert.equal(engine.open(DIAGONAL).say('verdict\n'), 'ambiguous\n.a\na.\n');
 });
 
-test('lengths past the memory are refused by each plain call, there is no text, and the module goes on', { skip: waits('0.7.0') }, async () => {
+test('lengths past the memory are refused by each plain call, there is no text, and the module goes on', async () => {
   const { engine, calls } = await watched();
   const cell = calls.malloc(16n), file = calls.malloc(64n), end = () => BigInt(engine.memory), version = BigInt(engine.version.length);
   new Uint8Array(calls.memory.buffer, Number(file), DIAGONAL.length).set(new TextEncoder().encode(DIAGONAL));
@@ -213,7 +212,7 @@ test('lengths past the memory are refused by each plain call, there is no text, 
   assert.equal(engine.open(DIAGONAL).say('verdict\n'), 'ambiguous\n.a\na.\n');
 });
 
-test('bytes up to the last of the memory are taken by each plain call, and the handle of a refused one is 0', { skip: waits('0.7.0') }, async () => {
+test('bytes up to the last of the memory are taken by each plain call, and the handle of a refused one is 0', async () => {
   const { engine, calls } = await watched();
   engine.open(DIAGONAL).close();
   calls.memory.grow(1); // in which the heap has nothing
@@ -253,7 +252,7 @@ test('bytes up to the last of the memory are taken by each plain call, and the h
   assert.equal(new TextDecoder().decode(new Uint8Array(calls.memory.buffer, end() - 3, 3)), VERSION.slice(0, 3));
 });
 
-test('a null beside a length is refused by each plain call, and nothing is read or written there', { skip: waits('0.7.0') }, async () => {
+test('a null beside a length is refused by each plain call, and nothing is read or written there', async () => {
   const { calls } = await watched();
   const cell = calls.malloc(16n), file = calls.malloc(64n), size = BigInt(DIAGONAL.length);
   new Uint8Array(calls.memory.buffer, Number(file), 64).set(new TextEncoder().encode(DIAGONAL));
@@ -326,7 +325,7 @@ test('a pointer has 64 bits to a host, all of them are looked at, and blocks are
   for (const room of [1n, 16n, 17n, 1000n, 100000n]) assert.equal(calls.malloc(room) % 16n, 0n, `${room}`);
 });
 
-test('a desk that is ended gives back what it and its benches held', told, async () => {
+test('a desk that is ended gives back what it and its benches held', async () => {
   const { calls } = await watched();
   const cell = calls.malloc(16n), file = calls.malloc(64n);
   new Uint8Array(calls.memory.buffer, Number(file), DIAGONAL.length).set(new TextEncoder().encode(DIAGONAL));
@@ -371,7 +370,7 @@ const ASSESSED = [
   [DIAGONAL, { allowance: 0, givens: [[1, 1]] }, 'unique/size 2 2/colours 2/givens 1/open 0/grade easy 1 4 2 0 0/unknown given 1 1/fit'],
 ];
 
-test('puzzles are assessed as the cases say, and what is said is a value', { skip: waits('0.7.0') }, async () => {
+test('puzzles are assessed as the cases say, and what is said is a value', async () => {
   const engine = await fresh();
   for (const [puzzle, options, lines] of ASSESSED) assert.equal(engine.assess(puzzle, options).text, lines.replaceAll('/', '\n') + '\n', lines);
   const { text: said, ...one } = engine.assess(DIAGONAL, { givens: [[1, 1], [2, 2]] });
@@ -388,7 +387,7 @@ test('puzzles are assessed as the cases say, and what is said is a value', { ski
   for (const other of ['', 'unique\n', said.slice(0, -1), `${said}fit\n`]) assert.throws(() => readAssessment(other), TypeError);
 });
 
-test('colours are alike as the cases say', { skip: waits('0.7.0') }, async () => {
+test('colours are alike as the cases say', async () => {
   const engine = await fresh();
   let count = 0;
   for (const line of text('tests', 'cases', 'near_colours.txt').split('\n')) {
@@ -404,7 +403,7 @@ test('colours are alike as the cases say', { skip: waits('0.7.0') }, async () =>
   assert.ok(count > 20, `${count}`);
 });
 
-test('what cannot be assessed is refused, and an option is a property of the object itself', { skip: waits('0.7.0') }, async () => {
+test('what cannot be assessed is refused, and an option is a property of the object itself', async () => {
   const engine = await fresh();
   const refused = (puzzle, options) => faultOf(() => engine.assess(puzzle, options));
   assert.deepEqual(refused('P4\n'), ['open', 'ppm NotP3 at byte 0']);
@@ -434,7 +433,7 @@ test('the version is that of the crates, whole or as far as there is room', asyn
 });
 
 // The clauses of the calls say the same, and this is what a host sees.
-test('there is no text after memory was refused, behind a closed handle, or behind options that are refused', { skip: waits('0.7.0') }, async () => {
+test('there is no text after memory was refused, behind a closed handle, or behind options that are refused', async () => {
   const { calls } = await watched();
   const cell = calls.malloc(16n), file = calls.malloc(64n), size = BigInt(DIAGONAL.length);
   new Uint8Array(calls.memory.buffer, Number(file), 64).set(new TextEncoder().encode(DIAGONAL));
@@ -511,7 +510,7 @@ test('a long answer is taken whole', async () => {
   }
 });
 
-test('a certificate is accepted, and what is wrong is said', { skip: waits('0.7.0') }, async () => {
+test('a certificate is accepted, and what is wrong is said', async () => {
   const engine = await fresh();
   const picture = text('examples', 'given.ppm'), certificate = text('examples', 'given.cert');
   const givens = [[1, 1]];
@@ -543,12 +542,12 @@ test('a certificate is accepted, and what is wrong is said', { skip: waits('0.7.
   assert.equal(bench.say('undo\n'), 'refused: UndoEmpty\n');
 });
 
-test('a certificate is accepted where its givens are among those that are published', { skip: waits('0.7.0') }, async () => {
+test('a certificate is accepted where its givens are among those that are published', async () => {
   const engine = await fresh();
   mustCheckPublished((picture, certificate, givens) => engine.check(picture, certificate, { givens }));
 });
 
-test('a certificate with lemmas that is made is accepted, with a byte changed it is refused or proves the same, and none proves two solutions', { skip: waits('0.7.0') }, async () => {
+test('a certificate with lemmas that is made is accepted, with a byte changed it is refused or proves the same, and none proves two solutions', async () => {
   const engine = await fresh(), picture = pictureOf('a./.b');
   assert.deepEqual(engine.prove(DIAGONAL), { ruling: 'ambiguous', certificate: null, proof: null });
   assert.deepEqual(faultOf(() => engine.prove('P4\n')), ['open', 'ppm NotP3 at byte 0']);
@@ -568,12 +567,12 @@ test('a certificate with lemmas that is made is accepted, with a byte changed it
   assert.ok(refused > certificate.length * 3, `${refused}`);
 });
 
-test('certificates of all forms are answered as the cases say', { skip: waits('0.7.0') }, async () => {
+test('certificates of all forms are answered as the cases say', async () => {
   const engine = await fresh();
   mustCheckForms((picture, certificate) => engine.check(picture, certificate, { givens: 'any' }));
 });
 
-test('what is read of a certificate is what was checked, also where its memory is shared', { skip: waits('0.7.0') }, async () => {
+test('what is read of a certificate is what was checked, also where its memory is shared', async () => {
   const { engine, calls } = await watched();
   const bytes = new TextEncoder().encode('nonocert 2\ngiven 1 1\nline r 1\nline c 1\nline r 2\ndone\n');
   const shared = new Uint8Array(new SharedArrayBuffer(bytes.length));
@@ -587,7 +586,7 @@ test('what is read of a certificate is what was checked, also where its memory i
   assert.deepEqual(engine.check(DIAGONAL, shared, { givens: [[1, 1]] }).givens, [[1, 1]]);
 });
 
-test('what is read of a certificate is what was checked, whatever a class of the caller says of it', { skip: waits('0.7.0') }, async () => {
+test('what is read of a certificate is what was checked, whatever a class of the caller says of it', async () => {
   const { engine, calls } = await watched();
   const bytes = new TextEncoder().encode('nonocert 2\ngiven 1 1\nline r 1\nline c 1\nline r 2\ndone\n');
   class Odd extends Uint8Array {
@@ -617,7 +616,7 @@ function polluted(properties, call) {
   }
 }
 
-test('an option is a property of the object itself', { skip: waits('0.7.0') }, async () => {
+test('an option is a property of the object itself', async () => {
   const engine = await fresh();
   const all = 'nonocert 2\ngiven 1 1\ngiven 1 2\ngiven 2 1\ngiven 2 2\ndone\n', refused = 'certificate UnpublishedGiven at line 2';
   for (const options of [undefined, {}, null, Object.create({ givens: 'any' })]) {
@@ -677,7 +676,7 @@ test('benches that nobody holds any more are closed, and a bench is closed once 
   }
 });
 
-test('10,000 benches are opened and closed, and not a block more is taken', told, async () => {
+test('10,000 benches are opened and closed, and not a block more is taken', async () => {
   const { engine, calls } = await watched();
   const session = () => {
     const bench = engine.open(DIAGONAL);
@@ -691,7 +690,7 @@ test('10,000 benches are opened and closed, and not a block more is taken', told
   assert.equal(taken(calls, () => { for (let i = 0; i < 10000; i += 1) session(); }), 0);
 });
 
-test('memory that was full of benches is whole again once they are closed', told, async () => {
+test('memory that was full of benches is whole again once they are closed', async () => {
   const { engine, calls } = await watched(), held = [];
   const large = [29n, 28n].map((size) => calls.malloc(2n ** size - 16n)); // so that fewer benches fill it
   assert.deepEqual(faultOf(() => { for (;;) held.push(engine.open(DIAGONAL)); }), ['memory', 'memory']);
@@ -734,7 +733,7 @@ test('each growth of memory refused in turn is an ordinary answer', async () => 
   assert.equal(engine.open(picture).say(lines), whole);
 });
 
-test('each growth refused in turn while a certificate is checked or made is a fault of memory', { skip: waits('0.7.0') }, async () => {
+test('each growth refused in turn while a certificate is checked or made is a fault of memory', async () => {
   const { engine, calls } = await watched();
   const picture = text('examples', 'given.ppm'), certificate = text('examples', 'given.cert'), givens = [[1, 1]];
   const lemmas = `nonolemma 1${certificate.slice(10)}`, unique = pictureOf('a./.b'), made = engine.prove(unique);
@@ -756,7 +755,7 @@ test('each growth refused in turn while a certificate is checked or made is a fa
   }
 });
 
-test('any bytes are answered, and the module goes on', { skip: waits('0.7.0') }, async () => {
+test('any bytes are answered, and the module goes on', async () => {
   const engine = await fresh();
   let seed = 1;
   const next = (n) => {
@@ -828,7 +827,7 @@ function uploadedBy(name, folder, ...words) {
   return [run.stdout + run.stderr, run.status];
 }
 
-test('the example checks an upload in a thread of its own, and its status tells a refusal', { skip: waits('0.7.0') }, () => {
+test('the example checks an upload in a thread of its own, and its status tells a refusal', () => {
   const said = (...words) => uploaded(join(root, 'examples'), ...words);
   const folder = mkdtempSync(join(tmpdir(), 'nonobench-upload-'));
   const file = (name, lines) => (writeFileSync(join(folder, name), lines), join(folder, name));
@@ -875,7 +874,7 @@ test('the example checks an upload in a thread of its own, and its status tells 
   }
 });
 
-test('the example tells by its status that its answer could not be written', { skip: waits('0.7.0') }, () => {
+test('the example tells by its status that its answer could not be written', () => {
   const wasm = resolve(process.env.WASM ?? join(root, 'web', 'out', 'nonobench.wasm')), script = join(root, 'examples', 'check_upload.mjs');
   const asked = 'node "$1" "$2.ppm" "$2.cert"';
   for (const [picture, line] of [['diagonal', `${asked} > /dev/full`], ['given', `${asked} > /dev/full`], ['diagonal', `(sleep 1; ${asked}) | true; exit \${PIPESTATUS[0]}`]]) {
@@ -885,7 +884,7 @@ test('the example tells by its status that its answer could not be written', { s
   }
 });
 
-test('the example loads nothing from the current folder', { skip: waits('0.7.0') }, () => {
+test('the example loads nothing from the current folder', () => {
   const folder = mkdtempSync(join(tmpdir(), 'nonobench-hostile-'));
   try {
     const mark = join(folder, 'ran'), hostile = `require('node:fs').appendFileSync(${JSON.stringify(mark)}, 'ran')`;
@@ -904,7 +903,7 @@ test('the example loads nothing from the current folder', { skip: waits('0.7.0')
   }
 });
 
-test('a certificate that an editor changed is told so, beside NotCert', { skip: waits('0.7.0') }, async () => {
+test('a certificate that an editor changed is told so, beside NotCert', async () => {
   const engine = await fresh(), unique = pictureOf('a./.b'), certificate = engine.open(unique).say('certify\n');
   const utf16 = (isBig, hasMark) => Buffer.from([...(hasMark ? '\ufeff' : ''), ...certificate].flatMap((sign) => {
     const code = sign.charCodeAt(0), pair = [code & 255, code >> 8];
@@ -932,7 +931,7 @@ function ownFolder(t) {
   return folder;
 }
 
-test('the example reads regular files alone, and none that is too long', { skip: waits('0.7.0') }, (t) => {
+test('the example reads regular files alone, and none that is too long', (t) => {
   const folder = ownFolder(t), [picture, certificate] = ['diagonal.ppm', 'diagonal.cert'].map((name) => join(root, 'examples', name));
   const pipe = join(folder, 'pipe'), long = join(folder, 'long');
   assert.equal(spawnSync('mkfifo', [pipe]).status, 0);

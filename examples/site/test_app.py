@@ -18,7 +18,6 @@ from pathlib import Path
 
 import app as site
 import nonobench
-import pytest
 from flask import request
 
 try:
@@ -99,7 +98,6 @@ class Site(Case):
     def test_a_certificate_that_gives_every_cell_is_no_puzzle(self):
         self.assert_refused(self.bring(CROSS, ALL_CERT), "The certificate gives every cell, so there is nothing left to solve.")
 
-    @pytest.mark.since("0.7.0")
     def test_a_certificate_with_lemmas_is_stored_and_shown(self):
         answer = self.bring(DIAGONAL, DIAGONAL_LEMMAS)
         self.assertEqual((answer.status_code, answer.headers.get("Location")), (303, "/puzzles/1"))
@@ -110,7 +108,6 @@ class Site(Case):
         answer = self.bring(DIAGONAL, DIAGONAL_CERT)
         self.assertEqual(answer.status_code, 409)
 
-    @pytest.mark.since("0.7.0")
     def test_certificates_with_lemmas_that_are_refused(self):
         for text, reason in (
             (b"nonolemma 3\n" + DIAGONAL_LEMMAS[12:], "This is not a certificate. (line 1)"),
@@ -168,7 +165,6 @@ class Site(Case):
             picture = f"P3 {size} 1 0 0 0 0 0 0\n".encode()
             self.assertEqual(self.bring(picture, b"nonocert 1\n" + proof + b"done\n").status_code, 303)
 
-    @pytest.mark.since("0.7.0")
     def test_fewer_given_cells_take_the_place_of_more(self):
         three = b"nonocert 2\ngiven 1 1\ngiven 1 2\ngiven 2 1\nline r 2\ndone\n"
         two = EMPTY_CERT.replace(b"given 1 2\n", b"given 1 2\ngiven 2 2\n")
@@ -495,7 +491,6 @@ class Shown(Case):
             found += [clue_of(line) for line in picture] == rows and [clue_of(line) for line in zip(*picture)] == columns
         return found
 
-    @pytest.mark.since("0.7.0")
     def test_by_trying_all(self):
         source = random.Random(int(os.environ.get("SEED", "1")))
         stored, refused = Counter(), 0

@@ -127,7 +127,6 @@ def for_sites(page):
     return blocks
 
 
-@pytest.mark.since('0.7.0')
 def test_commands_for_sites(kept, library, tmp_path):
     """What a reader has installed is made of the checkout."""
     pytest.importorskip('PIL', reason='there is no Pillow')
@@ -157,7 +156,6 @@ def test_commands_for_sites(kept, library, tmp_path):
 
 @pytest.mark.all
 @pytest.mark.compiler
-@pytest.mark.since('0.7.0')
 def test_commands_for_sites_by_the_archive(installed, tmp_path):
     """By what the archive for Linux installed, and nothing else."""
     needs('cc')

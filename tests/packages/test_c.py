@@ -42,13 +42,11 @@ def test_program(archive, tmp_path_factory):
     return program
 
 
-@pytest.mark.since('0.7.0')
 @pytest.mark.compiler
 def test_c(test_program):
     passes([test_program, CASES])
 
 
-@pytest.mark.since('0.7.0')
 @pytest.mark.compiler
 @pytest.mark.parametrize('kind', ['a', 'so'])
 def test_checker(library, kind, tmp_path):
@@ -60,7 +58,6 @@ def test_checker(library, kind, tmp_path):
     passes([tmp_path / 'check_test', CASES])
 
 
-@pytest.mark.since('0.7.0')
 @pytest.mark.all
 @pytest.mark.emulator
 @pytest.mark.parametrize(
@@ -131,7 +128,6 @@ CALLS = {
 }
 
 
-@pytest.mark.since('0.7.0')
 @pytest.mark.compiler
 def test_example(archive, tmp_path):
     """It runs in a folder that has things by the names of libraries."""

@@ -13,7 +13,6 @@ from dataclasses import dataclass
 import pytest
 from tried import CASES, ROOT, ended, needs, needs_file, passes
 
-pytestmark = pytest.mark.since('0.7.0')
 ENV = {**os.environ, 'PYTHONPATH': str(ROOT / 'python' / 'src'), 'PYTHONDONTWRITEBYTECODE': '1'}
 REFUSED = 'refused '
 

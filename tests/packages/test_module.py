@@ -55,13 +55,11 @@ def test_in_node(request, module):
     node_tests(request, ROOT / 'web' / 'test.mjs', {'WASM': str(module)})
 
 
-@pytest.mark.since('0.7.0')
 def test_checker_in_node(request, module):
     node_tests(request, ROOT / 'web' / 'check_test.mjs', {'WASM': str(module), 'CHECK': str(module.parent)})
 
 
 @pytest.mark.all
-@pytest.mark.since('0.7.0')
 def test_badge_in_a_browser(module, tmp_path):
     """examples/badge.html on a server: of its three puzzles the last names a given that is not published."""
     found = next((shutil.which(name) for name in ('chromium', 'chromium-browser', 'google-chrome') if shutil.which(name)), None)
@@ -89,7 +87,6 @@ def test_heap(tmp_path):
     passes([tmp_path / 'heap_test'])
 
 
-@pytest.mark.since('0.7.0')
 def test_rates_beside_those_of_the_library(module, library, tmp_path, monkeypatch):
     """The module checks and judges at least 0.4 times as fast as the library does for Python: 0.8 times on a quiet machine. That is
     the best of some turns, by the processor's time, since a busy machine slows both."""
@@ -109,7 +106,6 @@ def test_rates_beside_those_of_the_library(module, library, tmp_path, monkeypatc
     pytest.fail(f'checks, verdicts and certificates: {most}')
 
 
-@pytest.mark.since('0.7.0')
 @pytest.mark.all
 def test_beside_the_program(kept, module):
     needs('node')

@@ -92,7 +92,6 @@ def test_sums(made):
     passes(['sha256sum', '--quiet', '--strict', '-c', 'SHA256SUMS'], cwd=made)
 
 
-@pytest.mark.since('0.7.0')
 def test_sources(made, kept):
     """The engine's files with what git calls their contents; of an older release those that it was made of."""
     listed = dict(reversed(line.split()) for line in (made / 'SOURCES').read_text().splitlines())
@@ -149,7 +148,6 @@ UNPACK = {
 }
 
 
-@pytest.mark.since('0.7.0')
 @pytest.mark.parametrize('ending', UNPACK)
 def test_links_lead_to_files_of_the_package(made, ending, tmp_path):
     """Those of its Markdown files, and of the page that a wheel's METADATA has."""
@@ -179,7 +177,6 @@ def test_npm(npm, pairs, version):
         prints(0, 'certificate accepted', ['npx', '--offline', 'nonobench', 'check', *files['good']], cwd=npm)
 
 
-@pytest.mark.since('0.7.0')
 def test_npm_upload(npm, pairs):
     needs('npx')
     files, _ = pairs
@@ -191,7 +188,6 @@ def test_npm_calls(npm, pairs):
     try_call(['node', npm / 'ask.mjs'], pairs)
 
 
-@pytest.mark.since('0.7.0')
 def test_npm_example(npm, pairs):
     """The example of an upload, copied beside the installed package."""
     shutil.copy(EXAMPLES / 'check_upload.mjs', npm)
@@ -200,7 +196,6 @@ def test_npm_example(npm, pairs):
     prints(1, 'refused: certificate UnpublishedGiven at line 2', ['node', npm / 'check_upload.mjs', *files['all']])
 
 
-@pytest.mark.since('0.7.0')
 def test_npm_types(npm):
     needs('tsc')
     shutil.copy(TRIALS / 'types.mts', npm)
@@ -219,7 +214,6 @@ def test_npm_types(npm):
     passes(['tsc', *words, 'types.mts'], cwd=npm)
 
 
-@pytest.mark.since('0.7.0')
 def test_npm_in_node(request, kept, npm):
     env = {'PACKAGE': str(npm / 'node_modules' / 'nonobench'), 'NONOBENCH': str(kept.program('nonobench'))}
     node_tests(request, ROOT / 'packages' / 'npm' / 'test.mjs', env)
@@ -274,7 +268,6 @@ def test_library_for_c(installed, pairs, version, tmp_path):
         try_call([tmp_path / name], pairs, FIT, ALL_GIVEN)
 
 
-@pytest.mark.since('0.7.0')
 def test_archive_removed(made, tmp_path):
     """Installed and removed, nothing is left but what somebody else put there."""
     passes(['tar', 'xzf', next(made.glob('*-linux-x86_64.tar.gz')), '-C', tmp_path])
@@ -324,7 +317,6 @@ def test_deb(made, pairs, version, tmp_path):
         passes(['apt-get', '-qq', '-s', '-o', 'Debug::NoLocking=1', 'install', package])
 
 
-@pytest.mark.since('0.7.0')
 def test_deb_scripts(made, tmp_path):
     needs('dpkg-deb')
     passes(['dpkg-deb', '-x', next(made.glob('*_amd64.deb')), tmp_path])
@@ -363,7 +355,6 @@ def test_wheel(made, environment, pairs, tmp_path):
     try_call([environment / 'bin' / 'python', 'ask.py'], pairs, cwd=tmp_path)
 
 
-@pytest.mark.since('0.7.0')
 def test_wheel_scripts(environment):
     shown = environment / 'share' / 'doc' / 'nonobench'
     run = clean([environment / 'bin' / 'nonobench-check-site', shown / 'examples'])

@@ -12,7 +12,6 @@ ASK = '''import sys, nonobench
 print(nonobench.check(*(open(name, "rb").read() for name in sys.argv[1:]), published=[(1, 1)]).givens)'''
 
 
-@pytest.mark.since('0.7.0')
 @pytest.mark.all
 def test_by_pip(library, tmp_path):
     """Installed as python/README.md says, without an index to fetch from, and asked from another folder."""
@@ -31,7 +30,6 @@ def without_version(text):
     return re.sub(r'nonobench [0-9.]*[0-9]', 'nonobench', text)
 
 
-@pytest.mark.since('0.7.0')
 def test_report_of_the_examples(library, tmp_path):
     """Some puzzles of examples/ are ambiguous, so the status is 1. With AUDIT_WRITE=1 the report in docs/ is written anew."""
     for name, title in (('PIL', 'Pillow'), ('defusedxml', 'defusedxml'), ('jinja2', 'Jinja2')):

@@ -4,7 +4,6 @@ import pytest
 from test_cases import picture_of, printed, rows
 from tried import Ended, ended
 
-pytestmark = pytest.mark.since('0.7.0')
 
 RING = 'unique\nsize 3 3\ncolours 2\ngivens 0\nopen 0\ngrade easy 1 3 1 0 0\nfit\n'
 CROSS = 'ambiguous\n.a\na.\nsize 2 2\ncolours 2\ngivens 0\nopen 4\nunfit\n'

@@ -79,7 +79,6 @@ def test_certificate(program, text, answer, tmp_path):
     answered(ended([program.path, 'check', *pair(tmp_path, text)]), answer, hint_of(program, text))
 
 
-@pytest.mark.since('0.7.0')
 @pytest.mark.parametrize(('text', 'answer'), rows('lemmas'))
 def test_certificate_with_lemmas(program, text, answer, tmp_path):
     answered(ended([program.path, 'check', *pair(tmp_path, text)]), answer, hint_of(program, text))

@@ -56,7 +56,6 @@ def matches(pattern, lines):
     return {found for line in lines for found in re.findall(pattern, line)}
 
 
-@pytest.mark.since('0.7.0')
 def test_words_in_bash(nonobench, bash):
     commands = commands_of(nonobench)
     assert len(commands) > 3
@@ -67,7 +66,6 @@ def test_words_in_bash(nonobench, bash):
         assert bash(command, '') == FILES, command
 
 
-@pytest.mark.since('0.7.0')
 def test_values_in_bash(nonobench, bash):
     for command in ('work', 'prove', 'assess'):
         assert bash(command, 'duck.ppm', '--format', '') == formats_of(nonobench, command)
@@ -83,7 +81,6 @@ def test_words_in_zsh(nonobench, zsh):
     assert matches(r'^(--[a-z]*)\[', zsh('')) == options_of(nonobench)
 
 
-@pytest.mark.since('0.7.0')
 def test_options_and_files_in_zsh(nonobench, zsh):
     """An option with a value has a colon behind its text, and there are as many files as arguments."""
     for command in commands_of(nonobench) - {'help'}:
@@ -97,7 +94,6 @@ def test_options_and_files_in_zsh(nonobench, zsh):
         assert matches(r'^([0-9]*):.*:_files$', lines) == {str(at + 2) for at in range(len(files))}, command
 
 
-@pytest.mark.since('0.7.0')
 def test_formats_in_zsh(nonobench, zsh):
     for command in ('work', 'prove', 'assess'):
         offered = {word for words in matches(r'^--format.*:\((.*)\)$', zsh(command, '')) for word in words.split(' ')}

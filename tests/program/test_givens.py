@@ -4,7 +4,6 @@ import pytest
 from test_cases import answered, picture_of, printed, rows
 from tried import Ended, ended
 
-pytestmark = pytest.mark.since('0.7.0')
 CERT = 'nonocert 2\ngiven 1 1\nline r 1\nline c 1\nline r 2\ndone\n'
 
 

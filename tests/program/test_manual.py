@@ -9,7 +9,6 @@
 
 import re
 
-import pytest
 from help_text import words_of
 from tried import ROOT, needs, passes
 
@@ -49,7 +48,6 @@ def synopsis():
             yield f'{word} -{name}' + (f' {rest[1]}' if rest[:1] == ['Ar'] else '')
 
 
-@pytest.mark.since('0.7.0')
 def test_synopsis(kept):
     program = kept.program('nonobench')
     known = words_of(program)

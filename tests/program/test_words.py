@@ -77,7 +77,6 @@ def test_check(program, name, tmp_path):
 FORMS = ['nonocert 1\nline r 1\ndone\n', 'nonocert 2\nline r 1\ndone', 'nonolemma 1\nline c 1\ndone\n', 'nonolemma 2\nline r1 c1\ndone\n']
 
 
-@pytest.mark.since('0.7.0')
 @pytest.mark.parametrize('command', ['check', 'verify'])
 @pytest.mark.parametrize('cert', FORMS)
 def test_each_form(program, command, cert, tmp_path):
@@ -108,7 +107,6 @@ def test_prove(program, name, tmp_path):
 FORMATS = {(): b'nonolemma 2', ('--format', '2'): b'nonolemma 2', ('--format=1',): b'nonolemma 1'}
 
 
-@pytest.mark.since('0.7.0')
 @pytest.mark.parametrize('words', FORMATS)
 @pytest.mark.parametrize('background', [(), ('--background', '0,0,0')])
 def test_formats_of_certificates(program, words, background, tmp_path):
@@ -123,7 +121,6 @@ def test_formats_of_certificates(program, words, background, tmp_path):
     assert ended([program.path, 'check', picture, *put(tmp_path, cert=run.wrote), *background]) == Ended(0, YES, b'')
 
 
-@pytest.mark.since('0.7.0')
 def test_format_that_is_none(program):
     run = ended([program.path, 'prove', 'picture', '--format', '3'])
     assert (run.status, run.wrote) == (2, b'')
@@ -147,7 +144,6 @@ def test_files_that_are_too_long(program, tmp_path):
     assert ended([program.path, 'check', picture, long]) == Ended(1, b'', TOO_LONG)
 
 
-@pytest.mark.since('0.7.0')
 def test_files_of_givens_that_are_not_read(program, tmp_path):
     """All three are read before any is looked at, the givens last."""
     picture, cert, long = put(tmp_path, picture='P6', cert='x', long=b'\n' * 16777217)

@@ -37,14 +37,12 @@ def test_plain_forms(kept, kind):
     compares('plain_forms.py', needs_file(kept.program(f'cert_tables{kind}'), 'rt ci'))
 
 
-@pytest.mark.since('0.7.0')
 @pytest.mark.parametrize('part', ('givens', 'lot', 'documents'))
 def test_assessments(library, part):
     """Assessments and paths of line logic, in one process of the library."""
     compares('assessments.py', library, part)
 
 
-@pytest.mark.since('0.7.0')
 def test_cases_made_by_chance(kept, tmp_path):
     """Some seeded cases of the fuzzer, the same each time."""
     compares('fuzz.py', '1000', '1', env={'PROGRAM': str(kept.program('nonobench')), 'FUZZ_FOLDER': str(tmp_path)})
