@@ -133,14 +133,12 @@ def headless_files():
             yield place(file, 1)
 
 
-def code_lines(crate=None):
+def code_lines():
     """Lines of source without clauses, comments, ghost imports, attributes and blank lines.
 
     A clause or a ghost import may take several lines: up to the brace that ends it.
     """
     for file, text in sources('src', '.rt'):
-        if crate is not None and file.relative_to(ROOT).parts[1] != crate:
-            continue
         depth = 0
         for number, line in enumerate(text.split('\n'), 1):
             if depth > 0 or re.match(r'\s*(requires|ensures|ghost)\b', line):

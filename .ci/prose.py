@@ -115,6 +115,11 @@ def documents():
                 yield path
 
 
+def text_of(name):
+    with open(os.path.join(ROOT, name), encoding="utf-8") as file:
+        return file.read()
+
+
 def blocks(text):
     """Gives (line number, info, lines) for each code block, and the text with those lines blank."""
     found, kept, inside = [], [], None
@@ -163,8 +168,7 @@ def sentences(unit):
 
 
 def anchors(path):
-    with open(path, encoding="utf-8") as file:
-        heads = re.findall(r"^#+ (.*)$", file.read(), re.M)
+    heads = re.findall(r"^#+ (.*)$", text_of(path), re.M)
     return {re.sub(r"[^\w\- ]", "", head.lower()).replace(" ", "-") for head in heads}
 
 
@@ -172,8 +176,7 @@ def length_faults(lines):
     """The files of docs/TRUST.md, as `PATH` (N lines), that have another number of lines."""
     for number, line in enumerate(lines, 1):
         for path, told in re.findall(r"`([\w./]+)` \((\d+) lines\)", line):
-            with open(os.path.join(ROOT, path), encoding="utf-8") as file:
-                found = len(file.read().splitlines())
+            found = len(text_of(path).splitlines())
             if found != int(told):
                 yield number, f"{path} has {found} lines, not {told}"
 
@@ -184,8 +187,7 @@ def words_of(lines):
 
 def mean_sentence(name):
     """How many words a sentence of a document's paragraphs and items has, in the mean; headings and tables are left out."""
-    with open(os.path.join(ROOT, name), encoding="utf-8") as file:
-        _, lines = blocks(file.read())
+    _, lines = blocks(text_of(name))
     plain = ["" if re.match(r"#|\||!\[|<", line.strip()) else line for line in lines]
     lengths = [words_of([sentence]) for _, unit in units(plain) for sentence in sentences(unit)]
     return sum(lengths) / len(lengths)
@@ -193,8 +195,7 @@ def mean_sentence(name):
 
 def better_words(name):
     """The words of a document for which INSTEAD has a better one, each with its line; code, names and links are left out."""
-    with open(os.path.join(ROOT, name), encoding="utf-8") as file:
-        _, lines = blocks(file.read())
+    _, lines = blocks(text_of(name))
     for number, line in enumerate(lines, 1):
         text = re.sub(r"`[^`]*`", "code", re.sub(r"\]\([^)]*\)", "]", line))
         for word, better in INSTEAD.items():
@@ -222,7 +223,7 @@ def citation_faults(lines):
             path = os.path.join(ROOT, code if code.startswith("crates/") else os.path.join(folder, code))
             folder = os.path.dirname(path)
             files = [path] if os.path.isfile(path) else [os.path.join(path, one) for one in sorted(os.listdir(path))]
-            text = "".join(open(file, encoding="utf-8").read() for file in files)
+            text = "".join(map(text_of, files))
             for name in names:
                 if not re.search(rf"(?<!\w){re.escape(name)}(?!\w)", text):
                     yield number, f"{code} does not have {name}"
@@ -235,8 +236,7 @@ OF_DOCUMENT = {os.path.join("docs", "THEOREMS.md"): (citation_faults,), os.path.
 def faults_of(name):
     path = os.path.join(ROOT, name)
     folder = os.path.dirname(path)
-    with open(path, encoding="utf-8") as file:
-        found, lines = blocks(file.read())
+    found, lines = blocks(text_of(name))
     for number, unit in units(lines):
         for sentence in sentences(unit):
             words = [w for w in sentence.split() if re.search(r"\w", w)]
@@ -275,8 +275,7 @@ def faults_of(name):
 
 def runs_of(name):
     """The runs of TWICE words of a document, each with its line. Code is one word that is left out where it is most of a run."""
-    with open(os.path.join(ROOT, name), encoding="utf-8") as file:
-        _, lines = blocks(file.read())
+    _, lines = blocks(text_of(name))
     for number, unit in units(lines):
         for allowed in ALLOWED:
             unit = unit.replace(allowed, "")
@@ -303,8 +302,7 @@ def size_faults(is_listed):
     """The documents that have too many words, or that are in neither list."""
     sizes = {}
     for name in READ + list(LEFT_OUT):
-        with open(os.path.join(ROOT, name), encoding="utf-8") as file:
-            sizes[name] = len(MADE_PART.sub("", file.read()).split())
+        sizes[name] = len(MADE_PART.sub("", text_of(name)).split())
         if is_listed:
             print(f"{sizes[name]:6,} {name}" + (f" (not counted: {LEFT_OUT[name]})" if name in LEFT_OUT else ""))
         if sizes[name] > MOST.get(name, sizes[name]):
@@ -322,8 +320,7 @@ def kit_fault():
     if shutil.which("rt") is None:
         return None
     told = subprocess.run(["rt", "version"], capture_output=True, text=True).stdout.strip()
-    with open(os.path.join(ROOT, "KIT"), encoding="utf-8") as file:
-        kept = file.read().splitlines()
+    kept = text_of("KIT").splitlines()
     if told in kept:
         return None
     if told.partition(" ")[2] in [line.partition(" ")[2] for line in kept]:

@@ -1,14 +1,14 @@
 #!/usr/bin/env python3
 """Measures who decides within a time whether a picture is the only one with its clues: measure/others.py PROGRAM FOLDER .. [--seconds N]
-[--only SOLVER] [--others CSV] [--class NAME=PATTERN,..] [--tuned FOLDER] [--csv FILE] [--svg FILE]
+[--others CSV] [--class NAME=PATTERN,..] [--tuned FOLDER] [--csv FILE] [--svg FILE]
 
 Each P3 picture of the folders is given to nonobench (`verdict`) and to the solvers that are installed: minisat and cadical (clauses),
 gringo with clasp (an answer set program), gecode (`extensional` for each line, the cell of most failures for its colours first).
 In Debian: apt-get install minisat cadical gringo clasp libgecode-dev g++.
 Each gets N seconds of one processor (by default 10) for the whole answer, including gringo's; writing the text that a solver reads
 is not counted. Answers are compared with each other, and each other picture that a solver finds is checked. If nonobench answers
-`unique`, its certificate is made, checked by `nonobench check` and measured, each step in a process of its own. If the program has
-the command `prove`, the same is done with certificates with lemmas, also for pictures that the verdict left open.
+`unique`, its certificate is made, checked by `nonobench check` and measured, each step in a process of its own. The same is done with
+certificates with lemmas, also for pictures that the verdict left open.
 
 With `--others`, only nonobench is measured, and the rows of the other solvers are taken from the CSV of an earlier run over the same
 pictures and classes.
@@ -306,12 +306,6 @@ def certificate(program, limit, picture):
     return [(CERTIFY, 'unique', took, len(printed.encode())), (CHECK, 'accepted', checking, None)]
 
 
-def has_proofs(program):
-    """Whether a program can print proofs by lemmas."""
-    said = subprocess.run([program, '--help'], capture_output=True, check=False, text=True).stdout
-    return any(line.split()[:1] == ['prove'] for line in said.splitlines())
-
-
 def lemma_proof(program, limit, picture):
     """The rows of a proof by lemmas: its length and the time to make it, and the time to check it. One that is refused is an error."""
     printed, took = limit.run([program, 'prove', str(picture)])
@@ -335,9 +329,9 @@ def answers(found, program, limit, picture):
     if len({answer for _, answer, _, _ in rows} - {'open'}) > 1:
         raise SystemExit(f'{picture}: they disagree: {line}')
     print(f'{picture.name}: {line}', file=sys.stderr, flush=True)
-    if rows[0][:2] == ('nonobench', 'unique'):
+    if rows[0][1] == 'unique':
         rows += certificate(program, limit, picture)
-    if rows[0][0] == 'nonobench' and rows[0][1] != 'ambiguous' and has_proofs(program):
+    if rows[0][1] != 'ambiguous':
         rows += lemma_proof(program, limit, picture)
     return task, rows
 
@@ -376,7 +370,6 @@ def arguments():
     parser.add_argument('program')
     parser.add_argument('folder', nargs='+')
     parser.add_argument('--seconds', type=float, default=10)
-    parser.add_argument('--only', help='the name of one solver')
     parser.add_argument('--others', help='the CSV of an earlier run, for the rows of the other solvers')
     parser.add_argument('--class', dest='classes', action='append', default=[], help='NAME=PATTERN,..: pictures that are counted together')
     parser.add_argument('--tuned', action='append', default=[], help='a folder of pictures on which nonobench was improved')
@@ -394,8 +387,6 @@ def main():
         print(f'a process that does nothing: {1000 * start(limit):.1f} ms', file=sys.stderr)
         earlier = earlier_rows(asked.others) if asked.others else None
         found = {'nonobench': by_nonobench(program)} if asked.others else solvers(program, folder)
-        if asked.only:
-            found = {asked.only: found[asked.only]}
         for picture in sorted(file for one in asked.folder for file in Path(one).rglob('*.ppm')):
             try:
                 task, done = answers(found, program, limit, picture.resolve())
