@@ -845,7 +845,7 @@ class Running(Case):
 
     def test_what_is_known_of_a_puzzle_gives_it_no_more_time(self):
         task = serving.Task(0, "one.ppm", "one.ppm", (), None, None, None, "", 1, serving.FULL)
-        hand = types.SimpleNamespace(tasks=deque([task]), cost=1.0, since=5.0, is_left=False, known=None, reached=0)
+        hand = types.SimpleNamespace(tasks=deque([task]), cost=1.0, since=5.0, is_left=False, known=None)
         pool = workers.Pool(None, 0, 10.0)
         for parts, is_further in (([b"known", b"unique", b"{}", b"last", b""], False), ([b"last", b"unique", b"{}", b"", b""], True)):
             hand.answers = lambda parts=parts: [(0, parts)]
@@ -872,15 +872,45 @@ class Running(Case):
         task = serving.Task(0, "set.xml", "set.xml", (), None, None, None, "", 2, serving.FULL)
         for more in ("more", ""):
             pool = workers.Pool(types.SimpleNamespace(limit="9 s"), 0, 9.0)
-            hand = types.SimpleNamespace(tasks=deque([task]), known=None, reached=0, has_more=False)
-            self.assertEqual(list(pool._hear(hand, 0, "at", "2", more, "")), [])
+            hand = types.SimpleNamespace(tasks=deque([task]), known=None, quiet=0.0, has_more=False)
+            self.assertEqual(list(pool._hear(hand, 0, "at", "", more, "")), [])
             self.assertEqual(list(pool._blame(hand, task, "late", True)), [])
             (glance,) = pool._again
             pool._again.clear()
-            (answer,) = pool._blame(types.SimpleNamespace(known=None, reached=0, has_more=False), glance, "late", True)
+            (answer,) = pool._blame(types.SimpleNamespace(known=None, has_more=False), glance, "late", True)
             row = json.loads(answer.text)
             self.assertEqual((glance.mode, row["puzzle"], row.get("more", False), answer.is_last), (serving.GLANCE, 2, more != "", more == ""))
             self.assertEqual([(after.start, after.mode, after.has_more) for after in pool._again], [(3, serving.FULL, False)] if more else [])
+
+    def test_no_puzzle_pays_for_the_time_of_others(self):
+        """Each piece that is read, and each puzzle that is passed or checked again, is a sign of life; and none is to blame before it is begun."""
+        place = self.put("set.xml", "<puzzleset>" + webpbn(UNIQUE) * 5 + "</puzzleset>")
+        answers, to = Answers(), str(self.folder / "set")
+        judge = serving.Judging(serving.Settings("", "", 1024, 99, "white", False, False), answers)
+        task = serving.Task(0, "set.xml", str(place), (), None, None, to, "", 1, serving.FULL)
+        judge.answer(task)
+        rows = [words[3] for words in answers if words[1] in ("more", "last")]
+        kept = tuple((at, row, f"{certificates.numbered_name(to, at)}.cert") for at, row in enumerate(rows, 1))
+        again, told = task._replace(before=json.loads(rows[0])["content"], kept=kept), []
+        answers.clear()
+        with unittest.mock.patch.object(certificates, "holds", lambda *_: told.append(len(answers)) or True):
+            judge.answer(again)
+        self.assertEqual((told, answers.pop()[:2]), ([1, 2, 3, 4, 6], (0, "same")))
+        answers.clear()
+        judge.answer(task._replace(start=5))
+        self.assertEqual([words[1] for words in answers if words[1] != "known"], ["on"] * 6 + ["at", "last"])
+        answers.clear()
+        judge.answer(again._replace(before="another"))
+        self.assertEqual([words[1] for words in answers if words[1] != "known"], ["on", *["at", "more", "on"] * 4, "on", "at", "last"])
+        for kinds, (mode, before, used) in (((), (serving.FULL, "", 0.0)), (("on",), (serving.FULL, "", 0.0)), (("on", "at"), (serving.GLANCE, "", 7.0))):
+            pool = workers.Pool(types.SimpleNamespace(limit="9 s"), 0, 9.0)
+            hand = types.SimpleNamespace(tasks=deque([again]), known=None, quiet=0.0, has_more=False)
+            for kind in kinds:
+                hand.quiet = 3.5
+                self.assertEqual(list(pool._hear(hand, 0, kind, "", "more", "")), [])
+            self.assertEqual(list(pool._blame(hand, hand.tasks[0], "late", True)), [])
+            (tried,) = pool._again
+            self.assertEqual((tried.mode, tried.before, tried.used), (mode, before, used))
 
     @pytest.mark.since("0.7.0")
     def test_a_grade_that_does_not_come_takes_neither_note_nor_certificate(self):

@@ -7,7 +7,7 @@ import os
 import re
 import stat
 from dataclasses import replace
-from typing import Iterator, NamedTuple, Optional, Union
+from typing import Any, Callable, Iterator, NamedTuple, Optional, Union
 
 from .._answers import ImageFault
 from .._calls import picture_of
@@ -63,8 +63,10 @@ def bytes_of(path: Union[str, bytes], most: int = MOST_BYTES, follows: bool = Tr
         raise Unreadable(one_line(getattr(error, "strerror", None) or str(error))) from error
 
 
-def puzzles_of(data: bytes, suffix: str, ground: Ground, givens: Optional[bytes] = None) -> Iterator[Union[Puzzle, Unreadable]]:
-    """Each puzzle of a file, or why it is none. What is wrong with the whole file is raised.
+def puzzles_of(
+    data: bytes, suffix: str, ground: Ground, givens: Optional[bytes] = None, tell: Callable[[], Any] = bool
+) -> Iterator[Union[Puzzle, Unreadable]]:
+    """Each puzzle of a file, or why it is none. What is wrong with the whole file is raised. What may take long tells of each piece.
 
     The first bytes tell what a file is. Its suffix counts where they do not. A file of givens takes the place of those in XML.
     """
@@ -74,7 +76,7 @@ def puzzles_of(data: bytes, suffix: str, ground: Ground, givens: Optional[bytes]
     elif is_image(data):
         puzzle = _puzzle_of_image(data, ground)
     elif _is_xml(data):
-        puzzles = webpbn.puzzles_of_xml(data)
+        puzzles = webpbn.puzzles_of_xml(data, tell)
         if givens is None:
             yield from puzzles if suffix == ".xml" else [_only(puzzles, "several puzzles, and a name that does not end in .xml")]
             return

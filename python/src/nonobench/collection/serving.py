@@ -123,8 +123,9 @@ class Answers:
 
         `more` and `last` are rows of a file; `same` and `none` say that its rows are as they were, or that there are no more.
         `known` is a row before its certificate or its grade is made: instead of a certificate it has the kind of the row to come, and
-        what follows is the certificate that goes back. `at` is the puzzle that is begun where a file has several, with a text where more
-        follow. `bye` says that the process ends and has begun no other task, `ready` that it begins.
+        what follows is the certificate that goes back. `at` says that a puzzle is begun where a file has several, with a text where more
+        follow, and `on` that a piece of the file was read, or that a puzzle with others behind it was judged or checked again. `bye` says
+        that the process ends and has begun no other task, `ready` that it begins.
         """
         self._waiting.append(framed(number, *(word.encode("ascii") for word in (kind, verdict, text, certificate))))
         if not self._some.is_set():  # which takes no lock
@@ -192,12 +193,13 @@ class Judging:
             self._answers.put(task.number, "same", "")
             return
         number = 0
-        for number, has_more, puzzle in numbered(self._puzzles(task.name, files)):
+        for number, has_more, puzzle in self._numbered(task, files):
             if number < task.start:
+                begun = time.perf_counter()
                 continue
             place = place_of(number, has_more)
-            if place:
-                self._answers.put(task.number, "at", str(number), "more" if has_more else "")
+            if place or task.before:
+                self._answers.put(task.number, "at", "", "more" if has_more else "")
             front: Row = {"file": task.name, **place}
             about = About(front, "more" if has_more else "last", content, sha256, begun)
             self._judge(task, about, puzzle, files.of(number))
@@ -214,7 +216,7 @@ class Judging:
         if not kept:
             return True
         with contextlib.suppress(Unreadable):
-            for number, has_more, puzzle in numbered(self._puzzles(task.name, files)):
+            for number, has_more, puzzle in self._numbered(task, files):
                 row, held = kept.pop(number, (None, b""))
                 if row is None or (row and (isinstance(puzzle, Unreadable) or row.get("sha256") != sha256)):
                     return False
@@ -229,14 +231,32 @@ class Judging:
             return not kept
         return False
 
-    def _puzzles(self, name: str, files: Files) -> Iterator[Union[Puzzle, Unreadable]]:
+    def _numbered(self, task: Task, files: Files) -> Iterator[tuple[int, bool, Union[Puzzle, Unreadable]]]:
+        """Each puzzle with its number, and whether more follow: those have time of their own. What is wrong with the file is the last one."""
+        puzzles = self._puzzles(task, files)
+        number, held = 0, None
+        while True:
+            try:
+                puzzle = next(puzzles, None)
+            except Unreadable as error:
+                puzzle, puzzles = error, iter(())
+            if held is not None:
+                yield number, puzzle is not None, held
+            if puzzle is None:
+                return
+            if held is not None:
+                self._answers.put(task.number, "on", "")
+            number, held = number + 1, puzzle
+
+    def _puzzles(self, task: Task, files: Files) -> Iterator[Union[Puzzle, Unreadable]]:
         ground = self._ground
         if files.background is not None:
             try:
                 ground = readers.ground_beside(files.background)
             except ValueError as error:
                 raise Unreadable(f"the file of its background {error}") from error
-        puzzles = readers.puzzles_of(files.file, os.path.splitext(name)[1].lower(), ground, files.givens)
+        suffix = os.path.splitext(task.name)[1].lower()
+        puzzles = readers.puzzles_of(files.file, suffix, ground, files.givens, lambda: self._answers.put(task.number, "on", ""))
         has_none = files.background is None or is_image(files.file)  # of its own
         yield from puzzles if has_none else readers.grounded(puzzles, ground)
 
@@ -310,21 +330,6 @@ def unread(name: str, error: Unreadable, has_times: bool) -> str:
 def place_of(number: int, has_more: bool) -> Row:
     """What a row says of its puzzle's place in the file: nothing where it is the only one."""
     return {**({"puzzle": number} if has_more or number > 1 else {}), **({"more": True} if has_more else {})}
-
-
-def numbered(puzzles: Iterator[Union[Puzzle, Unreadable]]) -> Iterator[tuple[int, bool, Union[Puzzle, Unreadable]]]:
-    """Each puzzle with its number, and whether more follow. What is wrong with the file is the last of its puzzles."""
-    number, held = 0, None
-    while True:
-        try:
-            puzzle = next(puzzles, None)
-        except Unreadable as error:
-            puzzle, puzzles = error, iter(())
-        if held is not None:
-            yield number, puzzle is not None, held
-        if puzzle is None:
-            return
-        number, held = number + 1, puzzle
 
 
 class Files(NamedTuple):

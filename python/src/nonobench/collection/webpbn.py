@@ -9,7 +9,7 @@ from __future__ import annotations
 import io
 import itertools
 import re
-from typing import Any, Iterator, NamedTuple, Optional
+from typing import Any, Callable, Iterator, NamedTuple, Optional
 
 from .._calls import picture_of
 from .puzzles import BLACK, MOST_CELLS, MOST_COLOURS, WHITE, Missing, Puzzle, Triple, Unreadable, need, one_line
@@ -36,8 +36,8 @@ class Colour(NamedTuple):
     is_declared: bool
 
 
-def puzzles_of_xml(data: bytes) -> Iterator[Puzzle | Unreadable]:
-    """Each puzzle of an XML text, or why it is none. What is wrong with the XML itself is raised."""
+def puzzles_of_xml(data: bytes, tell: Callable[[], Any]) -> Iterator[Puzzle | Unreadable]:
+    """Each puzzle of an XML text, or why it is none. What is wrong with the XML itself is raised; and it tells of each piece."""
     try:
         from defusedxml import ElementTree
         from defusedxml.common import DefusedXmlException
@@ -50,7 +50,7 @@ def puzzles_of_xml(data: bytes) -> Iterator[Puzzle | Unreadable]:
         parser.parser.StartDoctypeDeclHandler = lambda _name, address, _public, _own: _look_at_address(address or "")
         parser.parser.EndDoctypeDeclHandler = lambda: _look_at_entities(data)
         parser.parser.XmlDeclHandler = lambda _version, coding, _alone: _look_at_coding(data, coding or "utf-8")
-        yield from _puzzles(ElementTree.iterparse(_Pieces(data, parser.parser), events=("start", "end"), parser=parser))
+        yield from _puzzles(ElementTree.iterparse(_Pieces(data, parser.parser, tell), events=("start", "end"), parser=parser))
     except DefusedXmlException as error:
         raise Unreadable(f"the XML cannot be read: it declares entities ({type(error).__name__})") from error
     except (ElementTree.ParseError, ValueError, LookupError) as error:
@@ -62,14 +62,15 @@ def puzzles_of_xml(data: bytes) -> Iterator[Puzzle | Unreadable]:
 class _Pieces(io.BytesIO):
     """A text as expat takes it, piece by piece, as long as none of its parts is too long."""
 
-    def __init__(self, data: bytes, expat: Any) -> None:
+    def __init__(self, data: bytes, expat: Any, tell: Callable[[], Any]) -> None:
         super().__init__(data)
-        self._expat = expat
+        self._expat, self._tell = expat, tell
 
     def read(self, size: Optional[int] = -1) -> bytes:
         """The next piece. What expat has taken and not yet told of is the beginning of one part."""
         is_short = self.tell() - self._expat.CurrentByteIndex <= MOST_PART
         need(is_short, f"the XML cannot be read: a tag or a comment of it has more than {MOST_PART} bytes")
+        self._tell()
         return super().read(size)
 
 

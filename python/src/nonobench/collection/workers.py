@@ -49,8 +49,8 @@ class Hand(Child):
         self.since = time.monotonic()  # the last sign of life
         self.quiet = 0.0  # seconds before this one that no puzzle was charged for
         self.cost = PACK_SECONDS  # seconds of a file, about
-        self.reached = 0  # the puzzle of the first task's file that is being judged, where the file has several
-        self.has_more = False  # whether others follow it
+        self.is_leaving = False  # whether it has told that it ends
+        self.has_more = False  # whether others follow the puzzle of the first task's file that is being judged
         self.known: Optional[tuple[str, str]] = None  # the row of the puzzle whose certificate or grade is being made, and what goes with it
         self.send(0, marshal.dumps(tuple(settings)))
 
@@ -144,19 +144,21 @@ class Pool:
             return
         if not hand.tasks or number != hand.tasks[0].number:
             return
-        if kind == "at":
-            hand.reached, hand.has_more = int(verdict), text != ""
+        task = hand.tasks[0]
+        if kind in ("at", "on"):
+            before, hand.has_more = ("", text != "") if kind == "at" else (task.before, hand.has_more)
+            hand.tasks[0], hand.quiet = task._replace(used=task.used + hand.quiet, before=before), 0.0
         elif kind == "known":
             hand.known = text, certificate
         elif kind == "bye":
-            hand.reached = -1
+            hand.is_leaving = True
         else:
             verdict = kind if kind in ("same", "none") else verdict
-            yield from self._take(hand, hand.tasks[0], Answer(number, kind != "more", verdict, text, certificate))
+            yield from self._take(hand, task, Answer(number, kind != "more", verdict, text, certificate))
 
     def _take(self, hand: Hand, task: Task, answer: Answer) -> Iterator[Answer]:
         """Takes the answer to the first task of a process."""
-        hand.known, hand.reached, hand.has_more = None, 0, False
+        hand.known, hand.has_more = None, False
         used, hand.quiet = task.used + hand.quiet, 0.0
         yield answer
         if answer.is_last or task.mode == GLANCE:
@@ -203,7 +205,7 @@ class Pool:
         """
         status = self._replace(hand)
         tasks = hand.tasks
-        is_to_blame = tasks and hand.is_ready and hand.reached >= 0
+        is_to_blame = tasks and hand.is_ready and not hand.is_leaving
         if is_to_blame and not late and len(tasks) > 1:
             self._died.update((task.number, task.start) for task in tasks)
         elif is_to_blame:
@@ -220,7 +222,9 @@ class Pool:
 
     def _blame(self, hand: Hand, task: Task, why: str, is_late: bool) -> Iterator[Answer]:
         """What becomes of a puzzle whose process was ended, or ended: it is told, or tried once more."""
-        if self._is_over(task) and task.start > 1:
+        if task.before:  # kept rows were compared, and no puzzle was begun: all are judged anew
+            self._again.appendleft(task._replace(used=0.0, before=""))
+        elif self._is_over(task) and task.start > 1:
             over = f"the puzzles before it have taken more than {MOST_TIMES * (self._seconds or 0):g} seconds: neither it nor those behind it are judged"
             yield from self._give_up(task, {"file": task.name, "puzzle": task.start, "verdict": "error", "error": over}, False)
         elif hand.known is not None:
@@ -231,7 +235,7 @@ class Pool:
                 row["seconds"] = self._seconds
             yield from self._give_up(task, row, kind == "more", certificate)
         elif is_late and task.mode == FULL:
-            self._again.appendleft(task._replace(mode=GLANCE, before="", spent=self._seconds or 0.0, has_more=hand.has_more))
+            self._again.appendleft(task._replace(mode=GLANCE, spent=self._seconds or 0.0, has_more=hand.has_more))
         elif not is_late and (task.number, task.start) not in self._died:
             self._died.add((task.number, task.start))
             self._again.appendleft(task)
