@@ -1164,7 +1164,8 @@ class Running(Case):
     @pytest.mark.since("0.7.0")
     def test_folders_that_are_called_like_what_is_written(self):
         """No process is first: what a puzzle would be called, where a folder is, it never is."""
-        for name in ("a.ppm", "a.cert/z.ppm", "b.png", "b.ppm/z.ppm", "c.ppm", "c.cert/z.ppm", "c.ppm.givens/z.ppm", "d.ppm", "e.2.ppm", "e.xml.2.givens/z.ppm"):
+        for name in ("a.ppm", "a.cert/z.ppm", "b.png", "b.ppm/z.ppm", "c.ppm", "c.cert/z.ppm", "c.ppm.givens/z.ppm", "d.ppm", "e.2.ppm", "e.xml.2.givens/z.ppm",
+                     "f.ppm", "f.ppm.givens/z.ppm", "f.ppm.background/z.ppm"):
             self.put(name, p3(UNIQUE))
         self.put("e.xml", "<puzzleset>" + webpbn(UNIQUE) * 2 + "</puzzleset>")
         os.mkdir(self.site / "d.background")
@@ -1176,8 +1177,9 @@ class Running(Case):
                 ("c.ppm", "e.xml#1", "e.xml#2"), note))
             self.assertEqual(sorted(str(place.relative_to(self.folder / out)) for place in (self.folder / out).rglob("*.cert") if place.is_file()), [
                 "a.cert/z.cert", "a.ppm.cert", "b.png.cert", "b.ppm/z.cert", "c.cert/z.cert", "c.ppm.givens/z.cert", "d.ppm.cert",
-                "e.2.ppm.cert", "e.xml.2.givens/z.cert",
+                "e.2.ppm.cert", "e.xml.2.givens/z.cert", "f.cert", "f.ppm.background/z.cert", "f.ppm.givens/z.cert",
             ])
+            self.assertEqual(check_site.main([str(self.folder / out), "--quiet"]), 0)
 
     @pytest.mark.since("0.7.0")
     def test_certificates_in_a_folder_that_is_not_there(self):

@@ -317,7 +317,7 @@ def test_nothing_but_regular_files_is_read(site, ending):
         make(site / f"{name}.{ending}")
     run = started(stdout=subprocess.PIPE)
     whys = {"device": "this is a link", "folder": "this folder is not read", "link": "this is a link", "pipe": "this is not a file"}
-    if ending in ("cert", "proof"):
+    if ending != "ppm":
         del whys["folder"]
     whose = {"ppm": "its picture: ", "givens": "its givens: ", "background": "its background: "}.get(ending, "")
     file = "proof" if ending == "proof" else "cert"
