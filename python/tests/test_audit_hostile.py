@@ -732,6 +732,20 @@ class Strangers(Case):
         self.assertEqual((secret / "one.ppm").read_bytes(), p3(UNIQUE))
         self.assertFalse((secret / "one.givens").exists())
 
+    def test_kept_rows_go_through_no_link(self):
+        """What one names is not believed: what is written takes the place of a link to a file, and behind one to a folder nothing is."""
+        self.put("one.ppm", p3(UNIQUE))
+        self.put("sub/two.ppm", p3(UNIQUE))
+        words = ["site", "--untrusted", "--certify", "out", "--ppm", "out", "--resume"]
+        self.rows_of(*words, status=0)
+        out = self.folder / "out"
+        for name in ("one.cert", "one.ppm", "sub"):
+            (out / name).rename(self.folder / name)
+            os.symlink(self.folder / name, out / name)
+        why = "was not written: Not a directory"
+        self.assertEqual(self.rows_of(*words, status=3)["sub/two.ppm"].get("note"), f"its picture {why}; its certificate {why}")
+        self.assertEqual([place.name for place in sorted(out.iterdir()) if place.is_symlink()], ["sub"])
+
     def test_over_a_scheduler_too(self):
         os.symlink("/dev/zero", self.site / "one.ppm")
         settings = running.settings_of(arguments.options_of([str(self.site), "--untrusted"]))

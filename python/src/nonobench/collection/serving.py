@@ -370,7 +370,7 @@ def files_of(task: Task, settings: Settings) -> Files:
         nonlocal room
         left = room
         with contextlib.suppress(Unreadable):
-            return bytes_of(file, is_ours=True)
+            return bytes_of(file, is_ours=False)
         room = left
         return b""  # it is made again
 
