@@ -834,6 +834,10 @@ class Names(Case):
         self.assertIn("site/new\\nline.ppm\n", table)
         self.assertNotIn("\x1b", table)
 
+    def test_names_in_letters_that_the_locale_does_not_have(self):
+        self.put("h\u00e9.ppm", p3(UNIQUE))
+        self.rows("site", "--untrusted", status=0, LC_ALL="C", PYTHONUTF8="0", PYTHONCOERCECLOCALE="0")
+
     @pytest.mark.since("0.7.0")
     def test_the_longest_names(self):
         # A name has at most 255 bytes, and a second run finds certificates of that length.

@@ -51,7 +51,7 @@ def bytes_of(path: Union[str, bytes], most: int = MOST_BYTES, follows: bool = Tr
             found = os.fstat(handle)
             need(stat.S_ISREG(found.st_mode), "this folder is not read" if stat.S_ISDIR(found.st_mode) else "this is not a file")
             need(found.st_size <= most, f"more than {most} bytes")
-            if is_real and os.readlink(f"/proc/self/fd/{handle}") != path:
+            if is_real and os.readlink(b"/proc/self/fd/%d" % handle) != os.fsencode(path):
                 is_link = os.fstat(handle).st_nlink
                 raise Unreadable("a part of its path is a link" if is_link else "it was replaced while it was read")
             return read(handle, found.st_size)
