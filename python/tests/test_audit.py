@@ -24,7 +24,6 @@ from audit_parts import (  # noqa: E402
     ALL_LEMMAS, AMBIGUOUS, BLACK, CERT, GIVEN_CERT, GIVEN_LEMMAS, LEMMAS, OTHER, PATIENCE, RED, ROOT, UNIQUE, WHITE, Case, chequered, eventually, p3, webpbn,
 )
 
-import pytest  # noqa: E402
 import nonobench  # noqa: E402
 from nonobench import check_site  # noqa: E402
 from nonobench.collection import arguments, certificates, judging, readers, running, serving, tally, workers  # noqa: E402
@@ -142,8 +141,8 @@ def beside_words(text):
 def ground_words(text):
     """The background of a file, likewise."""
     try:
-        ground = readers.ground_beside(text)
-    except ValueError:
+        ground = readers.ground_beside(text, "")
+    except Unreadable:
         return "refused"
     if ground.triple is None:
         return "corner" if ground.is_corner else "white"
@@ -227,7 +226,6 @@ class Reading(unittest.TestCase):
             with self.subTest(word), self.assertRaises(ValueError):
                 readers.ground_of(word)
 
-    @pytest.mark.since("0.7.0")
     def test_what_lies_beside(self):
         """The texts that the page reads too, in tests/page/page_several.mjs."""
         count = 0
@@ -259,10 +257,9 @@ class Reading(unittest.TestCase):
         cells = bytes([0, 0, 50, 0, 0, 0, 0, 0, 0, 0, 0, 50])
         files = serving.Files(b"P6\n2 2\n100\n" + cells, (), None, b"0,0,50\n", ())
         judging = serving.Judging(running.settings_of(arguments.Options([])), None)
-        (puzzle,) = judging._puzzles("one.ppm", files)
+        (puzzle,) = judging._puzzles(types.SimpleNamespace(name="one.ppm"), files)
         self.assertEqual(puzzle, one(files.file, ground=readers.ground_of("0,0,50")))
 
-    @pytest.mark.since("0.7.0")
     def test_a_background_beside_a_puzzle_with_its_own(self):
         for puzzle in (one(webpbn(UNIQUE).encode()), one(b"width 1\nheight 1\nrows\n1\ncolumns\n1\n", ".non")):
             for word, is_read in (("white", True), ("255,255,255", True), ("corner", True), ("0,0,0", False)):
@@ -320,7 +317,6 @@ class Reading(unittest.TestCase):
         other = '<solution type="solution"><image>|.X||r.|</image></solution>'
         self.assertEqual(one(webpbn(UNIQUE, more=goal + other).encode()).text, p3(UNIQUE))
 
-    @pytest.mark.since("0.7.0")
     def test_xml_with_givens(self):
         saved = '<solution type="saved" id="{}"><image>|X?||?{}|</image></solution>'
         self.assertEqual(one(webpbn(AMBIGUOUS, more=saved.format("givens", "?")).encode()).givens, ((1, 1),))
@@ -364,7 +360,6 @@ class Reading(unittest.TestCase):
         self.assertEqual(one(f"<puzzle>{clues}{saved.format('mine')}</puzzle>".encode()).text, puzzle.text)
         self.assertEqual(str(one(f"<puzzle>{clues}{saved.format('givens')}</puzzle>".encode())), "the puzzle has givens and no solution")
 
-    @pytest.mark.since("0.7.0")
     def test_xml_that_is_refused(self):
         clue = '<clues type="rows"><line><count>2</count></line><line/></clues>'
         own = '<clues type="rows"><line><count>1</count></line><line><count color="red">1</count></line></clues>'
@@ -399,7 +394,6 @@ class Reading(unittest.TestCase):
             with self.subTest(words), self.assertRaisesRegex(Unreadable, words):
                 one(text if isinstance(text, bytes) else text.encode())
 
-    @pytest.mark.since("0.7.0")
     def test_page_and_package_read_alike(self):
         # As the page writes it: two colours, a black given, and clues.
         text = (ROOT / "python" / "tests" / "page.xml").read_bytes()
@@ -501,7 +495,6 @@ class Running(Case):
         for title in ("1", "a=1", "a;1", "'=1", "\u22121", "\uff11"):
             self.assertEqual(csv_cells({"file": "one.ppm", "title": title})[2], title)
 
-    @pytest.mark.since("0.7.0")
     def test_certificates_are_written(self):
         self.put("one.ppm", p3(UNIQUE))
         self.put("small/one.png", image("PNG"))
@@ -519,7 +512,6 @@ class Running(Case):
             "site/set.xml#1": {"accepted": True}, "site/set.xml#2": None, "site/set.xml#3": {"accepted": True},
         })
 
-    @pytest.mark.since("0.7.0")
     def test_certificates_with_lemmas_are_written_where_a_puzzle_needs_guesses(self):
         self.put("lines.ppm", p3(["aa", "a."]))
         self.put("learnt.ppm", p3(LEARNT))
@@ -540,7 +532,6 @@ class Running(Case):
         # The grade is that of the certificate, made or beside the puzzle.
         self.assertEqual([again[name]["figures"] for name in rows], [row["figures"] for row in rows.values()])
 
-    @pytest.mark.since("0.7.0")
     def test_puzzles_without_a_certificate_are_counted(self):
         counts = tally.Tally(())
         for verdict, text in (("unique", '{"lines":7}'), ("unique", '{"note":"\\"lines\\":"}'), ("ambiguous", "{}")):
@@ -551,7 +542,6 @@ class Running(Case):
                 counts.warn(arguments.Options(["site"], certify=certify), False, {})
             self.assertEqual(said.getvalue(), wanted)
 
-    @pytest.mark.since("0.7.0")
     def test_an_older_file_of_a_certificate_is_read_where_no_newer_one_is(self):
         self.put("one.ppm", p3(UNIQUE))
         self.put("set.xml", "<puzzleset>" + webpbn(UNIQUE) * 2 + "</puzzleset>")
@@ -569,7 +559,6 @@ class Running(Case):
         self.run_audit("site", "--certify", "site", status=0)
         self.assertEqual(sorted(place.name for place in self.site.glob("set*cert")), ["set.2.cert", "set.cert"])
 
-    @pytest.mark.since("0.7.0")
     def test_a_certificate_that_cannot_be_written(self):
         self.put("learnt.ppm", p3(LEARNT))
         place = self.folder / "certs" / "learnt.cert"
@@ -584,7 +573,6 @@ class Running(Case):
         self.run_audit(*words, "--resume", status=0)
         self.assertEqual(self.read("rows")["site/learnt.ppm"]["lines"], place.read_bytes().count(b"\n"))
 
-    @pytest.mark.since("0.7.0")
     def test_a_verdict_stays_where_memory_is_out(self):
         class Short(judging.Desk):
             def certify(self, *words):
@@ -610,7 +598,6 @@ class Running(Case):
                 self.assertEqual(row["note"], f"its {missing}: out of memory: more than 1024 MiB")
                 self.assertEqual((left, os.path.exists(f"{to}.cert")), ([task], missing == "grade"))
 
-    @pytest.mark.since("0.7.0")
     def test_a_certificate_goes_back_before_the_grade(self):
         # Over a scheduler, what is known of a puzzle has its certificate, should its grade not come.
         answers = Answers()
@@ -622,7 +609,6 @@ class Running(Case):
         self.assertEqual(nonobench.check(p3(LEARNT), certificates.unpacked(last[4]).encode()).givens, ())
         self.assertEqual({**json.loads(known[3]), **json.loads(last[3])}, json.loads(last[3]))
 
-    @pytest.mark.since("0.7.4")
     def test_what_goes_to_workers_elsewhere_is_bounded(self):
         # They hold it several times: packed, unpacked, and once more on its way to the process that judges.
         place = self.put("one.ppm", p3(LEARNT))
@@ -638,7 +624,6 @@ class Running(Case):
         files = serving.files_of(task._replace(beside=(), kept=kept), elsewhere)
         self.assertEqual([len(held) >> 20 for *_, held in files.kept], [16, 16, 16, 0, 0])
 
-    @pytest.mark.since("0.7.0")
     def test_a_note_that_a_certificate_was_not_written_goes_before_the_grade(self):
         answers = Answers()
         judge = serving.Judging(serving.Settings("", "", 1024, 9_999, "white", False, False), answers)
@@ -648,7 +633,6 @@ class Running(Case):
         self.assertEqual([words[1] for words in answers[-2:]], ["known", "last"])
         self.assertEqual({json.loads(words[3])["note"] for words in answers[-2:]}, {"its certificate was not written: Is a directory"})
 
-    @pytest.mark.since("0.7.0")
     def test_a_certificate_that_came_back_is_written_without_a_grade(self):
         to = str(self.folder / "certs" / "one")
         run = running.Run(arguments.Options(["site"], certify="certs", is_quiet=True))
@@ -657,7 +641,6 @@ class Running(Case):
         run._deliver_answer(workers.Answer(0, True, "unique", text, certificates.packed(CERT)))
         self.assertEqual(Path(f"{to}.cert").read_text(), CERT)
 
-    @pytest.mark.since("0.7.0")
     def test_pictures_are_written(self):
         """What is published is what was judged: it is judged alike, and each certificate is accepted beside it."""
         self.put("one.png", image("PNG"))
@@ -700,7 +683,6 @@ class Running(Case):
         self.assertFalse((out / "in" / "dark.background").exists())
         self.assertEqual(check_site.main([str(out), "--quiet"]), 0)
 
-    @pytest.mark.since("0.7.0")
     def test_kept_rows_are_of_the_pictures_that_lie_there(self):
         self.put("one.ppm", p3(UNIQUE))
         self.put("two.ppm", p3(UNIQUE))
@@ -720,7 +702,6 @@ class Running(Case):
             with self.subTest(more):
                 self.assertEqual({place.name: place.read_bytes() for place in out.iterdir()}, made)
 
-    @pytest.mark.since("0.7.0")
     def test_a_picture_without_its_background_is_not_written(self):
         """Read by a white background it would be another puzzle, of which its certificate may be right."""
         name = "n" * 246  # too long for its background
@@ -742,7 +723,6 @@ class Running(Case):
         self.assertEqual(certificates.publish(Puzzle(p3(UNIQUE), background=RED), name), "")
         self.assertEqual((Path(f"{name}.ppm").read_bytes(), Path(f"{name}.background").read_text()), (p3(UNIQUE), "255,0,0\n"))
 
-    @pytest.mark.since("0.7.0")
     def test_pictures_of_names_that_end_as_pictures_do(self):
         """What is written of `one.ppm.xml` lies beside the picture of `one.png`, and is not taken for what goes with that."""
         self.put("one.png", p3(UNIQUE))
@@ -754,7 +734,6 @@ class Running(Case):
         again = self.rows("out", status=0)
         self.assertEqual([row["certificate"] for row in again.values()], [{"accepted": True}, {"accepted": True, "givens": [[1, 2]]}])
 
-    @pytest.mark.since("0.7.0")
     def test_no_two_files_are_called_alike(self):
         names = (b"\xff.ppm", b"\\xff.ppm", b"\\x5cxff.ppm", b"\\x41.ppm")
         for name, picture in zip(names, (AMBIGUOUS, UNIQUE, UNIQUE, UNIQUE)):
@@ -765,14 +744,12 @@ class Running(Case):
         self.run_audit("merge", "rows.jsonl", "--jsonl", "joined", status=1)
         self.assertEqual((self.folder / "joined").read_bytes(), (self.folder / "rows.jsonl").read_bytes())
 
-    @pytest.mark.since("0.7.0")
     def test_merge_reads_files_alone(self):
         os.mkfifo(self.folder / "pipe")
         for name in ("pipe", "/dev/zero", "site"):
             with self.subTest(name):
                 self.assertEqual(self.run_audit("merge", name, status=3).stderr, f"nonobench-audit: {name}: this is not a file\n")
 
-    @pytest.mark.since("0.7.0")
     def test_pictures_are_not_written_where_puzzles_are_read(self):
         self.put("in/one.ppm", p3(UNIQUE))
         os.symlink("site", self.folder / "other")
@@ -817,7 +794,6 @@ class Running(Case):
         self.run_audit("site", "--ppm", "out", status=0)
         self.assertEqual((self.folder / "out" / "one.ppm").read_bytes(), p3(UNIQUE))
 
-    @pytest.mark.since("0.7.0")
     def test_what_is_written_takes_the_place_of_pipes_and_links(self):
         """No run waits for a pipe that lies where it writes, nor leaves a link whose file somebody else may change."""
         self.put("one.ppm", p3(UNIQUE))
@@ -834,7 +810,6 @@ class Running(Case):
             self.assertEqual((out / f"{name}.ppm").read_bytes(), p3(cells))
             self.assertFalse((out / f"{name}.ppm").is_symlink())
 
-    @pytest.mark.since("0.7.0")
     def test_a_row_has_the_sum_of_its_file(self):
         files = {"one.ppm": p3(UNIQUE), "set.xml": ("<puzzleset>" + webpbn(UNIQUE) * 2 + "</puzzleset>").encode(), "bad.png": b"x"}
         for name, data in files.items():
@@ -852,7 +827,6 @@ class Running(Case):
             self.assertEqual(len(list(pool._read(hand))), is_further)
             self.assertEqual(hand.since > 5.0, is_further)
 
-    @pytest.mark.since("0.7.0")
     def test_a_second_look_is_short(self):
         """A puzzle that had its time is looked at for a twentieth more, and two seconds."""
         task = serving.Task(0, "one.ppm", "one.ppm", (), None, None, None, "", 1, serving.FULL)
@@ -866,7 +840,6 @@ class Running(Case):
             with self.subTest((mode, quiet)), unittest.mock.patch.object(pool, "_end", side_effect=lambda *_: [1]):
                 self.assertEqual(len(list(pool._end_late())), is_late)
 
-    @pytest.mark.since("0.7.0")
     def test_a_second_look_that_is_too_short_hides_no_puzzles(self):
         """What follows is known of the first try; and behind the last puzzle of a file nothing does."""
         task = serving.Task(0, "set.xml", "set.xml", (), None, None, None, "", 2, serving.FULL)
@@ -912,7 +885,6 @@ class Running(Case):
             (tried,) = pool._again
             self.assertEqual((tried.mode, tried.before, tried.used), (mode, before, used))
 
-    @pytest.mark.since("0.7.0")
     def test_a_grade_that_does_not_come_takes_neither_note_nor_certificate(self):
         said = '{"file":"one.ppm","verdict":"unique","lines":7,"note":"its certificate was not written: x","seconds":1.5}'
         task = serving.Task(0, "one.ppm", "one.ppm", (), None, None, None, "", 1, serving.FULL)
@@ -928,7 +900,6 @@ class Running(Case):
             self.assertEqual(list(pool._take(hand, task, answer)), [answer])
             self.assertIsNone(hand.known)
 
-    @pytest.mark.since("0.7.0")
     def test_no_two_certificates_have_one_name(self):
         several = "<puzzleset>" + webpbn(UNIQUE) + webpbn(LEARNT) + "</puzzleset>"
         for name, data in (("set.xml", several), ("set.2.ppm", p3(UNIQUE)), ("a.ppm", p3(UNIQUE)), ("a.pgm", p3(LEARNT)), ("a.ppm.ppm", p3(LEARNT)),
@@ -948,7 +919,6 @@ class Running(Case):
         rows = self.rows("site", "--certificates", "certs", status=0)
         self.assertEqual([("certificate" in rows[f"site/set.xml#{number}"]) for number in (1, 2)], [True, False])
 
-    @pytest.mark.since("0.7.0")
     def test_an_output_is_no_input(self):
         files = {"one.ppm": p3(UNIQUE), "one.cert": CERT.encode(), "two.ppm": p3(UNIQUE), "odd.txt": p3(UNIQUE)}
         kept = {self.put(name, data): data for name, data in files.items()}
@@ -967,7 +937,6 @@ class Running(Case):
         for words, limit in ((["--allow", "9"], "9 splits"), (["--seconds", "2"], "2 s"), (["--allow", "9", "--seconds", "2"], "9 splits, 2 s"), ([], "10 s")):
             self.assertEqual(running.settings_of(arguments.options_of([str(self.site), *words])).limit, limit)
 
-    @pytest.mark.since("0.7.0")
     def test_certificates_beside(self):
         self.put("one.ppm", p3(UNIQUE))
         self.put("one.cert", "nonocert 1\nline r 1\n")
@@ -1003,7 +972,6 @@ class Running(Case):
         "all": (AMBIGUOUS, ALL_LEMMAS, "given 1 1\n", "refused: certificate UnpublishedGiven at line 3", None),
     }
 
-    @pytest.mark.since("0.7.0")
     def test_what_is_said_of_certificates_beside(self):
         for name, (picture, text, givens, _, _) in self.BESIDE.items():
             self.put(f"{name}.ppm", p3(picture))
@@ -1028,7 +996,6 @@ class Running(Case):
                 self.assertEqual(rows[file].get("flaws"), ["spare 2 2"] if name == "spare" else None)
         self.assertIn(f"besides: {besides}\n", done.stdout)
 
-    @pytest.mark.since("0.7.0")
     def test_the_status_counts_certificates(self):
         for name, (picture, text, givens, _, told) in self.BESIDE.items():
             self.put("one.ppm", p3(picture))
@@ -1037,7 +1004,6 @@ class Running(Case):
             with self.subTest(name):
                 self.run_audit("site", "--quiet", status=1 if told is None or name == "spare" else 0)
 
-    @pytest.mark.since("0.7.0")
     def test_a_certificate_of_a_puzzle_that_is_undecided(self):
         # Without a split the search decides nothing. The verdict is that of the certificate, where one is accepted.
         self.put("one.ppm", p3(LEARNT))
@@ -1047,7 +1013,6 @@ class Running(Case):
         row = self.rows("site", "--allow", "0", status=0)["site/one.ppm"]
         self.assertEqual((row["verdict"], row["fit"], row["certificate"]), ("unique", True, {"accepted": True}))
 
-    @pytest.mark.since("0.7.0")
     def test_certificates_are_found(self):
         self.put("small/one.ppm", p3(UNIQUE))
         self.put("twin.ppm", p3(UNIQUE))
@@ -1063,7 +1028,6 @@ class Running(Case):
                 "small/one.ppm": True, "twin.ppm": True, "twin.png": False, "set.xml#1": True, "set.xml#2": False, "set.xml#3": True,
             })
 
-    @pytest.mark.since("0.7.0")
     def test_of_several_files_the_worst_is_told(self):
         refused = {"accepted": False, "why": "certificate NotCert at line 1"}
         for ending in ("cert", "proof"):
@@ -1080,7 +1044,6 @@ class Running(Case):
             for place in self.site.glob("*.cert"):
                 place.unlink()
 
-    @pytest.mark.since("0.7.0")
     def test_what_lies_beside_is_checked_before_a_certificate_is_made(self):
         class Slow(judging.Desk):
             def certify(self, *words):
@@ -1100,7 +1063,6 @@ class Running(Case):
         self.assertEqual([words[1] for words in answers], ["known"])
         self.assertEqual(json.loads(answers[0][3])["certificate"]["accepted"], False)
 
-    @pytest.mark.since("0.7.0")
     def test_endings_in_capital_letters(self):
         refused = {"accepted": False, "why": "certificate NotCert at line 1"}
         self.put("DUCK.PNG", image("PNG"))
@@ -1161,7 +1123,6 @@ class Running(Case):
                     self.assertEqual([name for name, row in rows.items() if "certificate" in row], ["site/one.ppm", "site/set.xml#2"])
                     self.assertEqual(sorted(name.name for name in (self.folder / "made").iterdir()), ["one.cert", "set.2.cert", "set.cert"])
 
-    @pytest.mark.since("0.7.0")
     def test_folders_that_are_called_like_what_is_written(self):
         """No process is first: what a puzzle would be called, where a folder is, it never is."""
         for name in ("a.ppm", "a.cert/z.ppm", "b.png", "b.ppm/z.ppm", "c.ppm", "c.cert/z.ppm", "c.ppm.givens/z.ppm", "d.ppm", "e.2.ppm", "e.xml.2.givens/z.ppm",
@@ -1181,7 +1142,6 @@ class Running(Case):
             ])
             self.assertEqual(check_site.main([str(self.folder / out), "--quiet"]), 0)
 
-    @pytest.mark.since("0.7.0")
     def test_certificates_in_a_folder_that_is_not_there(self):
         self.put("one.ppm", p3(UNIQUE))
         self.assertIn("no such folder: 'certz'", self.run_audit("site", "--certificates", "certz", status=2).stderr)
@@ -1200,7 +1160,6 @@ class Running(Case):
         (self.folder / "certs" / "one.cert").write_text(CERT)
         self.run_audit("site", "--certificates", "certs", status=0)
 
-    @pytest.mark.since("0.7.0")
     def test_a_certificate_of_a_puzzle_that_a_set_does_not_have(self):
         self.put("set.xml", "<puzzleset>" + webpbn(UNIQUE) * 2 + "</puzzleset>")
         (self.folder / "certs").mkdir()
@@ -1212,7 +1171,6 @@ class Running(Case):
         said = self.run_audit("site", "--certificates", "certs", "--jobs", "1", status=3).stderr
         self.assertIn("nonobench-audit: certs: no certificate in it is of one of these puzzles\n", said)
 
-    @pytest.mark.since("0.7.0")
     def test_givens_that_do_not_fit(self):
         self.put("one.ppm", p3(AMBIGUOUS))
         for text, why in (("given 3 1\n", "Place at line 1"), ("given 1 1\ngiven 1\n", "BadLine at line 2"), ("x", "BadLine at line 1"),
@@ -1221,7 +1179,6 @@ class Running(Case):
             with self.subTest(text):
                 self.assertEqual(self.rows("site", status=3)["site/one.ppm"]["error"], f"givens {why}")
 
-    @pytest.mark.since("0.7.0")
     def test_background_beside(self):
         # Black as background: one black cell on white is three cells on background.
         self.put("one.ppm", p3(AMBIGUOUS))
@@ -1298,7 +1255,6 @@ class Again(Case):
         for at in range(count):
             self.put(f"{at % 7}/{at:03}.ppm", p3(UNIQUE if at % 3 else AMBIGUOUS))
 
-    @pytest.mark.since("0.7.0")
     def test_resume_redoes_only_what_changed(self):
         self.fill(20)
         first = self.rows("site", "--certify", "certs", status=1)
@@ -1317,7 +1273,6 @@ class Again(Case):
         self.assertEqual(again["site/0/000.ppm"]["verdict"], "unique")
         self.assertTrue((self.folder / "certs" / "2" / "002.cert").exists())
 
-    @pytest.mark.since("0.7.0")
     def test_rows_in_order_keep_their_file(self):
         """Its mode, and the link to it."""
         self.put("m.ppm", p3(UNIQUE))
@@ -1347,7 +1302,6 @@ class Again(Case):
             (self.site / name).unlink()
             self.assertNotIn("certificate", self.rows("site", "--resume", status=0)["site/one.ppm"])
 
-    @pytest.mark.since("0.7.0")
     def test_resume_minds_what_a_file_is_for(self):
         # The same bytes under another name are for another puzzle.
         self.put("set.xml", "<puzzleset>" + webpbn(UNIQUE) + webpbn(AMBIGUOUS) + "</puzzleset>")
@@ -1357,7 +1311,6 @@ class Again(Case):
         rows = self.rows("site", "--resume", status=1)
         self.assertEqual([row.get("certificate", {}).get("accepted") for row in rows.values()], [None, False])
 
-    @pytest.mark.since("0.7.0")
     def test_resume_minds_an_empty_file_of_givens(self):
         # It takes away the given of the XML, without which there are two solutions.
         self.put("set.xml", webpbn(AMBIGUOUS, more='<solution type="saved" id="givens"><image>|X?||??|</image></solution>'))
@@ -1365,7 +1318,6 @@ class Again(Case):
         self.put("set.givens", "")
         self.rows("site", "--allow", "9", "--resume", status=1)
 
-    @pytest.mark.since("0.7.0")
     def test_resume_minds_the_bound_of_a_given_that_may_be_needless(self):
         self.put("one.ppm", p3_of_letters(["aa..a..", ".aaa.aa", "...a.aa", ".aa.aa.", ".aa..a.", ".aaa.a.", "..aaaaa"]))
         self.put("one.givens", "given 1 1\n")
@@ -1384,7 +1336,6 @@ class Again(Case):
         self.rows("site", "--allow", "9", "--resume", status=1)
         self.assertEqual((self.folder / "rows.jsonl").read_bytes(), whole)
 
-    @pytest.mark.since("0.7.0")
     def test_merge_reads_rows_that_were_written_anew(self):
         self.put("one.ppm", p3(UNIQUE))
         self.put("one.cert", "x")
@@ -1395,7 +1346,6 @@ class Again(Case):
         self.assertIn("besides: certificates not accepted 1\n", done.stdout)
         self.assertEqual((self.folder / "merged").read_bytes(), whole)
 
-    @pytest.mark.since("0.7.0")
     def test_rows_that_are_none(self):
         """Each is named, by merge and by --resume, and its status is not that of puzzles that are not fit."""
         self.put("one.ppm", p3(AMBIGUOUS))
@@ -1492,7 +1442,6 @@ class Again(Case):
             self.assertEqual(done.stderr, "nonobench-audit: notes: its last line is not a row of an audit\n")
             self.assertEqual((self.folder / "notes").read_text(), text)
 
-    @pytest.mark.since("0.7.0")
     def test_resume_checks_certificates_again(self):
         """Whatever a kept row of a unique puzzle says, its puzzle and its certificate bear it out, or it is made again."""
         self.put("one.ppm", p3(UNIQUE))
@@ -1532,7 +1481,6 @@ class Again(Case):
                 (self.folder / "certs" / "two.cert").unlink()
         self.assertEqual(nonobench.check(p3(UNIQUE), (self.folder / "certs" / "one.cert").read_bytes()).givens, ())
 
-    @pytest.mark.since("0.7.0")
     def test_resume_checks_that_no_puzzle_is_hidden(self):
         self.put("set.xml", "<puzzleset>" + webpbn(UNIQUE) + webpbn(AMBIGUOUS) + "</puzzleset>")
         words = ["site", "--allow", "9", "--certify", "certs", "--jsonl", "rows.jsonl", "--resume"]
@@ -1563,7 +1511,6 @@ class Again(Case):
         self.assertIn("rows.jsonl: line 2 is not a row of an audit", done.stderr)
         self.assertIn("my diary", (self.folder / "rows.jsonl").read_text())
 
-    @pytest.mark.since("0.7.0")
     def test_shards_and_merge(self):
         self.fill(23)
         self.put("set.xml", "<puzzleset>" + webpbn(UNIQUE) * 3 + "</puzzleset>")
@@ -1594,7 +1541,6 @@ class Again(Case):
                 self.assertEqual((of & before.keys()) - self.read("part2").keys(), set())
                 self.assertEqual(self.read("part1").keys() & self.read("part2").keys(), set())
 
-    @pytest.mark.since("0.7.0")
     def test_a_share_without_files(self):
         self.put("one.ppm", p3(UNIQUE))
         self.put("two.ppm", p3(AMBIGUOUS))

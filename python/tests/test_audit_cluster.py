@@ -17,7 +17,7 @@ import pytest
 sys.path.insert(0, str(Path(__file__).resolve().parent))
 from audit_parts import AMBIGUOUS, CERT, GIVEN_LEMMAS, PATIENCE, LEMMAS, UNIQUE, Case, eventually, p3, webpbn  # noqa: E402
 
-pytestmark = [pytest.mark.all, pytest.mark.since("0.7.0")]
+pytestmark = pytest.mark.all
 
 
 class Cluster(Case):

@@ -21,7 +21,6 @@ import zlib
 from pathlib import Path
 
 sys.path.insert(0, str(Path(__file__).resolve().parent))
-import pytest  # noqa: E402
 from audit_parts import AMBIGUOUS, CERT, PATIENCE, ROOT, UNIQUE, Case, chequered, eventually, p3, webpbn  # noqa: E402
 from odd_images import BITS, FRAMES, GAMMA, SMALL, odd_images  # noqa: E402
 from processes import children, seen  # noqa: E402
@@ -102,7 +101,6 @@ class Files(Case):
             "long.ppm": "more than 16777216 bytes", "longest.ppm": None,
         })
 
-    @pytest.mark.since("0.7.0")
     def test_first_pixels_that_are_not_there(self):
         """The ways to take zeros and blanks apart are not tried one after the other."""
         self.put("blanks.ppm", b"P3 " + b"000000000 " * 5 + b" " * 20000 + b"x")
@@ -111,7 +109,6 @@ class Files(Case):
         errors = self.errors("--background", "corner", "--allow", "9")
         self.assertEqual(errors, {"blanks.ppm": "ppm EmptySize at byte 3", "comments.ppm": "ppm EmptySize at byte 3", "one.ppm": None})
 
-    @pytest.mark.since("0.7.0")
     def test_what_lies_beside(self):
         for ending in ("cert", "proof"):
             for name in ("folder", "gone", "long", "most", "zeros"):
@@ -305,7 +302,6 @@ class Strangers(Case):
     def rows_of(self, *words, status=None):
         return {name.removeprefix("site/"): row for name, row in self.rows(*words, "--allow", "9", status=status).items()}
 
-    @pytest.mark.since("0.7.0")
     def test_an_empty_background(self):
         """A file that names no background is not taken for none: nobody knows what was to stand in it."""
         self.put("one.ppm", p3(UNIQUE))
@@ -316,7 +312,6 @@ class Strangers(Case):
                 (row,) = self.rows_of("site", *words, status=status).values()
                 self.assertEqual(row.get("error", "")[:32], "the file of its background must " if status else "")
 
-    @pytest.mark.since("0.7.0")
     def test_nothing_beside_a_puzzle_is_believed(self):
         for name in ("one", "two"):
             self.put(f"{name}.ppm", p3(AMBIGUOUS))
@@ -374,7 +369,6 @@ class Strangers(Case):
             "one.ppm": "more than 16777216 bytes", "three.ppm": "its givens: more than 16777216 bytes", "two.ppm": "its certificate: more than 16777216 bytes",
         })
 
-    @pytest.mark.since("0.7.0")
     def test_no_links_in_the_operators_folders(self):
         self.put("one.ppm", p3(UNIQUE))
         self.put("sub/two.ppm", p3(UNIQUE))
@@ -762,7 +756,7 @@ class Strangers(Case):
             return handle
 
         with unittest.mock.patch.object(os, "open", replaced), self.assertRaisesRegex(readers.Unreadable, "^it was replaced while it was read$"):
-            readers.bytes_of(place, follows=False, is_real=True)
+            readers.bytes_of(place)
 
     def test_rows_that_no_output_could_show(self):
         """Givens of a picture without a size, and numbers that are larger than any that is printed."""
@@ -806,7 +800,6 @@ class Strangers(Case):
 class Names(Case):
     """Names and titles of strangers."""
 
-    @pytest.mark.since("0.7.0")
     def test_names(self):
         names = ["new\nline.ppm", "\x1b[31mred.ppm", "<img src=x onerror=alert(1)>.ppm", "=1+1.ppm", "rtl\u202egnp.ppm", "#2.ppm", "{{ 7*7 }}.ppm"]
         for name in names:
@@ -838,7 +831,6 @@ class Names(Case):
         self.put("h\u00e9.ppm", p3(UNIQUE))
         self.rows("site", "--untrusted", status=0, LC_ALL="C", PYTHONUTF8="0", PYTHONCOERCECLOCALE="0")
 
-    @pytest.mark.since("0.7.0")
     def test_the_longest_names(self):
         # A name has at most 255 bytes, and a second run finds certificates of that length.
         name = "n" * 250
@@ -847,7 +839,6 @@ class Names(Case):
             self.run_audit("site", "--certify", "certs", status=0)
             self.assertEqual(os.listdir(self.folder / "certs"), [f"{name}.cert"])
 
-    @pytest.mark.since("0.7.0")
     def test_paths_lead_nowhere_else(self):
         self.put("in/one.ppm", p3(UNIQUE))
         self.put("other/one.ppm", p3(UNIQUE))
@@ -862,7 +853,6 @@ class Names(Case):
         os.symlink("/", self.folder / "way")
         self.assertEqual([finding.front_of(path) for path in ("/", f"{self.folder}/way")], ["root/", "root/"])
 
-    @pytest.mark.since("0.7.0")
     def test_a_set_is_called_one(self):
         """The third puzzle of SET.xml is SET.3. So other names are of one puzzle each, and do not take the names of others."""
         self.put("SET.ppm", "<puzzleset>" + webpbn(UNIQUE) * 3 + "</puzzleset>")
@@ -874,7 +864,6 @@ class Names(Case):
         self.assertEqual(sorted(os.listdir(self.folder / "out")), ["SET.3.cert", "SET.3.ppm", "one.cert", "one.ppm"])
         self.assertEqual((self.folder / "out" / "SET.3.ppm").read_bytes(), p3(UNIQUE[::-1]))
 
-    @pytest.mark.since("0.7.0")
     def test_paths_whose_puzzles_would_be_called_alike(self):
         for name in ("x/SET.xml", "x2/SET.xml", "y/SET.2.xml"):
             self.put(name, "<puzzleset>" + webpbn(UNIQUE) * 3 + "</puzzleset>")
@@ -929,7 +918,6 @@ class Names(Case):
         for few, more in zip(*counts):
             self.assertLessEqual(more, 15 * few)
 
-    @pytest.mark.since("0.7.0")
     def test_givens_are_not_those_of_another_path_that_is_called_alike(self):
         for name in ("bob/in/one.ppm", "eve/in/one.ppm", "eve/in/two.ppm", "eve/one.ppm.ppm", "ann/one.ppm.ppm", "two/one.ppm", "two/one.png"):
             self.put(name, p3(AMBIGUOUS))
@@ -1014,7 +1002,6 @@ class Outputs(Case):
         bound = lambda: resource.setrlimit(resource.RLIMIT_FSIZE, (40, 40))  # noqa: E731
         return subprocess.run(self.words(*words), cwd=self.folder, env=self.env(), capture_output=True, text=True, preexec_fn=bound)
 
-    @pytest.mark.since("0.7.0")
     def test_a_disk_that_fills(self):
         done = self.limited("site", "--certify", "certs", "--no-grade")
         self.assertEqual(done.returncode, 3, done.stderr)
@@ -1031,7 +1018,6 @@ class Outputs(Case):
         self.assertIn("nonobench-audit: report.html", done.stderr)
         self.assertEqual((self.folder / "report.html").read_text(), "kept")
 
-    @pytest.mark.since("0.7.0")
     def test_a_folder_that_cannot_be_written(self):
         (self.folder / "file").write_text("")
         for option in ("--jsonl", "--csv", "--html", "--certify"):
@@ -1041,7 +1027,6 @@ class Outputs(Case):
                     self.assertRegex(done.stderr, rf"^nonobench-audit: {place}[.new]*: [A-Z][a-z ]+\n$")
 
     @unittest.skipIf(os.geteuid() == 0, "root writes everywhere")
-    @pytest.mark.since("0.7.0")
     def test_a_read_only_folder(self):
         (self.folder / "shut").mkdir(mode=0o555)
         for option, name in (("--certify", "shut"), ("--jsonl", "shut/rows")):
@@ -1141,7 +1126,6 @@ class Outputs(Case):
         done = subprocess.run(self.words("site"), cwd=self.folder, env=self.env(), capture_output=True, text=True, preexec_fn=bound)
         self.assertEqual((done.returncode, done.stderr), (1, ""))
 
-    @pytest.mark.since("0.7.0")
     def test_two_runs_on_one_output(self):
         self.put("zero.ppm", p3_of_letters(chequered(60, 4)))
         outputs = ["--jsonl", "rows", "--csv", "rows.csv", "--html", "report.html", "--certify", "certs"]
@@ -1195,7 +1179,6 @@ class Processes(Case):
         self.assertEqual({name: row["verdict"] for name, row in rows.items()}, {"site/a.ppm": "unique", "site/hard.ppm": "error", "site/z.ppm": "unique"})
         self.assertEqual(rows["site/hard.ppm"]["error"], "its process ended by signal 11")
 
-    @pytest.mark.since("0.7.0")
     def test_a_process_that_dies_at_a_grade(self):
         self.put("hard.ppm", (ROOT / "measure" / "pictures" / "hard-20-k3-min.ppm").read_bytes())
         # A grade is there soon after its certificate, so the process itself ends where it would ask for one by a certificate.

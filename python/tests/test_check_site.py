@@ -16,7 +16,6 @@ from nonobench import check_site
 from nonobench.collection import finding
 from nonobench.collection.rows import csv_cells, table_line
 
-pytestmark = pytest.mark.since("0.7.0")
 EXAMPLES = Path(__file__).resolve().parent.parent.parent / "examples"
 DIAGONAL = (EXAMPLES / "diagonal.ppm").read_text()
 DIAGONAL_CERT = (EXAMPLES / "diagonal.cert").read_text()

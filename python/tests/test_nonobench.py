@@ -16,7 +16,6 @@ import unittest
 from pathlib import Path
 
 import nonobench
-import pytest
 from nonobench import ANY_GIVEN, Block, CertificateFault, Given, GivensFault, LengthFault, PictureFault, Ruling, UnpublishedGiven
 
 ROOT = Path(__file__).resolve().parent.parent.parent
@@ -91,7 +90,6 @@ class Cases(unittest.TestCase):
         for asked, answer in cases("pictures"):
             self.compare(asked, answer, lambda text=bytes_of(asked): nonobench.clues(text))
 
-    @pytest.mark.since("0.7.0")
     def test_certificates(self):
         for name in ("certificates", "lemmas"):
             count = 0
@@ -101,7 +99,6 @@ class Cases(unittest.TestCase):
                 count += 1
             self.assertGreater(count, 40)
 
-    @pytest.mark.since("0.7.0")
     def test_published(self):
         count = 0
         for asked, answer in cases("published"):
@@ -118,7 +115,6 @@ class Cases(unittest.TestCase):
 class Answers(unittest.TestCase):
     """Rows that were worked by hand."""
 
-    @pytest.mark.since("0.7.0")
     def test_check(self):
         result = nonobench.check(DIAGONAL, GIVEN, published=[(1, 1)])
         self.assertEqual(result.givens, (Given(1, 1),))
@@ -166,7 +162,6 @@ class Answers(unittest.TestCase):
         self.assertEqual(nonobench.verdict(b"P3 1 1 1 0 0 0", allowance=0).ruling, Ruling.UNIQUE)
         self.assertEqual(nonobench.verdict(DIAGONAL, 99999, (0, 0, 0)).ruling, Ruling.AMBIGUOUS)
 
-    @pytest.mark.since("0.7.0")
     def test_certify_and_audit(self):
         tile, pair = b"P3 1 1 1 0 0 0", picture_of("ab/.b")
         for picture in (tile, pair):
@@ -185,7 +180,6 @@ class Answers(unittest.TestCase):
         with self.assertRaises(ValueError):
             nonobench.audit(tile, -1)
 
-    @pytest.mark.since("0.7.0")
     def test_prove(self):
         tile, pair = b"P3 1 1 1 0 0 0", picture_of("a./.b")
         for picture in (tile, pair):
@@ -212,7 +206,6 @@ class Answers(unittest.TestCase):
             with self.assertRaises(LengthFault):
                 nonobench.check(tile, b"" if published else b" " * 16777217, published=published)
 
-    @pytest.mark.since("0.7.0")
     def test_certificates_with_a_byte_changed(self):
         source, picture, count = random.Random(1), picture_of("a./.b"), 0
         right = nonobench.prove(picture).certificate
@@ -261,7 +254,6 @@ class Answers(unittest.TestCase):
         with self.assertRaises(ValueError):
             nonobench.picture_of(2, 2, [(0, 0, 0)])
 
-    @pytest.mark.since("0.7.0")
     def test_a_copy_of_any_given(self):
         """As it comes out of a task queue."""
         copied = pickle.loads(pickle.dumps(ANY_GIVEN))
@@ -276,7 +268,6 @@ class Answers(unittest.TestCase):
         self.assertEqual(clues.rows, ((Block(1, "a"),) * 60,) * 120)
         self.assertEqual(clues.columns, clues.rows)
 
-    @pytest.mark.since("0.7.0")
     def test_what_an_editor_did_is_told_beside_notcert(self):
         picture = picture_of("a./.b")
         text = nonobench.certify(picture).decode("ascii")
@@ -297,7 +288,6 @@ class Answers(unittest.TestCase):
             nonobench.check(picture, late)
         self.assertEqual(nonobench.hint_of(told.exception, late), "")
 
-    @pytest.mark.since("0.7.0")
     def test_any_bytes(self):
         source = random.Random(1)
         for _ in range(2000):
@@ -349,7 +339,6 @@ class Chance(unittest.TestCase):
     def put(self, name, file):
         (Path(self.folder.name) / name).write_bytes(file)
 
-    @pytest.mark.since("0.7.0")
     def test_program(self):
         source = random.Random(int(os.environ.get("SEED", "1")))
         accepted = refused = ambiguous = published = 0

@@ -20,7 +20,6 @@ from pathlib import Path
 sys.path.insert(0, str(Path(__file__).resolve().parent))
 from processes import children, is_running, seen  # noqa: E402
 
-import pytest  # noqa: E402
 import nonobench  # noqa: E402
 from nonobench import CertificateFault, Given, GivensFault, LengthFault, PictureFault, UnpublishedGiven  # noqa: E402
 
@@ -37,7 +36,6 @@ ENDLESS = b"P3 60 60 3 " + b"".join(b"%d 0 0 " % at if at else b"3 3 3 " for at 
 class Workers(unittest.TestCase):
     """Questions to another process."""
 
-    @pytest.mark.since("0.7.0")
     def test_answers_and_faults(self):
         with nonobench.Worker(seconds=300) as worker:
             self.assertEqual(worker.check(DIAGONAL, GIVEN, published=[(1, 1)]).givens, (Given(1, 1),))
@@ -70,7 +68,6 @@ class Workers(unittest.TestCase):
             with self.assertRaises(ValueError):
                 worker.clues(DIAGONAL, (1, 2, 65536))
 
-    @pytest.mark.since("0.7.0")
     def test_time(self):
         # A process that is stopped never answers, however fast the machine.
         with nonobench.Worker(seconds=300) as worker:
@@ -108,7 +105,6 @@ class Workers(unittest.TestCase):
         env = {**os.environ, "PYTHONPATH": str(PACKAGE)}
         self.assertEqual(subprocess.run([sys.executable, "-c", program], env=env, check=False).returncode, 0)
 
-    @pytest.mark.since("0.7.0")
     def test_memory(self):
         # The question alone takes more than is left beside the interpreter.
         with nonobench.Worker(seconds=300, memory=40 << 20) as worker:
@@ -194,7 +190,6 @@ class Interrupts(unittest.TestCase):
         kept = signal.signal(signal.SIGALRM, strike)
         self.addCleanup(signal.signal, signal.SIGALRM, kept)
 
-    @pytest.mark.since("0.7.0")
     def test_no_answer_is_that_of_another_question(self):
         source = random.Random(int(os.environ.get("SEED", "1")))
         most = int(os.environ.get("INTERRUPTS", "200"))

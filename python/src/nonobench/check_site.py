@@ -108,19 +108,9 @@ class Site:
 
 def _background(path: Optional[str]) -> Optional[Triple]:
     """The background of a picture; nothing for white."""
-    try:
-        ground = ground_beside(b"white" if path is None else _read("its background: ", path))
-    except ValueError as error:
-        raise Unreadable(f"its background {error}") from error
+    ground = ground_beside(b"white" if path is None else bytes_of(path, "its background: "), "its background")
     need(not ground.is_corner, "its background must be white or R,G,B")
     return ground.triple
-
-
-def _read(whose: str, path: str) -> bytes:
-    try:
-        return bytes_of(path, follows=False, is_real=True)
-    except Unreadable as error:
-        raise Unreadable(f"{whose}{error}") from error
 
 
 class Checks:
@@ -144,9 +134,9 @@ class Checks:
         (file, path, found), certificate = pair, b""
         worker = self._workers.get()
         try:
-            certificate = _read("", path)
-            givens = b"" if found.givens is None else _read("its givens: ", found.givens)
-            said = worker.assess(_read("its picture: ", found.path), certificate, _background(found.background), givens)
+            certificate = bytes_of(path)
+            givens = b"" if found.givens is None else bytes_of(found.givens, "its givens: ")
+            said = worker.assess(bytes_of(found.path, "its picture: "), certificate, _background(found.background), givens)
             flaws = refused_flaws(map(str, said.flaws), self._allowed)
         except Fault as fault:
             hint = hint_of(fault, certificate)

@@ -96,7 +96,7 @@ def publish(puzzle: Puzzle, name: str) -> str:
 def _lies(path: str, data: bytes) -> bool:
     """Whether a part of what is published lies there, or nothing where there is none."""
     with contextlib.suppress(Unreadable):
-        return bytes_of(path, follows=False, is_real=True) == data != b""
+        return bytes_of(path) == data != b""
     return data == b"" and not os.path.lexists(path)
 
 

@@ -36,31 +36,34 @@ def ground_of(word: str) -> Ground:
     return Ground((red, green, blue))
 
 
-def ground_beside(held: bytes) -> Ground:
+def ground_beside(held: bytes, whose: str) -> Ground:
     """The background that a file names, with white space around it: that of ASCII alone, as for the page."""
-    return ground_of(held.strip().decode("ascii", "replace"))
+    try:
+        return ground_of(held.strip().decode("ascii", "replace"))
+    except ValueError as error:
+        raise Unreadable(f"{whose} {error}") from error
 
 
-def bytes_of(path: Union[str, bytes], most: int = MOST_BYTES, follows: bool = True, is_real: bool = False) -> bytes:
-    """The bytes of a file. Pipes, devices and folders are none, and nothing waits for one. Nor are links, where it follows none;
-    and a real path is absolute, and leads through no link.
+def bytes_of(path: str, whose: str = "", is_real: bool = True) -> bytes:
+    """The bytes of a file, which is told by words where it is not read. Pipes, devices and folders are none, and nothing waits for one.
+    A real path is absolute, and neither is a link nor leads through one.
     """
     try:
-        handle = os.open(path, os.O_NONBLOCK | os.O_CLOEXEC | (0 if follows else os.O_NOFOLLOW))
+        handle = os.open(path, os.O_NONBLOCK | os.O_CLOEXEC | (os.O_NOFOLLOW if is_real else 0))
         try:
             found = os.fstat(handle)
             need(stat.S_ISREG(found.st_mode), "this folder is not read" if stat.S_ISDIR(found.st_mode) else "this is not a file")
-            need(found.st_size <= most, f"more than {most} bytes")
+            need(found.st_size <= MOST_BYTES, f"more than {MOST_BYTES} bytes")
             if is_real and os.readlink(b"/proc/self/fd/%d" % handle) != os.fsencode(path):
                 is_link = os.fstat(handle).st_nlink
                 raise Unreadable("a part of its path is a link" if is_link else "it was replaced while it was read")
             return read(handle, found.st_size)
         finally:
             os.close(handle)
-    except (OSError, ValueError) as error:
-        if not follows and getattr(error, "errno", None) == errno.ELOOP:
-            raise Unreadable("this is a link") from error
-        raise Unreadable(one_line(getattr(error, "strerror", None) or str(error))) from error
+    except (OSError, ValueError, Unreadable) as error:
+        is_none = is_real and getattr(error, "errno", None) == errno.ELOOP
+        why = "this is a link" if is_none else getattr(error, "strerror", None) or str(error)
+        raise Unreadable(whose + one_line(why)) from error
 
 
 def puzzles_of(

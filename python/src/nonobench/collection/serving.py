@@ -251,10 +251,7 @@ class Judging:
     def _puzzles(self, task: Task, files: Files) -> Iterator[Union[Puzzle, Unreadable]]:
         ground = self._ground
         if files.background is not None:
-            try:
-                ground = readers.ground_beside(files.background)
-            except ValueError as error:
-                raise Unreadable(f"the file of its background {error}") from error
+            ground = readers.ground_beside(files.background, "the file of its background")
         suffix = os.path.splitext(task.name)[1].lower()
         puzzles = readers.puzzles_of(files.file, suffix, ground, files.givens, lambda: self._answers.put(task.number, "on", ""))
         has_none = files.background is None or is_image(files.file)  # of its own
@@ -357,10 +354,7 @@ def files_of(task: Task, settings: Settings) -> Files:
         nonlocal room
         if file is None or isinstance(file, bytes):
             return file or b""
-        try:
-            data = readers.bytes_of(file, follows=is_ours, is_real=not is_ours)
-        except Unreadable as error:
-            raise Unreadable(f"{whose}{error}") from error
+        data = readers.bytes_of(file, whose, not is_ours)
         room -= len(data)
         if room < 0:
             raise Unreadable(f"out of memory: more than {most} MiB")

@@ -146,8 +146,8 @@ class Pool:
             return
         task = hand.tasks[0]
         if kind in ("at", "on"):
-            before, hand.has_more = ("", text != "") if kind == "at" else (task.before, hand.has_more)
-            hand.tasks[0], hand.quiet = task._replace(used=task.used + hand.quiet, before=before), 0.0
+            hand.tasks[0] = task._replace(used=task.used + hand.quiet, before="" if kind == "at" else task.before)
+            hand.has_more, hand.quiet = text != "", 0.0
         elif kind == "known":
             hand.known = text, certificate
         elif kind == "bye":
@@ -213,8 +213,7 @@ class Pool:
             task = task._replace(used=task.used + time.monotonic() - hand.since)
             why = late or (f"its process ended by signal {-status}" if status < 0 else f"its process ended with status {status}")
             yield from self._blame(hand, task, why, bool(late))
-        while tasks:
-            self._again.appendleft(tasks.pop())
+        self._again.extendleft(reversed(tasks))
 
     def _is_over(self, task: Task) -> bool:
         """Whether the puzzles of a file have taken all the time that one file has."""
