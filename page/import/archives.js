@@ -1,7 +1,7 @@
 // Archives of the library: all pictures as XML in one zip, and back.
 
 import { say } from '../base/elements.js';
-import { bareName, cleanName, freeName } from '../base/words.js';
+import { cleanName, freeName } from '../base/words.js';
 import { webpbnText } from '../formats/webpbn.js';
 import { writeZip, zipEntries } from '../formats/zip.js';
 import { keep } from '../library/keep.js';
@@ -11,7 +11,7 @@ import { SAVE_TYPES, download } from '../library/saving.js';
 import { phrase } from '../texts/phrase.js';
 import { confirmDialog } from '../view/dialogs.js';
 import { Progress } from '../view/progress.js';
-import { docsOfUnit, grouped } from './beside.js';
+import { grouped, puzzlesIn } from './beside.js';
 
 const MANY = 200; // files: more are asked for first
 
@@ -57,35 +57,26 @@ const filesIn = (bytes) => zipEntries(bytes).filter(({ name }) => !name.endsWith
 
 /**
  * The documents of an archive as `{ docs: [{ name, doc }], unread: [name], why }`, where `why` is what is wrong with the first unread.
- * `goesOn` hears how far it is, and answers whether to go on.
+ * `progress` hears how far it is, and answers whether to go on.
  */
-export async function readArchive(bytes, goesOn = async (text) => true) {
-  const [docs, unread, faults] = [[], [], []];
-  const units = foldersOf(filesIn(bytes)).flatMap(grouped);
-  for (const [at, unit] of units.entries()) {
-    if (!(await goesOn(phrase('import.filesRead', { at, count: units.length })))) break;
-    const { docs: found, left } = await docsOfUnit(unit).catch((fault) => {
-      faults.push(faultText(fault));
-      return { docs: [], left: [] };
-    });
-    const damaged = found.filter((one) => one.fault);
-    faults.push(...damaged.map(({ fault }) => faultText(fault)));
-    for (const { path } of [...left, ...(damaged.length || !found.length ? [unit.file] : [])]) unread.push(path);
-    const own = bareName(unit.file.name);
-    found.forEach((doc, at) => {
-      if (!doc.fault) docs.push({ name: at ? `${own} ${at + 1}` : own, doc });
-    });
+export async function readArchive(bytes, progress = { goesOn: async (text) => true, held: (engine) => engine }) {
+  const [docs, unread] = [[], new Set()];
+  let why = '';
+  for await (const { name, file, doc, fault } of puzzlesIn(foldersOf(filesIn(bytes)).flatMap(grouped), progress)) {
+    if (doc) docs.push({ name, doc });
+    else unread.add(file.path);
+    if (fault) why ||= faultText(fault);
   }
-  return { docs, unread, why: faults[0] ?? '' };
+  return { docs, unread: [...unread], why };
 }
 
 // Adds documents to the library, but for those that are there: how many were added, and how many were known.
-async function addAll(docs, goesOn) {
+async function addAll(docs, progress) {
   const keeper = await keep.ready();
   const take = keeper.takerOf(await keeper.cards(), webpbnText); // each of them is one picture of the archive at most
   let [added, known] = [0, 0];
   for (const { name: title, doc } of docs) {
-    if (!(await goesOn(phrase('import.picturesAddedOf', { at: added, count: docs.length })))) break;
+    if (!(await progress.goesOn(phrase('import.picturesAddedOf', { at: added, count: docs.length })))) break;
     if (await take(doc)) known++;
     else if (await keeper.put(recordOfDoc(doc, title, true))) added++;
     else break;
@@ -104,11 +95,10 @@ export const mayAdd = async (count, name, title) => count <= MANY
 export async function takeArchive(bytes, name) {
   const files = filesIn(bytes).length;
   if (!(await mayAdd(files, name, phrase('import.addManyFiles', { files })))) return 0;
-  const progress = new Progress(phrase('import.opening', { name }), '');
-  const goesOn = (text) => progress.goesOn(text);
+  const progress = new Progress(phrase('import.opening', { name }));
   try {
-    const { docs, unread, why } = await readArchive(bytes, goesOn);
-    const { added, known } = await addAll(docs, goesOn);
+    const { docs, unread, why } = await readArchive(bytes, progress);
+    const { added, known } = await addAll(docs, progress);
     tellAdded(name, { docs, unread, why, added, known, isStopped: progress.isStopped });
     return added + known;
   } finally {

@@ -1,6 +1,7 @@
 // What lies beside a picture and goes with it, by the names that nonobench-audit knows: NAME.givens and NAME.background. NAME.cert, or
 // NAME.proof as it was called before, goes with it too, and is not checked here; nor is NAME.txt, which says what the engine said of it.
 
+import { bareName } from '../base/words.js';
 import { FileFault } from '../document/limits.js';
 import { MOST_BYTES_READ } from '../formats/ppm.js';
 import { readGivens, readGround } from '../formats/published.js';
@@ -8,7 +9,10 @@ import { faultText } from '../library/open.js';
 import { phrase } from '../texts/phrase.js';
 import { mustHold } from './decoding.js';
 import { kindOfFile } from './images.js';
-import { docsOfBytes } from './reading.js';
+import { docOfPuzzle, docsOfBytes } from './reading.js';
+
+/** Files that are taken at once, folders that are looked into for them, and puzzles in a table. */
+export const MOST_AT_ONCE = 2000;
 
 const AUDITED = /\.(p[pgbn]m|png|gif|bmp|webp|non|xml)$/i; // pictures that nonobench-audit reads
 const OTHERS = /\.(avif|svg|jpe?g)$/i; // and those that this page alone reads
@@ -79,17 +83,53 @@ async function naming(file, work) {
 
 /**
  * The documents of a unit as `{ docs, left }`. What lies beside the file holds in place of what the file itself tells. Of several puzzles
- * in a file each tells it itself: then that is `left`. Such a puzzle that is not read stands as `{ fault }`. That of a picture beside
+ * in a file each tells it itself: then that is `left`, and the puzzles are as docsOfBytes gives them. That of a picture beside
  * which a triple lies says that it `isNamed`. `imageDocs(file, bytes, ground)` gives the documents of an image, or null where the file is none.
  */
-export async function docsOfUnit({ file, fault, givens, background }, imageDocs = async (...image) => null) {
+export async function docsOfUnit({ file, fault, givens, background }, imageDocs = async (...image) => null, progress = null) {
   if (fault) throw new FileFault(fault);
   const read = background && (await naming(background, async () => readGround(await textOf(background))));
   const ground = read ? (image, maxval) => naming(background, () => read(image, maxval)) : null;
   const bytes = await bytesOf(file);
-  const docs = (await imageDocs(file, bytes, ground)) ?? (await docsOfBytes(bytes, ground));
+  const docs = (await imageDocs(file, bytes, ground)) ?? (await docsOfBytes(bytes, ground, progress));
   if (docs.length > 1) return { docs, left: [givens, background].filter(Boolean) };
   if (docs.length && read?.isNamed && !['xml', 'non'].includes(kindOfFile(bytes))) docs[0] = { ...docs[0], isNamed: true };
   if (docs.length && givens) docs[0] = { ...docs[0], givens: await naming(givens, async () => readGivens(await textOf(givens), docs[0])) };
   return { docs, left: [] };
+}
+
+// The puzzles of a unit, as puzzlesIn gives them: from the one on that `isOver`, they are left out.
+async function* puzzlesOf(unit, progress, imageDocs, isOver) {
+  const { file } = unit;
+  const own = bareName(file.name);
+  const { docs, left } = await docsOfUnit(unit, imageDocs, progress);
+  if (!docs.length) throw new FileFault(phrase('import.notPuzzleImageScaled'));
+  for (const [at, one] of docs.entries()) {
+    if (at && !(await progress.goesOn(phrase('import.certificateSays', { name: own, text: phrase('import.ofAll', { count: at, all: docs.length }) })))) return;
+    if (isOver(one)) {
+      yield { name: own, file, fault: new FileFault(phrase('import.othersLeftOut', { most: MOST_AT_ONCE })) };
+      break;
+    }
+    const name = at ? `${own} ${at + 1}` : own;
+    yield await docOfPuzzle(one, progress).then((doc) => ({ name, file, doc }), (fault) => ({ name, file, fault }));
+  }
+  for (const other of left) yield { name: other.name, file: other, fault: new FileFault(phrase('import.noPictureGoes')) };
+}
+
+/**
+ * The puzzles of units one after the other, until the user stops it: each as `{ name, file, doc }`, and what is not read as
+ * `{ name, file, fault }`. With `imageDocs`, as for a table, there are 2,000 at most; without, as many whose picture is searched for.
+ * @returns {AsyncGenerator<any>}
+ */
+export async function* puzzlesIn(units, progress, imageDocs = undefined) {
+  let room = MOST_AT_ONCE;
+  const isOver = (one) => Boolean(imageDocs ?? one.non) && room-- <= 0;
+  for (const [at, unit] of units.entries()) {
+    if (!(await progress.goesOn(phrase('import.filesRead', { at, count: units.length })))) return;
+    try {
+      yield* puzzlesOf(unit, progress, imageDocs, isOver);
+    } catch (fault) {
+      yield { name: unit.fault ? unit.file.name : bareName(unit.file.name), file: unit.file, fault };
+    }
+  }
 }

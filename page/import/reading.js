@@ -82,22 +82,24 @@ async function checkGround({ colours, picture, maxval }, ground) {
   if (background.join() !== eightBits(colours[0], maxval).join()) throw new FileFault(phrase('import.otherBackground'));
 }
 
-// The document of a puzzle that a text tells; `{ fault }` where there is none.
-const docOfPuzzle = async (one) => (one.non ? docOfNon(one.non, one.page, startEngine(), MOST_SEARCH).catch((fault) => ({ fault })) : one.doc ?? one);
+/** The document of a puzzle as docsOfBytes gives it: of clues alone a picture is searched for. */
+export async function docOfPuzzle(one, progress) {
+  if (one.fault) throw one.fault;
+  return one.non ? docOfNon(one.non, one.page, progress.held(startEngine()), MOST_SEARCH) : one;
+}
 
 /**
  * The documents that a file of puzzles holds; none where it has no picture that opens by itself. Of several puzzles one that is not read
- * stands as `{ fault }`. `ground(image, maxval)` gives the background that is told beside the file.
+ * stands as `{ fault }`, and clues alone as `{ non, page }`. `ground(image, maxval)` gives the background that is told beside the file.
  */
-export async function docsOfBytes(bytes, ground = null) {
+export async function docsOfBytes(bytes, ground, progress) {
   const kind = kindOfFile(bytes);
   if (kind === 'ppm') return [await docOfPpm(bytes, ground)].filter(Boolean);
   const text = new TextDecoder().decode(bytes);
   const puzzles = kind === 'xml' ? readXmlFile(text) : kind === 'non' && isNonText(text) ? [{ non: text, page: { about: aboutNon(text) } }] : [];
-  const docs = [];
-  for (const one of puzzles) docs.push(await docOfPuzzle(one));
+  const docs = puzzles.map((one) => one.doc ?? one);
   if (docs.length !== 1) return docs;
-  if (docs[0].fault) throw docs[0].fault;
-  if (ground) await checkGround(docs[0], ground);
-  return docs;
+  const doc = await docOfPuzzle(docs[0], progress);
+  if (ground) await checkGround(doc, ground);
+  return [doc];
 }

@@ -3,8 +3,7 @@
 
 import { make, say } from '../base/elements.js';
 import { tell } from '../base/events.js';
-import { bareName, valueText } from '../base/words.js';
-import { FileFault } from '../document/limits.js';
+import { valueText } from '../base/words.js';
 import { Judge } from '../engine/judging.js';
 import { Mender } from '../engine/mending.js';
 import { keep } from '../library/keep.js';
@@ -16,32 +15,11 @@ import { openDialog } from '../view/dialogs.js';
 import { Progress } from '../view/progress.js';
 import { secondsChosen } from '../view/verdict.js';
 import { saveArchive } from './archives.js';
-import { docsOfUnit, hasCertificate } from './beside.js';
+import { MOST_AT_ONCE, hasCertificate, puzzlesIn } from './beside.js';
 import { HEADS, Row } from './rows.js';
 
-const MOST_ROWS = 2000;
 const MOST_SECONDS = 30; // for a picture
 const MEND_SECONDS = 3; // for a search of repairs
-
-/** The rows of units, until the user stops it: one for each picture, read or not, and one for each file that none is read from. */
-async function rowsOf(units, imageDocs, progress) {
-  const rows = [];
-  for (const [at, unit] of units.entries()) {
-    if (!(await progress.goesOn(phrase('import.filesRead', { at, count: units.length })))) break;
-    const own = bareName(unit.file.name);
-    try {
-      const { docs, left } = await docsOfUnit(unit, imageDocs);
-      if (!docs.length) throw new FileFault(phrase('import.notPuzzleImageScaled'));
-      const shown = docs.slice(0, Math.max(0, MOST_ROWS - rows.length));
-      for (const [at, doc] of shown.entries()) rows.push(new Row(at ? `${own} ${at + 1}` : own, doc.fault ? null : doc, doc.fault && faultText(doc.fault)));
-      if (shown.length < docs.length) rows.push(new Row(own, null, phrase('import.othersLeftOut', { most: MOST_ROWS })));
-      for (const { name } of left) rows.push(new Row(name, null, phrase('import.noPictureGoes')));
-    } catch (fault) {
-      rows.push(new Row(unit.fault ? unit.file.name : own, null, faultText(fault)));
-    }
-  }
-  return rows;
-}
 
 const valuesText = (rows) => [HEADS, ...rows.map((row) => row.texts)].map((texts) => texts.map(valueText).join(',')).join('\r\n');
 
@@ -139,10 +117,12 @@ class Table {
   }
 }
 
-/** Shows the units of several files in a table; `imageDocs` is as for docsOfUnit. */
-export async function takeSeveral(units, imageDocs) {
-  const progress = new Progress(phrase('import.files', { files: units.length }), '');
-  const rows = await rowsOf(units, imageDocs, progress);
+/** Shows the units of several files in a table, up to where the user stops it; `imageDocs` is as for docsOfUnit. */
+export async function takeSeveral(all, imageDocs) {
+  const units = all.slice(0, MOST_AT_ONCE);
+  const progress = new Progress(phrase('import.files', { files: units.length }));
+  const rows = [];
+  for await (const { name, doc = null, fault = '' } of puzzlesIn(units, progress, imageDocs)) rows.push(new Row(name, doc, fault && faultText(fault)));
   progress.end();
   return showRows(rows, units.some(hasCertificate) ? [make('p', { class: 'faint' }, phrase('import.certificatesNotChecked'))] : []);
 }

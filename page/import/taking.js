@@ -91,11 +91,10 @@ function takeNon(text, name, handle) {
 
 // Of clues without a goal a picture is searched for, in a worker of its own, which the user can stop.
 async function openNon(text, name, page, handle = null) {
-  const engine = startEngine();
-  const progress = new Progress(phrase('import.opening', { name }), phrase('import.searchingPictureTheseClues'), () => engine.end('stopped'));
+  const progress = new Progress(phrase('import.opening', { name }), phrase('import.searchingPictureTheseClues'));
   let doc;
   try {
-    doc = await docOfNon(text, page, engine);
+    doc = await docOfNon(text, page, progress.held(startEngine()));
   } finally {
     progress.end();
   }

@@ -12,17 +12,23 @@ export class Progress {
   isEnded = false;
   rested = performance.now();
 
-  /** `stop` hears that the user stopped it. */
-  constructor(title, text, stop = () => {}) {
+  constructor(title, text = '') {
     this.line = make('p', { role: 'status', class: 'progress' }, text);
-    this.timer = setTimeout(() => this.show(title, stop), AFTER);
+    this.timer = setTimeout(() => this.show(title), AFTER);
   }
 
-  async show(title, stop) {
+  async show(title) {
     await openDialog({ title, content: this.line, buttons: [{ name: phrase('view.stop'), value: null, main: true }] });
     if (this.isEnded) return;
     this.isStopped = true;
-    stop();
+    this.engine?.end('stopped');
+  }
+
+  /** An engine that works here: it ends where the user stops that, and at once where that was before. */
+  held(engine) {
+    this.engine = engine;
+    if (this.isStopped) engine.end('stopped');
+    return engine;
   }
 
   /** Tells how far it is; answers whether to go on. */

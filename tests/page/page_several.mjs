@@ -14,7 +14,7 @@ import { webpbnText } from '../../page/formats/webpbn.js';
 import { writeZip, zipEntries } from '../../page/formats/zip.js';
 import { readZip } from '../../page/test/zips.mjs';
 import { readArchive } from '../../page/import/archives.js';
-import { docsOfUnit, grouped, hasCertificate } from '../../page/import/beside.js';
+import { docsOfUnit, grouped, hasCertificate, puzzlesIn } from '../../page/import/beside.js';
 import { unitsIn } from '../../page/import/folders.js';
 import { docOfNon } from '../../page/import/reading.js';
 import { docByItself, proposalFor } from '../../page/import/proposing.js';
@@ -187,7 +187,7 @@ test('of a set, a damaged puzzle is told in its place, and the others are read',
     assert.deepEqual([givensOf(docs[0]), left.map(({ name }) => name)], [[], ['a.givens']]);
     await refused({ 'a.xml': setOf(DAMAGED) }, /'Y'/);
     const { docs: kept, unread, why } = await readArchive(writeZip([{ name: 'x/set.xml', bytes: bytesOf(setOf(DAMAGED, SOUND, OTHER)) }, { name: 'x/set.givens', bytes: bytesOf('given 1 1\n') }]));
-    assert.deepEqual([kept.map(({ name, doc }) => [name, doc.picture.join('/'), givensOf(doc)]), unread], [[['set 2', 'a./.a', []], ['set 3', 'aa/a.', []]], ['x/set.givens', 'x/set.xml']]);
+    assert.deepEqual([kept.map(({ name, doc }) => [name, doc.picture.join('/'), givensOf(doc)]), unread], [[['set 2', 'a./.a', []], ['set 3', 'aa/a.', []]], ['x/set.xml', 'x/set.givens']]);
     assert.match(why, /'Y'/);
 });
 
@@ -195,6 +195,59 @@ test('a search for the picture of clues ends after its time, and its engine with
     let stop;
     const engine = { open: () => new Promise((resolve, reject) => { stop = reject; }), end: (text) => stop({ text }) };
     await assert.rejects(docOfNon('width 1', {}, engine, 1), { text: 'stopped' });
+});
+
+// Clues without a solution: one black cell.
+const LINES = ['columns', 'rows'].map((type) => `<clues type="${type}"><line><count>1</count></line></clues>`).join('');
+const CLUES = `<puzzle><color name="black" char="X">000</color>${LINES}</puzzle>`;
+const cluesOf = (count) => `<puzzleset>${CLUES.repeat(count)}</puzzleset>`;
+
+/** What comes of units while each engine that is begun answers that there is no picture: their names with the faults, and the engines. */
+async function searched(work) {
+    const begun = [];
+    globalThis.Worker = class {
+        constructor() { begun.push(this); }
+        postMessage({ id, call }) { setImmediate(() => this.onmessage?.({ data: call === 'load' ? { id, ok: true } : { id, fault: { kind: 'open', text: 'no picture has these clues' } } })); }
+        terminate() { this.onmessage = null; }
+    };
+    try {
+        return { found: await work(begun), begun };
+    } finally {
+        delete globalThis.Worker;
+    }
+}
+
+// A user who stops once so many engines were begun.
+const stopping = (begun, most) => ({ goesOn: async () => begun.length < most, held: (engine) => engine });
+
+test('where the user stops, no puzzle of the file or archive is searched for any more', async () => {
+    const units = grouped([fileOf('a.xml', cluesOf(30)), fileOf('b.non', 'width 1\nheight 1\nrows\n1\ncolumns\n1\n')]);
+    const table = await searched(async (begun) => {
+        const found = [];
+        for await (const { name, fault } of puzzlesIn(units, stopping(begun, 3), async () => null)) found.push([name, fault.text]);
+        return found;
+    });
+    assert.deepEqual([table.found.map(([name]) => name), table.begun.length], [['a', 'a 2', 'a 3'], 3]);
+    assert.equal(table.found[0][1], 'no picture has these clues');
+    const zip = writeZip([{ name: 'a.xml', bytes: bytesOf(cluesOf(30)) }, { name: 'b.ppm', bytes: bytesOf(TWO_WAYS) }]);
+    const archive = await searched((begun) => readArchive(zip, stopping(begun, 4)));
+    assert.deepEqual([archive.found.docs, archive.found.unread, archive.begun.length], [[], ['a.xml'], 4]);
+});
+
+test('2,000 pictures of clues are searched for at the most', async () => {
+    const most = { goesOn: async () => true, held: (engine) => engine };
+    const files = [fileOf('a.xml', cluesOf(1500)), fileOf('b.ppm', TWO_WAYS), fileOf('c.xml', cluesOf(600)), fileOf('d.ppm', TWO_WAYS)];
+    const { found, begun } = await searched(async () => {
+        const rows = [];
+        for await (const { name, fault } of puzzlesIn(grouped(files), most, async () => null)) rows.push([name, fault?.message]);
+        return rows;
+    });
+    assert.deepEqual([begun.length, found.length, found[1500], found[1501][0], found[1999][0]], [1999, 2002, ['b', undefined], 'c', 'c 499']);
+    for (const [at, name] of [[2000, 'c'], [2001, 'd']]) assert.deepEqual(found[at], [name, 'more than 2,000 puzzles: the others are left out']);
+    // An archive, which may have more pictures than a table, is bounded by its searches alone.
+    const zip = writeZip([{ name: 'a.xml', bytes: bytesOf(cluesOf(2001)) }, { name: 'b.ppm', bytes: bytesOf(TWO_WAYS) }]);
+    const archive = await searched(() => readArchive(zip));
+    assert.deepEqual([archive.begun.length, archive.found.docs.map(({ name }) => name), archive.found.unread], [2000, ['b'], ['a.xml']]);
 });
 
 test('the examples, as they are published', { skip: needsModule.skip || waits('0.7.0') }, async () => {
@@ -296,7 +349,7 @@ test('each file of an archive is unpacked by itself: one that is damaged leaves 
     assert.deepEqual([docs.map(({ name }) => name), unread], [['a'], ['b.ppm']]);
     assert.match(why, /damaged/);
     let turns = 0;
-    const before = await readArchive(zip, async () => ++turns < 2);
+    const before = await readArchive(zip, { goesOn: async () => ++turns < 2 });
     assert.deepEqual([before.docs.length, before.unread], [1, []]);
 });
 
