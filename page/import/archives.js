@@ -62,7 +62,7 @@ const filesIn = (bytes) => zipEntries(bytes).filter(({ name }) => !name.endsWith
 export async function readArchive(bytes, progress = { goesOn: async (text) => true, held: (engine) => engine }) {
   const [docs, unread] = [[], new Set()];
   let why = '';
-  for await (const { name, file, doc, fault } of puzzlesIn(foldersOf(filesIn(bytes)).flatMap(grouped), progress)) {
+  for await (const { name, file, doc, fault } of puzzlesIn(foldersOf(filesIn(bytes)).flatMap((files) => grouped(files)), progress)) {
     if (doc) docs.push({ name, doc });
     else unread.add(file.path);
     if (fault) why ||= faultText(fault);

@@ -44,9 +44,9 @@ function unitOf(file, named, stems) {
 
 /**
  * The files of one folder as units `{ file, givens, background, beside, fault }`: each with those that go with it, and with what is
- * wrong with their names.
+ * wrong with their names; no more than `most`.
  */
-export function grouped(files) {
+export function grouped(files, most = files.length) {
   const named = new Map();
   for (const file of files) {
     const twins = named.get(file.name) ?? [];
@@ -55,11 +55,11 @@ export function grouped(files) {
   }
   const isOfSet = ({ name }) => NUMBERED.test(name) && ['', '.xml', '.XML'].some((ending) => named.has(name.replace(NUMBERED, ending)));
   const stems = new Set(files.filter(isAudited).map(({ name }) => stemOf(name)));
-  const all = files.filter((file) => !isBeside(file)).map((file) => (isPicture(file) ? unitOf(file, named, stems) : { file, beside: [] }));
+  const all = files.filter((file) => !isBeside(file)).slice(0, most).map((file) => (isPicture(file) ? unitOf(file, named, stems) : { file, beside: [] }));
   const used = new Set(all.flatMap(({ beside }) => beside));
   const units = all.filter(({ file }) => file.isDirectory || !used.has(file));
   const alone = files.filter((file) => isBeside(file) && !used.has(file) && !isOfSet(file));
-  return [...units, ...alone.map((file) => ({ file, beside: [], fault: phrase('import.noPictureGoes') }))];
+  return [...units, ...alone.map((file) => ({ file, beside: [], fault: phrase('import.noPictureGoes') }))].slice(0, most);
 }
 
 /** Whether a certificate goes with the file of a unit. */

@@ -15,7 +15,7 @@ import { openDialog } from '../view/dialogs.js';
 import { Progress } from '../view/progress.js';
 import { secondsChosen } from '../view/verdict.js';
 import { saveArchive } from './archives.js';
-import { MOST_AT_ONCE, hasCertificate, puzzlesIn } from './beside.js';
+import { hasCertificate, puzzlesIn } from './beside.js';
 import { HEADS, Row } from './rows.js';
 
 const MOST_SECONDS = 30; // for a picture
@@ -118,8 +118,7 @@ class Table {
 }
 
 /** Shows the units of several files in a table, up to where the user stops it; `imageDocs` is as for docsOfUnit. */
-export async function takeSeveral(all, imageDocs) {
-  const units = all.slice(0, MOST_AT_ONCE);
+export async function takeSeveral(units, imageDocs) {
   const progress = new Progress(phrase('import.files', { files: units.length }));
   const rows = [];
   for await (const { name, doc = null, fault = '' } of puzzlesIn(units, progress, imageDocs)) rows.push(new Row(name, doc, fault && faultText(fault)));

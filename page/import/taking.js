@@ -16,7 +16,7 @@ import { isTyping } from '../view/actions.js';
 import { openDialogs } from '../view/dialogs.js';
 import { Progress } from '../view/progress.js';
 import { mayAdd, takeArchive } from './archives.js';
-import { grouped } from './beside.js';
+import { MOST_AT_ONCE, grouped } from './beside.js';
 import { takeCertificate } from './certificates.js';
 import { HEAD, IMAGES, MOST_IMAGE, imageOfFile, mustHold } from './decoding.js';
 import { unitsIn } from './folders.js';
@@ -117,7 +117,7 @@ export async function chooseFile() {
 }
 
 // One file is opened, several come as a table.
-const takeAll = (files, handle = null) => (files.length > 1 ? takeSeveral(grouped(files), imageDocs) : files.length === 1 && takeFile(files[0], handle));
+const takeAll = (files, handle = null) => (files.length > 1 ? takeSeveral(grouped(files, MOST_AT_ONCE), imageDocs) : files.length === 1 && takeFile(files[0], handle));
 
 // A dialog that is open gives way to a file: it is left as by Cancel.
 async function closeDialogs() {
@@ -161,8 +161,11 @@ export function hearFiles() {
     const folders = items.map((item) => item.webkitGetAsEntry?.() ?? null);
     const files = items.map((item) => item.getAsFile());
     if (folders.some((entry) => entry?.isDirectory)) {
-      const units = await unitsIn(folders, files).catch(() => null);
+      const progress = new Progress(phrase('import.opening', { name: folders.find((entry) => entry?.isDirectory).name }));
+      const units = await unitsIn(folders, files, progress).catch(() => null);
+      progress.end();
       if (!units) return say(phrase('import.folderNotRead'), 'alarm');
+      if (progress.isStopped) return false;
       await closeDialogs();
       return takeSeveral(units, imageDocs);
     }

@@ -87,7 +87,7 @@ STATED = [
     ('docs/FORMATS.md', '`nonobench: input too long`: more than N bytes', 1, [INPUT]),
     ('docs/FORMATS.md', 'is cut into parts of at most N', 1, [('page/export/sheets.js', 'MOST_LINES =')]),
     ('docs/FORMATS.md', 'with every tint is at least N to 1', 1, [('tests/page/page_sheets.mjs', 'least >=')]),
-    ('docs/FORMATS.md', 'the page reads at most N files', 1, [('page/import/folders.js', 'MOST_UNITS =')]),
+    ('docs/FORMATS.md', 'the page reads at most N files', 1, [('page/import/beside.js', 'MOST_AT_ONCE =')]),
     ('docs/FORMATS.md', 'db db < N', 1, [(REDMEAN, r'rgb_shown\(maxval, other\)\) <')]),
     ('docs/FORMATS.md', '| easy | none | at most N rounds', 1, [(GRADE, r'rounds <= (?=.*\n *Word::Easy)')]),
     ('docs/FORMATS.md', 'at most 2 rounds, and a longest wait of at most N', 1, [(GRADE, r'wait <= (?=.*\n *Word::Easy)')]),

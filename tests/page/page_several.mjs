@@ -308,6 +308,22 @@ test('folders of many files: none is cut off from its picture', async () => {
     assert.ok(units.every(({ file, givens }) => givens.name === file.name.replace('ppm', 'givens')));
 });
 
+test('a folder of 140,000 files, or with as many folders in it: 2,000 of them are looked at, and it can be stopped', async () => {
+    let looked = 0;
+    const folder = (name, entries) => ({ name, isFile: false, isDirectory: true, createReader: () => ({ readEntries: (take) => { looked++; take(entries.splice(0)); } }) });
+    const several = (make) => Array.from({ length: 140000 }, (_, at) => make(String(at).padStart(6, '0')));
+    const files = await unitsIn([folder('files', several((at) => entryOf(`${at}.ppm`, '')))], [null]);
+    assert.deepEqual([files.length, files[1999].file.name], [2000, '001999.ppm']);
+    looked = 0;
+    const folders = (most) => unitsIn([folder('folders', several((at) => folder(at, at < most ? [entryOf('a.ppm', '')] : []))), folder('last', [entryOf('z.ppm', '')])], [null]);
+    assert.deepEqual([(await folders(3)).map(({ file }) => file.name), looked], [['a.ppm', 'a.ppm', 'a.ppm'], 2004]); // what has files is asked twice
+    looked = 0;
+    let turns = 0;
+    const told = [];
+    const stopped = await unitsIn([folder('folders', several((at) => folder(at, [entryOf('a.ppm', '')])))], [null], { goesOn: async (text) => told.push(text) && ++turns < 100 });
+    assert.ok(stopped.length < 34 && looked < 100 && told[90] === `${stopped.length - 3} files`, `${stopped.length} ${looked} ${told[90]}`);
+});
+
 test('the zip for a puzzle site, dropped again', async () => {
     const entry = (name, text) => ({ name, bytes: bytesOf(text) });
     const pair = [entry('x/a.ppm', TWO_WAYS), entry('x/a.cert', 'nonocert 1\n'), entry('x/a.proof', 'nonolemma 1\n'), entry('x/a.txt', 'unique\n')];
