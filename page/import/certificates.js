@@ -6,6 +6,7 @@ import { plainOf } from '../engine/assessing.js';
 import { bench } from '../engine/bench.js';
 import { startEngine } from '../engine/client.js';
 import { phrase } from '../texts/phrase.js';
+import { Progress } from '../view/progress.js';
 import { asSeen } from '../view/tools.js';
 
 const STRANGE = phrase('import.countsCellsPuzzleDoes');
@@ -37,7 +38,7 @@ export async function checkedCertificate(certificate, doc, engine = startEngine(
   }
 }
 
-/** Checks a certificate against the picture at hand, and tells what came of it, unless another one is at hand by then. */
+/** Checks a certificate against the picture at hand, until the user stops it, and tells what came of it, unless another one is at hand by then. */
 export async function takeCertificate(certificate, name) {
   if (!bench.state) {
     say(phrase('import.certificateOpenPictureFirst', { name }), 'alarm');
@@ -45,7 +46,8 @@ export async function takeCertificate(certificate, name) {
   }
   await asSeen();
   const doc = docOf(bench.state);
-  const { proves, text } = await checkedCertificate(certificate, doc);
+  const progress = new Progress(phrase('import.checking', { name }));
+  const { proves, text } = await checkedCertificate(certificate, doc, progress.held(startEngine())).finally(() => progress.end());
   if (!bench.state || !sameDoc(doc, bench.state)) return false;
   say(`${proves ? '✓ ' : ''}${phrase('import.certificateSays', { name, text })}`, proves ? '' : 'alarm');
   return proves;

@@ -1,8 +1,9 @@
-// SVG drawings made ready to be drawn: without what moves and without HTML, of bounded size, and with a size in pixels.
+// SVG drawings made ready to be drawn: of bounded size, and with a size in pixels. Those that move, or have documents in them, are refused.
 
 import { MOST_DRAWN, drawnOf, unescaped } from './drawn.js';
 
 const USUAL = 512; // pixels of the longer side: a drawing is as sharp at any size
+const MOVES = 'import.drawingMoves';
 const UNITS = { '': 1, px: 1, pt: 4 / 3, pc: 16, in: 96, cm: 96 / 2.54, mm: 9.6 / 2.54, q: 2.4 / 2.54 };
 
 // A length in pixels; null for one in other units, or none.
@@ -28,14 +29,13 @@ export const hasDocument = (text) => /d(?<!\w\s*d)\s*a\s*t\s*a\s*:(?!\s*(image\/
 
 /**
  * A drawing as { text, width, height }, with `most` a side at most: its own size where that is no smaller than usual. Null where it is none,
- * and nothing where it has more elements than are drawn, or other documents in it.
+ * and the name of a phrase where it is refused.
  */
 export function readyDrawing(text, most) {
   const root = new DOMParser().parseFromString(text, 'image/svg+xml').documentElement;
   if (root.localName !== 'svg') return null;
-  for (const one of root.querySelectorAll('set, animate, foreignObject')) one.remove(); // other addresses of an element; HTML
-  const written = () => new XMLSerializer().serializeToString(root);
-  if (drawnOf(root) > MOST_DRAWN || hasDocument(written())) return undefined;
+  if (root.querySelector('set, animate, foreignObject')) return MOVES; // other addresses of an element; HTML
+  if (drawnOf(root) > MOST_DRAWN) return 'formats.thereTooManyElements';
   const told = { width: root.getAttribute('width'), height: root.getAttribute('height'), viewBox: root.getAttribute('viewBox') };
   const size = sizeOfSvg(told);
   const longer = Math.max(...size);
@@ -43,5 +43,6 @@ export function readyDrawing(text, most) {
   if (!told.viewBox) root.setAttribute('viewBox', `0 0 ${size.join(' ')}`);
   root.setAttribute('width', String(width));
   root.setAttribute('height', String(height));
-  return { text: written(), width, height };
+  const written = new XMLSerializer().serializeToString(root);
+  return hasDocument(written) ? MOVES : { text: written, width, height };
 }

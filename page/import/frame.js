@@ -1,12 +1,12 @@
 // Draws one drawing, in a frame without rights that the page ends when it takes too long. It answers its pixels, null where the browser does
-// not read it, or nothing where it is too large.
+// not read it, or the name of a phrase that says why it is refused.
 
 import { readyDrawing } from './drawing.js';
 
 addEventListener('message', ({ data: { text, most } }) => {
   const answer = (image) => parent.postMessage(image, '*');
   const drawing = readyDrawing(text, most);
-  if (!drawing) return answer(drawing);
+  if (!drawing?.text) return answer(drawing);
   const { width, height } = drawing;
   const image = new Image(width, height);
   image.onerror = () => answer(null);

@@ -1,7 +1,7 @@
 // Few colours for a photo: a little k-means (Lloyd), begun with what is salient, one after the other, and some times with colours that
 // are drawn (k-means++, Arthur and Vassilvitskii, 2007). What stands best for the parts of the image is taken.
 
-import { drawing } from '../base/chance.js';
+import { chances } from '../base/chance.js';
 import { farness, nearestOf, once, spotsOf, weightOf } from './spots.js';
 
 const KMEANS_ROUNDS = 16;
@@ -100,7 +100,7 @@ function movedGroups(spots, begun) {
 // The groups of spots that stand best for an image: of some that are begun in two ways, by some weights. The same image has the same.
 function bestGroups(spots, most) {
   const parts = partsOf(spots);
-  const chance = drawing(1);
+  const chance = chances(1);
   let best = { miss: Infinity, groups: [] };
   for (const weighed of POWERS.map((power) => weighedBy(spots, power))) {
     for (const begun of [salientGroups(weighed, most), ...Array.from({ length: DRAWS }, () => drawnGroups(weighed, most, chance))]) {

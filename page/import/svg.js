@@ -14,13 +14,13 @@ export async function imageOfSvg(text, most) {
   const frame = Object.assign(document.createElement('iframe'), { sandbox: 'allow-scripts', srcdoc: `<script>${built().drawing}</script>`, hidden: true });
   const heard = new AbortController();
   const image = await new Promise((give) => {
-    setTimeout(give, LONGEST);
+    setTimeout(give, LONGEST, 'formats.thereTooManyElements');
     addEventListener('message', ({ source, data }) => source === frame.contentWindow && give(data), heard);
     frame.onload = () => frame.contentWindow.postMessage({ text, most }, '*');
     document.body.append(frame);
   });
   heard.abort();
   frame.remove();
-  if (!image) throw new FileFault(phrase(image === null ? 'import.browserDoesNotRead' : 'formats.thereTooManyElements'));
+  if (!image?.data) throw new FileFault(phrase(image ?? 'import.browserDoesNotRead'));
   return image;
 }

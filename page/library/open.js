@@ -79,7 +79,7 @@ const OPEN_FAULTS = {
 export function faultText(fault) {
   if (fault instanceof FileFault) return fault.message;
   const text = String(fault?.text ?? fault?.message ?? fault);
-  if (text === 'stopped') return phrase('library.searchStopped');
+  if (text === 'stopped') return phrase('import.stopped');
   if (/memory/i.test(text) || fault?.kind === 'memory') return phrase('library.thereNotEnoughMemory');
   if (/no picture has these clues/.test(text)) return phrase('library.noPictureTheseClues');
   const name = Object.keys(OPEN_FAULTS).find((one) => text.includes(one));

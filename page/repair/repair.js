@@ -5,7 +5,7 @@
 // `say` puts lines to a proved session that shows the board's picture, and gives its text or a promise of it. Every proposal was
 // judged by the session. `give` looks for cells to give, `mix` for some of both, and `aim` for a grade.
 
-import { drawing } from '../base/chance.js';
+import { chances } from '../base/chance.js';
 import { Aiming } from './aiming.js';
 import { Asker } from './asker.js';
 import { climb, dive } from './descents.js';
@@ -57,7 +57,7 @@ async function descend(search, isDusty, options) {
 }
 
 async function forOneSolution(search, limit) {
-  const draw = drawing(11);
+  const draw = chances(11);
   await search.all(1, Infinity, MOST_ONES);
   if (search.isDone) return;
   await search.all(2, 450, MOST_TWOS);
@@ -81,7 +81,7 @@ async function forOneSolution(search, limit) {
 }
 
 async function forLines(search, limit) {
-  const draw = drawing(11);
+  const draw = chances(11);
   await search.all(1, 1000, MOST_ONES);
   if (search.isDone) return;
   await search.all(2, 300, MOST_TWOS);

@@ -3,7 +3,7 @@
 import assert from 'node:assert/strict';
 import { writeFileSync } from 'node:fs';
 import { join } from 'node:path';
-import { clean, downloaded, drop, fresh, isOpen, said } from './page_hands.mjs';
+import { NO_PICKERS, clean, downloaded, drop, fresh, isOpen, said } from './page_hands.mjs';
 import { SIZES, SLACK, ppmOf } from './page_trial.mjs';
 import '../../page/test/limits.mjs';
 import { writeZip } from '../../page/formats/zip.js';
@@ -345,5 +345,65 @@ export async function morePuzzlesThanRows({ browser, url, folder }) {
     const rows = await page.run(() => [...document.querySelectorAll('#several tbody tr')].slice(1999).map((row) => row.textContent));
     assert.match(rows[0], /^many 2000/);
     assert.deepEqual(rows[1], 'manymore than 2,000 puzzles: the others are left out');
+    await page.close();
+}
+
+// Workers keep calls that `window.keeps` names until they `go` on.
+const KEEPING = `window.kept = []; const PlainWorker = window.Worker;
+window.Worker = class extends PlainWorker {
+    postMessage(data) { if (window.keeps?.(data)) kept.push(Object.assign(this, { go: () => super.postMessage(data) })); else super.postMessage(data); }
+    terminate() { this.isEnded = true; super.terminate(); } };`;
+
+/** Stop ends the search for the picture of a puzzle, and no other puzzle of the file is searched for. */
+export async function stopsWithinFile({ browser, url, folder }) {
+    const { page } = await fresh(browser, url, folder, 'stops-within', { before: NO_PICKERS + KEEPING });
+    await page.run(() => { window.keeps = ({ call, file }) => call === 'open' && /^width/.test(file); });
+    const one = `<puzzle><color name="black" char="X">000</color>${['columns', 'rows'].map((type) => `<clues type="${type}"><line><count>1</count></line></clues>`).join('')}</puzzle>`;
+    await dropFiles(page, [['many.xml', `<puzzleset>${one.repeat(9)}</puzzleset>`], ['one.ppm', ppmOf(['a'])]]);
+    await page.until(() => kept.length === 1 && document.querySelector('dialog[open] .progress')?.textContent.startsWith('0 of 2 files'), 20000 * SLACK);
+    await page.run(() => kept[0].go());
+    await page.until(() => kept.length === 2 && document.querySelector('dialog[open] .progress').textContent === '“many”: 1 of 9', 20000 * SLACK);
+    await page.press('Enter');
+    await page.until(() => document.querySelector('#several'), 5000 * SLACK);
+    assert.deepEqual(await page.run(() => [...document.querySelectorAll('#several tbody th')].map((cell) => cell.textContent)), ['many', 'many 2']);
+    assert.match(await page.run(() => document.querySelector('#several tbody tr:last-child').textContent), /stopped$/);
+    assert.deepEqual(await page.run(() => kept.map(({ isEnded }) => isEnded)), [true, true]);
+    await page.close();
+}
+
+/** The check of a certificate tells which it is, and ends with Stop; what it finds is not told beside another picture. */
+export async function checkOfCertificate({ browser, url, folder }) {
+    const { page, trial } = await fresh(browser, url, folder, 'check', { before: NO_PICKERS + KEEPING });
+    await page.run(() => { window.keeps = ({ call }) => call === 'check'; });
+    const check = async (count) => {
+        await trial.open(ppmOf(['a']), 'one');
+        await dropFiles(page, [['a.cert', 'nonocert 1\nline r 1\ndone\n']]);
+        await page.until((wanted) => kept.length === wanted && /^Checking “a.cert”/.test(document.querySelector('dialog[open]')?.textContent), 20000 * SLACK, count);
+    };
+    const told = async () => { await page.until(() => !document.querySelector('dialog[open]'), 5000 * SLACK); return said(page); };
+    await check(1);
+    await page.press('Enter');
+    assert.match(await told(), /“a.cert” could not be opened: stopped/);
+    assert.ok(await page.run(() => kept[0].isEnded));
+    await check(2);
+    await page.run(() => kept[1].go());
+    assert.equal(await told(), '✓ “a.cert”: It proves that this picture is the only solution.');
+    await check(3);
+    await trial.open(ppmOf(['a.', '.a']), 'two');
+    await page.run(() => kept[2].go());
+    assert.equal(await told(), '');
+    await page.close();
+}
+
+/** A drawing that moves, or has a document in it, is refused: the page would make another picture than the browser draws. */
+export async function movingDrawings({ browser, url, folder }) {
+    const { page } = await fresh(browser, url, folder, 'moving');
+    const inside = ['<set attributeName="fill" to="#f00"/>', '<animate attributeName="fill" values="#f00;#f00"/>', '<foreignObject width="8" height="8"/>', '<image href="data:image/svg+xml,a"/>'];
+    for (const one of inside) {
+        await dropFiles(page, [['x.svg', `<svg xmlns="http://www.w3.org/2000/svg" width="16" height="8"><g fill="#00f"><rect width="8" height="8"/>${one}</g></svg>`]]);
+        await page.until(() => document.querySelector('dialog[open] #import-facts') || document.getElementById('said').textContent, 20000 * SLACK);
+        assert.match(await said(page), /the drawing moves, or has HTML or other documents in it/, one);
+        await page.run(() => say(''));
+    }
     await page.close();
 }
