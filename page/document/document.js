@@ -6,7 +6,7 @@
 
 import { phrase } from '../texts/phrase.js';
 import { eightBits } from './colours.js';
-import { FileFault, LETTERS, MOST_CELLS, MOST_COLOURS } from './limits.js';
+import { FileFault, LETTERS, MOST_CELLS, MOST_COLOURS, MOST_NAME } from './limits.js';
 
 const NONE = Object.freeze(new Set());
 const ABOUT_LIMIT = 100000; // signs of a text
@@ -119,7 +119,7 @@ function unpackedExtras(extras) {
 function unpackedPage({ about, inks, extras }) {
   const texts = Object.entries(about ?? {}).filter(([name, text]) => ABOUT.includes(name) && isText(text, ABOUT_LIMIT) && text !== '');
   const ink = (one) => ({
-    ...(isText(one?.name, 200) && one.name !== '' ? { name: one.name } : {}),
+    ...(isText(one?.name, MOST_NAME) && one.name !== '' ? { name: one.name } : {}),
     ...(isText(one?.sign, 4) && [...one.sign].length === 1 ? { sign: one.sign } : {}),
     ...(one?.locked === true ? { locked: true } : {}),
   });

@@ -2,6 +2,7 @@
 
 export const MOST_CELLS = LIMITS.side; // rows or columns
 export const MOST_COLOURS = LIMITS.colours; // with the background
+export const MOST_NAME = 200; // signs of a colour's name that a file has
 export const HISTORY = LIMITS.history; // commands that a bench can take back
 export const LETTERS = '.abcdefghijklmno'.slice(0, MOST_COLOURS);
 

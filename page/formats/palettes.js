@@ -2,7 +2,7 @@
 // with samples of eight bits.
 
 import { isSame, plainHexOf } from '../document/colours.js';
-import { FileFault } from '../document/limits.js';
+import { FileFault, MOST_NAME } from '../document/limits.js';
 import { phrase } from '../texts/phrase.js';
 
 const MOST_COLOURS = 1024; // in a file
@@ -36,7 +36,8 @@ function colourOfLine(line, number) {
   const found = /^(\d{1,3})\s+(\d{1,3})\s+(\d{1,3})(?:\s([^]*))?$/.exec(line.trim());
   const triple = found ? found.slice(1, 4).map(Number) : [];
   if (!found || triple.some((sample) => sample > 255)) throw new PaletteFault('BadColour', number);
-  return { triple, name: (found[4] ?? '').trim() };
+  const name = (found[4] ?? '').trim();
+  return { triple, name: name.length > MOST_NAME ? '' : name };
 }
 
 function readGpl(lines) {

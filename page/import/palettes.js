@@ -64,6 +64,7 @@ export async function takePalette(text, name) {
     return false;
   }
   await asSeen();
+  const { term } = bench;
   const doc = eightBitDoc(bench.state);
   const offered = colours.slice(0, MOST_SHOWN);
   const swatches = offered.map(swatchOf);
@@ -78,7 +79,8 @@ export async function takePalette(text, name) {
       { name: phrase('import.addChosen'), main: true, value: () => withMore(doc, chosen()), test: () => (!chosen().length ? phrase('import.chooseColourFirst') : chosen().length > free ? phrase('import.paletteRoomColours', { colours: free }) : '') },
     ],
   });
-  return done ? heard(bench.become(done)) : false;
+  if (done && bench.term !== term) say(phrase('export.otherPictureOpened'), 'alarm');
+  return done && bench.term === term ? heard(bench.become(done)) : false;
 }
 
 /** The palette of a document. */

@@ -23,6 +23,8 @@ test('palette files of three kinds', () => {
     assert.deepEqual(triples(readPalette(PAL)), [[0, 0, 128], [255, 255, 255]]);
     assert.deepEqual(triples(readPalette(HEX)), [[0, 0, 128], [255, 255, 255], [70, 130, 180]]);
     assert.deepEqual(triples(readPalette('ff0000\r\nff0000\r\n00ff00')), [[255, 0, 0], [0, 255, 0]], 'what is there twice counts once');
+    const named = (signs) => readPalette(`GIMP Palette\n1 2 3\t${'n'.repeat(signs)}\n`).colours[0].name.length;
+    assert.deepEqual([named(200), named(201), named(4e6)], [200, 0, 0], 'longer names are none');
     const blanks = ' '.repeat(1e6);
     assert.deepEqual(readPalette(`GIMP Palette\nName:${blanks}\u2028x\n1 2 3${blanks}\u2028x\n`).colours.length, 1, 'at once');
     assert.deepEqual(['GIMP Palette', 'JASC-PAL\n0100', HEX, 'P3 1 1', 'width 3', '', '12345', '\ufeffGIMP Palette\n1 2 3'].map(kindOfPalette), ['gpl', 'pal', 'hex', null, null, null, null, 'gpl']);
