@@ -3,18 +3,18 @@ any script, streams, and on Windows what a shell there leaves to a program."""
 
 import shutil
 import sys
+from pathlib import Path
 
 import pytest
 from systems import ON_EACH, ON_LINUX, ON_WINDOWS
-from tried import CASES, EXAMPLES, ROOT, Ended, ended
+from tried import EXAMPLES, ROOT, Ended, ended
 
 sys.path.append(str(ROOT / 'tests' / 'program'))
 
-from test_cases import answered, picture_of, printed, rows  # noqa: E402
+from test_cases import CALLS, answered, rows, told  # noqa: E402
 from test_sessions import words_of  # noqa: E402
 
 pytestmark = [pytest.mark.toolchain, pytest.mark.compiler, pytest.mark.emulator]
-DIAGONAL_CERT = 'nonocert 2\ngiven 1 1\nline r 1\nline c 1\nline r 2\ndone\n'
 PIXEL = b'P3\n1 1\n255\n0 0 0\n'
 NO_PICTURE = Ended(1, b'', b'nonobench: ppm NotP3 at byte 0\n')
 NO_READ = Ended(3, b'', b'nonobench: read failed\n')
@@ -26,54 +26,15 @@ YES = Ended(0, b'certificate accepted\n', b'')
 NAMES = ('bödy.ppm', 'картинка.ppm', '日本.ppm', '😀𝔻.ppm', "a b 'c' & (d).ppm")
 
 
-def put(place, **texts):
-    """Writes files into a new folder, and gives their paths from the folder above."""
-    place.mkdir()
-    for name, text in texts.items():
-        (place / name).write_bytes(text if isinstance(text, bytes) else text.encode())
-    return [f'{place.name}/{name}' for name in texts]
-
-
-def check_of(place, text):
-    cells, _, cert = text.partition(' ')
-    return ['check', *put(place, picture=picture_of(cells), cert=printed(cert))], b''
-
-
-def givens_of(place, text):
-    givens, picture, cert = put(place, givens=printed(text), picture=picture_of('a./.a'), cert=DIAGONAL_CERT)
-    return ['check', '--givens', givens, picture, cert], b''
-
-
-def published_of(place, text):
-    cells, published, cert = text.split(' ', 2)
-    lines = ''.join(f'given {cell.replace(",", " ")}\n' for cell in published.split(';') if published != '-')
-    picture, cert, givens = put(place, picture=picture_of(cells), cert=printed(cert), givens=lines)
-    return ['check', picture, cert, *([] if published == 'any' else ['--givens', givens])], b''
-
-
-def puzzle_of(place, text):
-    return ['work', *put(place, file=printed(text)), '--format', 'non'], b'write non\n'
-
-
-# How the program is called for a text of each kind of case, with files in a folder.
-CALLS = {
-    'pictures': lambda place, text: ([], printed(text)),
-    'puzzles': puzzle_of,
-    'certificates': check_of,
-    'lemmas': check_of,
-    'givens': givens_of,
-    'published': published_of,
-}
-
-
 @ON_EACH
 @pytest.mark.parametrize('kind', CALLS)
 def test_cases(system, kind, tmp_path):
     asked = [row.values for row in rows(kind)]
     assert asked
-    runs = system.run_each([CALLS[kind](tmp_path / f'case{at}', text) for at, (text, _) in enumerate(asked)], tmp_path)
-    for run, (text, answer) in zip(runs, asked, strict=True):
-        answered(run, answer.split(' ', 1)[1] if kind == 'published' else answer)
+    calls = [CALLS[kind](tmp_path / f'case{at}', text) for at, (text, _) in enumerate(asked)]
+    within = [([word.relative_to(tmp_path).as_posix() if isinstance(word, Path) else word for word in words], text) for words, text in calls]
+    for run, (_, answer) in zip(system.run_each(within, tmp_path), asked, strict=True):
+        answered(run, told(kind, answer))
 
 
 @ON_EACH

@@ -7,8 +7,9 @@ words. """
 import re
 
 import pytest
-from tried import CASES, Ended, ended
+from tried import CASES, Ended, as_bytes, ended
 
+DIAGONAL_CERT = 'nonocert 2\ngiven 1 1\nline r 1\nline c 1\nline r 2\ndone\n'
 SAMPLES = {'a': '0 0 0', 'b': '255 0 0'}
 ESCAPED = {'n': b'\n', 'r': b'\r', 't': b'\t', 'f': b'\f', 'v': b'\v', '\\': b'\\'}
 
@@ -49,23 +50,55 @@ def picture_of(cells):
     return f'P3\n{len(across[0])} {len(across)}\n255\n{samples}'
 
 
-def pair(folder, text):
-    """The picture and the certificate of a line, as two files."""
-    cells, _, rest = text.partition(' ')
-    (folder / 'picture').write_text(picture_of(cells))
-    (folder / 'cert').write_bytes(printed(rest))
-    return [folder / 'picture', folder / 'cert']
+def put(folder, **texts):
+    """Writes files, and gives their paths."""
+    folder.mkdir(exist_ok=True)
+    for name, text in texts.items():
+        (folder / name).write_bytes(as_bytes(text))
+    return [folder / name for name in texts]
 
 
-@pytest.mark.parametrize(('text', 'answer'), rows('pictures'))
-def test_picture(program, text, answer):
-    answered(ended([program.path], printed(text)), answer)
+def lines_of(places):
+    """The lines of a file of givens, of places such as 1,2."""
+    return ''.join(f'given {place.replace(",", " ")}\n' for place in places)
 
 
-@pytest.mark.parametrize(('text', 'answer'), rows('puzzles'))
-def test_puzzle(program, text, answer, tmp_path):
-    (tmp_path / 'file').write_bytes(printed(text))
-    answered(ended([program.path, 'work', tmp_path / 'file', '--format', 'non'], 'write non\n'), answer)
+def puzzle_of(place, text):
+    return ['work', *put(place, file=printed(text)), '--format', 'non'], b'write non\n'
+
+
+def check_of(place, text):
+    cells, _, cert = text.partition(' ')
+    return ['check', *put(place, picture=picture_of(cells), cert=printed(cert))], b''
+
+
+def givens_of(place, text):
+    givens, picture, cert = put(place, givens=printed(text), picture=picture_of('a./.a'), cert=DIAGONAL_CERT)
+    return ['check', '--givens', givens, picture, cert], b''
+
+
+def published_of(place, text):
+    """What the libraries must answer, too."""
+    cells, published, cert = text.split(' ', 2)
+    lines = lines_of(published.split(';')) if published != '-' else ''
+    picture, cert, givens = put(place, picture=picture_of(cells), cert=printed(cert), givens=lines)
+    return ['check', picture, cert, *([] if published == 'any' else ['--givens', givens])], b''
+
+
+# How a program is called for a text of each kind of case, with files in a folder: its words and its input.
+CALLS = {
+    'pictures': lambda place, text: ([], printed(text)),
+    'puzzles': puzzle_of,
+    'certificates': check_of,
+    'lemmas': check_of,
+    'givens': givens_of,
+    'published': published_of,
+}
+
+
+def told(kind, answer):
+    """What the program must answer: of what is published, a library tells the givens, too, and they come first."""
+    return answer.split(' ', 1)[1] if kind == 'published' else answer
 
 
 def hint_of(program, text):
@@ -74,33 +107,29 @@ def hint_of(program, text):
     return 'nonobench: its lines end with CR LF, and must end with LF alone\n' if is_hinted else ''
 
 
-@pytest.mark.parametrize(('text', 'answer'), rows('certificates'))
-def test_certificate(program, text, answer, tmp_path):
-    answered(ended([program.path, 'check', *pair(tmp_path, text)]), answer, hint_of(program, text))
+ASKED = [pytest.param(kind, *row.values, marks=row.marks, id=row.id) for kind in CALLS for row in rows(kind)]
 
 
-@pytest.mark.parametrize(('text', 'answer'), rows('lemmas'))
-def test_certificate_with_lemmas(program, text, answer, tmp_path):
-    answered(ended([program.path, 'check', *pair(tmp_path, text)]), answer, hint_of(program, text))
+@pytest.mark.parametrize(('kind', 'text', 'answer'), ASKED)
+def test_case(program, kind, text, answer, tmp_path):
+    words, given = CALLS[kind](tmp_path, text)
+    hint = hint_of(program, text) if CALLS[kind] is check_of else ''
+    answered(ended([program.path, *words], given), told(kind, answer), hint)
 
 
 @pytest.mark.parametrize(('text', 'answer'), rows('proved'))
 def test_proved(program, text, answer, tmp_path):
     """What is proved of a picture, with bounds and without; where it is a certificate, that is checked with the same givens."""
     cells, _, named = text.partition(' ')
-    (tmp_path / 'picture').write_text(picture_of(cells))
-    (tmp_path / 'givens').write_text(''.join(f'given {cell.replace(",", " ")}\n' for cell in named.split()))
-    givens = ['--givens', tmp_path / 'givens'] if named else []
+    picture, file = put(tmp_path, picture=picture_of(cells), givens=lines_of(named.split()))
+    givens = ['--givens', file] if named else []
     for words in ([], ['--complete']):
+        run = ended([program.path, 'prove', *words, *givens, picture])
         if program.in_node and (words or givens):  # the program in JavaScript refuses both
-            run = ended([program.path, 'prove', *words, *givens, tmp_path / 'picture'])
             assert (run.status, run.wrote) == (2, b''), run.said
-            continue
-        run = ended([program.path, 'prove', *words, *givens, tmp_path / 'picture'])
-        if answer == 'certificate':
+        elif answer == 'certificate':
             assert (run.status, run.said) == (0, b'')
-            (tmp_path / 'cert').write_bytes(run.wrote)
             count = f', givens {len(named.split())}' if named else ''
-            answered(ended([program.path, 'check', *givens, tmp_path / 'picture', tmp_path / 'cert']), f'certificate accepted{count}')
+            answered(ended([program.path, 'check', *givens, picture, *put(tmp_path, cert=run.wrote)]), f'certificate accepted{count}')
         else:
             assert run == Ended(1, f'{answer}\n'.encode(), b'')

@@ -3,6 +3,7 @@
 import re
 
 import pytest
+from test_cases import put
 from tried import EXAMPLES, Ended, ended
 
 PIXEL = 'P3\n1 1\n255\n0 0 0\n'
@@ -17,13 +18,6 @@ NO_PICTURE = b'nonobench: ppm NotP3 at byte 0\n'
 NO_BACKGROUND = b'nonobench: background must be R,G,B\n'
 UNREAD = b'nonobench: read failed\n'
 TOO_LONG = b'nonobench: input too long\n'
-
-
-def put(folder, **texts):
-    """Writes files, and gives their paths."""
-    for name, text in texts.items():
-        (folder / name).write_bytes(text if isinstance(text, bytes) else text.encode())
-    return [folder / name for name in texts]
 
 
 def test_certificates_of_the_examples(program):
