@@ -155,6 +155,14 @@ def needs_file(place, made_by):
     return place
 
 
+def named(made, pattern):
+    """The package of that name, unless it was left out with a compiler."""
+    found = list(made.glob(pattern))
+    if not found:
+        pytest.skip(f'there is no {pattern}, which a compiler for another system makes')
+    return found[0]
+
+
 class Program:
     """A program with how it is run: one in JavaScript has other texts for refused arguments, and opens the null device in place of
     a closed stream."""
@@ -252,3 +260,14 @@ def node_tests(request, file, env):
     assert re.search(r'(?m)^# pass [1-9]|^# skipped [1-9]', said), 'it has no tests'
     for why in re.findall(r'(?m)^ *ok .* # SKIP (.+)$', said):
         request.node.user_properties.append(('left out', why))
+
+
+def dumped(url, home, run_by):
+    """What stands in a page of headless Chromium in the end; `clean` runs it without a network, and `ended` with one."""
+    found = next((shutil.which(name) for name in ('chromium', 'chromium-browser', 'google-chrome') if shutil.which(name)), None)
+    if not found:
+        pytest.skip('there is no Chromium')
+    words = ['--headless', '--no-sandbox', '--disable-gpu', '--virtual-time-budget=10000', f'--user-data-dir={home}', '--dump-dom']
+    run = run_by(['timeout', '600', found, *words, url])
+    assert run.status == 0, run
+    return run.wrote.decode()

@@ -54,17 +54,10 @@ def run_blocks(blocks, folder, env, without=None):
         if tool and not has(tool):
             missing.append(tool)
             continue
-        run = subprocess.run(
-            ['bash', '-e', '-c', commands],
-            cwd=folder,
-            env=env,
-            stdin=subprocess.DEVNULL,
-            stdout=subprocess.PIPE,
-            stderr=subprocess.STDOUT,
-            text=True,
-        )
-        assert run.returncode == 0, f'{commands}\nended with {run.returncode}:\n{run.stdout[-3000:]}'
-        printed = re.sub(without, '', run.stdout) if without else run.stdout
+        run = ended(['bash', '-e', '-c', commands], cwd=folder, env=env, stdin=subprocess.DEVNULL, stderr=subprocess.STDOUT)
+        printed = run.wrote.decode()
+        assert run.status == 0, f'{commands}\nended with {run.status}:\n{printed[-3000:]}'
+        printed = re.sub(without, '', printed) if without else printed
         if wanted is not None and printed != wanted:
             pytest.fail(
                 commands + ''.join(difflib.unified_diff(wanted.splitlines(True), printed.splitlines(True), 'the page', 'printed')),

@@ -8,7 +8,7 @@ import subprocess
 import time
 
 import pytest
-from tried import ROOT
+from tried import ROOT, ended
 
 TOOLCHAIN = '''#!/bin/sh
 [ "$1" = doc ] && {{ echo "{kit}/START-HERE.md"; exit; }}
@@ -55,8 +55,8 @@ class Checkout:
         self.status.write_text(str(status))
         plain = {name: value for name, value in os.environ.items() if name not in ('LEFT', 'JOBS')}
         env = {**plain, 'PATH': f'{self.folder}/bin:{os.environ["PATH"]}', **env}
-        run = subprocess.run([self.top / 'web' / 'library'], env=env, stdout=subprocess.PIPE, stderr=subprocess.STDOUT, text=True)
-        return run.stdout, run.returncode, archive.read_text()
+        run = ended([self.top / 'web' / 'library'], env=env, stderr=subprocess.STDOUT)
+        return run.wrote.decode(), run.status, archive.read_text()
 
 
 @pytest.fixture

@@ -12,7 +12,7 @@ import subprocess
 import sys
 
 import pytest
-from tried import EXAMPLES, ROOT, VERSION, clean, ended, engine_now, needs, node_tests, passes, version_of
+from tried import EXAMPLES, ROOT, VERSION, clean, dumped, ended, engine_now, named, needs, node_tests, passes, version_of
 
 pytestmark = pytest.mark.all
 TRIALS = ROOT / 'packages' / 'trials'
@@ -49,8 +49,7 @@ def prints(status, wanted, words, **more):
     assert (run.status, (run.wrote + run.said).decode().strip()) == (status, wanted), words
 
 
-# What the example for C prints of the pairs that are right, by hand as in tests/cases/fit.txt.
-FIT = 'unique\nsize 2 2\ncolours 3\ngivens 0\nopen 0\ngrade easy 1 4 3 0 0\nfit'
+# The same of a picture whose cells are all given, by hand as in tests/cases/fit.txt.
 ALL_GIVEN = 'unique\nsize 2 2\ncolours 2\ngivens 4\nopen 0\ngrade easy 0 0 0 0 0\nfit'
 
 
@@ -75,6 +74,14 @@ def try_call(words, pairs, good='certificate accepted', all_given='certificate a
 def blocks_of(page):
     """The blocks of code of a page, which a package's copy has too; links may differ."""
     return re.findall(r'(?ms)^ *```.*?^ *```$', page.read_text())
+
+
+def try_scripts(place):
+    """Tries what checks a site on the examples that were installed, and compares the recipes with those of this tree."""
+    shown = place / 'share' / 'doc' / 'nonobench'
+    run = clean([place / 'bin' / 'nonobench-check-site', shown / 'examples'])
+    assert run.status == 0, run
+    assert blocks_of(shown / 'docs' / 'RECIPES.md') == blocks_of(ROOT / 'docs' / 'RECIPES.md')
 
 
 def test_no_toolchain_in_clean_folders():
@@ -229,20 +236,7 @@ def test_page_has_the_module_of_the_package(made, npm, tmp_path):
 
 def test_page_begins_in_a_browser(made, tmp_path):
     """The text alone stands in the page's script too: the button is there once the script has run."""
-    found = next((shutil.which(name) for name in ('chromium', 'chromium-browser', 'google-chrome') if shutil.which(name)), None)
-    if not found:
-        pytest.skip('there is no Chromium')
-    words = [
-        '--headless',
-        '--no-sandbox',
-        '--disable-gpu',
-        '--virtual-time-budget=10000',
-        f'--user-data-dir={tmp_path}',
-        '--dump-dom',
-    ]
-    run = clean(['timeout', '600', found, *words, f'file://{made}/nonobench.html'])
-    assert run.status == 0
-    assert 'id="new-go">Start painting<' in run.wrote.decode()
+    assert 'id="new-go">Start painting<' in dumped(f'file://{made}/nonobench.html', tmp_path, clean)
 
 
 # ---- Linux
@@ -265,7 +259,7 @@ def test_library_for_c(installed, pairs, version, tmp_path):
     ):
         built = clean(['cc', '-std=c11', example, *flags, '-o', tmp_path / name])
         assert built.status == 0, built
-        try_call([tmp_path / name], pairs, FIT, ALL_GIVEN)
+        try_call([tmp_path / name], pairs, DIAGONAL, ALL_GIVEN)
 
 
 def test_archive_removed(made, tmp_path):
@@ -320,16 +314,14 @@ def test_deb(made, pairs, version, tmp_path):
 def test_deb_scripts(made, tmp_path):
     needs('dpkg-deb')
     passes(['dpkg-deb', '-x', next(made.glob('*_amd64.deb')), tmp_path])
-    shown = tmp_path / 'usr/share/doc/nonobench'
-    run = clean([tmp_path / 'usr/bin/nonobench-check-site', shown / 'examples'])
-    assert run.status == 0, run
-    assert blocks_of(shown / 'docs' / 'RECIPES.md') == blocks_of(ROOT / 'docs' / 'RECIPES.md')
+    try_scripts(tmp_path / 'usr')
 
 
-def test_deb_by_lintian(made):
+@pytest.mark.parametrize('machine', ['amd64', 'arm64'])
+def test_deb_by_lintian(made, machine):
     """What the missing licence makes is all that lintian may call an error."""
     needs('lintian')
-    said = passes(['lintian', '--no-cfg', '--fail-on', 'none', next(made.glob('*_amd64.deb'))])
+    said = passes(['lintian', '--no-cfg', '--fail-on', 'none', named(made, f'*_{machine}.deb')])
     assert [line for line in said.splitlines() if line.startswith('E:') and 'copyright' not in line] == []
 
 
@@ -356,10 +348,7 @@ def test_wheel(made, environment, pairs, tmp_path):
 
 
 def test_wheel_scripts(environment):
-    shown = environment / 'share' / 'doc' / 'nonobench'
-    run = clean([environment / 'bin' / 'nonobench-check-site', shown / 'examples'])
-    assert run.status == 0, run
-    assert blocks_of(shown / 'docs' / 'RECIPES.md') == blocks_of(ROOT / 'docs' / 'RECIPES.md')
+    try_scripts(environment)
 
 
 def test_wheel_types(made, tmp_path):

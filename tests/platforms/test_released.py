@@ -7,20 +7,12 @@ import sys
 
 import pytest
 from systems import ON_LINUX, ON_WINDOWS, linked
-from tried import EXAMPLES, ROOT, Ended, clean, ended, needs, passes
+from tried import EXAMPLES, ROOT, Ended, clean, ended, named, needs, passes
 
 pytestmark = [pytest.mark.all, pytest.mark.toolchain, pytest.mark.compiler, pytest.mark.emulator]
 YES = Ended(0, b'certificate accepted\n', b'')
 # What the example for C prints of diagonal.ppm, by hand as in tests/cases/fit.txt.
 FIT = Ended(0, b'unique\nsize 2 2\ncolours 3\ngivens 0\nopen 0\ngrade easy 1 4 3 0 0\nfit\n', b'')
-
-
-def named(made, pattern):
-    """The package of that name, unless it was left out with a compiler."""
-    found = list(made.glob(pattern))
-    if not found:
-        pytest.skip(f'there is no {pattern}, which a compiler for another system makes')
-    return found[0]
 
 
 def are_those(folder, files, tested):
@@ -55,13 +47,6 @@ def test_deb(system, made, tmp_path):
         'Architecture: arm64',
         'Depends: libc6 (>= 2.17), python3 (>= 3.9)',
     ]
-
-
-def test_deb_by_lintian(made):
-    """What the missing licence makes is all that lintian may call an error."""
-    needs('lintian')
-    said = passes(['lintian', '--no-cfg', '--fail-on', 'none', named(made, 'nonobench_*_arm64.deb')])
-    assert [line for line in said.splitlines() if line.startswith('E:') and 'copyright' not in line] == []
 
 
 @ON_LINUX

@@ -15,11 +15,9 @@ sys.dont_write_bytecode = True
 ROOT = Path(__file__).resolve().parent.parent.parent
 sys.path.insert(0, str(ROOT / 'tests/references'))
 from plain_forms import answer as plain_answer  # noqa: E402
-from small_pictures import Listing  # noqa: E402
+from small_pictures import PATIENCE, TRIPLES, Listing  # noqa: E402
 
 SIZES = ((1, 1, 2), (1, 5, 3), (5, 1, 3), (2, 2, 3), (2, 3, 3), (3, 3, 2), (3, 4, 2))  # height, width, colours
-TRIPLES = ('255 255 255', '0 0 0', '255 0 0')
-PATIENCE = 1800  # seconds after which a run counts as one that does not end
 HEAD = 'nonolemma 2'
 
 

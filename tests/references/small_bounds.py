@@ -19,10 +19,9 @@ ROOT = Path(__file__).resolve().parent.parent.parent
 sys.path.insert(0, str(ROOT / 'tests/references'))
 from reference.certificates import check_cert, read_cert  # noqa: E402
 from reference.faults import Fault  # noqa: E402
-from reference.lines import clues_of  # noqa: E402
 from reference.sessions import Disagreement, agree  # noqa: E402
+from small_pictures import PATIENCE, Listing  # noqa: E402
 
-PATIENCE = 1800  # seconds after which a run counts as one that does not end
 SAMPLES = ((3, 3, 2, 1), (2, 4, 2, 1), (3, 3, 3, 41))  # height, width, colours, and each so manieth picture is tried
 # Splits of the fixed order, and when it is begun anew, splits in a window, conflicts of a search with lemmas, evaluations of a tree at
 # first. Those of the program; windows first; lemmas first; trees alone, with a bound that each keeps; one that grows; one that cannot
@@ -33,25 +32,9 @@ BOUNDS = (PROGRAMS, WINDOWS, LEMMAS, TREES, GROWING, LAST, (1, 5, 1, 1, 7))
 TOLD = re.compile(r'(unique|ambiguous), (\d+) searched, (\d+) splits, (\d+) evaluations(?:: (\S+))?')
 
 
-class Listing:
-    """All pictures of a size, by their clues."""
-
-    def __init__(self, height, width, colours):
-        self.pictures = [tuple(cells[row * width:(row + 1) * width] for row in range(height))
-                         for cells in itertools.product(range(colours), repeat=height * width)]
-        self.by_clues = {}
-        for rows in self.pictures:
-            self.by_clues.setdefault(self.key(rows), []).append(rows)
-
-    @staticmethod
-    def key(rows):
-        """The clues of a picture as a key."""
-        return tuple(clues_of([list(row) for row in rows]).items())
-
-    def others(self, rows, givens):
-        """The other pictures with the clues, and with the colours in the givens."""
-        return [other for other in self.by_clues[self.key(rows)]
-                if other != rows and all(other[row][col] == rows[row][col] for row, col in givens)]
+def frozen(rows):
+    """A picture as a key."""
+    return tuple(map(tuple, rows))
 
 
 def text_of(rows, givens):
@@ -73,7 +56,7 @@ def cases():
         cells = list(itertools.product(range(height), range(width)))
         for rows in listing.pictures[::step]:
             for givens in ([], [cell for cell in cells if chance.random() < 0.2]):
-                yield rows, givens, listing.others(rows, givens)
+                yield frozen(rows), givens, [frozen(other) for other in listing.others(rows, givens)]
 
 
 @functools.lru_cache(maxsize=None)

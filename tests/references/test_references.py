@@ -4,7 +4,7 @@ import sys
 from pathlib import Path
 
 import pytest
-from tried import BUILT, ROOT, needs_file, passes
+from tried import BUILT, needs_file, passes
 
 HERE = Path(__file__).parent
 pytestmark = pytest.mark.all
@@ -26,15 +26,10 @@ def test_small_bounds(kept):
 
 @pytest.mark.toolchain
 @pytest.mark.parametrize('kind', BUILT)
-def test_certificates_with_lemmas(kept, kind):
-    compares('lemma_pictures.py', needs_file(kept.program(f'lemma_tables{kind}'), 'rt ci'))
-
-
-@pytest.mark.toolchain
-@pytest.mark.parametrize('kind', BUILT)
-def test_plain_forms(kept, kind):
-    """Certificates of all forms, with and without published givens, against a checker that was written from the documents alone."""
-    compares('plain_forms.py', needs_file(kept.program(f'cert_tables{kind}'), 'rt ci'))
+@pytest.mark.parametrize(('script', 'tables'), [('lemma_pictures.py', 'lemma_tables'), ('plain_forms.py', 'cert_tables')])
+def test_certificates(kept, script, tables, kind):
+    """With lemmas; and of all forms, with and without published givens, against a checker that was written from the documents alone."""
+    compares(script, needs_file(kept.program(f'{tables}{kind}'), 'rt ci'))
 
 
 @pytest.mark.parametrize('part', ('givens', 'lot', 'documents'))
