@@ -80,3 +80,18 @@ static char *answer_of(char *line) {
     *answer = 0;
     return answer + 4;
 }
+
+/* Runs the lines of a file of cases. */
+static void run_cases(const char *folder, const char *name, void (*run_case)(char *line, const char *name)) {
+    char path[MOST], line[MOST];
+    int before = passed;
+    snprintf(path, sizeof path, "%s/%s.case", folder, name);
+    FILE *file = fopen(path, "r");
+    expect(file != NULL, "a file of cases opens", path);
+    while (file && fgets(line, sizeof line, file)) {
+        line[strcspn(line, "\n")] = 0;
+        if (line[0] && line[0] != '#') run_case(line, name);
+    }
+    if (file) fclose(file);
+    expect(passed > before + 20, "there are cases", path);
+}

@@ -32,11 +32,11 @@ static void givens_of(const char *word, char *out) {
 }
 
 /* `PICTURE TEXT => ANSWER`, or `PICTURE PUBLISHED TEXT => GIVENS ANSWER` */
-static void run_case(char *line, bool published) {
+static void run_case(char *line, const char *name) {
     char *answer = answer_of(line), *lines = strchr(line, ' '), *word = "any";
     char picture[MOST], certificate[MOST], givens[MOST], said[NONOCHECK_ROOM + 1] = "";
     *lines++ = 0;
-    if (published) {
+    if (strcmp(name, "published") == 0) {
         word = lines;
         lines = strchr(lines, ' ');
         *lines++ = 0;
@@ -47,20 +47,6 @@ static void run_case(char *line, bool published) {
     size_t size = unescape(lines, strlen(lines), certificate);
     uint32_t status = check(picture, certificate, size, strcmp(word, "any") == 0 ? NULL : givens, said);
     expect(is_answer(answer, status, said), lines, said);
-}
-
-static void run_cases(const char *folder, const char *name) {
-    char path[MOST], line[MOST];
-    int before = passed;
-    snprintf(path, sizeof path, "%s/%s.case", folder, name);
-    FILE *file = fopen(path, "r");
-    expect(file != NULL, "a file of cases opens", path);
-    while (file && fgets(line, sizeof line, file)) {
-        line[strcspn(line, "\n")] = 0;
-        if (line[0] && line[0] != '#') run_case(line, strcmp(name, "published") == 0);
-    }
-    if (file) fclose(file);
-    expect(passed > before + 20, "there are cases", path);
 }
 
 /* By its background the first colour of this picture has a clue or none: where the left cell is background, nothing tells the two
@@ -112,9 +98,9 @@ static void test_room(void) {
 
 int main(int count, char **words) {
     if (count < 2) return 2;
-    run_cases(words[1], "certificates");
-    run_cases(words[1], "lemmas");
-    run_cases(words[1], "published");
+    run_cases(words[1], "certificates", run_case);
+    run_cases(words[1], "lemmas", run_case);
+    run_cases(words[1], "published", run_case);
     test_background();
     test_flaws();
     test_room();

@@ -90,20 +90,6 @@ static void run_case(char *line, const char *name) {
     }
 }
 
-static void run_cases(const char *folder, const char *name) {
-    char path[MOST], line[MOST];
-    int before = passed;
-    snprintf(path, sizeof path, "%s/%s.case", folder, name);
-    FILE *file = fopen(path, "r");
-    expect(file != NULL, "a file of cases opens", path);
-    while (file && fgets(line, sizeof line, file)) {
-        line[strcspn(line, "\n")] = 0;
-        if (line[0] && line[0] != '#') run_case(line, name);
-    }
-    if (file) fclose(file);
-    expect(passed > before + 20, "there are cases", path);
-}
-
 static void test_answers(void) {
     char said[MOST];
     nonobench_text text = {said, sizeof said, 0};
@@ -480,10 +466,10 @@ static void test_growth(int times) {
 int main(int count, char **words) {
     int times = count > 2 ? atoi(words[2]) : 10000;
     if (count < 2) return 2;
-    run_cases(words[1], "pictures");
-    run_cases(words[1], "certificates");
-    run_cases(words[1], "lemmas");
-    run_cases(words[1], "published");
+    run_cases(words[1], "pictures", run_case);
+    run_cases(words[1], "certificates", run_case);
+    run_cases(words[1], "lemmas", run_case);
+    run_cases(words[1], "published", run_case);
     test_answers();
     test_undecided();
     test_places();
