@@ -164,6 +164,12 @@ def kept(pytestconfig):
     return pytestconfig.stash[KEPT]
 
 
+@pytest.fixture
+def nonobench(kept):
+    """The program of this machine."""
+    return kept.program('nonobench')
+
+
 @pytest.fixture(scope='session')
 def shared(tmp_path_factory):
     """A folder that all processes of a run share."""

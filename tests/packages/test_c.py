@@ -7,6 +7,8 @@ import pytest
 from tried import CASES, EXAMPLES, ROOT, ended, needs, needs_file, passes
 
 COMPILE = ('cc', '-std=c11', '-Wall', '-Wextra', '-Werror', '-O1', '-g', f'-I{ROOT}/c')
+# The version of the release that is tried, where the header's is later.
+TRIED = [f'-DTRIED="{os.environ["TRIED"]}"'] if 'TRIED' in os.environ else []
 CROSS = 'P3\n2 2\n1\n0 0 0 1 1 1\n1 1 1 0 0 0\n'
 # Certificates with lemmas (tests/cases/published.case).
 DIAGONAL_LEMMAS = 'nonolemma 1\npart 1 1 a\nline r 1\ndead c 2\nline r 1\nline c 1\nline r 2\ndone\n'
@@ -37,8 +39,7 @@ def archive(library):
 def test_program(archive, tmp_path_factory):
     needs('cc')
     program = tmp_path_factory.mktemp('c') / 'test'
-    tried = [f'-DTRIED="{os.environ["TRIED"]}"'] if 'TRIED' in os.environ else []
-    passes([*COMPILE, *tried, ROOT / 'c' / 'test.c', archive, '-lpthread', '-o', program])
+    passes([*COMPILE, *TRIED, ROOT / 'c' / 'test.c', archive, '-lpthread', '-o', program])
     return program
 
 
@@ -52,9 +53,8 @@ def test_c(test_program):
 def test_checker(library, kind, tmp_path):
     needs('cc')
     checker = needs_file(library.with_name(f'libnonocheck.{kind}'), 'c/build')
-    tried = [f'-DTRIED="{os.environ["TRIED"]}"'] if 'TRIED' in os.environ else []
     words = [ROOT / 'c' / 'check_test.c', checker, f'-Wl,-rpath,{checker.parent}', '-o', tmp_path / 'check_test']
-    passes([*COMPILE, *tried, *words])
+    passes([*COMPILE, *TRIED, *words])
     passes([tmp_path / 'check_test', CASES])
 
 

@@ -4,7 +4,6 @@ import pytest
 from test_cases import picture_of, printed, rows
 from tried import Ended, ended
 
-
 RING = 'unique\nsize 3 3\ncolours 2\ngivens 0\nopen 0\ngrade easy 1 3 1 0 0\nfit\n'
 CROSS = 'ambiguous\n.a\na.\nsize 2 2\ncolours 2\ngivens 0\nopen 4\nunfit\n'
 # One corner of the cross is given: row 1, row 2 in vain, column 1, column 2.
@@ -12,11 +11,6 @@ HELD = 'unique\nsize 2 2\ncolours 2\ngivens 1\nopen 0\ngrade easy 1 4 2 0 0\n'
 # Both are: row 1 and row 2, and no column has an open cell.
 TWICE = 'unique\nsize 2 2\ncolours 2\ngivens 2\nopen 0\ngrade easy 1 2 1 0 0\n'
 CERT = 'nonocert 2\ngiven 1 1\nline r 1\nline c 1\nline r 2\ndone\n'
-
-
-@pytest.fixture
-def nonobench(kept):
-    return kept.program('nonobench')
 
 
 @pytest.fixture

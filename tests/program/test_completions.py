@@ -23,11 +23,6 @@ FILES = {'duck.ppm', 'duck.cert'}
 
 
 @pytest.fixture
-def nonobench(kept):
-    return kept.program('nonobench')
-
-
-@pytest.fixture
 def bash(tmp_path):
     """What bash offers for the last of some words."""
     for name in FILES:

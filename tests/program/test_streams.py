@@ -21,8 +21,18 @@ def native(program):
         pytest.skip('node opens the null device in place of a closed stream')
 
 
-def test_no_room_for_the_output(program):
-    assert in_shell(program, '>/dev/full', text=PIXEL) == Ended(3, b'', NO_WRITE)
+# What is written where there is no room: the words that ask for it, and the input.
+ROOMLESS = [
+    ([], PIXEL),
+    (['check', EXAMPLES / 'diagonal.ppm', EXAMPLES / 'diagonal.cert'], b''),
+    (['work', EXAMPLES / 'diagonal.ppm'], b'clues\n'),
+    *((words.split(), b'') for words in ('--help', '--version', 'work --help', 'check --help')),
+]
+
+
+@pytest.mark.parametrize(('words', 'text'), ROOMLESS)
+def test_no_room(program, words, text):
+    assert in_shell(program, '>/dev/full', words, text) == Ended(3, b'', NO_WRITE)
 
 
 def test_no_output(program):
@@ -74,11 +84,6 @@ def test_the_longest_input_and_one_byte_more(program):
     assert ended([program.path], longest + b' ') == Ended(1, b'', b'nonobench: input too long\n')
 
 
-def test_no_room_for_the_yes(program):
-    words = ['check', EXAMPLES / 'diagonal.ppm', EXAMPLES / 'diagonal.cert']
-    assert in_shell(program, '>/dev/full', words) == Ended(3, b'', NO_WRITE)
-
-
 def test_a_session_that_reads_a_folder(program, tmp_path):
     (tmp_path / 'file').write_bytes(PIXEL)
     assert in_shell(program, '<.', ['work', 'file'], cwd=tmp_path) == Ended(3, b'', NO_READ)
@@ -90,13 +95,3 @@ def test_more_bytes_than_a_session_may_make_reads(program, tmp_path):
     (tmp_path / 'lines').write_bytes(b'\n' * 1048577 + b'undo\n')
     with open(tmp_path / 'lines', 'rb') as lines:
         assert ended([program.path, 'work', tmp_path / 'file'], stdin=lines) == Ended(0, b'refused: UndoEmpty\n', b'')
-
-
-def test_no_room_for_an_answer(program, tmp_path):
-    (tmp_path / 'file').write_bytes(PIXEL)
-    assert in_shell(program, '>/dev/full', ['work', tmp_path / 'file'], b'clues\n') == Ended(3, b'', NO_WRITE)
-
-
-@pytest.mark.parametrize('words', ['--help', '--version', 'work --help', 'check --help'])
-def test_no_room_for_help(program, words):
-    assert in_shell(program, '>/dev/full', words.split()) == Ended(3, b'', NO_WRITE)

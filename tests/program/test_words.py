@@ -33,8 +33,10 @@ def test_clues_of_the_heart(program):
     )
 
 
-# The command, the picture, the certificate, further words, and how it ends.
+# The command, the picture, the certificate (or None), further words, and how it ends.
 CHECKS = {
+    'no picture to prove': ('prove', 'P6', None, [], Ended(1, b'', NO_PICTURE)),
+    'a background of a proof that is none': ('prove', PIXEL, None, ['--background', '1,2'], Ended(2, b'', NO_BACKGROUND)),
     'no picture by the old name': ('verify', 'P6', '', [], Ended(1, b'', NO_PICTURE)),
     'no background by the old name': ('verify', PIXEL, '', ['--background', '1,2'], Ended(2, b'', NO_BACKGROUND)),
     'no picture and no certificate': ('check', 'P6', '', [], Ended(1, b'', NO_PICTURE)),
@@ -64,7 +66,8 @@ CHECKS = {
 @pytest.mark.parametrize('name', CHECKS)
 def test_check(program, name, tmp_path):
     command, picture, cert, words, wanted = CHECKS[name]
-    assert ended([program.path, command, *put(tmp_path, picture=picture, cert=cert), *words]) == wanted
+    files = put(tmp_path, picture=picture, cert=cert or '')
+    assert ended([program.path, command, *files[:1 if cert is None else 2], *words]) == wanted
 
 
 # Each form by both names: the texts are of a black cell alone, which is the background.
@@ -81,20 +84,6 @@ def test_each_form(program, command, cert, tmp_path):
 def test_background_between_the_files(program, tmp_path):
     picture, cert = put(tmp_path, picture=PIXEL, cert='nonocert 1\nline r 1\ndone\n')
     assert ended([program.path, 'check', picture, '--background', '0,0,0', cert]) == Ended(0, YES, b'')
-
-
-# What is proved: the picture, further words, and how it ends.
-PROOFS = {
-    'no picture': ('P6', [], Ended(1, b'', NO_PICTURE)),
-    'a background that is none': (PIXEL, ['--background', '1,2'], Ended(2, b'', NO_BACKGROUND)),
-}
-
-
-@pytest.mark.parametrize('name', PROOFS)
-def test_prove(program, name, tmp_path):
-    text, words, wanted = PROOFS[name]
-    [picture] = put(tmp_path, picture=text)
-    assert ended([program.path, 'prove', picture, *words]) == wanted
 
 
 # Formats of a certificate that is made, and its first line.

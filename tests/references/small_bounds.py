@@ -142,6 +142,4 @@ def main(programs):
 
 
 if __name__ == '__main__':
-    if len(sys.argv) < 2:
-        sys.exit('usage: tests/references/small_bounds.py PROGRAM ..')
     sys.exit(main(sys.argv[1:]))

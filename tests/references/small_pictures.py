@@ -267,6 +267,4 @@ def main(programs):
 
 
 if __name__ == '__main__':
-    if len(sys.argv) < 2:
-        sys.exit('usage: tests/references/small_pictures.py PROGRAM ..')
     sys.exit(main(sys.argv[1:]))
