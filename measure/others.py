@@ -294,28 +294,17 @@ def start(limit):
     return median(limit.run(['true'])[1] for _ in range(51))
 
 
-def certificate(program, limit, picture):
+def certificate(program, limit, words, asked, names):
     """The rows of a certificate: its length and the time to make it, and the time to check it. One that is refused is an error."""
-    printed, took = limit.run([program, 'work', str(picture)], 'certify\n')
-    if printed is None:
-        return [(CERTIFY, 'open', took, None)]
+    (_, picture), (make, check) = words, names
+    printed, took = limit.run([program, *words], asked)
+    if printed in (None, 'undecided\n', 'ambiguous\n'):
+        return [(make, 'ambiguous' if printed == 'ambiguous\n' else 'open', took, None)]
     (limit.folder / 'certificate').write_text(printed)
-    said, checking = limit.run([program, 'check', str(picture), 'certificate'])
+    said, checking = limit.run([program, 'check', picture, 'certificate'])
     if said != 'certificate accepted\n':
         raise SystemExit(f'{picture}: its certificate was not accepted')
-    return [(CERTIFY, 'unique', took, len(printed.encode())), (CHECK, 'accepted', checking, None)]
-
-
-def lemma_proof(program, limit, picture):
-    """The rows of a proof by lemmas: its length and the time to make it, and the time to check it. One that is refused is an error."""
-    printed, took = limit.run([program, 'prove', str(picture)])
-    if printed in (None, 'undecided\n', 'ambiguous\n'):
-        return [(PROVE, 'ambiguous' if printed == 'ambiguous\n' else 'open', took, None)]
-    (limit.folder / 'proof').write_text(printed)
-    said, checking = limit.run([program, 'check', str(picture), 'proof'])
-    if said != 'certificate accepted\n':
-        raise SystemExit(f'{picture}: its certificate with lemmas was not accepted')
-    return [(PROVE, 'unique', took, len(printed.encode())), (VERIFY, 'accepted', checking, None)]
+    return [(make, 'unique', took, len(printed.encode())), (check, 'accepted', checking, None)]
 
 
 def answers(found, program, limit, picture):
@@ -330,9 +319,9 @@ def answers(found, program, limit, picture):
         raise SystemExit(f'{picture}: they disagree: {line}')
     print(f'{picture.name}: {line}', file=sys.stderr, flush=True)
     if rows[0][1] == 'unique':
-        rows += certificate(program, limit, picture)
+        rows += certificate(program, limit, ['work', str(picture)], 'certify\n', (CERTIFY, CHECK))
     if rows[0][1] != 'ambiguous':
-        rows += lemma_proof(program, limit, picture)
+        rows += certificate(program, limit, ['prove', str(picture)], None, (PROVE, VERIFY))
     return task, rows
 
 
