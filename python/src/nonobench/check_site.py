@@ -61,7 +61,7 @@ class Site:
         published = told.givens or (None if told.untrusted else told.folder)
         # The real paths, of which nothing below them may be a link.
         self._folder, *held = (folder and os.path.realpath(folder) for folder in (told.folder, self._certificates, published))
-        self._places = finding.Places(*held, told.untrusted)
+        self._places = finding.Places(*held, told.untrusted, is_site=True)
         finding.begin(told.certificates, told.givens)
         self._shard = told.shard
         self.unsearched: list[Answer] = []

@@ -36,6 +36,7 @@ class Places(NamedTuple):
     givens: Optional[str] = None
     is_untrusted: bool = False
     is_written: bool = False  # whether the run itself writes certificates there
+    is_site: bool = False  # whether an audit may have written all, and folders of puzzles are called like givens and backgrounds
 
 
 class Found(NamedTuple):
@@ -64,7 +65,7 @@ class Folder(NamedTuple):
     taken: Names  # what no certificate or picture is called: folders are, or a puzzle of a file with several may be
     held: dict[str, list[Named]]  # the certificates by names without endings, and by those without numbers and with / behind
     is_held_apart: bool  # whether that is another folder than that of the puzzles
-    told: Optional[Names]  # of files, where givens and backgrounds lie; nothing where they cannot be listed
+    told: Optional[Names]  # the names where givens and backgrounds lie; nothing where they cannot be listed
     told_in: str
     is_apart: bool  # the same of that
     unlisted: tuple[Named, ...]  # a folder that cannot be listed stands for what lies there: it cannot be read either
@@ -276,7 +277,7 @@ def _folder(prefix: str, real: str, front: str, listed: Listed, places: Places) 
         _note(way, of)
     beside = frozenset() if places.is_untrusted else listed
     held = beside if places.certificates is None else _listed(places.certificates, front, ends[0])
-    told = _names(beside if places.givens is None else _listed(places.givens, front, ends[1]), False)
+    told = _names(beside if places.givens is None else _listed(places.givens, front, ends[1]), not places.is_site)
     unlisted = [place or "." for place, one in ((real, listed), (held_in, held)) if one is None]
     files = _names(listed, False) or NONE
     puzzles = [(stem, suffix.lower()) for stem, suffix in (os.path.splitext(name) for name in files) if suffix.lower() in SUFFIXES]
