@@ -1,12 +1,10 @@
 // Colours that a solver may take for one another, as docs/FORMATS.md defines it. The engine says the same of a document; here it is asked of
 // palettes that are no document yet, with each cell that is painted, and of colours as other eyes see them.
 
+import { eightBits } from './colours.js';
 import { LETTERS } from './limits.js';
 
 const NEAR = 2097152;
-
-/** A colour of samples from 0 to maxval as it is shown: from 0 to 255, rounded, a half up. */
-const colourShown = (colour, maxval) => colour.map((sample) => Math.floor((510 * sample + maxval) / (2 * maxval)));
 
 /** Whether two colours of eight bits are too similar. */
 export function coloursTooNear(one, other) {
@@ -16,7 +14,7 @@ export function coloursTooNear(one, other) {
 
 /** The pairs of letters whose colours are too near to be told apart; of colours that no cell has, the background alone counts. */
 export function nearPairs({ colours, maxval, picture }) {
-  const shown = colours.map((colour) => colourShown(colour, maxval));
+  const shown = colours.map((colour) => eightBits(colour, maxval));
   const used = new Set(picture.join(''));
   const counts = [...colours.keys()].filter((at) => at === 0 || used.has(LETTERS[at]));
   const pairs = [];

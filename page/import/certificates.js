@@ -9,28 +9,24 @@ import { phrase } from '../texts/phrase.js';
 import { Progress } from '../view/progress.js';
 import { asSeen } from '../view/tools.js';
 
-const STRANGE = phrase('import.countsCellsPuzzleDoes');
 // What an editor did to a certificate, by a word of what web/nonobench.mjs says of it.
 const HINTS = [['CR LF', phrase('import.linesEndCrLf')], ['UTF-16', phrase('import.isUtf16')], ['mark', phrase('import.hasByteOrderMark')]];
-// What the checker finds, by its name for it, in words.
-const FAULTS = {
-  NotCert: (line) => phrase('import.faultNotCert', { line }), BadLine: (line) => phrase('import.faultBadLine', { line }), Place: (line) => phrase('import.faultPlace', { line }),
-  NotDead: (line) => phrase('import.faultNotDead', { line }), NotDone: (line) => phrase('import.faultNotDone', { line }),
-  Ended: (line) => phrase('import.faultEnded', { line }), Trailing: (line) => phrase('import.faultTrailing', { line }),
-};
+/** What the checker finds, by its name for it, in words. @type {any[]} */
+const FAULTS = ['import.faultNotCert', 'import.faultBadLine', 'import.faultPlace', 'import.faultNotDead', 'import.faultNotDone', 'import.faultEnded', 'import.faultTrailing'];
 
 function inWords(text) {
   const [, name, line] = /^certificate (\w+) at line (\d+)$/.exec(text) ?? [];
-  return FAULTS[name]?.(line) ?? '';
+  const fault = FAULTS.find((one) => one === `import.fault${name}`);
+  return fault ? phrase(fault, { line }) : '';
 }
 
-/** What a check says of a certificate, a text or bytes, and a document: a sentence, and whether it proves the puzzle. */
-export async function checkedCertificate(certificate, doc, engine = startEngine()) {
+// What a check in an engine of its own says of a certificate and a document: a sentence, and whether it proves the puzzle.
+async function checkedCertificate(certificate, doc, engine) {
   try {
     const givens = [...doc.givens].map((place) => [rowOf(doc, place) + 1, columnOf(doc, place) + 1]);
     const { accepted, text, hint } = await engine.check(plainOf(doc).text, certificate, { background: doc.colours[0].join(','), givens });
     if (accepted) return { proves: true, text: phrase('import.provesPictureOnlySolution', { count: doc.givens.size ? phrase('import.givenCells') : '' }) };
-    if (text.includes('UnpublishedGiven')) return { proves: false, text: STRANGE };
+    if (text.includes('UnpublishedGiven')) return { proves: false, text: phrase('import.countsCellsPuzzleDoes') };
     const [, why] = HINTS.find(([word]) => hint.includes(word)) ?? [];
     return { proves: false, text: [phrase('import.doesNotProvePicture', { value: text.trim() }), why ?? inWords(text.trim())].filter(Boolean).join(' ') };
   } finally {

@@ -1,16 +1,18 @@
-// Image files as pixels: the size is read from the head of a file, and the browser reads the rest of it, made smaller where it is large.
+// Image files as pixels: the size is read from the head of a file, and the browser reads the rest of it, made smaller where it is large. It draws
+// SVG drawings as it draws an image of a page, without scripts and without other files.
 
 import { FileFault } from '../document/limits.js';
 import { penOf } from '../draw/small.js';
+import { built } from '../engine/client.js';
 import { phrase } from '../texts/phrase.js';
 import { sizeOfImage } from './images.js';
-import { imageOfSvg } from './svg.js';
 
 export const MOST_IMAGE = 1 << 28; // bytes of a file
 export const HEAD = 1 << 20; // bytes that are read here: the size is in them
 export const IMAGES = new Set(['png', 'jpeg', 'gif', 'webp', 'bmp', 'avif', 'svg', 'heic', 'tiff']);
 const NOT_DRAWN = { heic: 'HEIC', tiff: 'TIFF' }; // which no browser but Apple's draws
 const MOST_SVG = 1 << 24; // bytes
+const LONGEST = 20000; // ms that the browser may take for a drawing
 const MOST_DECODED = 100e6; // pixels of an image file, which the browser unpacks
 const MOST_SIDE = 2048; // pixels a side that a larger one is made smaller to: more than the dialog works on
 
@@ -30,6 +32,23 @@ function decoding(size) {
   if (width * height > MOST_DECODED) throw new FileFault(phrase('import.picturePixelsMostAll', { width, height, most: MOST_DECODED }));
   const scale = MOST_SIDE / Math.max(width, height);
   return scale < 1 ? { resizeWidth: Math.max(1, Math.round(width * scale)), resizeQuality: 'high' } : {};
+}
+
+// The pixels of a drawing, with `most` a side at most. They come from a frame without rights, which does all that is done with it: in
+// browsers such as Chromium that is a process of its own, and ends with the frame.
+async function imageOfSvg(text, most) {
+  const frame = Object.assign(document.createElement('iframe'), { sandbox: 'allow-scripts', srcdoc: `<script>${built().drawing}</script>`, hidden: true });
+  const heard = new AbortController();
+  const image = await new Promise((give) => {
+    setTimeout(give, LONGEST, 'formats.thereTooManyElements');
+    addEventListener('message', ({ source, data }) => source === frame.contentWindow && give(data), heard);
+    frame.onload = () => frame.contentWindow.postMessage({ text, most }, '*');
+    document.body.append(frame);
+  });
+  heard.abort();
+  frame.remove();
+  if (!image?.data) throw new FileFault(phrase(image ?? 'import.browserDoesNotRead'));
+  return image;
 }
 
 /** The pixels of an image file, after the size in its head was looked at: the browser reads the rest of it. */

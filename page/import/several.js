@@ -4,8 +4,7 @@
 import { make, say } from '../base/elements.js';
 import { tell } from '../base/events.js';
 import { valueText } from '../base/words.js';
-import { Judge } from '../engine/judging.js';
-import { Mender } from '../engine/mending.js';
+import { Judge, Mender } from '../engine/judging.js';
 import { keep } from '../library/keep.js';
 import { faultText, openDoc } from '../library/open.js';
 import { recordOfDoc } from '../library/records.js';

@@ -49,15 +49,13 @@ export async function startWalk() {
   Object.assign(walking, { walk: new Walk(state), isKnown: false });
   goTo(0);
   $('walk-at').focus();
-  const show = (walk) => {
+  const show = (found) => {
     if (!isShown()) return;
-    walking.walk = walk;
+    Object.assign(walking, found);
     goTo(walking.at);
   };
-  await pathOf(state, show);
-  if (!isShown()) return;
-  walking.isKnown = true;
-  goTo(walking.at);
+  await pathOf(state, (walk) => show({ walk }));
+  show({ isKnown: true });
 }
 
 // ---- steps

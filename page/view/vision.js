@@ -13,16 +13,12 @@ import { pairText } from './dress.js';
 const KINDS = { protan: phrase('view.withoutRedCones'), deutan: phrase('view.withoutGreenCones'), tritan: phrase('view.withoutBlueCones') };
 const SHOWN_SIDE = 160; // pixels
 
-/** The colours that look alike with one kind of vision, in words. */
-export function clashText(doc, kind) {
-  const pairs = clashesWith(doc, kind).map(([one, other]) => pairText(doc, one, other));
-  return pairs.length ? phrase('view.lookAlike', { pairs: pairs.join('; ') }) : phrase('view.noTwoColoursLook');
-}
-
 function figureOf(doc, kind) {
   const canvas = make('canvas', { role: 'img', 'aria-label': KINDS[kind] });
   drawSmall(canvas, docSeenWith(doc, kind), SHOWN_SIDE);
-  return make('figure', { 'data-kind': kind }, make('figcaption', {}, KINDS[kind]), canvas, make('p', { class: clashesWith(doc, kind).length ? 'wrong' : 'faint' }, clashText(doc, kind)));
+  const pairs = clashesWith(doc, kind).map(([one, other]) => pairText(doc, one, other));
+  const text = pairs.length ? phrase('view.lookAlike', { pairs: pairs.join('; ') }) : phrase('view.noTwoColoursLook');
+  return make('figure', { 'data-kind': kind }, make('figcaption', {}, KINDS[kind]), canvas, make('p', { class: pairs.length ? 'wrong' : 'faint' }, text));
 }
 
 function showVisions() {
