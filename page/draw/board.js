@@ -10,7 +10,6 @@
 
 import { cssOf, hexOf, inkOn } from '../document/colours.js';
 import { LETTERS } from '../document/limits.js';
-import { givenCorners } from './given.js';
 
 const DIGIT = 0.58; // the width of a digit by its size
 
@@ -157,4 +156,10 @@ function drawCut(surface, look, across, { far, middle, unit }) {
 function drawCrossed(surface, look, block, box, drawOne) {
   surface.faded(0.5, () => drawOne(surface, look, block, box));
   surface.line(box.x + 2, box.y + box.height - 2, box.x + box.width - 2, box.y + 2, look.ink, 1);
+}
+
+/** The corners of the mark of a given cell, clockwise from the top: a white diamond with a dark edge, seen on every colour, also in Play and on paper. */
+export function givenCorners(x, y, side) {
+  const [middleX, middleY, half] = [x + side * 0.24, y + side * 0.24, Math.max(1.5, side * 0.17)];
+  return [[middleX, middleY - half], [middleX + half, middleY], [middleX, middleY + half], [middleX - half, middleY]];
 }

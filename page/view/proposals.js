@@ -7,7 +7,7 @@ import { painted } from '../document/cover.js';
 import { LETTERS } from '../document/limits.js';
 import { boxAround } from '../document/regions.js';
 import { cutOut } from '../document/shapes.js';
-import { givenCorners } from '../draw/given.js';
+import { givenCorners } from '../draw/board.js';
 import { drawTwice } from '../draw/marks.js';
 import { smallPicture } from '../draw/small.js';
 import { LINE_WORDS } from '../repair/aiming.js';
