@@ -1,9 +1,10 @@
 // Play: the empty puzzle as a solver gets it. Marks are the player's own and change nothing of the picture.
 
 import { $, buttonOf, make, spanOf, withoutGestures } from '../base/elements.js';
-import { tell } from '../base/events.js';
+import { on, tell } from '../base/events.js';
 import { markRadio } from '../base/radios.js';
 import { clamp } from '../base/words.js';
+import { sameDoc } from '../document/document.js';
 import { LETTERS, MOST_CELLS } from '../document/limits.js';
 import { lineCells } from '../document/shapes.js';
 import { bench } from '../engine/bench.js';
@@ -27,7 +28,8 @@ const goesOn = ({ picture, givens, colours }) => play.past.length > 0 && play.st
 
 /** Shows the puzzle to be solved. Where it stands alone, there is no way to the picture but the one that the player paints. */
 export async function openPlay({ isAlone = false } = {}) {
-  if (selection.rows || bench.queue.length) await asSeen();
+  if ((selection.rows || bench.queue.length) && !(await asSeen())) return;
+  $('play-room')?.remove();
   const { state } = bench;
   const isGoing = goesOn(state);
   const kept = isGoing ? play.marks : keptMarks(state);
@@ -301,4 +303,9 @@ function playKey(event) {
 export function startPlay() {
   addAction({ id: 'play', name: phrase('play.play'), place: 'check', run: openPlay });
   addAction({ id: 'walk', name: phrase('play.walkThrough'), place: 'check', run: () => openPlay().then(startWalk) });
+  on('shown', (state) => { // hints and the path are of the picture that is open: the player of another one is closed
+    if (!$('play-room') || sameDoc(play.state, state)) return;
+    endWalk();
+    $('play-room').close();
+  });
 }

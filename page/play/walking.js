@@ -40,7 +40,7 @@ async function mayShow(state) {
 
 /** Begins the path from the empty puzzle; the player's marks come back at its end. */
 export async function startWalk() {
-  if (!(await mayShow(play.state))) return;
+  if (!(await mayShow(play.state)) || !$('walk-bar')) return;
   walking.marks ??= play.marks;
   $('walk-bar').hidden = false;
   refitPlay(false);

@@ -159,7 +159,8 @@ export async function playing({ trial, page }) {
     await page.run(() => { runAction('play'); });
     await page.until(() => document.querySelector('#play-room')?.open, 2000 * SLACK);
     assert.deepEqual(await page.run(() => play.marks.map((row) => row.join(''))), ['???', '???', '???'], 'another picture begins empty');
-    await page.press('Escape');
+    await page.click('#play-walk');
+    await trial.open(ppmOf(['a.', '.a']), 'behind');
     await page.until(() => !document.querySelector('#play-room'), 2000 * SLACK);
 }
 

@@ -88,11 +88,22 @@ export async function linkInTheSameTab({ browser, url, folder }) {
     await trial.open(ppmOf(DUCK), 'duck');
     const link = await fragment(page, 'edit');
     await trial.open(ppmOf(TWO_WAYS), 'other');
-    await page.run((hash) => { location.hash = hash; }, link.slice(link.indexOf('#')));
+    const play = await fragment(page, 'play');
+    const follow = (to, end) => page.run((hash) => { location.hash = hash; }, to.slice(to.indexOf('#'), end));
+    await follow(link);
     await page.until((rows) => bench.state.picture.join() === rows, 5000 * SLACK, DUCK.join());
-    await page.run((hash) => { location.hash = hash; }, `${link.slice(link.indexOf('#'), -6)}`);
+    await follow(link, -6);
     await page.until(() => /damaged/.test(document.getElementById('said').textContent), 3000 * SLACK);
     assert.deepEqual(await trial.picture(), DUCK);
+    const playsAlone = (rows) => page.until((wanted) => document.querySelectorAll('#play-room[open]').length === 1 && play.state.picture.join() === wanted, 5000 * SLACK, rows.join());
+    await page.run(() => runAction('walk'));
+    await playsAlone(DUCK);
+    await follow(play);
+    await playsAlone(TWO_WAYS);
+    await trial.open(ppmOf(ONE_WAY), 'behind');
+    await playsAlone(ONE_WAY);
+    await page.run(() => document.getElementById('play-hint').click());
+    await page.until(() => /^Row 3: more cells follow/.test(document.getElementById('play-said').textContent), 5000 * SLACK);
     await page.close();
 }
 
