@@ -6,13 +6,12 @@ import { cssOf } from '../document/colours.js';
 import { eightBitDoc } from '../document/document.js';
 import { LETTERS } from '../document/limits.js';
 import { canvasPaper, cellOnPaper, sizeOfPaper } from '../draw/papers.js';
-import { bench } from '../engine/bench.js';
 import { writeGif } from '../formats/gif.js';
 import { exportAs } from '../library/saving.js';
 import { pathOf } from '../play/path.js';
 import { phrase } from '../texts/phrase.js';
 import { asSeen } from '../view/tools.js';
-import { atHand } from './printing.js';
+import { puzzleOf } from './printing.js';
 
 const SIDE = 640; // pixels that the longer side comes near to
 const MOST_FRAMES = 150;
@@ -119,12 +118,10 @@ function animated(puzzle, walk) {
 }
 
 /** Saves the solving path of the picture at hand. */
-export async function exportPath() {
-  await asSeen();
-  const { state } = bench;
+export const exportPath = () => asSeen(async (seen) => {
+  const { state, name } = seen;
   if (state.verdict.word !== 'unique') return say(phrase('export.pathNeedsOne'), 'alarm');
-  const puzzle = atHand();
+  const puzzle = puzzleOf(seen);
   const walk = await pathOf(state);
-  if (!walk || !bench.state) return undefined;
-  return exportAs('gif', new Blob([animated(puzzle, walk)]), '-path');
-}
+  return walk && exportAs(name, 'gif', new Blob([animated(puzzle, walk)]), '-path');
+});

@@ -4,7 +4,7 @@
 import { $, make, say } from '../base/elements.js';
 import { gradeLine, isGradeLine } from '../base/names.js';
 import { bareName, clamp, cleanName } from '../base/words.js';
-import { docOf, eightBitDoc, sameDoc, unlocked } from '../document/document.js';
+import { eightBitDoc, unlocked } from '../document/document.js';
 import { canvasPaper } from '../draw/papers.js';
 import { drawSmall } from '../draw/small.js';
 import { bench } from '../engine/bench.js';
@@ -19,56 +19,43 @@ import { actionButton, actions, addAction } from '../view/actions.js';
 import { openDialog } from '../view/dialogs.js';
 import { nearText, unfitText } from '../view/dress.js';
 import { gradeAtHand } from '../view/grading.js';
-import { asSeen, heard } from '../view/tools.js';
+import { asSeen, heard, whileOpen } from '../view/tools.js';
 import { certificateText, secondsChosen } from '../view/verdict.js';
 import { exportPath } from './animation.js';
-import { WARNINGS, atHand, startPrinting } from './printing.js';
+import { WARNINGS, puzzleOf, startPrinting } from './printing.js';
 import { startSharing } from './sharing.js';
 
 const MOST_SECONDS = 30; // for what the engine says of a puzzle
 const PNG_SIDE = 1600; // pixels that the longer side of a PNG comes near to
 const pngCell = ({ rows, columns }) => clamp(Math.floor(PNG_SIDE / Math.max(rows, columns)), 8, 32);
 
-function exportPng(canvas, suffix, more = '') {
-  canvas.toBlob((blob) => (blob ? exportAs('png', blob, suffix, more) : say(phrase('export.browserMadeNoPng'), 'alarm')), 'image/png');
+function exportPng(name, canvas, suffix, more = '') {
+  canvas.toBlob((blob) => (blob ? exportAs(name, 'png', blob, suffix, more) : say(phrase('export.browserMadeNoPng'), 'alarm')), 'image/png');
 }
 
 // The warning that goes with a puzzle that leaves the page, after a blank; '' where it has one solution.
-const warningText = () => (WARNINGS[bench.state.verdict.word] ? ` ${WARNINGS[bench.state.verdict.word]}` : '');
+const warningText = ({ verdict }) => (WARNINGS[verdict.word] ? ` ${WARNINGS[verdict.word]}` : '');
 
 /** The picture, some pixels a cell, without lines. */
-async function exportPicture(side) {
-  await asSeen();
-  const { state } = bench;
+const exportPicture = (sideOf, suffix) => asSeen(({ state, name }) => {
   const canvas = make('canvas');
-  drawSmall(canvas, state, side * Math.max(state.rows, state.columns));
-  exportPng(canvas, side === 1 ? '-cells' : '-picture');
-}
+  drawSmall(canvas, state, sideOf(state) * Math.max(state.rows, state.columns));
+  exportPng(name, canvas, suffix);
+});
 
-async function exportEmpty() {
-  await asSeen();
-  const near = nearText(bench.state);
+const exportEmpty = () => asSeen((seen) => {
+  const { state, name } = seen;
+  const near = nearText(state);
   if (near) return say(phrase('export.coloursPuzzleCannotTold', { near }), 'alarm');
-  return exportPng(canvasPaper(atHand(), pngCell(bench.state)).pen.canvas, '-puzzle', warningText());
-}
+  return exportPng(name, canvasPaper(puzzleOf(seen), pngCell(state)).pen.canvas, '-puzzle', warningText(state));
+});
 
-async function exportText(form) {
-  await asSeen();
-  await saveDownload(form, { more: warningText(), forOthers: true });
-}
+const exportText = (form) => asSeen((seen) => saveDownload(form, seen, { more: warningText(seen.state), forOthers: true }));
 
-// The document that is open, and its certificate; null where there is none of that document.
-async function certified() {
-  await asSeen();
-  const doc = docOf(bench.state);
+const exportCertificate = () => asSeen(async ({ name }) => {
   const text = await certificateText();
-  return text && bench.state && sameDoc(doc, bench.state) ? { doc: eightBitDoc(doc), text } : null;
-}
-
-async function exportCertificate() {
-  const found = await certified();
-  if (found) exportAs('cert', found.text);
-}
+  if (text) exportAs(name, 'cert', text);
+});
 
 // What the engine says of a document; its text is '' where there is none in the time.
 async function saidByEngine(doc) {
@@ -79,27 +66,27 @@ async function saidByEngine(doc) {
 }
 
 // What a site checks a puzzle by, as nonobench-audit calls it: the picture, its certificate, what lies beside it, and what the engine says of it.
-async function exportForSite() {
-  const found = await certified();
-  if (!found) return;
-  const { doc, text } = found;
+const exportForSite = () => asSeen(async ({ state, name }) => {
+  const doc = eightBitDoc(state);
+  const text = await certificateText();
+  if (!text) return;
   const ground = doc.colours[0].join(',');
   const said = await saidByEngine(doc);
   const parts = { ppm: ppmTextOf(unlocked(doc)), cert: text, txt: said.text, givens: (text.match(/^given .*\n/gm) ?? []).join(''), background: ground === '255,255,255' ? '' : `${ground}\n` };
-  const files = Object.entries(parts).filter(([, part]) => part).map(([ending, part]) => ({ name: `${bench.name}.${ending}`, bytes: new TextEncoder().encode(part) }));
-  exportAs('zip', writeZip(files), '-site', said.text && !said.fit ? phrase('export.savedUnfit', { why: unfitText(doc, said) }) : '');
-}
+  const files = Object.entries(parts).filter(([, part]) => part).map(([ending, part]) => ({ name: `${name}.${ending}`, bytes: new TextEncoder().encode(part) }));
+  exportAs(name, 'zip', writeZip(files), '-site', said.text && !said.fit ? phrase('export.savedUnfit', { why: unfitText(doc, said) }) : '');
+});
 
 const ABOUT_FIELDS = { title: phrase('export.title'), author: phrase('export.author'), copyright: phrase('export.copyright'), description: phrase('export.description'), note: phrase('export.note') };
 const LONG_FIELDS = ['description', 'note'];
 const AUTHOR = 'nonobench-author'; // as it was typed last
 
-// A description with the grade as its last line, in place of an earlier one.
-const withGrade = (text) => [...text.split('\n').filter((line) => line && !isGradeLine(line)), gradeLine(gradeAtHand().word)].join('\n');
+// A description with a grade as its last line, in place of an earlier one.
+const withGrade = (text, { word }) => [...text.split('\n').filter((line) => line && !isGradeLine(line)), gradeLine(word)].join('\n');
 
 /** Asks for the texts about the puzzle, which go into its files and on the printed sheet, and for its name: the title, unless the user chose another one. */
 async function askAbout() {
-  const { term, state: { about } } = bench;
+  const { about } = bench.state;
   const isNew = !Object.keys(ABOUT_FIELDS).some((name) => about[name]);
   const shown = { ...about, author: (isNew ? keptChoice(AUTHOR) : about.author) ?? '' };
   const field = (name) => (LONG_FIELDS.includes(name) ? make('textarea', { rows: 3, maxlength: '5000' }, shown[name] ?? '') : make('input', { type: 'text', value: shown[name] ?? '', maxlength: '500' }));
@@ -109,19 +96,19 @@ async function askAbout() {
   let isOwn = keep.isNamed;
   file.addEventListener('input', () => { isOwn = true; });
   title.addEventListener('input', () => { if (!isOwn) file.value = title.value.trim() ? cleanName(title.value) : bench.name; });
-  const addGrade = () => { description.value = withGrade(description.value); };
+  const grade = gradeAtHand();
+  const addGrade = () => { description.value = withGrade(description.value, grade); };
   const content = make('div', { class: 'rows' }, ...Object.entries(fields).map(([name, input]) => make('label', {}, ABOUT_FIELDS[name], input)), make('label', {}, phrase('export.nameFile'), file));
-  if (gradeAtHand()) content.append(make('button', { type: 'button', id: 'about-grade', onclick: addGrade }, phrase('export.putGradeIntoDescription')));
-  if (!(await openDialog({ title: phrase('export.aboutPuzzle'), content, buttons: [{ name: 'OK', value: true, main: true }] }))) return;
-  if (bench.term !== term) return void say(phrase('export.otherPictureOpened'), 'alarm');
+  if (grade) content.append(make('button', { type: 'button', id: 'about-grade', onclick: addGrade }, phrase('export.putGradeIntoDescription')));
+  if (!(await whileOpen(openDialog({ title: phrase('export.aboutPuzzle'), content, buttons: [{ name: 'OK', value: true, main: true }] })))) return;
   const texts = Object.fromEntries(Object.entries(fields).map(([name, input]) => [name, input.value.trim()]).filter(([, text]) => text));
   if ((texts.author ?? '') !== shown.author) keepChoice(AUTHOR, texts.author ?? '');
   const without = (doc) => Object.fromEntries(Object.entries(doc.about).filter(([name]) => !(name in ABOUT_FIELDS)));
-  await heard(bench.become((doc) => ({ ...doc, about: { ...without(doc), ...texts } })));
   const name = isOwn ? bareName(file.value) : cleanName(file.value);
   if (name !== bench.name) saving.handle = null;
   bench.name = name;
   keep.isNamed = isOwn;
+  await heard(bench.become((doc) => ({ ...doc, about: { ...without(doc), ...texts } })));
   keep.now();
   showFileName();
 }
@@ -136,8 +123,8 @@ export function startExporting() {
   startPrinting();
   startSharing();
   add('export-empty', phrase('export.puzzlePng'), exportEmpty);
-  add('export-picture', phrase('export.picturePng'), () => exportPicture(pngCell(bench.state)));
-  add('export-cells', phrase('export.pngPixelCell'), () => exportPicture(1));
+  add('export-picture', phrase('export.picturePng'), () => exportPicture(pngCell, '-picture'));
+  add('export-cells', phrase('export.pngPixelCell'), () => exportPicture(() => 1, '-cells'));
   add('export-path', phrase('export.pathGif'), exportPath);
   add('certificate', phrase('library.certificate'), exportCertificate);
   add('export-ppm', phrase('export.plainPpm'), () => exportText('ppm'));

@@ -34,8 +34,8 @@ export const WARNINGS = {
   undecided: phrase('export.notKnownYetWhether'),
 };
 
-/** The puzzle at hand with its clues, as the engine told them. */
-export const atHand = () => ({ doc: docOf(bench.state), clues: bench.state.clues, name: bench.name, grade: gradeAtHand()?.word ?? null, verdict: bench.state.verdict.word });
+/** The puzzle that is seen, with its clues, as the engine told them. */
+export const puzzleOf = ({ state, name }) => ({ doc: docOf(state), clues: state.clues, name, grade: gradeAtHand()?.word ?? null, verdict: state.verdict.word });
 
 // How colours are told before one chooses: where they cannot be told apart, by letters.
 const shownFirst = (near) => (near && chosen.show === 'colours' ? 'letters' : chosen.show);
@@ -59,11 +59,11 @@ function fillPrint(sheets) {
   }));
 }
 
-function saveSvg(sheets, isZip) {
-  if (!isZip) return exportAs('svg', sheets[0].svg, '-print');
-  const files = sheets.map(({ svg }, at) => ({ name: `${bench.name} ${String(at + 1).padStart(2, '0')}.svg`, bytes: new TextEncoder().encode(svg) }));
-  download(writeZip(files), `${bench.name}-print.zip`, SAVE_TYPES.zip.type);
-  return say(phrase('export.sheetsSavedPrintZip', { sheets: files.length, name: bench.name }));
+function saveSvg(name, sheets, isZip) {
+  if (!isZip) return exportAs(name, 'svg', sheets[0].svg, '-print');
+  const files = sheets.map(({ svg }, at) => ({ name: `${name} ${String(at + 1).padStart(2, '0')}.svg`, bytes: new TextEncoder().encode(svg) }));
+  download(writeZip(files), `${name}-print.zip`, SAVE_TYPES.zip.type);
+  return say(phrase('export.sheetsSavedPrintZip', { sheets: files.length, name }));
 }
 
 // ---- what is asked
@@ -75,8 +75,9 @@ const byName = (one, other) => one.name.localeCompare(other.name, LANGUAGE, { nu
 
 // The other pictures of the library, to be printed with this one.
 async function otherCards() {
+  const { id } = keep;
   const keeper = await keep.ready();
-  return (await keeper.cards()).filter((card) => card.id !== keep.id).sort(byName);
+  return (await keeper.cards()).filter((card) => card.id !== id).sort(byName);
 }
 
 function libraryPart(cards) {
@@ -87,10 +88,10 @@ function libraryPart(cards) {
   return { part: cards.length ? part : '', chosen: () => cards.filter((_, at) => boxes[at].checked) };
 }
 
-function printFields(near, graded) {
+function printFields(own, near) {
   const tick = (id, checked) => make('input', { type: 'checkbox', id, checked });
   const fields = {
-    title: make('input', { type: 'text', id: 'print-title', value: bench.state.about.title || bench.name, maxlength: '200' }),
+    title: make('input', { type: 'text', id: 'print-title', value: own.doc.about.title || own.name, maxlength: '200' }),
     paper: choice('print-paper', PAPER_NAMES, chosen.paper), wide: tick('print-wide', chosen.isWide),
     margin: make('input', { type: 'number', id: 'print-margin', min: MARGINS[0], max: MARGINS[1], value: chosen.margin }),
     perSheet: choice('print-count', Object.fromEntries(Object.keys(GRIDS).map((count) => [count, count])), chosen.perSheet),
@@ -98,7 +99,7 @@ function printFields(near, graded) {
     answers: tick('print-answers', chosen.answers), grade: tick('print-grade', chosen.hasGrade),
   };
   if (near) fields.show.querySelector('[value="colours"]').disabled = true;
-  const gradeText = graded ? phrase('export.gradeField', { word: gradeName(graded.word) }) : phrase('export.gradeWhereOneKnown');
+  const gradeText = own.grade ? phrase('export.gradeField', { word: gradeName(own.grade) }) : phrase('export.gradeWhereOneKnown');
   const rows = [make('label', {}, phrase('export.sheetTitle'), fields.title), make('div', { class: 'group apart' }, make('label', {}, phrase('export.paper'), fields.paper), make('label', {}, fields.wide, phrase('export.landscape')), make('label', {}, phrase('export.marginMm'), fields.margin)),
     make('div', { class: 'group apart' }, make('label', {}, phrase('export.puzzlesSheet'), fields.perSheet), make('label', {}, phrase('export.coloursShown'), fields.show)), make('label', {}, fields.answers, phrase('export.solutionsEnd')), make('label', {}, fields.grade, gradeText)];
   return { fields, rows };
@@ -144,10 +145,10 @@ async function foreseen(own, cards) {
   return [own, ...records.filter(({ doc }) => doc).map((one) => ({ ...one, clues: runsOf(one.doc) }))].sort(byName);
 }
 
-async function printPuzzle() {
-  await asSeen();
-  const own = atHand();
-  const { fields, rows } = printFields(nearText(bench.state), gradeAtHand());
+const printPuzzle = () => asSeen(async (seen) => {
+  const own = puzzleOf(seen);
+  const near = nearText(own.doc);
+  const { fields, rows } = printFields(own, near);
   const others = libraryPart(await otherCards());
   const notes = make('div', { id: 'print-notes', role: 'status' });
   const svgName = make('span');
@@ -167,7 +168,7 @@ async function printPuzzle() {
   const way = await openDialog({ title: phrase('export.print'), content, wide: true, buttons: [{ name: svgName, value: 'svg' }, { name: opening(phrase('export.print')), value: 'print', main: true }] });
   if (!way) return;
   const options = readFields(fields);
-  Object.assign(chosen, options, options.show === shownFirst(nearText(bench.state)) && { show: chosen.show }); // what was only proposed is not chosen
+  Object.assign(chosen, options, (bench.term !== seen.term || options.show === shownFirst(near)) && { show: chosen.show }); // what was only proposed is not chosen
   const records = [];
   for (const { id, name, grade } of others.chosen()) {
     const record = await keep.keeper.record(id);
@@ -179,10 +180,10 @@ async function printPuzzle() {
   const opened = await withClues(records);
   if (!opened) return;
   const sheets = sheetsFor([titled(), ...opened].sort(byName), options);
-  if (way === 'svg') return saveSvg(sheets, isZip(sheets));
+  if (way === 'svg') return saveSvg(own.name, sheets, isZip(sheets));
   fillPrint(sheets);
   globalThis.print();
-}
+});
 
 /** Adds print to the menu File. */
 export function startPrinting() {
@@ -190,7 +191,7 @@ export function startPrinting() {
   on('opened', () => { chosen.show = USUAL.show; });
   // What is opened by the browser's own print, without the dialog, is a sheet too.
   addEventListener('beforeprint', () => {
-    if (bench.state && !$('print').children.length) fillPrint(sheetsFor([atHand()], { ...chosen, show: shownFirst(nearText(bench.state)) }));
+    if (bench.state && !$('print').children.length) fillPrint(sheetsFor([puzzleOf(bench)], { ...chosen, show: shownFirst(nearText(bench.state)) }));
   });
   addEventListener('afterprint', () => $('print').replaceChildren());
 }

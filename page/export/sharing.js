@@ -2,7 +2,6 @@
 
 import { choiceOf, make, say } from '../base/elements.js';
 import { docOf, unlocked } from '../document/document.js';
-import { bench } from '../engine/bench.js';
 import { fragmentOf } from '../formats/link.js';
 import { keepChoice, keptChoice } from '../texts/language.js';
 import { phrase } from '../texts/phrase.js';
@@ -38,13 +37,13 @@ function linkText(kind, address, fragment) {
 }
 
 // What a link does not tell by itself.
-function notesOn(kind, address, length) {
+function notesOn({ verdict }, kind, address, length) {
   return [
     kind === FRAME ? phrase('export.htmlHolds') : '',
     address ? '' : phrase('export.pageOpenedFromFile'),
     kind === EDIT ? '' : phrase('export.linkHoldsSolutionThough'),
     length > LONG ? phrase('export.linkCharactersSomePrograms', { count: length, long: LONG }) : '',
-    kind === EDIT ? '' : WARNINGS[bench.state.verdict.word] ?? '',
+    kind === EDIT ? '' : WARNINGS[verdict.word] ?? '',
   ].filter(Boolean).join(' ');
 }
 
@@ -60,9 +59,8 @@ async function copied(field, base) {
   return '';
 }
 
-async function share() {
-  await asSeen();
-  const doc = docOf(bench.state);
+const share = () => asSeen(async ({ state }) => {
+  const doc = docOf(state);
   const fragments = { [PLAY]: await fragmentOf(unlocked(doc), PLAY), [EDIT]: await fragmentOf(doc, EDIT) };
   const kind = choiceOf({ id: 'share-kind' }, Object.entries(KINDS));
   const address = make('input', { type: 'url', id: 'share-address', value: keptChoice(ADDRESS) || ownAddress(), placeholder: 'https://example.org/nonobench.html' });
@@ -73,17 +71,17 @@ async function share() {
   const fill = () => {
     fieldName.textContent = kind.value === FRAME ? 'HTML' : phrase('export.linkField');
     field.value = isAddress(base()) ? linkText(kind.value, base(), fragments[kind.value === EDIT ? EDIT : PLAY]) : '';
-    note.textContent = field.value ? notesOn(kind.value, address.value.trim(), field.value.length) : phrase('export.noAddress', { address: address.value.trim() });
+    note.textContent = field.value ? notesOn(state, kind.value, address.value.trim(), field.value.length) : phrase('export.noAddress', { address: address.value.trim() });
   };
   kind.addEventListener('change', fill);
   address.addEventListener('input', () => keepChoice(ADDRESS, address.value.trim()));
   address.addEventListener('input', fill);
-  note.textContent = notesOn(FRAME, '', LONG + 1);
+  note.textContent = notesOn(state, FRAME, '', LONG + 1);
   const content = make('div', { class: 'rows' }, make('label', {}, phrase('export.linkKind'), kind), make('label', {}, phrase('export.addressPage'), address), make('label', {}, fieldName, field), note);
   openDialog({ title: phrase('export.share'), content, buttons: [{ name: phrase('export.copy'), value: true, main: true, test: () => (field.value ? copied(field, base()) : note.textContent) }] });
   note.style.minHeight = `${note.offsetHeight + 1}px`; // room for all that it can say: the button below stays
   fill();
-}
+});
 
 /** Adds sharing to the menu File. */
 export function startSharing() {

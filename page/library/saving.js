@@ -11,7 +11,7 @@ import { leavesOut, webpbnText } from '../formats/webpbn.js';
 import { phrase } from '../texts/phrase.js';
 import { openDialog } from '../view/dialogs.js';
 import { gradeAtHand } from '../view/grading.js';
-import { asSeen } from '../view/tools.js';
+import { asSeen, whileOpen } from '../view/tools.js';
 import { keep } from './keep.js';
 
 export const saving = { handle: null, form: 'xml', asks: true }; // whether it asks before an unsaved picture is left
@@ -44,13 +44,12 @@ async function writeHandle(handle, content) {
 const nonHead = ({ title, author, copyright }) => [['title', title], ['by', author], ['copyright', copyright]]
   .filter(([, text]) => text).map(([word, text]) => `${word} "${text.replaceAll('"', '\'').replace(/\s+/g, ' ')}"\n`).join('');
 
-/** The text of the document in one of the forms that hold it, for others without what is locked; or null, told, where it has none. */
-async function textAs(form, forOthers = false) {
-  const { state } = bench;
+/** The text of what is seen in one of the forms that hold it, for others without what is locked; or null, told, where it has none. */
+async function textAs(form, { state, term }, forOthers = false) {
   const doc = forOthers ? unlocked(docOf(state)) : state;
   if (form === 'ppm') return ppmTextOf(eightBitDoc(doc));
   if (form === 'xml') return webpbnText(doc, state.clues);
-  const [answer] = await bench.ask('write non').catch(() => []);
+  const [answer] = bench.term === term ? await bench.ask('write non').catch(() => []) : [];
   if (answer?.kind === 'text') return nonHead(state.about) + answer.text;
   say(answer?.name === 'TwoColoursOnly' ? phrase('view.notDone', { meaning: phrase('view.nonPuzzleOneColour') }) : phrase('library.nonTextNotMade'), 'alarm');
   return null;
@@ -78,29 +77,28 @@ function checkForm() {
 }
 
 /** Saves where it was saved before, else asks where. */
-export async function save() {
-  await asSeen();
+export const save = () => asSeen(async (seen) => {
   checkForm();
-  if (!saving.handle) return globalThis.showSaveFilePicker ? saveByPicker() : saveDownload(saving.form);
-  const doc = docOf(bench.state);
-  const content = await textAs(saving.form);
+  const { handle, form } = saving;
+  if (!handle) return globalThis.showSaveFilePicker ? saveByPicker(seen) : saveDownload(form, seen);
+  const content = await textAs(form, seen);
   if (content === null) return false;
   try {
-    await writeHandle(saving.handle, content);
+    await writeHandle(handle, content);
   } catch (fault) {
-    say(phrase('library.notWritten', { name: saving.handle.name, message: fault.message }), 'alarm');
+    say(phrase('library.notWritten', { name: handle.name, message: fault.message }), 'alarm');
     return false;
   }
-  saved(doc, saving.handle.name, saving.form);
+  saved(seen, handle.name, form);
   return true;
-}
+});
 
-/** Notes that a file has the document, and tells it; what the file has no place for is told, and is not saved by that. */
-function saved(doc, file, form, { more = '', forOthers = false } = {}) {
-  const lost = leftOut(form, doc);
-  const locked = forOthers && form !== 'non' && isLocked(doc) ? phrase('library.locked') : '';
+/** Notes that a file has what was seen, and tells it; what the file has no place for is told, and is not saved by that. */
+function saved({ state, term }, file, form, { more = '', forOthers = false } = {}) {
+  const lost = leftOut(form, state);
+  const locked = forOthers && form !== 'non' && isLocked(state) ? phrase('library.locked') : '';
   const without = [lost, locked].filter(Boolean).join(', ');
-  if (!without) bench.saved(doc);
+  if (!without && bench.term === term) bench.saved(docOf(state));
   keep.now();
   showFileName();
   say(without ? phrase('library.savedWithoutXmlKeeps', { file, without }) + more : phrase('library.saved', { file, more }), lost || more ? 'alarm' : '');
@@ -108,53 +106,52 @@ function saved(doc, file, form, { more = '', forOthers = false } = {}) {
 
 const formOfFile = (name) => (/\.(ppm|pnm)$/i.test(name) ? 'ppm' : /\.non$/i.test(name) ? 'non' : 'xml');
 
-async function saveByPicker() {
+async function saveByPicker(seen) {
   const forms = [saving.form, ...DOCUMENT_FORMS.filter((one) => one !== saving.form)];
   const types = forms.map((form) => ({ description: SAVE_TYPES[form].what, accept: { [SAVE_TYPES[form].type]: [SAVE_TYPES[form].ending] } }));
   try {
-    const handle = await showSaveFilePicker({ suggestedName: bench.name + SAVE_TYPES[saving.form].ending, types });
+    const handle = await showSaveFilePicker({ suggestedName: seen.name + SAVE_TYPES[saving.form].ending, types });
     const form = formOfFile(handle.name);
-    const doc = docOf(bench.state);
-    const content = await textAs(form);
+    const content = await textAs(form, seen);
     if (content === null) return false;
     await writeHandle(handle, content);
-    Object.assign(saving, { handle, form });
-    keep.named(bareName(handle.name));
-    saved(doc, handle.name, form);
+    if (bench.term === seen.term) {
+      Object.assign(saving, { handle, form });
+      keep.named(bareName(handle.name));
+    }
+    saved(seen, handle.name, form);
     return true;
   } catch (fault) {
-    return fault.name === 'AbortError' ? false : saveDownload(saving.form);
+    return fault.name === 'AbortError' ? false : saveDownload(forms[0], seen);
   }
 }
 
-/** Saves in a form as a download, and tells `more` with it; `forOthers` has nothing that is locked. Says whether it did. */
-export async function saveDownload(form, how = {}) {
-  const doc = docOf(bench.state);
+/** Saves what is seen in a form as a download, and tells `more` with it; `forOthers` has nothing that is locked. Says whether it did. */
+export async function saveDownload(form, seen, how = {}) {
   const { type, ending } = SAVE_TYPES[form];
-  const content = await textAs(form, how.forOthers);
+  const content = await textAs(form, seen, how.forOthers);
   if (content === null) return false;
-  download(content, bench.name + ending, type);
-  saved(doc, bench.name + ending, form, how);
+  download(content, seen.name + ending, type);
+  saved(seen, seen.name + ending, form, how);
   return true;
 }
 
 /** Saves under a name and in a form that are chosen. */
-export async function saveAs() {
-  await asSeen();
+export const saveAs = () => asSeen(async (seen) => {
   checkForm();
-  if (globalThis.showSaveFilePicker) return saveByPicker();
-  const name = make('input', { type: 'text', value: bench.name, maxlength: '80' });
+  if (globalThis.showSaveFilePicker) return saveByPicker(seen);
+  const name = make('input', { type: 'text', value: seen.name, maxlength: '80' });
   const form = choiceOf({}, DOCUMENT_FORMS.map((one) => [one, SAVE_TYPES[one].what]), saving.form);
   const content = make('div', { class: 'rows' }, make('label', {}, phrase('view.name'), name), make('label', {}, phrase('library.form'), form));
-  if (!(await openDialog({ title: phrase('library.saveAs'), content, buttons: [{ name: phrase('library.save'), value: true, main: true }] }))) return false;
+  if (!(await whileOpen(openDialog({ title: phrase('library.saveAs'), content, buttons: [{ name: phrase('library.save'), value: true, main: true }] })))) return false;
   keep.named(bareName(name.value));
   saving.form = form.value;
-  return saveDownload(form.value);
-}
+  return saveDownload(form.value, { ...seen, name: bench.name });
+});
 
-/** Writes something beside the document: a download under its name. `more` is what is to be told with it. */
-export function exportAs(form, content, suffix = '', more = '') {
-  const file = bench.name + suffix + SAVE_TYPES[form].ending;
+/** Writes something beside a document: a download under its name. `more` is what is to be told with it. */
+export function exportAs(name, form, content, suffix = '', more = '') {
+  const file = name + suffix + SAVE_TYPES[form].ending;
   download(content, file, SAVE_TYPES[form].type);
   say(phrase('library.saved', { file, more }), more ? 'alarm' : '');
 }

@@ -720,7 +720,7 @@ export const DE = /** @type {const} */ ({
   'export.putGradeIntoDescription': 'Schwierigkeit in die Beschreibung schreiben',
   'export.gradeLine': 'Schwierigkeit: {word}',
   'export.aboutPuzzle': 'Titel, Autor und Texte',
-  'export.otherPictureOpened': 'Inzwischen wurde ein anderes Bild geöffnet. Die Eingaben wurden verworfen.',
+  'export.otherPictureOpened': 'Inzwischen wurde ein anderes Bild geöffnet. Was mit dem vorigen begonnen war, wurde verworfen.',
   'export.titleAuthor': 'Titel und Autor …',
   'export.webpbnXml': 'Web Paint-by-Number (XML)',
   'export.pngPixelCell': 'Bild (PNG), ein Pixel je Feld',

@@ -720,7 +720,7 @@ export const EN = /** @type {const} */ ({
   'export.putGradeIntoDescription': 'Put the grade into the description',
   'export.gradeLine': 'Grade: {word}',
   'export.aboutPuzzle': 'Title, author and texts',
-  'export.otherPictureOpened': 'Another picture was opened meanwhile. What you entered was dropped.',
+  'export.otherPictureOpened': 'Another picture was opened meanwhile. What you had begun with the earlier one was dropped.',
   'export.titleAuthor': 'Title and author …',
   'export.webpbnXml': 'Web Paint-by-Number (XML)',
   'export.pngPixelCell': 'Picture (PNG), one pixel per cell',

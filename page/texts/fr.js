@@ -720,7 +720,7 @@ export const FR = /** @type {const} */ ({
   'export.putGradeIntoDescription': 'Mettre la difficulté dans la présentation',
   'export.gradeLine': 'Difficulté : {word}',
   'export.aboutPuzzle': 'Titre, auteur et textes',
-  'export.otherPictureOpened': 'Une autre image a été ouverte entre-temps. Ce que vous avez saisi a été abandonné.',
+  'export.otherPictureOpened': 'Une autre image a été ouverte entre-temps. Ce que vous aviez commencé avec la précédente a été abandonné.',
   'export.titleAuthor': 'Titre et auteur …',
   'export.webpbnXml': 'Web Paint-by-Number (XML)',
   'export.pngPixelCell': 'Image (PNG), un pixel par case',

@@ -198,8 +198,21 @@ export async function heard(promise) {
   }
 }
 
-/** Sets down what floats and waits for strokes that are not answered yet: what is seen is what goes out. */
-export async function asSeen() {
+/** What is waited for; null, told, where another picture than now is open by then. */
+export async function whileOpen(promise) {
+  const { term } = bench;
+  const value = await promise;
+  if (value === null || bench.term === term) return value;
+  say(phrase('export.otherPictureOpened'), 'alarm');
+  return null;
+}
+
+/**
+ * Sets down what floats and waits for strokes that are not answered yet: what is seen is what goes out. What it gives to `work`, the
+ * state and its name, stays together whatever opens later. Null where another picture is open by then.
+ */
+export async function asSeen(work = (seen) => seen) {
   setDown();
-  await bench.rest();
+  if (await whileOpen(bench.rest().then(() => true)) === null) return null;
+  return work({ state: bench.state, name: bench.name, term: bench.term });
 }

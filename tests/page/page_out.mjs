@@ -64,6 +64,50 @@ export async function savedToFile({ browser, url, folder }) {
     await page.close();
 }
 
+/** What goes out late is the picture that was seen, under its name, whatever was opened meanwhile; and what a dialog about it asked changes no other. */
+export async function savedOfItsPicture({ browser, url, folder }) {
+    const late = `${NO_PICKERS} const [PlainWorker, { toBlob }] = [window.Worker, HTMLCanvasElement.prototype];
+        const later = (what, run) => (what === window.late ? Object.assign(window, { late: '', go: run }) : run());
+        window.Worker = class extends PlainWorker { postMessage(data) { later(data.call, () => super.postMessage(data)); } };
+        HTMLCanvasElement.prototype.toBlob = function (...words) { later('blob', () => toBlob.apply(this, words)); };`;
+    const { page, trial, own } = await fresh(browser, url, folder, 'late', { before: late });
+    const open = (name, picture) => page.run((one, rows) => openDoc({ rows: rows.length, columns: rows[0].length, maxval: 255, colours: [[255, 255, 255], [0, 0, 0], [200, 40, 40]], picture: rows, givens: new Set() }, { name: one }), name, picture);
+    const openedMeanwhile = async (what, begin) => { // another picture opens when so much of the first is done
+        await open('first', ['.ab.', 'aabb', 'bbaa', '.ba.']);
+        await page.until(() => document.getElementById('grade').textContent !== '–', 10000 * SLACK);
+        await isKept(page);
+        await page.run((call) => Object.assign(window, { late: call, go: null }) && true, what);
+        await begin();
+        await page.until(() => window.go, 5000 * SLACK);
+        await open('second', ['ab']);
+        await page.run(() => window.go());
+    };
+    const namesIn = (zip) => execFileSync('unzip', ['-Z1', join(own, zip)], { encoding: 'utf8' }).trim().split('\n');
+    await openedMeanwhile('blob', () => act(page, 'export-empty'));
+    await downloaded(page, own, 'first-puzzle.png');
+    await openedMeanwhile('assess', () => act(page, 'export-site'));
+    await downloaded(page, own, 'first-site.zip');
+    assert.deepEqual(namesIn('first-site.zip'), ['first.ppm', 'first.cert', 'first.txt']);
+    await openedMeanwhile('open', async () => {
+        await page.press('Control+p');
+        await page.until(() => document.querySelector('#print-all'), 5000 * SLACK);
+        await page.run(() => { document.querySelector('#print-all').click(); document.querySelector('dialog .buttons button:nth-child(2)').click(); });
+    });
+    await downloaded(page, own, 'first-print.zip');
+    assert.ok(namesIn('first-print.zip').every((name) => /^first \d\d\.svg$/.test(name)));
+    await openedMeanwhile('', () => page.run(() => {
+        const file = { name: 'mine.xml', createWritable: async () => ({ write: async (text) => { window.written = text; }, close: async () => {} }) };
+        window.showSaveFilePicker = () => new Promise((resolve) => { window.go = () => resolve(file); });
+        runAction('save');
+    }));
+    assert.match(await page.until(() => window.written, 3000 * SLACK), /\|\.XX\.\||<image>/);
+    assert.deepEqual(await page.run(() => [bench.name, saving.handle]), ['second', null]);
+    await openedMeanwhile('', () => page.run(() => { runAction('resize'); window.go = () => document.querySelector('dialog[open] button.main').click(); }));
+    await page.until(() => document.getElementById('said').textContent.startsWith('Another picture was opened meanwhile.'), 3000 * SLACK);
+    assert.deepEqual(await trial.picture(), ['ab']);
+    await page.close();
+}
+
 /** XML goes out and comes back, with givens; its title is text and never HTML. */
 export async function xml({ browser, url, folder }) {
     const { page, trial, own } = await fresh(browser, url, folder, 'xml');
