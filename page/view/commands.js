@@ -15,14 +15,14 @@ import { goToNext } from './minimap.js';
 import { LINE_TEXTS, showCell } from './panels.js';
 import { zoomBy } from './pointer.js';
 import { clearSelected, copyToClipboard, dropSelection, lift, moveFloat, pasteRows, selectPlaces, selectedPlaces, selection, setDown, showSelection, transform } from './select.js';
-import { dropDrag, forgetReason, heard, nextSymmetry, paintPlaces, sendStroke, tools, useAdding, useColour, useTool } from './tools.js';
+import { dropDrag, forgetReason, heard, nextSymmetry, paintPlaces, sendStroke, tools, useAdding, useColour, useTool, whileOpen } from './tools.js';
 
 const FAR = 5; // cells that a selection is moved by with Shift
 const SHIFTS = [{ key: 'ArrowUp', name: phrase('view.shiftUp'), down: -1 }, { key: 'ArrowDown', name: phrase('view.shiftDown'), down: 1 }, { key: 'ArrowLeft', name: phrase('view.shiftLeft'), across: -1 }, { key: 'ArrowRight', name: phrase('view.shiftRight'), across: 1 }];
 
 async function undoStroke() {
   if (selection.rows) return void dropSelection(); // what floats is dropped by the first undo
-  if (!(await heard(bench.undo()))) return;
+  if (!(await whileOpen(heard(bench.undo())))) return;
   if (bench.isCut && !bench.past.length) say(phrase('view.undoEnds', { strokes: MOST_STROKES }));
   else if (bench.isTitled) say(phrase('view.undoneTitleStays'));
   bench.isTitled = false;
@@ -139,11 +139,11 @@ async function resizeByDialog() {
     ...places.map((place, at) => make('input', { type: 'radio', name: 'anchor', value: at, 'aria-label': place.name, checked: at === 0 })));
   const isSize = (input) => /^[0-9]+$/.test(input.value) && Number(input.value) >= 1 && Number(input.value) <= MOST_CELLS;
   const chosen = () => places[Number(anchor.querySelector(':checked').value)];
-  const done = await openDialog({
+  const done = await whileOpen(openDialog({
     title: phrase('view.resize'),
     content: make('div', {}, make('p', {}, make('label', {}, phrase('view.columns'), columns), ' ', make('label', {}, phrase('view.rows'), rows)), make('p', {}, phrase('view.keepPicture')), anchor),
     buttons: [{ name: phrase('view.resize'), main: true, value: () => ({ columns: Number(columns.value), rows: Number(rows.value), ...chosen() }), test: () => (isSize(columns) && isSize(rows) ? '' : phrase('view.bothSizes', { most: MOST_CELLS })) }],
-  });
+  }));
   if (!done || (done.rows === doc.rows && done.columns === doc.columns)) return;
   heard(bench.become((now) => resized(now, done.rows, done.columns, { down: done.d, across: done.a })));
 }

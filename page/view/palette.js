@@ -18,7 +18,7 @@ import { addAction } from './actions.js';
 import { openDialog } from './dialogs.js';
 import { colourText, dress, inkName, nearText } from './dress.js';
 import { setDown } from './select.js';
-import { heard, tools, useColour } from './tools.js';
+import { heard, tools, useColour, whileOpen } from './tools.js';
 
 const palette = {
   row: make('div', { id: 'palette', role: 'radiogroup', 'aria-label': phrase('view.colourLabel') }),
@@ -134,7 +134,7 @@ async function addColour() {
     if (doc.colours.length >= MOST_COLOURS) return null;
     return { ...doc, colours: [...doc.colours, freeColour(doc, NEW_COLOURS[doc.colours.length % NEW_COLOURS.length])] };
   };
-  if (await heard(bench.become(added))) useColour(LETTERS[bench.state.colours.length - 1]);
+  if (await whileOpen(heard(bench.become(added)))) useColour(LETTERS[bench.state.colours.length - 1]);
 }
 
 // What the page keeps of a colour that is changed: the usual name of the tone before, as files have it, goes with that tone.
@@ -173,7 +173,7 @@ async function mergeColour() {
   const letters = [...LETTERS.slice(0, bench.state.colours.length)].filter((letter) => letter !== from);
   const choice = choiceOf({ 'aria-label': phrase('view.colourLabel') }, letters.map((letter) => [letter, `${LETTERS.indexOf(letter)}: ${colourText(letter)}`]));
   const content = make('div', {}, make('p', {}, phrase('view.allCellsGetAnother', { colour: colourText(from) })), choice);
-  const into = await openDialog({ title: phrase('view.mergeColour'), content, buttons: [{ name: phrase('view.merge'), value: () => choice.value, main: true }] });
+  const into = await whileOpen(openDialog({ title: phrase('view.mergeColour'), content, buttons: [{ name: phrase('view.merge'), value: () => choice.value, main: true }] }));
   if (into) removeColour(from, into);
 }
 
@@ -207,7 +207,7 @@ function moveColour(by) {
 }
 
 async function becomeOpened(doc, text) {
-  if (await heard(bench.become(doc))) say(text);
+  if (await whileOpen(heard(bench.become(doc)))) say(text);
 }
 
 // On small screens what changes colours opens below the palette.
