@@ -13,6 +13,7 @@ export class Keeper {
     this.shelf = shelf;
     this.said = said; // called with {kind: 'kept' | 'failed', why, record}
     this.waiting = null;
+    this.made = []; // what was made before its turn
     this.writing = null;
     this.wake = null; // ends a rest
   }
@@ -33,20 +34,19 @@ export class Keeper {
     return this.writing;
   }
 
-  /** Makes at once what rests: what it is made of goes. */
+  /** Makes at once what waits: what it is made of goes. */
   hurry() {
-    if (!this.wake || !this.waiting) return;
-    const made = this.waiting();
-    this.waiting = () => made;
-    this.wake();
+    if (this.waiting) this.made.push(this.waiting());
+    this.waiting = null;
+    this.wake?.();
   }
 
   async write(mayRest) {
     if (mayRest) await new Promise((go) => { this.wake = go; setTimeout(go, REST); });
     this.wake = null;
-    while (this.waiting) {
-      const made = this.waiting();
-      this.waiting = null;
+    while (this.waiting || this.made.length) {
+      if (!this.made.length) this.hurry();
+      const made = this.made.shift();
       if (made) await this.put(made.record, made.facts);
     }
   }

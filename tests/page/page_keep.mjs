@@ -49,6 +49,7 @@ function benchOf(doc, before = [], after = [], more = {}) {
 const painted = (doc, place, letter = 'a') => ({ ...doc, picture: doc.picture.map((row, at) => [...row].map((one, col) => (at * doc.columns + col === place ? letter : one)).join('')) });
 const record = (id, when, more = {}) => ({ ...recordOf(benchOf(emptyDoc(3, 2)), id, when), ...more });
 const json = (value) => JSON.parse(JSON.stringify(value));
+const pause = (ms) => new Promise((go) => { setTimeout(go, ms); });
 
 test('a record holds the document and those that strokes lead to, back and forth', () => {
     const [one, two, other] = [emptyDoc(4, 3), painted(emptyDoc(4, 3), 0), { ...emptyDoc(2, 2), about: { title: 'T' }, givens: new Set([1]) }];
@@ -150,6 +151,22 @@ test('what may rest is made a moment later, with the next that may not, or befor
     assert.equal((await shelf.get('work:x')).when, 5);
     keeper.hurry();
     assert.deepEqual(made, [2, 4, 5], 'nothing rests');
+});
+
+test('what waits behind a write that goes on is made before its document goes, and is written before what comes then', async () => {
+    const shelf = memoryShelf();
+    const puts = [];
+    const slow = { ...shelf, putAll: async (entries) => { await pause(20); puts.push(entries[0][1].name); return shelf.putAll(entries); } };
+    const keeper = new Keeper(slow, () => {});
+    let open = 'one';
+    const note = (id, name) => keeper.note(() => (open === id ? { record: record(id, 1, { name }) } : null));
+    note('one', 'written');
+    await pause(5);
+    note('one', 'waits');
+    keeper.hurry();
+    open = 'two';
+    await note('two', 'next');
+    assert.deepEqual([puts, keeper.isDone], [['written', 'waits', 'next'], true]);
 });
 
 test('a hundred pictures stay, whether they are in a file or not', async () => {
