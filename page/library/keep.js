@@ -11,7 +11,7 @@ import { Keeper } from './keeper.js';
 import { newId, recordOf } from './records.js';
 import { claim, openShelf } from './shelf.js';
 
-export const keep = { keeper: null, opening: null, id: null, free: null, untouched: null, when: 0, grade: null, isNamed: false, isKept: true, isPaused: false, told: null, isAsked: false, makeRoom: null, names: null };
+export const keep = { keeper: null, opening: null, id: null, term: null, free: null, untouched: null, when: 0, grade: null, isNamed: false, isKept: true, told: null, isAsked: false, makeRoom: null, names: null };
 
 /** Opens the library, once. */
 keep.ready = (home = globalThis) => {
@@ -53,22 +53,20 @@ keep.said = ({ kind, why }) => {
 
 /**
  * Keeps what is open under a name of its own; `id` where it was kept before. Where another tab has that picture, this one has a
- * copy. What is blank, or such a copy, is kept from the first stroke on.
+ * copy. What is blank, or such a copy, is kept from the first stroke on. Where another picture opens meanwhile, nothing begins.
  */
 keep.begin = async (id = null, isBlank = false) => {
-  keep.grade = null;
+  const { term, state } = bench;
   const own = id !== null && id === keep.id ? keep.free : null; // opened again in this tab
   if (!own) keep.end();
   let free = own ?? (id === null ? null : await claim(id, globalThis));
   const isElsewhere = id !== null && !free;
-  keep.id = isElsewhere || id === null ? newId() : id;
-  free ??= await claim(keep.id, globalThis);
-  keep.free = free;
-  keep.when = Date.now();
-  keep.untouched = isBlank || isElsewhere ? docOf(bench.state) : null;
+  const name = isElsewhere || id === null ? newId() : id;
+  free ??= await claim(name, globalThis);
+  if (bench.term !== term) return void free?.();
+  Object.assign(keep, { id: name, term, free, grade: null, when: Date.now(), untouched: isBlank || isElsewhere ? docOf(state) : null });
   if (isElsewhere) say(phrase('library.pictureOpenAnotherTab'), 'alarm');
   keep.now();
-  return isElsewhere;
 };
 
 keep.end = () => {
@@ -87,9 +85,8 @@ keep.leave = () => keep.keeper?.hurry();
 
 /** Keeps the document as it is now, or a moment later. What is found out about it later makes it no newer. */
 keep.now = ({ mayRest = false } = {}) => {
-  const { id } = keep;
-  const { term } = bench;
-  if (!id || !keep.keeper || !bench.state) return Promise.resolve();
+  const { id, term } = keep;
+  if (!id || !keep.keeper || bench.term !== term) return Promise.resolve();
   if (keep.untouched && sameDoc(keep.untouched, bench.state)) return Promise.resolve();
   keep.untouched = null;
   if (bench.past.length && !keep.isAsked) {
@@ -97,7 +94,7 @@ keep.now = ({ mayRest = false } = {}) => {
     navigator.storage?.persist?.().catch(() => {});
   }
   const made = () => ({ record: { ...recordOf(bench, id, keep.when), isNamed: keep.isNamed }, facts: { verdict: bench.state.verdict.word, grade: keep.grade } });
-  return keep.keeper.note(() => (keep.id === id && bench.term === term && bench.state ? made() : null), mayRest);
+  return keep.keeper.note(() => (keep.id === id && bench.term === term ? made() : null), mayRest);
 };
 
 /** Keeps what the list tells of how hard the picture at hand is, until its next stroke. */

@@ -12,22 +12,32 @@ import { confirmDialog } from '../view/dialogs.js';
 import { keep } from './keep.js';
 import { saving, showFileName } from './saving.js';
 
+const turns = { last: Promise.resolve(false), what: null }; // openings are one at a time: the last one, and what it opens
+
+// Opens in its turn. What is to be opened just so already is opened once.
+function inTurn(what, open) {
+  if (turns.what !== what) {
+    turns.what = what;
+    turns.last = turns.last.then(open, open).finally(() => { if (turns.what === what) turns.what = null; });
+  }
+  return turns.last;
+}
+
 /**
  * Opens a document in place of the present one, and keeps it under a name of its own. `id` is that of a record of the library,
  * `strokes` are as the bench has them; `isNamed` tells that its user chose the name. Answers whether it is open; what is refused is told.
  */
-export async function openDoc(doc, { name, isSaved = true, id = null, strokes = undefined, handle = null, form = 'xml', isBlank = false, isNamed = handle !== null }) {
+export const openDoc = (doc, how) => inTurn(doc, () => openNow(doc, how));
+
+async function openNow(doc, { name, isSaved = true, id = null, strokes = undefined, handle = null, form = 'xml', isBlank = false, isNamed = handle !== null }) {
   const isLost = bench.state && !keep.isKept && !bench.isSaved;
   if (isLost && !(await confirmDialog(phrase('library.openAnotherPicture'), phrase('library.notBeenSavedBrowser', { name: bench.name }), phrase('library.open')))) return false;
   keep.leave();
-  keep.isPaused = true;
   try {
     await bench.open(baseOf(doc), { name, page: pageOf(doc), strokes, isSaved });
   } catch (fault) {
     say(phrase('import.couldNotOpened', { name: phrase('import.quoted', { name }), fault: faultText(fault) }), 'alarm');
     return false;
-  } finally {
-    keep.isPaused = false;
   }
   Object.assign(saving, { handle, form });
   keep.isNamed = isNamed;
@@ -60,14 +70,12 @@ export async function withClues(puzzles, start = startEngine) {
 }
 
 /** Goes on with a picture of the library; says whether it is open. */
-export async function openRecord(id) {
+export const openRecord = (id) => inTurn(id, async () => {
   const record = await keep.keeper.record(id);
-  if (!record) {
-    say(phrase('library.pictureLibraryDamagedCould'), 'alarm');
-    return false;
-  }
-  return openDoc(record.doc, record);
-}
+  if (record) return openNow(record.doc, record);
+  say(phrase('library.pictureLibraryDamagedCould'), 'alarm');
+  return false;
+});
 
 const OPEN_FAULTS = {
   BadSize: phrase('library.widthHeightNotFrom', { most: MOST_CELLS }), BadCount: phrase('library.tooFewTooMany'), BadClue: phrase('library.clueNoListNumbers'),

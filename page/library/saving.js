@@ -170,14 +170,12 @@ const tellFileName = behindFrame(showFileName);
 /** Keeps each stroke, shows the name, and asks before an unsaved picture is left. */
 export function startSaving() {
   on('shown', () => {
-    if (!keep.isPaused) {
-      keep.grade = gradeAtHand()?.word ?? null;
-      keep.changed();
-    }
+    keep.grade = gradeAtHand()?.word ?? null;
+    keep.changed();
     tellFileName();
   });
-  on('judged', () => { if (!keep.isPaused) keep.now({ mayRest: true }); });
-  on('graded', (grade) => { if (grade && !keep.isPaused) keep.graded(grade.word); });
+  on('judged', () => keep.now({ mayRest: true }));
+  on('graded', (grade) => { if (grade) keep.graded(grade.word); });
   for (const name of ['opened', 'kept']) on(name, showFileName); // of another picture at once
   addEventListener('beforeunload', (event) => {
     if (!bench.state || bench.isSaved || !saving.asks) return;

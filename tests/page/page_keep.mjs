@@ -8,12 +8,15 @@ import { cleanName, freeName } from '../../page/base/words.js';
 import { baseOf } from '../../page/document/cover.js';
 import { docOf, emptyDoc, packedDoc, sameDoc, unpackedDoc } from '../../page/document/document.js';
 import { FileFault } from '../../page/document/limits.js';
+import { bench } from '../../page/engine/bench.js';
 import { Client } from '../../page/engine/client.js';
 import { webpbnText } from '../../page/formats/webpbn.js';
 import { crcOf, writeZip } from '../../page/formats/zip.js';
 import { readZip } from '../../page/test/zips.mjs';
 import { archiveOf, readArchive } from '../../page/import/archives.js';
+import { keep } from '../../page/library/keep.js';
 import { Keeper } from '../../page/library/keeper.js';
+import { openDoc, openRecord } from '../../page/library/open.js';
 import { cardOf, readCard, readRecord, recordOf, recordOfDoc } from '../../page/library/records.js';
 import { claim, localShelf, memoryShelf, openShelf } from '../../page/library/shelf.js';
 
@@ -329,4 +332,65 @@ test('and by a channel where there are no locks', async () => {
     const again = await claim('y', home);
     assert.equal(typeof again, 'function');
     again();
+});
+
+// ---- the picture at hand
+
+// An element that takes all that is done to it. A dialog is closed as soon as it is shown: what it asks is answered by Cancel.
+function element() {
+    const heard = {};
+    const asked = () => {
+        element.asked++;
+        heard.close();
+    };
+    return { dataset: {}, append() {}, replaceChildren() {}, setAttribute() {}, remove() {}, addEventListener: (type, f) => { heard[type] = f; }, showModal: asked };
+}
+
+// The page with a library of some pictures, and an engine that takes `ms` to open each; the locks are those of all tabs.
+async function pageOf(names, { ms = 5, home = { localStorage: storageOf(1e6) } } = {}) {
+    const [elements, opened] = [{}, []];
+    globalThis.document = { getElementById: (id) => (elements[id] ??= element()), createElement: element };
+    globalThis.HTMLInputElement = class {};
+    const tabs = { locks: locks() };
+    Object.defineProperty(globalThis, 'navigator', { value: tabs, configurable: true, writable: true });
+    element.asked = 0;
+    keep.end();
+    Object.assign(keep, { keeper: null, opening: null, term: null, isKept: false, told: null });
+    Object.assign(bench, { state: null, term: {}, past: [], future: [], savedDoc: null });
+    bench.open = async (base, { name, isSaved }) => {
+        await pause(ms);
+        const doc = { ...emptyDoc(3, 2), about: { title: name } };
+        opened.push(name);
+        Object.assign(bench, { state: { ...doc, verdict: { word: 'unique' } }, name, past: [], future: [], term: {}, savedDoc: isSaved ? doc : null });
+    };
+    keep.ready(home);
+    for (const id of names) await (await keep.opening).put(record(id, 1, { name: id, isSaved: true }));
+    return { elements, opened, tabs };
+}
+
+// What the shelf has: of each record its id, its name, and the title of its picture.
+const shelved = async () => Promise.all((await keep.keeper.cards()).map(({ id }) => keep.keeper.record(id)));
+const titles = async () => (await shelved()).map(({ id, name, doc }) => [id, name, doc.about.title ?? '']).sort();
+
+test('pictures that are opened at once are opened one after the other, and each stays what it is', async () => {
+    const { opened, tabs } = await pageOf(['a', 'b']);
+    assert.deepEqual(await Promise.all([openRecord('a'), openRecord('a'), openRecord('b'), openRecord('b')]), [true, true, true, true]);
+    await keep.keeper.writing;
+    assert.deepEqual([opened, keep.id, bench.name], [['a', 'b'], 'b', 'b'], 'a second click opens nothing');
+    assert.deepEqual(await titles(), [['a', 'a', 'a'], ['b', 'b', 'b']]);
+    assert.deepEqual([typeof await claim('a', { navigator: tabs }), await claim('b', { navigator: tabs })], ['function', null], 'a is given back');
+});
+
+test('what is overtaken while its name is asked for is not begun, and its name is given back', async () => {
+    const { tabs } = await pageOf(['a']);
+    const { request } = tabs.locks;
+    tabs.locks.request = async (...words) => { await pause(10); return request(...words); };
+    await bench.open({}, { name: 'a', isSaved: true });
+    const begun = keep.begin('a');
+    await bench.open({}, { name: 'other', isSaved: true });
+    await begun;
+    await keep.keeper.writing;
+    assert.deepEqual([keep.id, await titles()], [null, [['a', 'a', '']]]);
+    await pause(1);
+    assert.equal(typeof await claim('a', { navigator: tabs }), 'function');
 });
