@@ -11,13 +11,16 @@ import { Keeper } from './keeper.js';
 import { newId, recordOf } from './records.js';
 import { claim, openShelf } from './shelf.js';
 
-export const keep = { keeper: null, opening: null, id: null, term: null, free: null, untouched: null, when: 0, grade: null, isNamed: false, isKept: true, told: null, isAsked: false, makeRoom: null, names: null };
+export const keep = { keeper: null, opening: null, id: null, term: null, free: null, untouched: null, when: 0, grade: null, isNamed: false, isKept: false, told: null, isAsked: false, makeRoom: null, names: null };
 
-/** Opens the library, once. */
+const WRITTEN = 1000; // milliseconds in which it is known whether the first record is kept
+
+/** Opens the library, once. What was painted before that is kept then. */
 keep.ready = (home = globalThis) => {
   keep.opening ??= openShelf(home).then((shelf) => {
     keep.keeper = new Keeper(shelf, keep.said);
     keep.names = home.BroadcastChannel ? Object.assign(new home.BroadcastChannel('nonobench:names'), { onmessage: ({ data: { id, name } }) => keep.named(name, id) }) : null;
+    keep.now();
     return keep.keeper;
   });
   return keep.opening;
@@ -40,14 +43,17 @@ keep.named = (name, id = keep.id) => {
 
 const REASONS = { full: phrase('library.browsersStorageFull'), none: phrase('library.browserKeepsNothingPage'), refused: phrase('library.browsersStorageDoesNot') };
 
-keep.said = ({ kind, why }) => {
-  keep.isKept = kind === 'kept';
-  tell('kept', keep.isKept);
-  if (keep.isKept) {
-    keep.told?.();
-    keep.told = null;
+keep.said = ({ kind, why, record }) => {
+  const isKept = kind === 'kept';
+  if (record.id === keep.id) {
+    keep.isKept = isKept;
+    tell('kept', isKept);
+    if (isKept) {
+      keep.told?.();
+      keep.told = null;
+    }
   }
-  if (keep.isKept || keep.told) return;
+  if (isKept || keep.told) return;
   keep.told = say(phrase('library.yourWorkTabAlone', { why: REASONS[why] }), 'alarm', why === 'full' ? { name: opening(phrase('start.makeRoom')), run: () => keep.makeRoom?.() } : null);
 };
 
@@ -65,6 +71,7 @@ keep.begin = async (id = null, isBlank = false) => {
   free ??= await claim(name, globalThis);
   if (bench.term !== term) return void free?.();
   Object.assign(keep, { id: name, term, free, grade: null, when: Date.now(), untouched: isBlank || isElsewhere ? docOf(state) : null });
+  keep.isKept ||= id !== null; // as it was
   if (isElsewhere) say(phrase('library.pictureOpenAnotherTab'), 'alarm');
   keep.now();
 };
@@ -80,8 +87,11 @@ keep.changed = () => {
   return keep.now({ mayRest: true });
 };
 
-/** Another document comes: what rests is kept before that. */
-keep.leave = () => keep.keeper?.hurry();
+/** Another document comes: what rests is kept before that. Where nothing was kept so far, resolves once that is known. */
+keep.leave = async () => {
+  keep.keeper?.hurry();
+  if (!keep.isKept) await Promise.race([keep.keeper?.writing, new Promise((go) => setTimeout(go, WRITTEN))]);
+};
 
 /** Keeps the document as it is now, or a moment later. What is found out about it later makes it no newer. */
 keep.now = ({ mayRest = false } = {}) => {

@@ -30,9 +30,9 @@ function inTurn(what, open) {
 export const openDoc = (doc, how) => inTurn(doc, () => openNow(doc, how));
 
 async function openNow(doc, { name, isSaved = true, id = null, strokes = undefined, handle = null, form = 'xml', isBlank = false, isNamed = handle !== null }) {
+  await keep.leave();
   const isLost = bench.state && !keep.isKept && !bench.isSaved;
   if (isLost && !(await confirmDialog(phrase('library.openAnotherPicture'), phrase('library.notBeenSavedBrowser', { name: bench.name }), phrase('library.open')))) return false;
-  keep.leave();
   try {
     await bench.open(baseOf(doc), { name, page: pageOf(doc), strokes, isSaved });
   } catch (fault) {

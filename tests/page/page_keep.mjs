@@ -336,6 +336,8 @@ test('and by a channel where there are no locks', async () => {
 
 // ---- the picture at hand
 
+const loaded = { ...keep };
+
 // An element that takes all that is done to it. A dialog is closed as soon as it is shown: what it asks is answered by Cancel.
 function element() {
     const heard = {};
@@ -355,7 +357,7 @@ async function pageOf(names, { ms = 5, home = { localStorage: storageOf(1e6) } }
     Object.defineProperty(globalThis, 'navigator', { value: tabs, configurable: true, writable: true });
     element.asked = 0;
     keep.end();
-    Object.assign(keep, { keeper: null, opening: null, term: null, isKept: false, told: null });
+    Object.assign(keep, loaded);
     Object.assign(bench, { state: null, term: {}, past: [], future: [], savedDoc: null });
     bench.open = async (base, { name, isSaved }) => {
         await pause(ms);
@@ -393,4 +395,33 @@ test('what is overtaken while its name is asked for is not begun, and its name i
     assert.deepEqual([keep.id, await titles()], [null, [['a', 'a', '']]]);
     await pause(1);
     assert.equal(typeof await claim('a', { navigator: tabs }), 'function');
+});
+
+test('what is open before the database is kept once that is open, and is not said to be kept before', async () => {
+    const late = { open() { const request = {}; setTimeout(() => request.onerror(), 60); return request; } };
+    const { elements, opened } = await pageOf([], { home: { indexedDB: late, localStorage: storageOf(1e6) } });
+    await openDoc(emptyDoc(3, 2), { name: 'a', isSaved: false });
+    assert.deepEqual([keep.keeper, elements.title.textContent], [null, 'a \u00b7 not kept']);
+    assert.equal(await openDoc(emptyDoc(3, 2), { name: 'b' }), false);
+    assert.deepEqual([element.asked, opened], [1, ['a']], 'it would be lost');
+    await keep.opening;
+    await keep.keeper.writing;
+    assert.deepEqual([keep.isKept, (await shelved()).map(({ name }) => name)], [true, ['a']]);
+    assert.deepEqual([await openDoc(emptyDoc(3, 2), { name: 'b' }), element.asked], [true, 1]);
+});
+
+test('what another picture meets says nothing of the one at hand, whose first record is waited for', async () => {
+    const { opened } = await pageOf([]);
+    await openDoc(emptyDoc(3, 2), { name: 'a', isSaved: false });
+    await openDoc(emptyDoc(3, 2), { name: 'b', isSaved: false });
+    assert.deepEqual([opened, element.asked], [['a', 'b'], 0]);
+    const { shelf } = keep.keeper;
+    const full = { ...shelf, putAll: async () => { throw new Full('full'); } };
+    for (const [own, other, is] of [[shelf, full, true], [full, shelf, false]]) {
+        keep.keeper.shelf = own;
+        await keep.now();
+        keep.keeper.shelf = other;
+        await keep.keeper.put(record('c', 1));
+        assert.equal(keep.isKept, is);
+    }
 });
