@@ -5,11 +5,12 @@ import { say } from '../base/elements.js';
 import { tell } from '../base/events.js';
 import { opening } from '../base/words.js';
 import { docOf, sameDoc } from '../document/document.js';
+import { FileFault } from '../document/limits.js';
 import { bench } from '../engine/bench.js';
 import { phrase } from '../texts/phrase.js';
 import { Keeper } from './keeper.js';
 import { newId, recordOf } from './records.js';
-import { claim, openShelf } from './shelf.js';
+import { claim, isFull, openShelf } from './shelf.js';
 
 export const keep = { keeper: null, opening: null, id: null, term: null, free: null, untouched: null, when: 0, grade: null, isNamed: false, isKept: false, told: null, isAsked: false, makeRoom: null, names: null };
 
@@ -31,6 +32,21 @@ keep.rename = async (id, name) => {
   keep.named(name, id);
   await keep.keeper.rename(id, name);
   keep.names?.postMessage({ id, name });
+};
+
+/** Takes a picture of the library away; resolves to what brings it back, or to null where a tab has it open. */
+keep.drop = async (id) => {
+  const free = await claim(id, globalThis);
+  return free && keep.keeper.drop(id).finally(free);
+};
+
+/** Does something to the library; what its storage refuses is told. */
+keep.tried = async (act) => {
+  try {
+    await act();
+  } catch (fault) {
+    say(fault instanceof FileFault ? fault.message : `${REASONS[isFull(fault) ? 'full' : 'refused']}.`, 'alarm');
+  }
 };
 
 /** Gives the picture at hand, if it is that of an id, a name that its user chose: no title takes its place. */

@@ -1,5 +1,7 @@
 // The library in the browser's storage: as many pictures as there is room for. Nothing goes but what its user takes away.
 
+import { FileFault } from '../document/limits.js';
+import { phrase } from '../texts/phrase.js';
 import { cardOf, newId, readCard, readRecord } from './records.js';
 import { isFull } from './shelf.js';
 
@@ -104,15 +106,23 @@ export class Keeper {
     return readRecord(await this.shelf.get(RECORD + id).catch(() => null));
   }
 
+  // A picture as it is on the shelf: what `restore` puts there.
+  async entry(id) {
+    return { record: await this.shelf.get(RECORD + id), card: await this.shelf.get(CARD + id) };
+  }
+
   /** Takes a picture away; resolves to what `restore` brings back. */
   async drop(id) {
-    const gone = { record: await this.shelf.get(RECORD + id), card: await this.shelf.get(CARD + id) };
+    const gone = await this.entry(id);
     await this.shelf.drop(RECORD + id, CARD + id);
     return gone;
   }
 
+  /** Puts a picture on the shelf; one that is there meanwhile is newer, and stays. */
   async restore({ record, card }) {
-    await this.shelf.putAll([[RECORD + record.id, record], [CARD + record.id, card ?? cardOf(record)]]);
+    if (!record) throw new FileFault(phrase('library.pictureLibraryDamagedCould'));
+    const keys = [RECORD + record.id, CARD + record.id];
+    await this.shelf.change(keys, ([newer]) => (newer ? [] : [[keys[0], record], [keys[1], card ?? cardOf(record)]]));
   }
 
   /** Gives a picture a name that its user chose; what is kept of it meanwhile stays. */
@@ -123,9 +133,9 @@ export class Keeper {
 
   /** A copy of a picture, with its strokes, under another name; resolves to its id. */
   async duplicate(id, name) {
-    const [record, card] = [await this.shelf.get(RECORD + id), await this.shelf.get(CARD + id)];
+    const { record, card } = await this.entry(id);
     const own = { id: newId(), name, when: Date.now(), isSaved: false };
-    await this.restore({ record: { ...record, ...own }, card: { ...(card ?? cardOf(record)), ...own } });
+    await this.restore({ record: record && { ...record, ...own }, card: card && { ...card, ...own } });
     return own.id;
   }
 }

@@ -112,7 +112,7 @@ function menuOf(card, isOpen) {
   const list = make('div', { class: 'menu', role: 'menu', popover: 'auto', 'aria-label': card.name });
   const button = make('button', { type: 'button', class: 'quiet', 'aria-haspopup': 'menu', 'aria-label': phrase('start.moreFor', { name: card.name }), title: phrase('view.more') }, '⋯');
   const item = (name, run) => make('button', { type: 'button', role: 'menuitem', onclick: () => { list.hidePopover(); run(); } }, name);
-  list.append(item(opening(phrase('start.rename')), () => rename(card)), item(phrase('start.duplicate'), () => duplicate(card)), ...(isOpen ? [] : [item(phrase('view.delete'), () => remove([card]))]));
+  list.append(item(opening(phrase('start.rename')), () => rename(card)), item(phrase('start.duplicate'), () => duplicate(card)), ...(isOpen ? [] : [item(phrase('view.delete'), () => remove(card))]));
   list.addEventListener('toggle', (event) => { if (event.newState === 'open') list.querySelector('button').focus(); });
   list.addEventListener('keydown', (event) => menuKey(event, list, button));
   button.addEventListener('click', () => {
@@ -127,28 +127,27 @@ function menuOf(card, isOpen) {
 async function rename(card) {
   const field = make('input', { type: 'text', value: card.name, maxlength: '80', 'aria-label': phrase('view.name') });
   if (!(await openDialog({ title: phrase('start.rename'), content: field, buttons: [{ name: phrase('start.rename'), value: true, main: true }] }))) return;
-  await keep.rename(card.id, cleanName(field.value));
-  fillLibrary();
+  await tried(() => keep.rename(card.id, cleanName(field.value)));
 }
 
-async function duplicate(card) {
-  await keep.keeper.duplicate(card.id, phrase('start.copy', { name: card.name }));
-  say(phrase('start.duplicated', { name: card.name }));
-  fillLibrary();
-}
+const tried = (act) => keep.tried(act).then(fillLibrary);
 
-// Takes pictures away, and offers to bring them back.
-async function remove(cards) {
-  const gone = [];
-  for (const { id } of cards) gone.push(await keep.keeper.drop(id));
-  const what = cards.length === 1 ? phrase('import.quoted', { name: cards[0].name }) : phrase('start.pictures', { pictures: cards.length });
-  say(phrase('start.deleted', { what }), '', { name: phrase('view.undo'), run: async () => {
-    for (const one of gone) await keep.keeper.restore(one);
+const duplicate = ({ id, name }) => tried(async () => {
+  await keep.keeper.duplicate(id, phrase('start.copy', { name }));
+  say(phrase('start.duplicated', { name }));
+});
+
+// Takes a picture away, and offers to bring it back.
+const remove = ({ id, name }) => tried(async () => {
+  const gone = await keep.drop(id);
+  if (!gone) return say(phrase('start.openElsewhere'), 'alarm');
+  const what = phrase('import.quoted', { name });
+  const bringBack = async () => {
+    await keep.keeper.restore(gone);
     say(phrase('start.broughtBack', { what }));
-    fillLibrary();
-  } });
-  await fillLibrary();
-}
+  };
+  return say(phrase('start.deleted', { what }), '', { name: phrase('view.undo'), run: () => tried(bringBack) });
+});
 
 // ---- where room is short
 
@@ -166,14 +165,15 @@ async function makeRoom() {
   });
   const test = () => (chosen().length ? '' : phrase('start.chooseLeastOnePicture'));
   if (!(await openDialog({ title: phrase('start.makeRoom'), content, buttons: [{ name: phrase('view.delete'), value: true, main: true, test }] }))) return;
-  for (const { id } of chosen()) await keep.keeper.drop(id);
   keep.told = null;
-  say('');
+  let isElsewhere = false;
+  for (const { id } of chosen()) isElsewhere = !(await keep.drop(id)) || isElsewhere;
+  say(isElsewhere ? phrase('start.openElsewhere') : '');
   keep.now();
 }
 
 /** Hears what changes the library from elsewhere. */
 export function startLibrary() {
-  keep.makeRoom = makeRoom;
+  keep.makeRoom = () => tried(makeRoom);
   on('library', () => { if (view.section?.isConnected && !$('start').hidden) fillLibrary(); });
 }

@@ -425,3 +425,32 @@ test('what another picture meets says nothing of the one at hand, whose first re
         assert.equal(keep.isKept, is);
     }
 });
+
+test('what another tab has open is not taken away, and what is brought back takes no place of a newer one', async () => {
+    const { tabs } = await pageOf(['a']);
+    const free = await claim('a', { navigator: tabs });
+    assert.deepEqual([await keep.drop('a'), (await titles()).length], [null, 1]);
+    free();
+    await pause(1);
+    const gone = await keep.drop('a');
+    assert.deepEqual(await titles(), []);
+    assert.equal(typeof await claim('a', { navigator: tabs }), 'function', 'its name is free again');
+    await keep.keeper.put(record('a', 2, { name: 'newer' }));
+    await keep.keeper.restore(gone);
+    assert.deepEqual(await titles(), [['a', 'newer', '']]);
+});
+
+test('what is done to a picture that is gone, or is refused, is told', async () => {
+    await pageOf(['a']);
+    const line = saidLine();
+    const told = async (act) => { line.text = ''; await keep.tried(act); return line.text; };
+    const { keeper } = keep;
+    assert.equal(await told(() => keeper.duplicate('b', 'copy')), 'This picture of the library is damaged or gone.');
+    const gone = await keep.drop('b');
+    assert.equal(await told(() => keeper.restore(gone)), 'This picture of the library is damaged or gone.');
+    for (const [fault, text] of [[new Full('x'), 'The browser\u2019s storage is full.'], [new Error('x'), 'The browser\u2019s storage does not take it.']]) {
+        keeper.shelf = { ...keeper.shelf, change: async () => { throw fault; }, drop: async () => { throw fault; } };
+        for (const act of [() => keep.drop('a'), () => keeper.duplicate('a', 'copy'), () => keep.rename('a', 'b')]) assert.equal(await told(act), text);
+    }
+    assert.deepEqual(await titles(), [['a', 'a', '']]);
+});

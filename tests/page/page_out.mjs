@@ -406,7 +406,7 @@ export async function nothingLeaves(all) {
     await page.run(async () => { const { id } = (await keep.keeper.cards()).find(({ name }) => name === 'first'); await keep.keeper.shelf.put(`work:${id}`, { version: 2, id, doc: null }); });
     await printAll(page);
     await page.until(() => document.getElementById('said').dataset.kind === 'alarm', 8000 * SLACK);
-    assert.equal(await said(page), '“first”: This picture of the library is damaged and could not be opened.');
+    assert.equal(await said(page), '“first”: This picture of the library is damaged or gone.');
     assert.deepEqual(await page.run(() => [document.querySelectorAll('.printed').length, window.isPrinted ?? false]), [0, false]);
     await page.close();
 }
