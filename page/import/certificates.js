@@ -11,7 +11,10 @@ import { asSeen } from '../view/tools.js';
 
 // What an editor did to a certificate, by a word of what web/nonobench.mjs says of it.
 const HINTS = [['CR LF', phrase('import.linesEndCrLf')], ['UTF-16', phrase('import.isUtf16')], ['mark', phrase('import.hasByteOrderMark')]];
-/** What the checker finds, by its name for it, in words. @type {any[]} */
+/**
+ * What the checker finds, by its name for it, in words.
+ * @type {any[]}
+ */
 const FAULTS = ['import.faultNotCert', 'import.faultBadLine', 'import.faultPlace', 'import.faultNotDead', 'import.faultNotDone', 'import.faultEnded', 'import.faultTrailing'];
 
 function inWords(text) {

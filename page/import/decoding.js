@@ -39,6 +39,7 @@ function decoding(size) {
 async function imageOfSvg(text, most) {
   const frame = Object.assign(document.createElement('iframe'), { sandbox: 'allow-scripts', srcdoc: `<script>${built().drawing}</script>`, hidden: true });
   const heard = new AbortController();
+  /** @type {any} */
   const image = await new Promise((give) => {
     setTimeout(give, LONGEST, 'formats.thereTooManyElements');
     addEventListener('message', ({ source, data }) => source === frame.contentWindow && give(data), heard);
@@ -47,7 +48,7 @@ async function imageOfSvg(text, most) {
   });
   heard.abort();
   frame.remove();
-  if (!image?.data) throw new FileFault(phrase(image ?? 'import.browserDoesNotRead'));
+  if (!image?.data) throw new FileFault(phrase(image ?? 'import.browserDoesNotRead', {}));
   return image;
 }
 
