@@ -15,8 +15,9 @@ const DONE = 0;
 const MEMORY = 4;
 const OPTIONS = 6;
 
-// How many bytes an input may have, as for the program.
+// How many bytes an input may have, as for the program, and how many cells a picture.
 const MOST_BYTES = 16777216;
+const MOST_CELLS = 14400;
 
 // How many splits an allowance may name. What is above stands for none.
 const MOST_SPLITS = 99999;
@@ -84,6 +85,7 @@ function publishedOf(givens) {
   if (givens === undefined || givens === null) return NONE;
   if (givens === 'any') return null;
   if (!Array.isArray(givens)) return givens;
+  if (givens.length > MOST_CELLS) throw new Fault('open', 'input too long');
   let lines = '';
   for (let at = 0; at < givens.length; at++) {
     const place = own(givens, at), [row, column] = Array.isArray(place) && place.length === 2 ? [own(place, 0), own(place, 1)] : [];

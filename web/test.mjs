@@ -527,7 +527,8 @@ test('a certificate is accepted, and what is wrong is said', async () => {
     assert.deepEqual(engine.check(picture, certificate, { givens: wrong }), { accepted: false, status: 1, text: `givens ${name}`, givens: [] });
   }
   assert.deepEqual(engine.verify(picture, certificate, { givens }), engine.check(picture, certificate, { givens })); // its old name
-  assert.deepEqual(faultOf(() => engine.check(picture, certificate, { givens: ' '.repeat(16777217) })), ['open', 'input too long']);
+  for (const long of [' '.repeat(16777217), Array(14401).fill([1, 1])]) assert.deepEqual(faultOf(() => engine.check(picture, certificate, { givens: long })), ['open', 'input too long']);
+  assert.equal(engine.check(picture, certificate, { givens: Array(14400).fill([1, 1]) }).text, 'givens Repeated at line 2'); // as many as a picture of 120 by 120 has
   for (const wrong of [[1, 1], [[1]], [['1', '1']], [[1, 1.5]], 5, new Set([[1, 1]])]) {
     assert.throws(() => engine.check(picture, certificate, { givens: wrong }), TypeError);
   }
