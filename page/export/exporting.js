@@ -57,21 +57,15 @@ const exportCertificate = () => asSeen(async ({ name }) => {
   if (text) exportAs(name, 'cert', text);
 });
 
-// What the engine says of a document; its text is '' where there is none in the time.
-async function saidByEngine(doc) {
-  const judge = new Judge({ seconds: Math.min(MOST_SECONDS, secondsChosen()) });
-  const said = await judge.judge(doc);
-  judge.end();
-  return said;
-}
-
 // What a site checks a puzzle by, as nonobench-audit calls it: the picture, its certificate, what lies beside it, and what the engine says of it.
 const exportForSite = () => asSeen(async ({ state, name }) => {
   const doc = eightBitDoc(state);
   const text = await certificateText();
   if (!text) return;
   const ground = doc.colours[0].join(',');
-  const said = await saidByEngine(doc);
+  const judge = new Judge({ seconds: Math.min(MOST_SECONDS, secondsChosen()) });
+  const said = await judge.judge(doc); // whose text is '' where there is none in the time
+  judge.end();
   const parts = { ppm: ppmTextOf(unlocked(doc)), cert: text, txt: said.text, givens: (text.match(/^given .*\n/gm) ?? []).join(''), background: ground === '255,255,255' ? '' : `${ground}\n` };
   const files = Object.entries(parts).filter(([, part]) => part).map(([ending, part]) => ({ name: `${name}.${ending}`, bytes: new TextEncoder().encode(part) }));
   exportAs(name, 'zip', writeZip(files), '-site', said.text && !said.fit ? phrase('export.savedUnfit', { why: unfitText(doc, said) }) : '');
