@@ -25,14 +25,16 @@ function inTurn(what, open) {
 
 /**
  * Opens a document in place of the present one, and keeps it under a name of its own. `id` is that of a record of the library,
- * `strokes` are as the bench has them; `isNamed` tells that its user chose the name. Answers whether it is open; what is refused is told.
+ * `strokes` are as the bench has them; `isNamed` tells that its user chose the name; `leave` is called once the present one may go.
+ * Answers whether it is open; what is refused is told.
  */
 export const openDoc = (doc, how) => inTurn(doc, () => openNow(doc, how));
 
-async function openNow(doc, { name, isSaved = true, id = null, strokes = undefined, handle = null, form = 'xml', isBlank = false, isNamed = handle !== null }) {
+async function openNow(doc, { name, isSaved = true, id = null, strokes = undefined, handle = null, form = 'xml', isBlank = false, isNamed = handle !== null, leave = () => {} }) {
   await keep.leave();
   const isLost = bench.state && !keep.isKept && !bench.isSaved;
   if (isLost && !(await confirmDialog(phrase('library.openAnotherPicture'), phrase('library.notBeenSavedBrowser', { name: bench.name }), phrase('library.open')))) return false;
+  leave();
   try {
     await bench.open(baseOf(doc), { name, page: pageOf(doc), strokes, isSaved });
   } catch (fault) {

@@ -11,19 +11,29 @@ import { openPlay } from '../play/play.js';
 import { phrase } from '../texts/phrase.js';
 import { openDialogs } from '../view/dialogs.js';
 
+// Shows what a link leads to, once that is open; behind the player there is nothing to be seen.
+function showBody(isPlayer) {
+  document.body.classList.toggle('player', isPlayer);
+  document.body.style.visibility = '';
+}
+
 /** Opens what the fragment holds, if it holds a puzzle. It goes to the library by its first stroke. */
 async function openFragment() {
   const isAlone = location.hash.startsWith('#play=');
   try {
     const found = await readFragment(location.hash);
     if (!found) return;
-    document.body.classList.remove('player');
-    for (const dialog of openDialogs()) dialog.close();
-    document.body.classList.toggle('player', isAlone);
     const name = isAlone ? phrase('play.puzzle') : found.doc.about.title || 'shared';
-    if (await openDoc(found.doc, { name: cleanName(name), isBlank: true }) && isAlone) await openPlay({ isAlone });
+    const leave = () => {
+      document.body.classList.remove('player'); // so that a player that closes stays closed
+      document.body.style.visibility = isAlone ? 'hidden' : '';
+      for (const dialog of openDialogs()) dialog.close();
+    };
+    const isOpen = await openDoc(found.doc, { name: cleanName(name), isBlank: true, leave });
+    showBody(isOpen && isAlone);
+    if (isOpen && isAlone) await openPlay({ isAlone });
   } catch (fault) {
-    document.body.classList.remove('player');
+    showBody(false);
     say(phrase('start.linkCouldNotOpened', { fault: faultText(fault) }), 'alarm');
   }
 }

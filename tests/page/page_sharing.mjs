@@ -107,6 +107,21 @@ export async function linkInTheSameTab({ browser, url, folder }) {
     await page.close();
 }
 
+/** Where a link to play follows another one in the same tab, the player of the first is gone. */
+export async function playersInTheSameTab({ browser, url, folder }) {
+    const { page } = await fresh(browser, url, folder, 'players');
+    for (const rows of [DUCK, TWO_WAYS]) {
+        await page.run(async (picture) => {
+            const colours = [[255, 255, 255], [0, 0, 0], [200, 40, 40], [40, 80, 200]];
+            location.hash = await fragmentOf({ rows: picture.length, columns: picture[0].length, maxval: 255, colours, picture, givens: new Set(), locks: new Set(), about: {}, inks: [], extras: null }, 'play');
+        }, rows);
+        await page.until((count) => document.getElementById('play-room')?.open && play.state.rows === count, 5000 * SLACK, rows.length);
+        assert.equal(await page.run(() => document.querySelectorAll('#play-room').length), 1);
+        assert.equal(await page.run(() => document.getElementById('play-field').checkVisibility({ visibilityProperty: true }) && !document.getElementById('menus').checkVisibility({ visibilityProperty: true })), true);
+    }
+    await page.close();
+}
+
 /** The dialog tells what a link does not: an ambiguous puzzle, a page from a file; and its HTML is text. */
 export async function linkNotes({ browser, url, folder }) {
     const { page, trial } = await fresh(browser, url, folder, 'notes');

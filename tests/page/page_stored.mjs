@@ -131,6 +131,12 @@ export async function otherShelves({ browser, url, folder }) {
     await isOpen(bare);
     await other.drag([[2, 2]]);
     await bare.until(() => /keeps nothing/.test(document.getElementById('said').textContent), 5000 * SLACK);
+    await bare.run(async () => { location.hash = await fragmentOf(bench.state, 'play'); });
+    await bare.until(() => document.querySelector('dialog[open]')?.textContent.includes('would be lost'), 5000 * SLACK);
+    await bare.press('Escape');
+    await bare.until(() => !document.querySelector('dialog[open]'), 5000 * SLACK);
+    assert.equal(await bare.run(() => document.getElementById('menus').checkVisibility({ visibilityProperty: true })), true, 'what is not left is seen');
+    assert.equal((await other.picture())[1], '.a..................');
     await bare.close();
 }
 
