@@ -100,9 +100,9 @@ export async function savedOfItsPicture({ browser, url, folder }) {
         window.showSaveFilePicker = () => new Promise((resolve) => { window.go = () => resolve(file); });
         runAction('save');
     }));
-    assert.match(await page.until(() => window.written, 3000 * SLACK), /\|\.XX\.\||<image>/);
+    assert.equal((await page.until(() => window.written, 3000 * SLACK)).match(/\|.{4}\|/g)?.length, 4);
     assert.deepEqual(await page.run(() => [bench.name, saving.handle]), ['second', null]);
-    await openedMeanwhile('', () => page.run(() => { runAction('resize'); window.go = () => document.querySelector('dialog[open] button.main').click(); }));
+    await openedMeanwhile('', () => page.run(() => { runAction('resize'); window.go = () => { document.querySelector('dialog[open] input').value = 5; document.querySelector('dialog[open] button.main').click(); }; }));
     await page.until(() => document.getElementById('said').textContent.startsWith('Another picture was opened meanwhile.'), 3000 * SLACK);
     assert.deepEqual(await trial.picture(), ['ab']);
     await page.close();
