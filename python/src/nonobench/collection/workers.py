@@ -222,7 +222,7 @@ class Pool:
     def _blame(self, hand: Hand, task: Task, why: str, is_late: bool) -> Iterator[Answer]:
         """What becomes of a puzzle whose process was ended, or ended: it is told, or tried once more."""
         if task.before:  # kept rows were compared, and no puzzle was begun: all are judged anew
-            self._again.appendleft(task._replace(used=0.0, before=""))
+            self._again.appendleft(task._replace(used=0.0, before="", kept=()))
         elif self._is_over(task) and task.start > 1:
             over = f"the puzzles before it have taken more than {MOST_TIMES * (self._seconds or 0):g} seconds: neither it nor those behind it are judged"
             yield from self._give_up(task, {"file": task.name, "puzzle": task.start, "verdict": "error", "error": over}, False)
