@@ -855,6 +855,18 @@ class Running(Case):
             self.assertEqual((glance.mode, row["puzzle"], row.get("more", False), answer.is_last), (serving.GLANCE, 2, more != "", more == ""))
             self.assertEqual([(after.start, after.mode, after.has_more) for after in pool._again], [(3, serving.FULL, False)] if more else [])
 
+    def test_puzzles_that_are_not_reached_are_told(self):
+        """A set looks whole in no case where a puzzle's process ends before it has come to the puzzle."""
+        task = serving.Task(0, "set.xml", "set.xml", (), None, None, None, "", 5, serving.FULL)
+        for why, tries in (("late", 1), ("gone", 2)):
+            pool = workers.Pool(types.SimpleNamespace(limit="9 s"), 0, 9.0)
+            told = [list(pool._blame(types.SimpleNamespace(known=None, has_more=None), task, why, why == "late")) for _ in range(tries)]
+            (answer,) = told.pop()
+            self.assertEqual((told, answer.is_last), ([[]] * (tries - 1), True))
+            self.assertEqual(json.loads(answer.text), {
+                "file": "set.xml", "puzzle": 5, "verdict": "error", "error": f"{why}: neither it nor those behind it are judged",
+            })
+
     def test_no_puzzle_pays_for_the_time_of_others(self):
         """Each piece that is read, and each puzzle that is passed or checked again, is a sign of life; and none is to blame before it is begun."""
         place = self.put("set.xml", "<puzzleset>" + webpbn(UNIQUE) * 5 + "</puzzleset>")

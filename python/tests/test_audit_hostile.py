@@ -1286,6 +1286,23 @@ class Processes(Case):
         self.assertEqual([row["verdict"] for row in rows.values()], ["unique", "undecided", "ambiguous", "undecided"])
         self.assertEqual([row.get("more", False) for row in rows.values()], [True, True, True, False])
 
+    def test_a_set_whose_reading_takes_longer_than_a_puzzle_may(self):
+        """Those behind a late puzzle are judged, too, however long it takes to come to them again."""
+        hard = "".join(f"|{row}|".replace("a", "X").replace("b", "r") for row in chequered(60, 3))
+        late = webpbn(UNIQUE).replace("|X.||.r|", hard)
+        far = webpbn(UNIQUE, more="<a/>" * (1 << 15))  # eight pieces
+        self.put("set.xml", "<puzzleset>" + "".join([*[far] * 4, late, webpbn(AMBIGUOUS), webpbn(UNIQUE)]) + "</puzzleset>")
+        lines = (
+            "import time\n"
+            "from nonobench.collection import webpbn\n"
+            "read = webpbn._Pieces.read\n"
+            "webpbn._Pieces.read = lambda *parts: (time.sleep(0.15), read(*parts))[1]\n"
+        )
+        self.by_process(lines, "--seconds", "3", "--jobs", "1")
+        rows = self.read("rows")
+        self.assertEqual([row["verdict"] for row in rows.values()], [*["unique"] * 4, "undecided", "ambiguous", "unique"])
+        self.assertEqual([row.get("more", False) for row in rows.values()], [*[True] * 6, False])
+
     def test_a_set_that_takes_long_in_all(self):
         """One file does not hold a process for each of its puzzles' seconds."""
         letters = "".join(f'<color name="{letter}" char="{letter}">{at}{at}0000</color>' for at, letter in enumerate("abc", 3))

@@ -50,7 +50,7 @@ class Hand(Child):
         self.quiet = 0.0  # seconds before this one that no puzzle was charged for
         self.cost = PACK_SECONDS  # seconds of a file, about
         self.is_leaving = False  # whether it has told that it ends
-        self.has_more = False  # whether others follow the puzzle of the first task's file that is being judged
+        self.has_more: Optional[bool] = None  # whether others follow the puzzle of the first task's file; nothing before that is begun
         self.known: Optional[tuple[str, str]] = None  # the row of the puzzle whose certificate or grade is being made, and what goes with it
         self.send(0, marshal.dumps(tuple(settings)))
 
@@ -158,7 +158,7 @@ class Pool:
 
     def _take(self, hand: Hand, task: Task, answer: Answer) -> Iterator[Answer]:
         """Takes the answer to the first task of a process."""
-        hand.known, hand.has_more = None, False
+        hand.known, hand.has_more = None, None
         used, hand.quiet = task.used + hand.quiet, 0.0
         yield answer
         if answer.is_last or task.mode == GLANCE:
@@ -221,21 +221,23 @@ class Pool:
 
     def _blame(self, hand: Hand, task: Task, why: str, is_late: bool) -> Iterator[Answer]:
         """What becomes of a puzzle whose process was ended, or ended: it is told, or tried once more."""
+        is_tried = is_late or (task.number, task.start) in self._died
         if task.before:  # kept rows were compared, and no puzzle was begun: all are judged anew
             self._again.appendleft(task._replace(used=0.0, before="", kept=()))
-        elif self._is_over(task) and task.start > 1:
-            over = f"the puzzles before it have taken more than {MOST_TIMES * (self._seconds or 0):g} seconds: neither it nor those behind it are judged"
-            yield from self._give_up(task, {"file": task.name, "puzzle": task.start, "verdict": "error", "error": over}, False)
+        elif task.start > 1 and (self._is_over(task) or is_tried and task.mode == FULL and hand.has_more is None):
+            over = f"the puzzles before it have taken more than {MOST_TIMES * (self._seconds or 0):g} seconds" if self._is_over(task) else why
+            row: Row = {"file": task.name, "puzzle": task.start, "verdict": "error", "error": f"{over}: neither it nor those behind it are judged"}
+            yield from self._give_up(task, row, False)
         elif hand.known is not None:
             text, rest = hand.known
             kind, _, certificate = rest.partition(" ")
-            row: Row = unfinished(json.loads(text), why)
+            row = unfinished(json.loads(text), why)
             if is_late and "seconds" in row:
                 row["seconds"] = self._seconds
             yield from self._give_up(task, row, kind == "more", certificate)
         elif is_late and task.mode == FULL:
-            self._again.appendleft(task._replace(mode=GLANCE, spent=self._seconds or 0.0, has_more=hand.has_more))
-        elif not is_late and (task.number, task.start) not in self._died:
+            self._again.appendleft(task._replace(mode=GLANCE, spent=self._seconds or 0.0, has_more=bool(hand.has_more)))
+        elif not is_tried:
             self._died.add((task.number, task.start))
             self._again.appendleft(task)
         else:
