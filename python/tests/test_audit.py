@@ -26,7 +26,7 @@ from audit_parts import (  # noqa: E402
 
 import nonobench  # noqa: E402
 from nonobench import check_site  # noqa: E402
-from nonobench.collection import arguments, certificates, judging, readers, running, serving, tally, workers  # noqa: E402
+from nonobench.collection import arguments, certificates, finding, judging, readers, running, serving, tally, workers  # noqa: E402
 from nonobench.collection.puzzles import Puzzle, Unreadable  # noqa: E402
 from nonobench.collection.rows import csv_cells, printable  # noqa: E402
 from odd_images import BROKEN, odd_images  # noqa: E402
@@ -1239,6 +1239,16 @@ class Running(Case):
         self.assertEqual(list(self.rows("site/b.ppm", "site", "site/a", "./site")), wanted)
 
     def test_grades(self):
+        # What leads out of the current folder comes behind what lies in it, also where rows are joined.
+        self.addCleanup(os.chdir, os.getcwd())
+        os.chdir(self.site / "a")
+        names = [found.name for found in finding.find([".", "../b.ppm", str(self.site)])]
+        self.assertEqual(names, [*(f"{self.site}/{name.partition('/')[2]}" for name in wanted), "a/c.ppm", "b.ppm", "../b.ppm"])
+        self.assertEqual(names, sorted(names, key=finding.order_of))
+        # A folder that cannot be listed has its name as PATH.
+        for path in (".", "none/sub", "/none", "/none/sub"):
+            prefix = "" if path == "." else path + "/"
+            self.assertEqual([one.name for one in finding._below("/none/", prefix, "", finding.Places(is_untrusted=True))], [path])
         # An example of tests/cases/grade.case, by hand: 2 rounds, 8 evaluations, longest wait 2.
         self.put("one.ppm", p3([".a.", "aa.", "..."]))
         row = self.rows("site", status=0)["site/one.ppm"]

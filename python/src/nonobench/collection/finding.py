@@ -76,9 +76,9 @@ def shown(path: str) -> str:
     return os.fsencode(path).replace(b"\\", rb"\x5c").decode("utf-8", "backslashreplace")
 
 
-def order_of(name: str) -> str:
-    """What names are sorted by: folder by folder."""
-    return name.replace("/", "\0")
+def order_of(name: str) -> tuple[bool, str]:
+    """What names are sorted by: folder by folder, and what leads out of the current one behind all others."""
+    return name.split("/")[0] == "..", name.replace("/", "\0")
 
 
 def is_in_share(name: str, shard: tuple[int, int]) -> bool:
@@ -197,7 +197,7 @@ def _below(real: str, prefix: str, front: str, places: Places, depth: int = 0) -
         with searched(real, depth) as entries:
             folders = {entry.name: entry.is_dir(follow_symlinks=False) for entry in entries if entry.name[0] != "."}
     except OSError as error:
-        yield Found(real, shown(prefix.rstrip("/") or real or "."), front, (), None, None, (), error.strerror)
+        yield Found(real, shown(os.path.normpath(prefix)), front, (), None, None, (), error.strerror)
         return
     folder = _folder(prefix, real, front, frozenset(folders.items()), places)
     for name in sorted(folders, key=shown):

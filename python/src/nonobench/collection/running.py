@@ -131,7 +131,7 @@ class Run:
 
     def merge(self) -> int:
         """Joins the rows of several runs."""
-        rows: dict[tuple[str, int], tuple[int, int]] = {}
+        rows: dict[Any, tuple[int, int]] = {}
         files = []
         for at, path in enumerate(self._options.paths):
             if os.path.exists(path) and not os.path.isfile(path):
@@ -144,7 +144,7 @@ class Run:
         self._open()
         return self._guarded(lambda: self._join(files, rows))
 
-    def _join(self, files: list[Any], rows: dict[tuple[str, int], tuple[int, int]]) -> None:
+    def _join(self, files: list[Any], rows: dict[Any, tuple[int, int]]) -> None:
         before: Row = {}
         for key in sorted(rows):
             at, place = rows[key]
