@@ -753,7 +753,9 @@ class Running(Case):
     def test_pictures_are_not_written_where_puzzles_are_read(self):
         self.put("in/one.ppm", p3(UNIQUE))
         os.symlink("site", self.folder / "other")
-        for words in (["site", "--ppm", "site"], ["site", "--ppm", "site/out"], ["site/in", "--ppm", "site"], ["site/in/one.ppm", "--ppm", "site/in"],
+        (self.folder / "near").mkdir()
+        os.symlink("../site/in/one.ppm", self.folder / "near" / "link.ppm")
+        for words in (["site", "--ppm", "site"], ["near/link.ppm", "--ppm", "near"], ["near/link.ppm", "--ppm", "site/in"], ["site", "--ppm", "site/out"], ["site/in", "--ppm", "site"], ["site/in/one.ppm", "--ppm", "site/in"],
                       ["site", "--ppm", "other/in"], ["site/in", "--givens", "site", "--ppm", "site/out"], ["site", "--ppm", "out", "--scheduler", "tcp://none:1"]):
             with self.subTest(words):
                 self.run_audit(*words, status=2)
@@ -1237,8 +1239,6 @@ class Running(Case):
         wanted = ["site/a/a/c.ppm", "site/a/b.ppm", "site/a-b.ppm", "site/a.ppm", "site/b.ppm"]
         self.assertEqual(list(self.rows("site")), wanted)
         self.assertEqual(list(self.rows("site/b.ppm", "site", "site/a", "./site")), wanted)
-
-    def test_grades(self):
         # What leads out of the current folder comes behind what lies in it, also where rows are joined.
         self.addCleanup(os.chdir, os.getcwd())
         os.chdir(self.site / "a")
@@ -1249,6 +1249,8 @@ class Running(Case):
         for path in (".", "none/sub", "/none", "/none/sub"):
             prefix = "" if path == "." else path + "/"
             self.assertEqual([one.name for one in finding._below("/none/", prefix, "", finding.Places(is_untrusted=True))], [path])
+
+    def test_grades(self):
         # An example of tests/cases/grade.case, by hand: 2 rounds, 8 evaluations, longest wait 2.
         self.put("one.ppm", p3([".a.", "aa.", "..."]))
         row = self.rows("site", status=0)["site/one.ppm"]

@@ -12,7 +12,7 @@ from typing import Optional, Sequence
 
 from .._answers import FLAW_KINDS
 from .._library import version
-from .finding import ENDINGS, MADE, SUFFIXES, find, folders_of, front_of, is_among, is_behind_link, place_among, unreached, without_nested
+from .finding import ENDINGS, MADE, SUFFIXES, find, folders_of, front_of, is_among, is_behind_link, place_among, real_place, unreached, without_nested
 from .readers import ground_of
 
 _ENDINGS = frozenset((*SUFFIXES, ".givens", ".background", *(f".{ending}" for ending in ENDINGS)))
@@ -80,9 +80,8 @@ def options_of(words: list[str]) -> Options:
     for path in told.paths:
         if not os.path.lexists(path):
             parser.error(f"no such file or folder: {path!r}" + (" (a folder of that name is ./merge)" if path == "merge" else ""))
-        if ".." in path.split("/") and os.path.realpath(os.path.normpath(path)) != os.path.realpath(path):
-            parser.error(f"{path!r} goes back behind a link: name {os.path.realpath(path)!r}")
-    _refuse_inputs(parser, told)
+        _refuse_way_back(parser, path)
+    _refuse_outputs(parser, told, told.certify, told.publish)
     if told.is_untrusted:
         _hold_outputs(parser, told)
     nested = unreached(told.paths)
@@ -154,7 +153,7 @@ def _add_outputs(parser: argparse.ArgumentParser) -> None:
     outputs.add_argument("--jsonl", metavar="FILE", help="a line of JSON for each puzzle; - is standard output")
     outputs.add_argument("--csv", metavar="FILE", help="for spreadsheets; - is standard output")
     outputs.add_argument("--html", metavar="FILE", help="a report to look at, in one file that needs no network")
-    outputs.add_argument("--title", metavar="TEXT", help="of the report")
+    outputs.add_argument("--title", metavar="TEXT", type=lambda word: word.encode("utf-8", "backslashreplace").decode("utf-8"), help="of the report")
     outputs.add_argument("--quiet", action="store_true", dest="is_quiet", help="neither table nor progress")
 
 
@@ -177,16 +176,30 @@ def _merge_options(words: list[str]) -> Options:
     for path in told.paths:
         if not os.path.exists(path):
             parser.error(f"no such file: {path!r}")
-    _refuse_inputs(parser, told)
+    _refuse_outputs(parser, told)
     return Options(**vars(told), is_merge=True)
 
 
-def _refuse_inputs(parser: argparse.ArgumentParser, told: argparse.Namespace) -> None:
-    """An output must not take the place of an input: of a puzzle, of what lies beside one, or of rows to be joined."""
-    for name in [name for name in (told.jsonl, told.csv, told.html) if name not in (None, "-")]:
-        if os.path.splitext(name)[1].lower() in _ENDINGS:
+def _refuse_way_back(parser: argparse.ArgumentParser, path: str) -> None:
+    """Its letters, by which places are compared, must lead where the system goes."""
+    if ".." in path.split("/") and os.path.realpath(os.path.normpath(path)) != os.path.realpath(path):
+        parser.error(f"{path!r} goes back behind a link: name {os.path.realpath(path)!r}")
+
+
+def _refuse_outputs(parser: argparse.ArgumentParser, told: argparse.Namespace, *folders: Optional[str]) -> None:
+    """An output must not take the place of another one, nor of an input: of a puzzle, of what lies beside one, or of rows to be joined."""
+    files = [name for name in (told.jsonl, told.csv, told.html) if name is not None]
+    for name in (name for name in (*files, *folders) if name is not None):
+        if not name or (name, told.html) == ("-", "-"):
+            parser.error(f"{name!r} is no name for an output")
+        _refuse_way_back(parser, name)
+    places = [name if name == "-" else os.path.realpath(name) for name in files]
+    for name, place in zip(files, places):
+        if places.count(place) > 1:
+            parser.error(f"{name!r} is the place of two outputs")
+        if any(os.path.splitext(way)[1].lower() in _ENDINGS for way in (name, place)):
             parser.error(f"{name!r} is no name for an output: its ending is that of a puzzle, or of what lies beside one")
-        if os.path.exists(name) and any(os.path.exists(path) and os.path.samefile(path, name) for path in told.paths):
+        if name != "-" and os.path.exists(name) and any(os.path.exists(path) and os.path.samefile(path, name) for path in told.paths):
             parser.error(f"{name!r} is both an input and an output")
 
 
@@ -215,10 +228,11 @@ def _refuse_publishing(parser: argparse.ArgumentParser, told: argparse.Namespace
     """Pictures are not written where puzzles or givens are read: they would be read as others, or take their place."""
     if told.scheduler is not None:
         parser.error("--ppm does not go with --scheduler")
+    other = os.path.realpath(told.publish)
     for path in (*told.paths, *([told.givens] if told.givens is not None else [])):
-        one, other = os.path.realpath(path), os.path.realpath(told.publish)
-        if os.path.commonpath([one, other]) in (one, other):
-            parser.error(f"--ppm {told.publish!r} and {path!r} lie in each other")
+        for one in (os.path.realpath(path), *([] if os.path.isdir(path) else [real_place(path)])):  # beside a link to a file, givens are read
+            if os.path.commonpath([one, other]) in (one, other):
+                parser.error(f"--ppm {told.publish!r} and {path!r} lie in each other")
 
 
 def _refuse_certifying(parser: argparse.ArgumentParser, told: argparse.Namespace) -> None:

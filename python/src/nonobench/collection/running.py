@@ -114,9 +114,8 @@ class Run:
         options = self._options
         settings = settings_of(options)
         with self._stack as stack:
-            for name in {options.certify, options.publish}:
-                if name is not None:
-                    stack.callback(os.close, kept_folder(name, options.shard != (1, 1), options.is_untrusted))
+            for name in {os.path.realpath(name): name for name in (options.certify, options.publish) if name is not None}.values():
+                stack.callback(os.close, kept_folder(name, options.shard != (1, 1), options.is_untrusted))
             source: Any = Pool(settings, options.jobs, options.seconds)
             if options.scheduler is not None:
                 from .cluster import Cluster
