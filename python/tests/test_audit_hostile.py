@@ -5,16 +5,19 @@ that die, hang or take too much. Each test names what must come out.
 """
 
 import contextlib
+import fcntl
 import io
 import json
 import os
 import pty
 import resource
+import select
 import shutil
 import signal
 import struct
 import subprocess
 import sys
+import time
 import unittest
 import unittest.mock
 import zlib
@@ -666,8 +669,7 @@ class Strangers(Case):
         secret, sub, old = self.folder / "secret", self.site / "sub", self.site / "old"
         for folder in (secret, sub):
             folder.mkdir()
-        for name in ("rows", "rows.new"):
-            (secret / name).write_text("precious")
+        (secret / "rows").write_text("precious")
 
         def run(*words, at, swaps=True):
             """A run in which the folder is swapped before something is done, or the file; with its status."""
@@ -688,22 +690,18 @@ class Strangers(Case):
             if old.exists():
                 sub.unlink()
                 old.rename(sub)
-            self.assertEqual({place.name: place.read_text() for place in secret.iterdir()}, {"rows": "precious", "rows.new": "precious"})
+            self.assertEqual({place.name: place.read_text() for place in secret.iterdir()}, {"rows": "precious"})
             return status
 
         for option in ("--jsonl", "--csv", "--html"):
             with self.subTest(option):
                 self.assertEqual(run(option, at=(workers.Pool, "start")), 3)
                 self.assertEqual(list(sub.iterdir()), [])
-        new = sub / "rows.new"  # what an earlier run left, or seems to have left
-        os.link(secret / "rows", new)
         self.assertEqual(run("--html", at=(report.Report, "close")), 0)
         self.assertIn("two.ppm", (sub / "rows").read_text())
         (sub / "rows").unlink()
         for at, name in enumerate("dcba"):  # a row is put before others, or what a pipe had is
             self.put(f"{name}.ppm", p3(UNIQUE))
-            new.unlink(missing_ok=True)
-            os.link(secret / "rows", new)
             place = ((outputs.Lines, "_put_in_order"), (outputs.Lines, "again"))[at % 2]
             with self.subTest(name):
                 self.assertEqual(run("--jsonl", *(["--resume"] if at else []), at=place, swaps=at < 3), 0)
@@ -1024,7 +1022,7 @@ class Outputs(Case):
             for place in ("/proc/nonobench/x", "file/x"):
                 with self.subTest((option, place)):
                     done = self.run_audit("site", option, place, status=3)
-                    self.assertRegex(done.stderr, rf"^nonobench-audit: {place}[.new]*: [A-Z][a-z ]+\n$")
+                    self.assertRegex(done.stderr, rf"^nonobench-audit: {place}: [A-Z][a-z ]+\n$")
 
     @unittest.skipIf(os.geteuid() == 0, "root writes everywhere")
     def test_a_read_only_folder(self):
@@ -1080,20 +1078,61 @@ class Outputs(Case):
         for name in ("pipe", "null"):
             with self.subTest(name):
                 self.assertEqual(self.run_audit("site", "--html", name, status=3).stderr, f"nonobench-audit: {name}: this is not a file\n")
-                self.assertFalse(os.path.exists(self.folder / f"{name}.new"))
+                self.assertEqual(sorted(os.listdir(self.folder)), ["null", "pipe", "site"])
 
-    def test_what_nobody_named_is_no_link(self):
-        """What is written first, and then takes an output's place, goes through no stranger's link, and waits at no pipe."""
-        (self.folder / "kept").write_text("as it was")
+    def test_what_is_written_first_has_a_name_of_its_own(self):
+        """It takes no place but that of an output, also where a link of the operator's leads, and no trace is left."""
+        (self.folder / "www").mkdir()
+        os.symlink("www/report", self.folder / "report")
+        kept = [self.folder / name for name in ("report.new", "rows.new", "www/report.new")]
+        for place in kept:
+            place.write_text("as it was")
         self.run_audit("site", "--jsonl", "rows", status=1)
         self.put("first.ppm", p3(UNIQUE))  # so that the rows are put in order
-        for name, words in (("report", ["--html", "report"]), ("rows", ["--jsonl", "rows", "--resume"])):
-            for make, why in ((lambda place: os.symlink("kept", place), "Too many levels of symbolic links"), (os.mkfifo, "this is not a file")):
-                make(self.folder / f"{name}.new")
-                with self.subTest((name, why)):
-                    self.assertEqual(self.run_audit("site", *words, status=3).stderr, f"nonobench-audit: {name}.new: {why}\n")
-                    self.assertEqual((self.folder / "kept").read_text(), "as it was")
-                os.unlink(self.folder / f"{name}.new")
+        self.run_audit("site", "--jsonl", "rows", "--resume", "--html", "report", status=1)
+        self.assertEqual(list(self.read("rows")), ["site/first.ppm", "site/one.ppm", "site/two.ppm"])
+        self.assertEqual([place.read_text() for place in kept], ["as it was"] * 3)
+        self.assertEqual(sorted(os.listdir(self.folder)), ["report", "report.new", "rows", "rows.new", "site", "www"])
+        self.assertEqual(sorted(os.listdir(self.folder / "www")), ["report", "report.new"])
+        self.assertTrue((self.folder / "report").is_symlink())
+        self.assertIn("first.ppm", (self.folder / "www" / "report").read_text())
+
+    def test_a_run_that_judges_nothing_keeps_what_an_earlier_one_wrote(self):
+        places = [self.folder / name for name in ("rows", "rows.csv", "report")]
+        for place in places:
+            place.write_text("as it was")
+        words = [str(self.site), "--quiet", "--jobs", "1"]
+        for option, place in zip(("--jsonl", "--csv", "--html"), places):
+            words += [option, str(place)]
+
+        def broken(*_):
+            yield None
+            raise workers.Broken("no process")
+
+        with unittest.mock.patch.object(workers.Pool, "answers", broken), contextlib.redirect_stderr(io.StringIO()):
+            self.assertEqual(running.main(words), 3)
+        self.assertEqual([place.read_text() for place in places], ["as it was"] * 3)
+
+    def test_names_of_outputs(self):
+        """Each leads where its letters do, and to no other one's place. Of a title, what no text can have is escaped."""
+        (self.site / "sub").mkdir()
+        for name, to in (("other", "rows"), ("alias", "site/sub"), ("linked", "site/one.ppm")):
+            os.symlink(to, self.folder / name)
+        two, none, back = "is the place of two outputs", "'' is no name for an output", "goes back behind a link"
+        site, folder = str(self.site), f"{self.folder}/"
+        for words, why in (
+            (["--jsonl", folder + "rows", "--resume", "--html", folder + "./rows"], two), (["--csv", folder + "rows", "--html", folder + "other"], two),
+            (["--jsonl", "-", "--csv", "-"], two), *(([option, ""], none) for option in ("--jsonl", "--csv", "--html", "--certify", "--ppm")),
+            (["--html", "-"], "'-' is no name for an output"), (["--csv", folder + "linked"], "its ending is that of a puzzle"),
+            *(([option, folder + "alias/../x"], back) for option in ("--jsonl", "--csv", "--html", "--certify", "--ppm")),
+        ):
+            for more in ([], ["--untrusted"]):
+                with self.subTest(words), contextlib.redirect_stderr(io.StringIO()) as said, self.assertRaises(SystemExit):
+                    arguments.options_of([site, *words, *more])
+                self.assertIn(why, said.getvalue())
+        self.assertEqual(arguments.options_of([site, "--title", "caf\u00e9 \udce9"]).title, "caf\u00e9 \\udce9")
+        words = ["--quiet", "--jobs", "1", "--certify", folder + "out", "--ppm", folder + "./out/"]
+        self.assertEqual(running.main([site + "/one.ppm", *words]), 0)  # which does not lock itself out
 
     def test_messages_show_names_as_rows_do(self):
         (self.folder / "up\x1b[31m\nall fine").mkdir()
@@ -1133,9 +1172,8 @@ class Outputs(Case):
         eventually(lambda: (self.folder / "rows").exists() and (self.folder / "rows").stat().st_size)
         before = (self.folder / "rows").read_bytes()
         for option, name in zip(outputs[::2], outputs[1::2]):
-            told = f"{name}.new" if option == "--html" else name
             with self.subTest(option):
-                self.assertEqual(self.run_audit("site", option, name, status=3).stderr, f"nonobench-audit: {told}: another run writes to it\n")
+                self.assertEqual(self.run_audit("site", option, name, status=3).stderr, f"nonobench-audit: {name}: another run writes to it\n")
         self.assertTrue((self.folder / "rows").read_bytes().startswith(before))
         first.send_signal(signal.SIGTERM)
         first.communicate(timeout=PATIENCE)

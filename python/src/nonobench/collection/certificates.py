@@ -128,11 +128,14 @@ def opened(path: str, is_made: bool = True) -> Iterator[int]:
         os.close(folder)
 
 
+def new_name() -> str:
+    """What a file is called until it is whole: a short name that nothing else has, on whichever machine."""
+    return f".{os.urandom(12).hex()}.new"
+
+
 def _write(name: str, data: bytes, folder: int) -> None:
-    """Puts a file in a folder, also in the place of another one, or leaves none. Until it is whole it has a short name that no other
-    process has, on whichever machine.
-    """
-    new = f".{os.urandom(12).hex()}.new"
+    """Puts a file in a folder, also in the place of another one, or leaves none."""
+    new = new_name()
     with open(new, "xb", buffering=0, opener=functools.partial(os.open, mode=0o666, dir_fd=folder)) as file:
         try:
             write_all(file.fileno(), data)

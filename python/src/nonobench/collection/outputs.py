@@ -14,7 +14,7 @@ import time
 from array import array
 from typing import Any, BinaryIO, Callable, ContextManager, Iterator, Optional, Union
 
-from .certificates import opened
+from .certificates import new_name, opened
 from .rows import COLUMNS, HEAD, Row, csv_cells, table_line
 
 SOME = 1 << 16  # bytes that are written together
@@ -94,13 +94,15 @@ class _Messages(io.FileIO):
 
 class Output:
     """Bytes on their way to a file, or to standard output, which is called `-`. What a file had is kept until something is written.
-    For one that nobody named and that then takes another's place, or one among strangers, no link or pipe that lies there is one. The
-    former is a new file, and the latter has a handle of its folder, and is there, whatever has the name of that by now.
+    For one among strangers, no link or pipe that lies there is one: it has a handle of its folder, and is there, whatever has the name of
+    that by now. One that is to take another's place is a new file.
     """
 
     def __init__(self, name: str, keeps: bool = False, folder: Optional[int] = None, is_new: bool = False) -> None:
         self.name = name
         self._folder = folder
+        self.place = os.path.realpath(name) if folder is None and os.path.islink(name) else name  # also behind a link of the operator's own
+        self._way = name if folder is None else os.path.basename(name)
         self._held = bytearray()
         self._since = 0.0
         self._is_old = False  # whether the file still has what it had
@@ -108,21 +110,16 @@ class Output:
             if name == "-":
                 self.file: BinaryIO = os.fdopen(os.dup(1), "wb", buffering=0)
                 return
-            self._open(os.O_NOFOLLOW if is_new or folder is not None else 0)
-            if is_new:  # nobody writes to what an earlier run left there; but others may have it open, or by another name
-                os.unlink(self._way(name), dir_fd=folder)
-                self.file.close()
-                self._open(os.O_NOFOLLOW | os.O_EXCL)
-            elif folder is not None and os.fstat(self.file.fileno()).st_nlink > 1:  # strangers may name a file of the operator's
+            if is_new:
+                self._way = os.path.join(os.path.dirname(self._way), new_name())
+            self._open(os.O_EXCL if is_new else os.O_NOFOLLOW if folder is not None else 0)
+            if folder is not None and os.fstat(self.file.fileno()).st_nlink > 1:  # strangers may name a file of the operator's
                 raise Failure(f"{name}: it has other names, too")
             self._is_old = not keeps and is_regular(self.file)
 
-    def _way(self, name: str) -> str:
-        return name if self._folder is None else os.path.basename(name)
-
     def _open(self, flags: int) -> None:
         """Opens the file. Nothing waits for somebody to read a pipe: that there is nobody is told, now or later."""
-        way = self._way(self.name)
+        way = self._way
         is_pipe = not flags and os.path.exists(way) and stat.S_ISFIFO(os.stat(way).st_mode)
         access = os.O_WRONLY | os.O_NONBLOCK if is_pipe else os.O_RDWR | os.O_CREAT | os.O_APPEND
         handle = os.open(way, access | os.O_CLOEXEC | flags, 0o666, dir_fd=self._folder)
@@ -160,27 +157,28 @@ class Output:
                 data = data[self.file.write(data) :]
 
     @contextlib.contextmanager
-    def in_place_of(self, name: str) -> Iterator[None]:
-        """Once it is written, takes the place of a file in its folder, for those alone who can read that; or leaves none."""
-        new, old = self._way(self.name), self._way(name)
+    def replaced(self) -> Iterator[Output]:
+        """A new file, which takes this one's place once it is written, for those alone who can read this; or leaves none."""
+        new = Output(self.place, folder=self._folder, is_new=True)
         try:
-            with telling(name):
-                yield
-                with contextlib.suppress(FileNotFoundError):
-                    os.fchmod(self.file.fileno(), stat.S_IMODE(os.stat(old, dir_fd=self._folder).st_mode))
-                self.close()
-                os.replace(new, old, src_dir_fd=self._folder, dst_dir_fd=self._folder)
-        except Failure:
+            with telling(self.name):
+                yield new
+                os.fchmod(new.file.fileno(), stat.S_IMODE(os.fstat(self.file.fileno()).st_mode))
+                new.close()
+                old = os.path.join(os.path.dirname(new._way), os.path.basename(self.place))
+                os.replace(new._way, old, src_dir_fd=self._folder, dst_dir_fd=self._folder)
+        except BaseException:
             with contextlib.suppress(OSError):
-                os.unlink(new, dir_fd=self._folder)
-                self.file.close()
+                os.unlink(new._way, dir_fd=self._folder)
+                new.file.close()
             raise
 
-    def close(self) -> None:
-        """Writes what waits, and lets others write."""
+    def close(self, is_whole: bool = True) -> None:
+        """Writes what waits, and lets others write. What the file had stays where nothing was written, unless all is."""
         with self.file:
             self.flush()
-            self._empty()
+            if is_whole:
+                self._empty()
 
 
 class Sink:
@@ -195,7 +193,7 @@ class Sink:
 
     def close(self, is_whole: bool) -> None:
         """Ends the file."""
-        self._output.close()
+        self._output.close(is_whole)
 
 
 class Lines(Sink):
@@ -203,8 +201,6 @@ class Lines(Sink):
 
     def __init__(self, name: str, is_resumed: bool, folder: Optional[int] = None) -> None:
         super().__init__(Output(name, is_resumed, folder))
-        self._name = os.path.realpath(name) if os.path.islink(name) and folder is None else name
-        self._folder = folder
         self._end = 0
         self._order = array("Q")
         self.has_places = name != "-" and is_regular(self._output.file)  # where rows can be put in order in the end
@@ -233,13 +229,12 @@ class Lines(Sink):
         self._output.flush()
         if is_whole and self.has_places:
             self._put_in_order()
-        self._output.close()
+        self._output.close(is_whole)
 
     def _put_in_order(self) -> None:
         if all(before < after for before, after in zip(self._order, self._order[1:])) and len(self._order) == _count(self._output.file):
             return
-        new = Output(f"{self._name}.new", folder=self._folder, is_new=True)
-        with new.in_place_of(self._name), self.again() as lines:
+        with self._output.replaced() as new, self.again() as lines:
             for place in self._order:
                 lines.seek(place)
                 new.put(lines.readline())
@@ -279,15 +274,21 @@ class Sheet(Sink):
     def __init__(self, name: str, folder: Optional[int] = None) -> None:
         super().__init__(Output(name, folder=folder))
         self._writer = csv.writer(self, lineterminator="\r\n")
-        self._writer.writerow(COLUMNS)
+        self._head: list[Any] = [COLUMNS]
 
     def write(self, line: str) -> None:
         """Takes a line of the writer."""
         self._output.put(line.encode("utf-8"))
 
     def put(self, text: str, row: Row) -> None:
-        """Puts a row."""
-        self._writer.writerow(csv_cells(row))
+        """Puts a row, the first one behind what its cells are called."""
+        self._writer.writerows([*self._head, csv_cells(row)])
+        self._head = []
+
+    def close(self, is_whole: bool) -> None:
+        """Ends the file."""
+        self._writer.writerows(self._head if is_whole else [])
+        super().close(is_whole)
 
 
 class Table(Sink):

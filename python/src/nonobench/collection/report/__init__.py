@@ -31,8 +31,9 @@ class Report(Sink):
         self._name = name
         self._title = title
         self._tally = tally
-        super().__init__(Output(f"{name}.new", folder=folder, is_new=True))
-        self._rows = tempfile.TemporaryFile(dir=(os.path.dirname(name) or ".") if folder is None else f"/proc/self/fd/{folder}")
+        super().__init__(Output(name, True, folder))
+        with telling(name):  # also that there is no room for another file beside it
+            self._rows = tempfile.TemporaryFile(dir=(os.path.dirname(self._output.place) or ".") if folder is None else f"/proc/self/fd/{folder}")
         self._sides: Counter[tuple[int, str]] = Counter()
 
     def put(self, text: str, row: Row) -> None:
@@ -47,13 +48,15 @@ class Report(Sink):
     def close(self, is_whole: bool) -> None:
         """Makes the report of the rows that were put."""
         try:
-            with self._output.in_place_of(self._name):
-                self._make(is_whole)
+            if is_whole or self._rows.tell():
+                with self._output.replaced() as new:
+                    self._make(new, is_whole)
         finally:
             with contextlib.suppress(OSError):
                 self._rows.close()
+            self._output.close()
 
-    def _make(self, is_whole: bool) -> None:
+    def _make(self, new: Output, is_whole: bool) -> None:
         parts = {name: (_FOLDER / name).read_text(encoding="utf-8") for name in ("report.css", "report.js")}
         mark = secrets.token_hex()
         page = self._environment.get_template("report.html").render(
@@ -61,11 +64,11 @@ class Report(Sink):
             **self._figures(),
         )
         front, _, back = page.partition(mark)
-        self._output.put(front.encode("utf-8"))
+        new.put(front.encode("utf-8"))
         self._rows.seek(0)
         for chunk in iter(lambda: self._rows.read(1 << 20), b""):
-            self._output.put(chunk)
-        self._output.put(back.encode("utf-8"))
+            new.put(chunk)
+        new.put(back.encode("utf-8"))
 
     def _figures(self) -> dict[str, Any]:
         """What the front of the page tells, as numbers and shares."""
