@@ -1134,6 +1134,25 @@ class Outputs(Case):
         words = ["--quiet", "--jobs", "1", "--certify", folder + "out", "--ppm", folder + "./out/"]
         self.assertEqual(running.main([site + "/one.ppm", *words]), 0)  # which does not lock itself out
 
+    def test_rows_are_whole_where_a_run_is_stopped(self):
+        """However slowly they are read: what is told as done is there, in each output."""
+        for at in range(40):
+            self.put(f"{at}.ppm", (ROOT / "measure" / "pictures" / "blob-60-k8-0.ppm").read_bytes())
+        ours, theirs = os.pipe()
+        fcntl.fcntl(theirs, fcntl.F_SETPIPE_SZ, 4096)
+        words = self.words("site", "--jobs", "1", "--jsonl", "-", "--csv", "rows.csv")
+        with open(ours, "rb") as rows, subprocess.Popen(words, cwd=self.folder, env=self.env(), stdout=theirs, stderr=subprocess.PIPE, text=True) as process:
+            os.close(theirs)
+            eventually(lambda: select.select([rows], [], [], 0)[0])
+            time.sleep(0.5)  # until it waits for a reader
+            process.send_signal(signal.SIGTERM)
+            time.sleep(0.1)
+            lines = rows.read().splitlines(keepends=True)
+            self.assertEqual(process.wait(PATIENCE), 143)
+            self.assertIn(f"stopped after {len(lines)} puzzles", process.stderr.read())
+        self.assertEqual([json.loads(line)["file"] for line in lines], sorted(f"site/{at}.ppm" for at in range(40))[: len(lines)])
+        self.assertEqual(len((self.folder / "rows.csv").read_text().splitlines()), 1 + len(lines))
+
     def test_messages_show_names_as_rows_do(self):
         (self.folder / "up\x1b[31m\nall fine").mkdir()
         self.assertEqual(self.run_audit("up\x1b[31m\nall fine", status=3).stderr, "nonobench-audit: no puzzles in up\\x1b[31m\\nall fine\n")

@@ -45,6 +45,20 @@ class Stopped(BaseException):
         self.status = 128 + number
 
 
+class Whole:
+    """What is done within is done whole: a signal that comes meanwhile stops the run behind it."""
+
+    is_in, came = False, 0
+
+    def __enter__(self) -> None:
+        Whole.is_in = True
+
+    def __exit__(self, kind: Any, *_: Any) -> None:
+        Whole.is_in = False
+        if Whole.came and kind is None:
+            raise Stopped(Whole.came)
+
+
 class Kept(NamedTuple):
     """Rows of an earlier run, and what is to be done about the file they are of."""
 
@@ -56,6 +70,7 @@ class Kept(NamedTuple):
 def main(words: Optional[list[str]] = None) -> int:
     """Runs nonobench-audit, and answers its status."""
     hold_streams()
+    Whole.came = 0
     for number in (signal.SIGINT, signal.SIGTERM):
         signal.signal(number, _stop)
     try:
@@ -73,7 +88,9 @@ def main(words: Optional[list[str]] = None) -> int:
 
 def _stop(number: int, _frame: Any) -> None:
     signal.signal(number, signal.SIG_DFL)
-    raise Stopped(number)
+    Whole.came = number
+    if not Whole.is_in:
+        raise Stopped(number)
 
 
 def settings_of(options: Options) -> Settings:
@@ -153,7 +170,8 @@ class Run:
                 raise Failure(f"{printable((before if before.get('more') else row)['file'])}: {MIXED}")
             # One whose process was ended does not tell its content.
             before = {**row, "content": before.get("content")} if before.get("more") and "content" not in row else row
-            self._deliver(text_of(row))  # written anew: other programs may have put blanks in
+            with Whole():
+                self._deliver(text_of(row))  # written anew: other programs may have put blanks in
         if before.get("more"):
             raise Failure(f"{printable(before['file'])}: {MIXED}")
 
@@ -211,7 +229,6 @@ class Run:
 
     def _guarded(self, work: Callable[[], None]) -> int:
         """Does the work, and ends what is written whatever comes: what is done is kept."""
-        options = self._options
         failures: list[Exception] = []
         status, is_whole = 0, False
         try:
@@ -223,6 +240,11 @@ class Run:
             if not isinstance(error, (Failure, Broken, OSError)):
                 traceback.print_exc()
             failures.append(error)
+        with Whole():
+            return self._end(status, is_whole, failures)
+
+    def _end(self, status: int, is_whole: bool, failures: list[Exception]) -> int:
+        options = self._options
         if status:
             for number in sorted(self._complete):
                 self._release(number)
@@ -250,24 +272,28 @@ class Run:
 
     def _take_all(self, answers: Iterator[Optional[Answer]]) -> None:
         for answer in answers:
-            if answer is None:
-                self._tick()
-            if answer is None or answer.number in self._complete or answer.number not in self._kept:
-                continue  # also what nobody asked for
-            self._waiting.setdefault(answer.number, []).append(answer)
-            self._size += len(answer.text) + len(answer.certificate)
-            told = [verdict for _, verdict in self._kept[answer.number].rows] if answer.verdict == "same" else [answer.verdict]
-            self._progress.count(told, answer.is_last)
-            if answer.is_last:
-                self._complete.add(answer.number)
-            while self._next in self._complete:
-                self._release(self._next)
-                self._next += 1
-                self._since = time.monotonic()
-        for number in sorted(self._complete):
-            self._release(number)
+            with Whole():
+                if answer is None:
+                    self._tick()
+                elif answer.number in self._kept and answer.number not in self._complete:  # nothing that nobody asked for
+                    self._take(answer)
+        with Whole():
+            for number in sorted(self._complete):
+                self._release(number)
         if self._kept:
             raise Failure(f"files that were not answered, and have no rows: {len(self._kept)}")
+
+    def _take(self, answer: Answer) -> None:
+        self._waiting.setdefault(answer.number, []).append(answer)
+        self._size += len(answer.text) + len(answer.certificate)
+        told = [verdict for _, verdict in self._kept[answer.number].rows] if answer.verdict == "same" else [answer.verdict]
+        self._progress.count(told, answer.is_last)
+        if answer.is_last:
+            self._complete.add(answer.number)
+        while self._next in self._complete:
+            self._release(self._next)
+            self._next += 1
+            self._since = time.monotonic()
 
     def _tick(self) -> None:
         """Does what is done now and then: rows of the file that comes next are shown before it is complete."""
