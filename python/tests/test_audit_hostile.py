@@ -1325,6 +1325,21 @@ class Processes(Case):
                 raise
         return subprocess.CompletedProcess(words, process.returncode, *said)
 
+    def test_no_process_is_ended_while_it_writes(self):
+        """One whose first file takes long begins no other, and ends by itself: what is half written would stay."""
+        for at in range(60):
+            self.put(f"{at:02}.ppm", p3(UNIQUE))
+        self.put("30.ppm", (ROOT / "measure" / "pictures" / "hard-20-k3-min.ppm").read_bytes())
+        statuses, replace = [], workers.Pool._replace
+        with unittest.mock.patch.multiple(workers, STUCK=0.05, TICK=0.01), unittest.mock.patch.object(
+            workers.Pool, "_replace", lambda pool, hand: statuses.append(replace(pool, hand)) or statuses[-1]
+        ):
+            out = [str(self.folder / "out")] * 2
+            words = [str(self.site), "--jobs", "1", "--quiet", "--seconds", str(PATIENCE), "--certify", out[0], "--ppm", out[1]]
+            self.assertEqual(running.main(words), 0)
+        self.assertEqual({*statuses}, {0})
+        self.assertEqual(len(os.listdir(out[0])), 2 * 60)
+
     def test_too_much_memory(self):
         self.put("a.ppm", p3(UNIQUE))
         # Elements of some 500 bytes each, of a puzzle that has no end.

@@ -141,6 +141,10 @@ class Child:
             del self._come[:end]
         return found
 
+    def leave(self) -> None:
+        """Sends nothing more, of which the process is told."""
+        self._stream.shutdown(socket.SHUT_WR)
+
     def stop(self) -> None:
         """Ends the process. Its stream stays open, so that who waits for it is told."""
         self.is_stopped = True

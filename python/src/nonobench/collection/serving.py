@@ -11,6 +11,7 @@ import gc
 import hashlib
 import marshal
 import os
+import select
 import signal
 import threading
 import time
@@ -85,9 +86,14 @@ def serve(memory: int) -> None:
     judging = Judging(Settings(*settings), answers)
     answers.put(0, "ready", "")
     answers.flush()  # before a file can end the process
+    left = select.poll()
+    left.register(STREAM, select.POLLRDHUP)
     for pack in asked:
-        for task in pack:
-            judging.answer(Task(*task))
+        for task in map(Task._make, pack):
+            if left.poll(0):  # it is handed to others
+                answers.put(task.number, "bye", "")
+                break
+            judging.answer(task)
         answers.flush()
     answers.flush()
 

@@ -45,7 +45,7 @@ class Hand(Child):
         super().__init__("collection.serving", settings.memory << 20, folders=[site.getusersitepackages()] if site.ENABLE_USER_SITE else [])
         self.tasks: deque[Task] = deque()
         self.is_ready = False
-        self.is_left = False  # what waited here was handed to others
+        self.is_left = False  # it begins no other task: what waits here is handed to others
         self.since = time.monotonic()  # the last sign of life
         self.quiet = 0.0  # seconds before this one that no puzzle was charged for
         self.cost = PACK_SECONDS  # seconds of a file, about
@@ -135,8 +135,6 @@ class Pool:
         # What is known of a puzzle before all is made gives it no more time.
         if any(parts[0] != "known" for _, parts in answers):
             hand.since = now
-        if hand.is_left and not hand.tasks:
-            self._replace(hand)
 
     def _hear(self, hand: Hand, number: int, kind: str, verdict: str, text: str, certificate: str) -> Iterator[Answer]:
         if kind == "ready":
@@ -178,8 +176,10 @@ class Pool:
                     yield from self._end(hand, "")
             elif hand.tasks and self._seconds is not None and (quiet > self._bound(hand.tasks[0]) or self._is_over(hand.tasks[0])):
                 yield from self._end(hand, f"no answer within {self._seconds:g} seconds")
-            elif len(hand.tasks) > 1 and quiet > STUCK:
+            elif len(hand.tasks) > 1 and quiet > STUCK and not hand.is_left:
                 hand.is_left = True
+                hand.leave()
+            elif len(hand.tasks) > 1 and quiet > STUCK + TICK:  # it began no other before it was told
                 while len(hand.tasks) > 1:
                     self._again.appendleft(hand.tasks.pop())
 
