@@ -14,7 +14,7 @@ import { phrase } from '../texts/phrase.js';
 import { addAction } from '../view/actions.js';
 import { openDialog } from '../view/dialogs.js';
 import { inkName } from '../view/dress.js';
-import { asSeen, heard } from '../view/tools.js';
+import { asSeen, heard, whileOpen } from '../view/tools.js';
 import { placeOfTriple } from './flat.js';
 import { farness } from './spots.js';
 
@@ -64,23 +64,21 @@ export async function takePalette(text, name) {
     return false;
   }
   await asSeen();
-  const { term } = bench;
   const doc = eightBitDoc(bench.state);
   const offered = colours.slice(0, MOST_SHOWN);
   const swatches = offered.map(swatchOf);
   const chosen = () => offered.filter(({ triple }, at) => swatches[at].getAttribute('aria-pressed') === 'true' && !isAmong(doc.colours, triple));
   const free = MOST_COLOURS - doc.colours.length;
   const title = phrase('import.coloursOf', { name });
-  const done = await openDialog({
+  const done = await whileOpen(openDialog({
     title,
     content: make('div', {}, make('p', {}, phrase('import.chooseColoursAddPicture')), make('div', { class: 'swatches', id: 'palette-file', role: 'group', 'aria-label': title }, ...swatches)),
     buttons: [
       { name: phrase('import.takeNearest'), value: () => withNearest(doc, colours), test: () => (colours.length < doc.colours.length ? phrase('import.fewerColoursPicture') : '') },
       { name: phrase('import.addChosen'), main: true, value: () => withMore(doc, chosen()), test: () => (!chosen().length ? phrase('import.chooseColourFirst') : chosen().length > free ? phrase('import.paletteRoomColours', { colours: free }) : '') },
     ],
-  });
-  if (done && bench.term !== term) say(phrase('export.otherPictureOpened'), 'alarm');
-  return done && bench.term === term ? heard(bench.become(done)) : false;
+  }));
+  return done ? heard(bench.become(done)) : false;
 }
 
 /** The palette of a document. */
