@@ -8,11 +8,12 @@ import { docOf, sameDoc } from '../document/document.js';
 import { FileFault } from '../document/limits.js';
 import { bench } from '../engine/bench.js';
 import { phrase } from '../texts/phrase.js';
+import { gradeAtHand } from '../view/grading.js';
 import { Keeper } from './keeper.js';
 import { newId, recordOf } from './records.js';
 import { claim, isFull, openShelf } from './shelf.js';
 
-export const keep = { keeper: null, opening: null, id: null, term: null, free: null, untouched: null, when: 0, grade: null, isNamed: false, isKept: false, told: null, isAsked: false, makeRoom: null, names: null };
+export const keep = { keeper: null, opening: null, id: null, term: null, free: null, untouched: null, when: 0, isNamed: false, isKept: false, told: null, isAsked: false, makeRoom: null, names: null };
 
 const WRITTEN = 1000; // milliseconds in which it is known whether the first record is kept
 
@@ -86,7 +87,7 @@ keep.begin = async (id = null, isBlank = false) => {
   const name = isElsewhere || id === null ? newId() : id;
   free ??= await claim(name, globalThis);
   if (bench.term !== term) return void free?.();
-  Object.assign(keep, { id: name, term, free, grade: null, when: Date.now(), untouched: isBlank || isElsewhere ? docOf(state) : null });
+  Object.assign(keep, { id: name, term, free, when: Date.now(), untouched: isBlank || isElsewhere ? docOf(state) : null });
   keep.isKept ||= id !== null; // as it was
   if (isElsewhere) say(phrase('library.pictureOpenAnotherTab'), 'alarm');
   keep.now();
@@ -119,12 +120,6 @@ keep.now = ({ mayRest = false } = {}) => {
     keep.isAsked = true; // that the browser does not clear it away by itself
     navigator.storage?.persist?.().catch(() => {});
   }
-  const made = () => ({ record: { ...recordOf(bench, id, keep.when), isNamed: keep.isNamed }, facts: { verdict: bench.state.verdict.word, grade: keep.grade } });
+  const made = () => ({ record: { ...recordOf(bench, id, keep.when), isNamed: keep.isNamed }, facts: { verdict: bench.state.verdict.word, grade: gradeAtHand()?.word ?? null } });
   return keep.keeper.note(() => (keep.id === id && bench.term === term ? made() : null), mayRest);
-};
-
-/** Keeps what the list tells of how hard the picture at hand is, until its next stroke. */
-keep.graded = (grade) => {
-  keep.grade = grade;
-  keep.now({ mayRest: true });
 };

@@ -65,14 +65,10 @@ export class Keeper {
     }
   }
 
-  async ids(begin) {
-    return (await this.shelf.keys()).map(String).filter((key) => key.startsWith(begin)).map((key) => key.slice(begin.length));
-  }
-
   /** The cards of all records, the newest first. One that is missing is made of its record. */
   async cards() {
-    const cardIn = async (id) => readCard(await this.shelf.get(CARD + id).catch(() => null)) ?? this.cardAnew(id);
-    const cards = await Promise.all((await this.ids(RECORD)).map(cardIn));
+    const ids = (await this.shelf.keys()).map(String).filter((key) => key.startsWith(RECORD)).map((key) => key.slice(RECORD.length));
+    const cards = await Promise.all(ids.map(async (id) => readCard(await this.shelf.get(CARD + id).catch(() => null)) ?? this.cardAnew(id)));
     return cards.filter(Boolean).sort((a, b) => b.when - a.when);
   }
 

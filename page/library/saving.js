@@ -10,7 +10,6 @@ import { leftOutOfPpm, ppmTextOf } from '../formats/ppm_notes.js';
 import { leavesOut, webpbnText } from '../formats/webpbn.js';
 import { phrase } from '../texts/phrase.js';
 import { openDialog } from '../view/dialogs.js';
-import { gradeAtHand } from '../view/grading.js';
 import { asSeen, whileOpen } from '../view/tools.js';
 import { keep } from './keep.js';
 
@@ -170,12 +169,10 @@ const tellFileName = behindFrame(showFileName);
 /** Keeps each stroke, shows the name, and asks before an unsaved picture is left. */
 export function startSaving() {
   on('shown', () => {
-    keep.grade = gradeAtHand()?.word ?? null;
     keep.changed();
     tellFileName();
   });
-  on('judged', () => keep.now({ mayRest: true }));
-  on('graded', (grade) => { if (grade) keep.graded(grade.word); });
+  for (const name of ['judged', 'graded']) on(name, () => keep.now({ mayRest: true }));
   for (const name of ['opened', 'kept']) on(name, showFileName); // of another picture at once
   addEventListener('beforeunload', (event) => {
     if (!bench.state || bench.isSaved || !saving.asks) return;

@@ -67,11 +67,10 @@ export async function lateVerdict({ browser, url, folder }) {
     }
     const when = () => page.run(async () => (await keep.keeper.cards()).map((card) => [card.name, card.when, card.grade]));
     const before = await when();
-    await page.run(() => keep.graded('expert'));
-    await isKept(page);
+    assert.equal(before[0][2], null);
+    await page.until(async () => (await keep.keeper.cards())[0].grade, 10000 * SLACK);
     const after = await when();
     assert.deepEqual(after.map(([name, at]) => [name, at]), before.map(([name, at]) => [name, at]));
-    assert.equal(after[0][2], 'expert');
     await trial.drag([[2, 5]]);
     await isKept(page);
     assert.ok((await when())[0][1] > before[0][1]);
