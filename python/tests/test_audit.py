@@ -759,7 +759,10 @@ class Running(Case):
                       ["site", "--ppm", "other/in"], ["site/in", "--givens", "site", "--ppm", "site/out"], ["site", "--ppm", "out", "--scheduler", "tcp://none:1"]):
             with self.subTest(words):
                 self.run_audit(*words, status=2)
-        self.assertEqual((self.site / "in" / "one.ppm").read_bytes(), p3(UNIQUE))
+        (self.folder / "out").mkdir()
+        os.symlink("../site/in", self.folder / "out" / "in")  # nor by a link below their folder
+        self.assertEqual(self.rows("site", "--ppm", "out", status=3)["site/in/one.ppm"].get("note"), "its picture was not written: Not a directory")
+        self.assertEqual({place.name: place.read_bytes() for place in (self.site / "in").iterdir()}, {"one.ppm": p3(UNIQUE)})
 
     def test_certificates_are_not_written_beside_other_puzzles(self):
         """They would be read as theirs; beside their own, and where there are no puzzles, they may lie below a path."""

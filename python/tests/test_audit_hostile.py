@@ -1022,7 +1022,8 @@ class Outputs(Case):
             for place in ("/proc/nonobench/x", "file/x"):
                 with self.subTest((option, place)):
                     done = self.run_audit("site", option, place, status=3)
-                    self.assertRegex(done.stderr, rf"^nonobench-audit: {place}: [A-Z][a-z ]+\n$")
+                    told = os.path.join(os.path.realpath(self.folder), place) if option == "--certify" else place
+                    self.assertRegex(done.stderr, rf"^nonobench-audit: {told}: [A-Z][a-z ]+\n$")
 
     @unittest.skipIf(os.geteuid() == 0, "root writes everywhere")
     def test_a_read_only_folder(self):
@@ -1112,6 +1113,16 @@ class Outputs(Case):
         with unittest.mock.patch.object(workers.Pool, "answers", broken), contextlib.redirect_stderr(io.StringIO()):
             self.assertEqual(running.main(words), 3)
         self.assertEqual([place.read_text() for place in places], ["as it was"] * 3)
+
+    def test_a_run_that_is_stopped_once_all_is_judged_loses_nothing(self):
+        words, close = [str(self.site), "--quiet", "--jobs", "1"], outputs.Lines.close
+        for option, name in (("--jsonl", "rows"), ("--csv", "rows.csv"), ("--html", "report")):
+            words += [option, str(self.folder / name)]
+        with unittest.mock.patch.object(outputs.Lines, "close", lambda *parts: (os.kill(os.getpid(), signal.SIGTERM), close(*parts))):
+            self.assertEqual(running.main(words), 143)
+        self.assertEqual(list(self.read("rows")), [f"{self.site}/one.ppm", f"{self.site}/two.ppm"])
+        self.assertEqual(len((self.folder / "rows.csv").read_text().splitlines()), 3)
+        self.assertIn("two.ppm", (self.folder / "report").read_text())
 
     def test_names_of_outputs(self):
         """Each leads where its letters do, and to no other one's place. Of a title, what no text can have is escaped."""

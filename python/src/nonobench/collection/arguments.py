@@ -82,8 +82,7 @@ def options_of(words: list[str]) -> Options:
             parser.error(f"no such file or folder: {path!r}" + (" (a folder of that name is ./merge)" if path == "merge" else ""))
         _refuse_way_back(parser, path)
     _refuse_outputs(parser, told, told.certify, told.publish)
-    if told.is_untrusted:
-        _hold_outputs(parser, told)
+    _hold_outputs(parser, told)
     nested = unreached(told.paths)
     if nested is not None:
         parser.error(f"{nested[0]!r} lies in {nested[1]!r}, whose search leaves it out: name it in a run of its own")
@@ -100,8 +99,8 @@ def options_of(words: list[str]) -> Options:
 
 
 def _hold_outputs(parser: argparse.ArgumentParser, told: argparse.Namespace) -> None:
-    """Where outputs are: what becomes a link in a folder of strangers later is an error."""
-    folders = folders_of(told.paths)
+    """Where outputs are: what is a link below the DIR of one, or becomes one in a folder of strangers later, is an error."""
+    folders = folders_of(told.paths) if told.is_untrusted else frozenset()
     files = [name for name in (told.jsonl, told.csv, told.html) if name not in (None, "-")]
     wanted = [name for name in (*files, told.certify, told.publish) if name is not None]
     places = {name: place_among(name, folders) for name in wanted}

@@ -49,14 +49,12 @@ def locked(name: str, file: Union[BinaryIO, int], is_shared: bool = False) -> No
         pass  # a system of files without locks
 
 
-def kept_folder(name: str, is_shared: bool, has_no_link: bool) -> int:
-    """Makes a folder where there is none, and keeps other runs from writing to it, as long as the handle is open. An absolute path may be
-    one without a link.
+def kept_folder(name: str, is_shared: bool) -> int:
+    """Makes a folder where there is none, without a link in its path, and keeps other runs from writing to it, as long as the handle is
+    open.
     """
-    with telling(name), contextlib.ExitStack() as stack:
-        if not has_no_link:
-            os.makedirs(name, exist_ok=True)
-        place = f"/proc/self/fd/{stack.enter_context(opened(name))}" if has_no_link else name
+    with telling(name), opened(name) as folder:
+        place = f"/proc/self/fd/{folder}"
         if not os.access(place, os.W_OK | os.X_OK):
             raise PermissionError(errno.EACCES, os.strerror(errno.EACCES))
         handle = os.open(place, os.O_RDONLY | os.O_DIRECTORY | os.O_CLOEXEC)

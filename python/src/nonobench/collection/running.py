@@ -15,7 +15,7 @@ from .._library import version
 from . import certificates
 from .arguments import Options, options_of
 from .earlier import Earlier, content_before, read_row, to_check
-from .finding import CHANGED, Places, changed, find, folders_of, is_among, is_in_share, order_of, real_place
+from .finding import CHANGED, Places, changed, find, folders_of, is_among, is_in_share, order_of
 from .outputs import CLOSED, Failure, Lines, Sheet, Table, hold_streams, kept_folder, lines_of, telling
 from .progress import Progress
 from .rows import Row, printable, row_of, text_of
@@ -131,8 +131,8 @@ class Run:
         options = self._options
         settings = settings_of(options)
         with self._stack as stack:
-            for name in {os.path.realpath(name): name for name in (options.certify, options.publish) if name is not None}.values():
-                stack.callback(os.close, kept_folder(name, options.shard != (1, 1), options.is_untrusted))
+            for name in {name for name in (options.certify, options.publish) if name is not None}:
+                stack.callback(os.close, kept_folder(name, options.shard != (1, 1)))
             source: Any = Pool(settings, options.jobs, options.seconds)
             if options.scheduler is not None:
                 from .cluster import Cluster
@@ -218,8 +218,7 @@ class Run:
             number += 1
             self._beside += len(found.beside)
             self._unread += found.unread
-            ways = (name and os.path.join(name, found.stem) for name in (options.certify, options.publish))
-            to, published = (way and (way if options.is_untrusted else real_place(way)) for way in ways)
+            to, published = (name and os.path.join(name, found.stem) for name in (options.certify, options.publish))
             rows = [] if self._earlier is None else self._earlier.rows(found.name)
             before = content_before(rows, settings.made, settings.limit, to, published)
             rows = rows if before else []
@@ -233,7 +232,7 @@ class Run:
         status, is_whole = 0, False
         try:
             work()
-            is_whole = True
+            Whole.is_in = is_whole = True
         except Stopped as stopped:
             status = stopped.status
         except Exception as error:  # what is done is kept then too
