@@ -862,14 +862,16 @@ class Running(Case):
 
     def test_puzzles_that_are_not_reached_are_told(self):
         """A set looks whole in no case where a puzzle's process ends before it has come to the puzzle."""
-        task = serving.Task(0, "set.xml", "set.xml", (), None, None, None, "", 5, serving.FULL)
-        for why, tries in (("late", 1), ("gone", 2)):
+        for why, tries, start in (("late", 1, 5), ("gone", 2, 5), ("late", 1, 1), ("gone", 2, 1)):
+            task = serving.Task(0, "set.xml", "set.xml", (), None, None, None, "", start, serving.FULL)
             pool = workers.Pool(types.SimpleNamespace(limit="9 s"), 0, 9.0)
-            told = [list(pool._blame(types.SimpleNamespace(known=None, has_more=None), task, why, why == "late")) for _ in range(tries)]
+            hand = types.SimpleNamespace(tasks=deque([task]), known=None, quiet=0.0, has_more=None)
+            self.assertEqual(list(pool._hear(hand, 0, "on", "", "", "")), [])
+            told = [list(pool._blame(hand, task, why, why == "late")) for _ in range(tries)]
             (answer,) = told.pop()
             self.assertEqual((told, answer.is_last), ([[]] * (tries - 1), True))
             self.assertEqual(json.loads(answer.text), {
-                "file": "set.xml", "puzzle": 5, "verdict": "error", "error": f"{why}: neither it nor those behind it are judged",
+                "file": "set.xml", "puzzle": start, "verdict": "error", "error": f"{why}: neither it nor those behind it are judged",
             })
 
     def test_no_puzzle_pays_for_the_time_of_others(self):

@@ -129,9 +129,9 @@ class Answers:
 
         `more` and `last` are rows of a file; `same` and `none` say that its rows are as they were, or that there are no more.
         `known` is a row before its certificate or its grade is made: instead of a certificate it has the kind of the row to come, and
-        what follows is the certificate that goes back. `at` says that a puzzle is begun where a file has several, with a text where more
-        follow, and `on` that a piece of the file was read, or that a puzzle with others behind it was judged or checked again. `bye` says
-        that the process ends and has begun no other task, `ready` that it begins.
+        what follows is the certificate that goes back. `at` says that a puzzle is begun where a file has several or is read in pieces,
+        with a text where more follow, and `on` that a piece of the file was read, or that a puzzle with others behind it was judged or
+        checked again. `bye` says that the process ends and has begun no other task, `ready` that it begins.
         """
         self._waiting.append(framed(number, *(word.encode("ascii") for word in (kind, verdict, text, certificate))))
         if not self._some.is_set():  # which takes no lock
@@ -164,6 +164,7 @@ class Judging:
         self._row: Row = {}  # what is known of the puzzle at hand: nothing before there is a verdict
         self._back = ""  # its certificate, where that goes back
         self._front: Row = {}  # how its row begins, if its file is not read further
+        self._is_in_pieces = False  # whether its file is read in pieces that are told
         self._spare = bytes(SPARE)  # let go where memory is out, so that this can be told
 
     def answer(self, task: Task) -> None:
@@ -204,7 +205,7 @@ class Judging:
                 begun = time.perf_counter()
                 continue
             place = place_of(number, has_more)
-            if place or task.before:
+            if place or task.before or self._is_in_pieces:
                 self._answers.put(task.number, "at", "", "more" if has_more else "")
             front: Row = {"file": task.name, **place}
             about = About(front, "more" if has_more else "last", content, sha256, begun)
@@ -259,7 +260,13 @@ class Judging:
         if files.background is not None:
             ground = readers.ground_beside(files.background, "the file of its background")
         suffix = os.path.splitext(task.name)[1].lower()
-        puzzles = readers.puzzles_of(files.file, suffix, ground, files.givens, lambda: self._answers.put(task.number, "on", ""))
+        self._is_in_pieces = False
+
+        def tell() -> None:
+            self._is_in_pieces = True
+            self._answers.put(task.number, "on", "")
+
+        puzzles = readers.puzzles_of(files.file, suffix, ground, files.givens, tell)
         has_none = files.background is None or is_image(files.file)  # of its own
         yield from puzzles if has_none else readers.grounded(puzzles, ground)
 

@@ -51,6 +51,7 @@ class Hand(Child):
         self.cost = PACK_SECONDS  # seconds of a file, about
         self.is_leaving = False  # whether it has told that it ends
         self.has_more: Optional[bool] = None  # whether others follow the puzzle of the first task's file; nothing before that is begun
+        self.is_reading = False  # pieces of that file come, and then the puzzle is told when it is begun
         self.known: Optional[tuple[str, str]] = None  # the row of the puzzle whose certificate or grade is being made, and what goes with it
         self.send(0, marshal.dumps(tuple(settings)))
 
@@ -145,7 +146,9 @@ class Pool:
         task = hand.tasks[0]
         if kind in ("at", "on"):
             hand.tasks[0] = task._replace(used=task.used + hand.quiet, before="" if kind == "at" else task.before)
-            hand.has_more, hand.quiet = text != "", 0.0
+            hand.is_reading, hand.quiet = kind == "on", 0.0
+            if kind == "at":
+                hand.has_more = text != ""
         elif kind == "known":
             hand.known = text, certificate
         elif kind == "bye":
@@ -156,7 +159,7 @@ class Pool:
 
     def _take(self, hand: Hand, task: Task, answer: Answer) -> Iterator[Answer]:
         """Takes the answer to the first task of a process."""
-        hand.known, hand.has_more = None, None
+        hand.known, hand.has_more, hand.is_reading = None, None, False
         used, hand.quiet = task.used + hand.quiet, 0.0
         yield answer
         if answer.is_last or task.mode == GLANCE:
@@ -222,9 +225,10 @@ class Pool:
     def _blame(self, hand: Hand, task: Task, why: str, is_late: bool) -> Iterator[Answer]:
         """What becomes of a puzzle whose process was ended, or ended: it is told, or tried once more."""
         is_tried = is_late or (task.number, task.start) in self._died
+        is_unread = hand.has_more is None and (task.start > 1 or hand.is_reading)  # the puzzle was not reached
         if task.before:  # kept rows were compared, and no puzzle was begun: all are judged anew
             self._again.appendleft(task._replace(used=0.0, before="", kept=()))
-        elif task.start > 1 and (self._is_over(task) or is_tried and task.mode == FULL and hand.has_more is None):
+        elif task.start > 1 and self._is_over(task) or is_tried and task.mode == FULL and is_unread:
             over = f"the puzzles before it have taken more than {MOST_TIMES * (self._seconds or 0):g} seconds" if self._is_over(task) else why
             row: Row = {"file": task.name, "puzzle": task.start, "verdict": "error", "error": f"{over}: neither it nor those behind it are judged"}
             yield from self._give_up(task, row, False)
