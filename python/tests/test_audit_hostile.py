@@ -1164,6 +1164,30 @@ class Outputs(Case):
         self.assertEqual([json.loads(line)["file"] for line in lines], sorted(f"site/{at}.ppm" for at in range(40))[: len(lines)])
         self.assertEqual(len((self.folder / "rows.csv").read_text().splitlines()), 1 + len(lines))
 
+    def test_standard_output_has_one_name(self):
+        """The summary does not write over the first rows."""
+        self.put("one.ppm", p3(UNIQUE))
+        for name in ("/dev/stdout", "rows"):
+            with self.subTest(name), open(self.folder / "rows", "w", encoding="ascii") as out:
+                run = subprocess.run(self.words("site", "--jsonl", name), cwd=self.folder, env=self.env(), stdout=out, stderr=subprocess.PIPE, text=True)
+                self.assertEqual((run.returncode, run.stderr), (3, f"nonobench-audit: {name}: this is standard output, which is called -\n"))
+
+    def test_a_run_that_nobody_reads_can_be_stopped(self):
+        """One signal is enough, and what else is written is whole."""
+        for at in range(40):
+            self.put(f"{at}.ppm", (ROOT / "measure" / "pictures" / "blob-60-k8-0.ppm").read_bytes())
+        ours, theirs = os.pipe()
+        fcntl.fcntl(theirs, fcntl.F_SETPIPE_SZ, 4096)
+        words = self.words("site", "--jobs", "1", "--jsonl", "-", "--csv", "rows.csv")
+        with open(ours, "rb") as rows, subprocess.Popen(words, cwd=self.folder, env=self.env(), stdout=theirs, stderr=subprocess.PIPE, text=True) as process:
+            os.close(theirs)
+            eventually(lambda: select.select([rows], [], [], 0)[0])
+            time.sleep(0.5)  # until it waits for a reader
+            process.send_signal(signal.SIGTERM)
+            self.assertEqual(process.wait(PATIENCE), 143)
+            self.assertIn("standard output: nobody reads it", process.stderr.read())
+        self.assertGreater(len((self.folder / "rows.csv").read_text().splitlines()), 1)
+
     def test_messages_show_names_as_rows_do(self):
         (self.folder / "up\x1b[31m\nall fine").mkdir()
         self.assertEqual(self.run_audit("up\x1b[31m\nall fine", status=3).stderr, "nonobench-audit: no puzzles in up\\x1b[31m\\nall fine\n")

@@ -7,7 +7,9 @@ import csv
 import errno
 import fcntl
 import io
+import math
 import os
+import select
 import stat
 import sys
 import time
@@ -96,6 +98,8 @@ class Output:
     that by now. One that is to take another's place is a new file.
     """
 
+    until = math.inf  # the moment up to which somebody is waited for who reads a pipe: a run that is stopped ends
+
     def __init__(self, name: str, keeps: bool = False, folder: Optional[int] = None, is_new: bool = False) -> None:
         self.name = name
         self._folder = folder
@@ -124,6 +128,8 @@ class Output:
         os.set_blocking(handle, True)
         self.file = io.FileIO(handle, "wb" if is_pipe else "r+b")
         if is_regular(self.file):  # a device such as /dev/null may have several runs
+            if os.path.samestat(os.fstat(handle), os.fstat(1)):  # where the summary goes, too, at a place of its own
+                raise Failure(f"{self.name}: this is standard output, which is called -")
             locked(self.name, self.file)
             if not os.path.samestat(os.stat(way, dir_fd=self._folder), os.fstat(self.file.fileno())):  # put in its place since
                 raise Failure(f"{self.name}: another run writes to it")
@@ -143,6 +149,17 @@ class Output:
         if len(self._held) > SOME:
             self.flush()
 
+    def _write(self, data: memoryview) -> int:
+        """Writes some of the bytes: to what may have to wait for a reader, as many as it takes at once."""
+        if is_regular(self.file):
+            return self.file.write(data)
+        waiting = select.poll()
+        waiting.register(self.file, select.POLLOUT)
+        while not waiting.poll(1000 * MOMENT):
+            if time.monotonic() > Output.until:
+                raise TimeoutError(errno.ETIMEDOUT, "nobody reads it")
+        return self.file.write(data[: select.PIPE_BUF])
+
     def flush(self, is_hurried: bool = True) -> None:
         """Writes what waits; unhurried, only where it has waited for a moment."""
         if not self._held or not (is_hurried or time.monotonic() - self._since > MOMENT):
@@ -152,7 +169,7 @@ class Output:
         self._empty()
         with telling(self.name):
             while data:
-                data = data[self.file.write(data) :]
+                data = data[self._write(data) :]
 
     @contextlib.contextmanager
     def replaced(self) -> Iterator[Output]:

@@ -16,7 +16,7 @@ from . import certificates
 from .arguments import Options, options_of
 from .earlier import Earlier, content_before, read_row, to_check
 from .finding import CHANGED, Places, changed, find, folders_of, is_among, is_in_share, order_of
-from .outputs import CLOSED, Failure, Lines, Sheet, Table, hold_streams, kept_folder, lines_of, telling
+from .outputs import CLOSED, Failure, Lines, Output, Sheet, Table, hold_streams, kept_folder, lines_of, telling
 from .progress import Progress
 from .rows import Row, printable, row_of, text_of
 from .serving import FULL, Settings, Task
@@ -24,6 +24,7 @@ from .tally import ERRORS, Tally
 from .workers import Answer, Broken, Pool
 
 MOST_WAITING = 64 << 20  # bytes of rows that wait for one before them
+READ = 5.0  # seconds that who reads has for what is written when a run is stopped
 BEHIND = 1.0  # seconds after which rows that wait for one before them are in the file of rows
 
 MIXED = "rows of some of its puzzles are missing, or of another run"
@@ -88,7 +89,7 @@ def main(words: Optional[list[str]] = None) -> int:
 
 def _stop(number: int, _frame: Any) -> None:
     signal.signal(number, signal.SIG_DFL)
-    Whole.came = number
+    Whole.came, Output.until = number, time.monotonic() + READ
     if not Whole.is_in:
         raise Stopped(number)
 
@@ -238,6 +239,7 @@ class Run:
         except Exception as error:  # what is done is kept then too
             if not isinstance(error, (Failure, Broken, OSError)):
                 traceback.print_exc()
+            status = Whole.came and Stopped(Whole.came).status
             failures.append(error)
         with Whole():
             return self._end(status, is_whole, failures)
