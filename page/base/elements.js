@@ -57,20 +57,21 @@ export function spanOf(pointers) {
   return { x: (one.x + other.x) / 2, y: (one.y + other.y) / 2, far: Math.hypot(one.x - other.x, one.y - other.y) };
 }
 
-const said = { timer: 0, count: 0, stays: false, from: 0 };
+const said = { timer: 0, count: 0, stays: false, lasts: false, from: 0 };
 const READ = 4000; // milliseconds in which a message is read
 
 /**
- * Says something to the user: `kind` is '' or 'alarm'. An alarm stays until it is clicked, something else is said or painting goes on;
- * what has an `action`, {name, run}, a button beside the text, stays while painting, too. Returns what takes the message back.
+ * Says something to the user: `kind` is '' or 'alarm'. An alarm stays until it is clicked, something else is said, painting goes
+ * on or another picture opens; what has an `action`, {name, run}, a button beside the text, stays while painting, too, and what
+ * `lasts`, as it is said of no picture, beside another one. Returns what takes the message back.
  */
-export function say(text, kind = '', action = null) {
+export function say(text, kind = '', action = null, lasts = false) {
   clearTimeout(said.timer);
   const line = $('said');
   line.dataset.kind = kind;
   line.replaceChildren(text, ...(action ? [' ', make('button', { type: 'button', onclick: action.run }, action.name)] : []));
   if (text && !kind && !action) said.timer = setTimeout(() => say(''), 2 * READ);
-  Object.assign(said, { count: said.count + 1, stays: action !== null, from: performance.now() });
+  Object.assign(said, { count: said.count + 1, stays: action !== null, lasts, from: performance.now() });
   const own = said.count;
   return () => { if (said.count === own) say(''); };
 }
@@ -78,4 +79,9 @@ export function say(text, kind = '', action = null) {
 /** A stroke ends a message that was read. */
 export function hush() {
   if (!said.stays && performance.now() - said.from > READ && $('said').textContent) say('');
+}
+
+/** Another picture is open: what was said of the one before it ends. */
+export function hushOther() {
+  if (!said.lasts) say('');
 }

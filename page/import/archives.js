@@ -27,7 +27,7 @@ export async function saveArchive(records, { file, text, kind = '', others = [] 
   const bytes = await archiveOf(records, others);
   if (!bytes) return;
   download(bytes, file, SAVE_TYPES.zip.type);
-  say(text, kind);
+  say(text, kind, null, true);
 }
 
 /** Hands all pictures of the library to the user as one archive. */
@@ -111,5 +111,5 @@ function tellAdded(name, { docs, unread, why, added, known, isStopped }) {
   const missing = docs.length - added - known;
   if (missing && !isStopped) return;
   const left = [known ? phrase('import.picturesThereAlready', { pictures: known }) : '', unread.length ? phrase('import.filesNotRead', { files: unread.length }) + (why && `: ${why.replace(/\.$/, '')}`) : '', missing ? phrase('import.picturesNotTaken', { pictures: missing }) : '', isStopped ? phrase('import.stopped') : ''].filter(Boolean).join(', ');
-  say(phrase('import.picturesFromArchive', { name, pictures: added, left: left ? `; ${left}` : '' }), unread.length || isStopped ? 'alarm' : '');
+  say(phrase('import.picturesFromArchive', { name, pictures: added, left: left ? `; ${left}` : '' }), unread.length || isStopped ? 'alarm' : '', null, true);
 }

@@ -46,7 +46,7 @@ keep.tried = async (act) => {
   try {
     await act();
   } catch (fault) {
-    say(fault instanceof FileFault ? fault.message : `${REASONS[isFull(fault) ? 'full' : 'refused']}.`, 'alarm');
+    say(fault instanceof FileFault ? fault.message : `${REASONS[isFull(fault) ? 'full' : 'refused']}.`, 'alarm', null, true);
   }
 };
 
@@ -71,7 +71,7 @@ keep.said = ({ kind, why, record }) => {
     }
   }
   if (isKept || keep.told) return;
-  keep.told = say(phrase('library.yourWorkTabAlone', { why: REASONS[why] }), 'alarm', why === 'full' ? { name: opening(phrase('start.makeRoom')), run: () => keep.makeRoom?.() } : null);
+  keep.told = say(phrase('library.yourWorkTabAlone', { why: REASONS[why] }), 'alarm', why === 'full' ? { name: opening(phrase('start.makeRoom')), run: () => keep.makeRoom?.() } : null, true);
 };
 
 /**

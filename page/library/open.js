@@ -1,6 +1,6 @@
 // Opens documents in place of the one at hand, or beside it for their clues alone, and tells what is refused.
 
-import { say } from '../base/elements.js';
+import { hushOther, say } from '../base/elements.js';
 import { baseOf } from '../document/cover.js';
 import { pageOf } from '../document/document.js';
 import { FileFault, MOST_CELLS } from '../document/limits.js';
@@ -41,6 +41,7 @@ async function openNow(doc, { name, isSaved = true, id = null, strokes = undefin
     say(phrase('import.couldNotOpened', { name: phrase('import.quoted', { name }), fault: faultText(fault) }), 'alarm');
     return false;
   }
+  hushOther();
   Object.assign(saving, { handle, form });
   keep.isNamed = isNamed;
   await keep.begin(id, isBlank);

@@ -146,7 +146,7 @@ const remove = ({ id, name }) => tried(async () => {
     await keep.keeper.restore(gone);
     say(phrase('start.broughtBack', { what }));
   };
-  return say(phrase('start.deleted', { what }), '', { name: phrase('view.undo'), run: () => tried(bringBack) });
+  return say(phrase('start.deleted', { what }), '', { name: phrase('view.undo'), run: () => tried(bringBack) }, true);
 });
 
 // ---- where room is short

@@ -3,6 +3,7 @@
 import assert from 'node:assert/strict';
 import { test } from 'node:test';
 import { needsModule, saidLine, workers } from '../../page/test/worker.mjs';
+import { say } from '../../page/base/elements.js';
 import { gradeName, verdictTitle } from '../../page/base/names.js';
 import { cleanName, freeName } from '../../page/base/words.js';
 import { baseOf } from '../../page/document/cover.js';
@@ -424,6 +425,28 @@ test('what another picture meets says nothing of the one at hand, whose first re
         await keep.keeper.put(record('c', 1));
         assert.equal(keep.isKept, is);
     }
+});
+
+test('what was said of a picture does not stand beside another one, and what was said of the storage does', async () => {
+    const { elements } = await pageOf([]);
+    const line = elements.said = { ...element(), text: '', replaceChildren: (text) => { line.text = text; } };
+    const open = async (name) => { assert.equal(await openDoc(emptyDoc(3, 2), { name }), true); await keep.keeper.writing; };
+    for (const more of [[], ['alarm'], ['alarm', { name: 'Fix it', run() {} }]]) {
+        say('It proves that this picture is the only solution.', ...more);
+        await open('a');
+        assert.equal(line.text, '', `${more[0]}`);
+    }
+    assert.equal(await openDoc(emptyDoc(3, 2), { name: 'b', leave: () => say('of a') }) && line.text, '', 'said while another one comes');
+    keep.keeper.shelf = { ...keep.keeper.shelf, putAll: async () => { throw new Full('full'); } };
+    await open('c');
+    const full = /^The browser.s storage is full/;
+    assert.match(line.text, full);
+    await open('d');
+    assert.match(line.text, full, 'it is full beside each picture');
+    say('gone', '', { name: 'Undo', run() {} }, true);
+    await open('e');
+    assert.equal(line.text, 'gone', 'of the library');
+    say('');
 });
 
 test('what another tab has open is not taken away, and what is brought back takes no place of a newer one', async () => {
