@@ -78,7 +78,7 @@ async function addAll(docs, progress) {
   for (const { name: title, doc } of docs) {
     if (!(await progress.goesOn(phrase('import.picturesAddedOf', { at: added, count: docs.length })))) break;
     if (await take(doc)) known++;
-    else if (await keeper.put(recordOfDoc(doc, title, true))) added++;
+    else if (await keeper.put(recordOfDoc(doc, title, !doc.isMade))) added++;
     else break;
   }
   return { added, known };

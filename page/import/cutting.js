@@ -54,8 +54,8 @@ class Cutting {
   }
 }
 
-// A sprite pixel by pixel where it can be, else as the dialog for pictures proposes it.
-const docOfSprite = (sprite) => (sprite.width <= MOST_CELLS && sprite.height <= MOST_CELLS && docByItself(sprite)) || docProposed(sprite);
+// A sprite pixel by pixel where it can be, else as the dialog for pictures proposes it. No file has it by itself.
+const docOfSprite = (sprite) => ({ ...((sprite.width <= MOST_CELLS && sprite.height <= MOST_CELLS && docByItself(sprite)) || docProposed(sprite)), isMade: true });
 
 /** Lets the user cut a sheet, given as an image and as a canvas, and shows its puzzles in a table. */
 export async function cutSheet(image, canvas, name) {

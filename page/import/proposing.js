@@ -66,17 +66,18 @@ export function docProposed(image) {
 
 /**
  * The document of an image without the dialog: pixel by pixel, else dot by dot where it is enlarged pixel art. Where that has neither
- * the `background` nor few colours, it is what the dialog proposes, with `all`, how many colours the image has. Null for other images.
+ * the `background` nor few colours, it is what the dialog proposes, with `all`, how many colours the image has. One that is not pixel by
+ * pixel says that it `isMade`. Null for other images.
  */
 export function docByItself(image, background = null) {
   const doc = docOfImage(image, background);
   const dots = doc ? null : dotsOf(image);
   if (!dots || dots.dot === 1) return doc;
   const exact = docOfImage(dots.cells, background);
-  if (exact || background) return exact;
+  if (exact || background) return exact && { ...exact, isMade: true };
   const all = spotsOf(dots.cells).length + Number(hasClear(dots.cells));
   const docOf = (colours) => docOfCells(dots.cells, { ...dots, colours });
-  return { ...(all > dots.colours ? docApart(dots.colours, docOf).doc : docOf(dots.colours)), all };
+  return { ...(all > dots.colours ? docApart(dots.colours, docOf).doc : docOf(dots.colours)), all, isMade: true };
 }
 
 /** The part of an image without the lines at its edges that are transparent, or of the colour of its corner, all along. */

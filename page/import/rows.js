@@ -71,6 +71,11 @@ export class Row {
     return this.said && gradeIn(this.said);
   }
 
+  /** Whether its file has the picture as it is: it was neither repaired nor made of an image that has it otherwise. */
+  get isSaved() {
+    return !this.repainted && !this.doc.isMade;
+  }
+
   /** Whether a repair is looked for. */
   get isAmbiguous() {
     return this.doc !== null && this.word === 'ambiguous';

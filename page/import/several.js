@@ -22,11 +22,12 @@ const MEND_SECONDS = 3; // for a search of repairs
 
 const valuesText = (rows) => [HEADS, ...rows.map((row) => row.texts)].map((texts) => texts.map(valueText).join(',')).join('\r\n');
 
-async function keepAll(rows) {
+/** Adds the pictures of rows to the library. */
+export async function keepAll(rows) {
   const keeper = await keep.ready();
   let added = 0;
   for (const row of rows) {
-    if (!(await keeper.put(recordOfDoc(row.doc, row.name, true), row.facts))) break;
+    if (!(await keeper.put(recordOfDoc(row.doc, row.name, row.isSaved), row.facts))) break;
     added++;
   }
   tell('library', null);
@@ -39,7 +40,7 @@ const csvOf = (rows) => new TextEncoder().encode(`\ufeff${valuesText(rows)}\r\n`
 function hearRow(row, dialogOf) {
   const open = async () => {
     dialogOf().close();
-    await openDoc(row.doc, { name: row.name });
+    await openDoc(row.doc, { name: row.name, isSaved: row.isSaved });
   };
   row.element.addEventListener('click', open);
   row.element.addEventListener('keydown', (event) => {

@@ -15,6 +15,8 @@ import { webpbnText } from '../../page/formats/webpbn.js';
 import { crcOf, writeZip } from '../../page/formats/zip.js';
 import { readZip } from '../../page/test/zips.mjs';
 import { archiveOf, readArchive } from '../../page/import/archives.js';
+import { Row } from '../../page/import/rows.js';
+import { keepAll } from '../../page/import/several.js';
 import { keep } from '../../page/library/keep.js';
 import { Keeper } from '../../page/library/keeper.js';
 import { openDoc, openRecord } from '../../page/library/open.js';
@@ -447,6 +449,16 @@ test('what was said of a picture does not stand beside another one, and what was
     await open('e');
     assert.equal(line.text, 'gone', 'of the library');
     say('');
+});
+
+test('what was repaired in a table, or made of an enlarged image, is in no file', async () => {
+    await pageOf([]);
+    globalThis.ImageData = class {};
+    globalThis.document.createElement = () => ({ ...element(), getContext: () => ({ putImageData() {}, drawImage() {} }) });
+    const [kept, mended, made] = [{}, {}, { isMade: true }].map((more, at) => new Row(['kept', 'mended', 'made'][at], { ...emptyDoc(3, 2), ...more }));
+    assert.equal(await mended.mend({ mend: async (doc) => ({ doc: painted(doc, 1), cells: 1 }) }, { judge: async () => null }), true);
+    await keepAll([kept, mended, made]);
+    assert.deepEqual((await shelved()).map(({ name, isSaved }) => [name, isSaved]).sort(), [['kept', true], ['made', false], ['mended', false]]);
 });
 
 test('what another tab has open is not taken away, and what is brought back takes no place of a newer one', async () => {

@@ -203,7 +203,9 @@ export async function tablePoint(hands, { page, own }) {
     await hands.press('#several-csv');
     const text = (await downloaded(page, own, '.csv')).content.toString();
     assert.match(text, /"c","4 by 4","2","unique, \d+ cells? repainted"/);
-    await page.press('Escape');
+    await hands.press('#several tbody tr[data-name=c]');
+    await isOpen(page);
+    assert.equal(await page.run(() => bench.isSaved), false, 'no file has the repaired one');
 }
 
 /** The header has the name of what the dialog made as soon as that is shown. Its margin is trimmed by one press, and comes back by one undo. */

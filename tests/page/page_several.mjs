@@ -406,6 +406,7 @@ test('an image without the dialog: pixel by pixel where that goes, else dot by d
     const wanted = [['a.', '.a', 'bb'], [WHITE, BLACK, CRIMSON]];
     assert.deepEqual(made(rows, 1), wanted);
     assert.deepEqual(made(rows, 61), wanted); // 122 by 183 pixels
+    assert.deepEqual([1, 61].map((by) => docByItself(imageOf(rows, by)).isMade ?? false), [false, true], 'a file has the first one as it is');
     assert.deepEqual(made(rows, 2), [['aa..', 'aa..', '..aa', '..aa', 'bbbb', 'bbbb'], wanted[1]]); // it opens pixel by pixel
     assert.deepEqual(made(['-k', 'k-'], 100), [['.a', 'a.'], [WHITE, BLACK]]);
     assert.equal(made(rows.map((row) => row.repeat(61)), 1), null); // 122 dots
