@@ -61,9 +61,9 @@ export class Trial {
         await this.page.until(() => 'listed' in (document.getElementById('start')?.dataset ?? {}), 10000 * SLACK);
     }
 
-    /** Opens a P3 text as a file that is handed to the page. */
+    /** Opens a P3 text as a file that is handed to the page. It is not kept, and nothing asks whether it may be lost. */
     async open(text, name = 'trial') {
-        await this.page.run((one, file) => bench.open({ text: one, format: 'ppm', background: '255,255,255', lines: [] }, { name: file }).then(() => true), text, name);
+        await this.page.run((one, file) => bench.open({ text: one, format: 'ppm', background: '255,255,255', lines: [] }, { name: file }).then(() => { keep.isKept = true; }), text, name);
         await this.page.run(() => new Promise((go) => requestAnimationFrame(() => requestAnimationFrame(go))));
     }
 
