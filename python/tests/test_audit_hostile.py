@@ -1141,6 +1141,8 @@ class Outputs(Case):
                 with self.subTest(words), contextlib.redirect_stderr(io.StringIO()) as said, self.assertRaises(SystemExit):
                     arguments.options_of([site, *words, *more])
                 self.assertIn(why, said.getvalue())
+        within = arguments.options_of([site, "--untrusted", "--jsonl", folder + "alias/x"]).among  # by a link of the operator's own
+        self.assertEqual(within, {folder + "alias/x": os.path.realpath(self.site) + "/sub/x"})
         self.assertEqual(arguments.options_of([site, "--title", "caf\u00e9 \udce9"]).title, "caf\u00e9 \\udce9")
         words = ["--quiet", "--jobs", "1", "--certify", folder + "out", "--ppm", folder + "./out/"]
         self.assertEqual(running.main([site + "/one.ppm", *words]), 0)  # which does not lock itself out
@@ -1163,6 +1165,17 @@ class Outputs(Case):
             self.assertIn(f"stopped after {len(lines)} puzzles", process.stderr.read())
         self.assertEqual([json.loads(line)["file"] for line in lines], sorted(f"site/{at}.ppm" for at in range(40))[: len(lines)])
         self.assertEqual(len((self.folder / "rows.csv").read_text().splitlines()), 1 + len(lines))
+
+    def test_a_run_without_puzzles_leaves_what_is_there(self):
+        """The folder may be one that is not mounted."""
+        words = ["--jsonl", "rows", "--csv", "c.csv", "--html", "h.html"]
+        self.run_audit("site", *words, status=1)
+        names = ("rows", "c.csv", "h.html")
+        before = [(self.folder / name).read_bytes() for name in names]
+        (self.folder / "none").mkdir()
+        for more in ([], ["--resume"]):
+            self.run_audit("none", *words, *more, status=3)
+            self.assertEqual([(self.folder / name).read_bytes() for name in names], before, more)
 
     def test_standard_output_has_one_name(self):
         """The summary does not write over the first rows."""

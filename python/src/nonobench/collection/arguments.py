@@ -99,7 +99,7 @@ def options_of(words: list[str]) -> Options:
 
 
 def _hold_outputs(parser: argparse.ArgumentParser, told: argparse.Namespace) -> None:
-    """Where outputs are: what is a link below the DIR of one, or becomes one in a folder of strangers later, is an error."""
+    """Where outputs are: what becomes a link in a folder of strangers later is an error."""
     folders = folders_of(told.paths) if told.is_untrusted else frozenset()
     files = [name for name in (told.jsonl, told.csv, told.html) if name not in (None, "-")]
     wanted = [name for name in (*files, told.certify, told.publish) if name is not None]

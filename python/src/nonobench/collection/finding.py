@@ -133,11 +133,11 @@ def is_among(name: str, folders: Names) -> bool:
 
 
 def place_among(name: str, folders: Names) -> Optional[str]:
-    """Where a name leads in one of real folders, if it does. From there on its letters tell: what is a folder now may soon be a link."""
+    """Where a name leads below one of real folders, if it does. From there on its letters tell: what is a folder now may soon be a link."""
     place = Path(os.path.abspath(name))
     for way in reversed((place, *place.parents)):
         real = os.path.realpath(way)
-        if real in folders:
+        if is_among(real, folders):
             return os.path.normpath(os.path.join(real, place.relative_to(way)))
     return None
 

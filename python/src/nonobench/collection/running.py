@@ -3,6 +3,7 @@
 from __future__ import annotations
 
 import contextlib
+import math
 import os
 import signal
 import sys
@@ -15,7 +16,7 @@ from .._library import version
 from . import certificates
 from .arguments import Options, options_of
 from .earlier import Earlier, content_before, read_row, to_check
-from .finding import CHANGED, Places, changed, find, folders_of, is_among, is_in_share, order_of
+from .finding import CHANGED, NONE, Names, Places, changed, find, folders_of, is_among, is_in_share, order_of, real_place
 from .outputs import CLOSED, Failure, Lines, Output, Sheet, Table, hold_streams, kept_folder, lines_of, telling
 from .progress import Progress
 from .rows import Row, printable, row_of, text_of
@@ -39,25 +40,21 @@ def _follows(before: Row, row: Row) -> bool:
 
 
 class Stopped(BaseException):
-    """The run is to end: by Ctrl-C, or since the machine wants it to."""
+    """The run is to end: by Ctrl-C, or since the machine wants it to. What is told is the number of the signal."""
 
-    def __init__(self, number: int) -> None:
-        super().__init__(number)
-        self.status = 128 + number
+    is_held, came = False, 0  # whether that is to wait, and the signal that came
 
 
-class Whole:
+@contextlib.contextmanager
+def whole() -> Iterator[None]:
     """What is done within is done whole: a signal that comes meanwhile stops the run behind it."""
-
-    is_in, came = False, 0
-
-    def __enter__(self) -> None:
-        Whole.is_in = True
-
-    def __exit__(self, kind: Any, *_: Any) -> None:
-        Whole.is_in = False
-        if Whole.came and kind is None:
-            raise Stopped(Whole.came)
+    Stopped.is_held = True
+    try:
+        yield
+    finally:
+        Stopped.is_held = False
+    if Stopped.came:
+        raise Stopped(Stopped.came)
 
 
 class Kept(NamedTuple):
@@ -71,7 +68,7 @@ class Kept(NamedTuple):
 def main(words: Optional[list[str]] = None) -> int:
     """Runs nonobench-audit, and answers its status."""
     hold_streams()
-    Whole.came = 0
+    Stopped.came, Output.until = 0, math.inf
     for number in (signal.SIGINT, signal.SIGTERM):
         signal.signal(number, _stop)
     try:
@@ -81,7 +78,7 @@ def main(words: Optional[list[str]] = None) -> int:
         print(f"nonobench-audit: {printable(str(error))}", file=sys.stderr)
         return ERRORS
     except Stopped as error:
-        return error.status
+        return 128 + error.args[0]
     except Exception:  # 1 would say that puzzles are not fit
         traceback.print_exc()
         return ERRORS
@@ -89,8 +86,8 @@ def main(words: Optional[list[str]] = None) -> int:
 
 def _stop(number: int, _frame: Any) -> None:
     signal.signal(number, signal.SIG_DFL)
-    Whole.came, Output.until = number, time.monotonic() + READ
-    if not Whole.is_in:
+    Stopped.came, Output.until = number, time.monotonic() + READ
+    if not Stopped.is_held:
         raise Stopped(number)
 
 
@@ -171,7 +168,7 @@ class Run:
                 raise Failure(f"{printable((before if before.get('more') else row)['file'])}: {MIXED}")
             # One whose process was ended does not tell its content.
             before = {**row, "content": before.get("content")} if before.get("more") and "content" not in row else row
-            with Whole():
+            with whole():
                 self._deliver(text_of(row))  # written anew: other programs may have put blanks in
         if before.get("more"):
             raise Failure(f"{printable(before['file'])}: {MIXED}")
@@ -212,6 +209,7 @@ class Run:
         number = -1
         is_written = options.certify is not None and options.certificates is not None and is_among(options.certify, folders_of([options.certificates]))
         places = Places(options.certificates, options.givens, options.is_untrusted, is_written)
+        read = folders_of([*options.paths, *([] if options.givens is None else [options.givens])])
         for found in find(options.paths, places):
             if not is_in_share(found.name, options.shard):
                 self._is_elsewhere = True
@@ -219,7 +217,7 @@ class Run:
             number += 1
             self._beside += len(found.beside)
             self._unread += found.unread
-            to, published = (name and os.path.join(name, found.stem) for name in (options.certify, options.publish))
+            to, published = (name and self._way(os.path.join(name, found.stem), shut) for name, shut in ((options.certify, NONE), (options.publish, read)))
             rows = [] if self._earlier is None else self._earlier.rows(found.name)
             before = content_before(rows, settings.made, settings.limit, to, published)
             rows = rows if before else []
@@ -227,21 +225,26 @@ class Run:
             beside = found.beside, found.givens, found.background
             yield Task(number, found.name, found.path, *beside, to, before, 1, FULL, published, to_check(rows, to, published), why=found.why)
 
+    def _way(self, way: str, shut: Names) -> str:
+        """Where something is written: links of the operator's own are followed, but into no folder that is shut."""
+        real = way if self._options.is_untrusted else real_place(way)
+        return way if real != way and is_among(real, shut) else real
+
     def _guarded(self, work: Callable[[], None]) -> int:
         """Does the work, and ends what is written whatever comes: what is done is kept."""
         failures: list[Exception] = []
         status, is_whole = 0, False
         try:
             work()
-            Whole.is_in = is_whole = True
+            Stopped.is_held = is_whole = True
         except Stopped as stopped:
-            status = stopped.status
+            status = 128 + stopped.args[0]
         except Exception as error:  # what is done is kept then too
             if not isinstance(error, (Failure, Broken, OSError)):
                 traceback.print_exc()
-            status = Whole.came and Stopped(Whole.came).status
+            status = Stopped.came and 128 + Stopped.came
             failures.append(error)
-        with Whole():
+        with whole():
             return self._end(status, is_whole, failures)
 
     def _end(self, status: int, is_whole: bool, failures: list[Exception]) -> int:
@@ -251,10 +254,11 @@ class Run:
                 self._release(number)
         if is_whole and options.certificates is not None and options.shard == (1, 1) and self._beside == len(self._lost):
             failures.append(Failure(f"{options.certificates}: no certificate in it is of one of these puzzles"))
-        if is_whole and not self._tally.total and not self._is_elsewhere:
+        is_none = is_whole and not self._tally.total and not self._is_elsewhere
+        if is_none:
             failures.append(Failure(f"no puzzles in {', '.join(options.paths)}"))
         failures += [Failure(f"{folder}: {CHANGED}") for folder in (changed() if is_whole else ())]
-        failures += self._close(is_whole)
+        failures += self._close(is_whole and not is_none)
         self._progress.close()
         for words in dict.fromkeys(map(str, failures)):
             print(f"nonobench-audit: {printable(words)}", file=sys.stderr)
@@ -273,12 +277,12 @@ class Run:
 
     def _take_all(self, answers: Iterator[Optional[Answer]]) -> None:
         for answer in answers:
-            with Whole():
+            with whole():
                 if answer is None:
                     self._tick()
                 elif answer.number in self._kept and answer.number not in self._complete:  # nothing that nobody asked for
                     self._take(answer)
-        with Whole():
+        with whole():
             for number in sorted(self._complete):
                 self._release(number)
         if self._kept:

@@ -19,6 +19,7 @@ STUCK = 0.5  # seconds after which others take over what waits for one puzzle
 MOST_TIMES = 100  # a file of several puzzles has so many times the seconds of one
 STARTING = 60.0  # seconds for a process to begin
 MOST_PACKED = 64  # files in a pack
+MOST_WEIGHT = 2 << 20  # bytes of the kept rows in a pack, about
 PACK_SECONDS = 0.1  # what a pack shall take
 TICK = 0.25  # seconds between looks at the clock
 
@@ -104,12 +105,23 @@ class Pool:
             is_alone = any((task.number, task.start) in self._died for task in hand.tasks)
             if hand.is_left or hand.is_sending or is_alone or len(hand.tasks) > size // 2:
                 continue
-            pack = list(itertools.islice(iter(self._next, None), size))
+            pack = self._pack(size)
             if pack:
                 if not hand.tasks:
                     hand.since = time.monotonic()
                 hand.tasks.extend(pack)
                 hand.send(0, marshal.dumps([tuple(task) for task in pack]))
+
+    def _pack(self, size: int) -> list[Task]:
+        """The next tasks, so many at most, and with no more than some bytes of kept rows."""
+        pack: list[Task] = []
+        weight = 0
+        for task in itertools.islice(iter(self._next, None), size):
+            pack.append(task)
+            weight += sum(len(text) for _, text, _ in task.kept)
+            if weight > MOST_WEIGHT:
+                break
+        return pack
 
     def _next(self) -> Optional[Task]:
         if self._again:
@@ -179,7 +191,7 @@ class Pool:
                     yield from self._end(hand, "")
             elif hand.tasks and self._seconds is not None and (quiet > self._bound(hand.tasks[0]) or self._is_over(hand.tasks[0])):
                 yield from self._end(hand, f"no answer within {self._seconds:g} seconds")
-            elif len(hand.tasks) > 1 and quiet > STUCK and not hand.is_left:
+            elif len(hand.tasks) > 1 and quiet > STUCK and not (hand.is_left or hand.is_sending):
                 hand.is_left = True
                 hand.leave()
             elif len(hand.tasks) > 1 and quiet > STUCK + TICK:  # it began no other before it was told
