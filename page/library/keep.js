@@ -19,7 +19,7 @@ const WRITTEN = 1000; // milliseconds in which it is known whether the first rec
 
 /** Opens the library, once. What was painted before that is kept then. */
 keep.ready = (home = globalThis) => {
-  keep.opening ??= openShelf(home).then((shelf) => {
+  keep.opening ??= openShelf(home, () => { tell('library', null); keep.now(); }).then((shelf) => {
     keep.keeper = new Keeper(shelf, keep.said);
     keep.names = home.BroadcastChannel ? Object.assign(new home.BroadcastChannel('nonobench:names'), { onmessage: ({ data: { id, name } }) => keep.named(name, id) }) : null;
     keep.now();

@@ -1,6 +1,7 @@
 // Where the browser keeps things: a shelf of named values, over IndexedDB, else localStorage, else memory alone.
 // Each shelf has `get`, `change`, `put`, `putAll`, `drop` and `keys`, which answer promises; `lasts` tells whether a reload finds it again.
-// `change(keys, f)` puts the entries that `f` makes of the values of some keys: nothing comes between.
+// `change(keys, f)` puts the entries that `f` makes of the values of some keys: nothing comes between. What is kept elsewhere while the
+// database does not open goes there as soon as it does.
 
 const SHELF_NAME = 'nonobench';
 const SHELF_WAIT = 15000; // milliseconds for a database that does not open: on a busy machine the first opening takes seconds
@@ -11,21 +12,14 @@ const settledRequest = (request) => new Promise((resolve, reject) => {
 });
 
 // `put` and `putAll` are changes that ask for no value.
-const withPuts = (shelf) => ({ ...shelf, put: (key, value) => shelf.change([], () => [[key, value]]), putAll: (entries) => shelf.change([], () => entries) });
+const withPuts = (shelf) => Object.assign(shelf, { put: (key, value) => shelf.change([], () => [[key, value]]), putAll: (entries) => shelf.change([], () => entries) });
 
-function openDatabase(factory) {
-  const request = factory.open(SHELF_NAME, 1);
+// `blocked` is called where the database may open late.
+async function indexedShelf(home, blocked) {
+  const request = home.indexedDB.open(SHELF_NAME, 1);
   request.onupgradeneeded = () => request.result.createObjectStore('kept');
-  let timer;
-  const fails = new Promise((_, reject) => {
-    timer = setTimeout(() => reject(new Error('the database does not open')), SHELF_WAIT);
-    request.onblocked = () => reject(new Error('the database is blocked'));
-  });
-  return Promise.race([settledRequest(request), fails]).finally(() => clearTimeout(timer));
-}
-
-async function indexedShelf(factory) {
-  const database = await openDatabase(factory);
+  request.onblocked = blocked;
+  const database = await settledRequest(request);
   database.onversionchange = () => database.close();
   const store = (mode) => database.transaction('kept', mode).objectStore('kept');
   // A write is kept once its transaction is complete.
@@ -50,9 +44,6 @@ async function indexedShelf(factory) {
 }
 
 export function localShelf(storage) {
-  const probe = `${SHELF_NAME}:probe`;
-  storage.setItem(probe, '1');
-  storage.removeItem(probe);
   const own = (key) => `${SHELF_NAME}:${key}`;
   const read = (key) => JSON.parse(storage.getItem(own(key)) ?? 'null') ?? undefined;
   return withPuts({
@@ -86,16 +77,65 @@ export function memoryShelf() {
   });
 }
 
-/** The best shelf that the browser has; `home` is the window. Never fails. */
-export async function openShelf(home) {
+// The shelf of a browser whose database does not open.
+function shelfWithout(home) {
+  const probe = `${SHELF_NAME}:probe`;
   try {
-    return await indexedShelf(home.indexedDB);
+    home.localStorage.setItem(probe, '1');
+    home.localStorage.removeItem(probe);
+    return localShelf(home.localStorage);
   } catch {
-    try {
-      return localShelf(home.localStorage);
-    } catch {
-      return memoryShelf();
-    }
+    return memoryShelf();
+  }
+}
+
+// A value as the database takes it over, which may have another one by its key: the newer one has the key then, and an older one that
+// comes is put beside it, under an id of its own.
+function entryBeside(key, value, own) {
+  const [when, its] = [value, own].map((one) => Number(one?.when) || 0);
+  if (!own || its < when) return [[key, value]];
+  const more = `-${when.toString(36)}`;
+  return its === when ? [] : [[key + more, { ...value, id: value.id + more }]];
+}
+
+// Takes what a shelf has over into the database: all of it or nothing. What is damaged stays, and what another tab keeps meanwhile.
+async function takeOver(from, database) {
+  const read = (key) => from.get(key).catch(() => null);
+  const found = [];
+  for (const key of await from.keys()) found.push([key, await read(key)]);
+  const sound = found.filter(([, value]) => value);
+  if (!sound.length) return;
+  await database.change(sound.map(([key]) => key), (own) => sound.flatMap(([key, value], at) => entryBeside(key, value, own[at])));
+  for (const [key, value] of sound) if (JSON.stringify(await read(key)) === JSON.stringify(value)) await from.drop(key);
+}
+
+// A shelf for as long as the database does not open. Where that opens late, what is asked waits until all is taken over, and `moved` is called.
+function shelfUntil(first, late, moved) {
+  let [now, at] = [first, Promise.resolve(first)];
+  const move = async (database) => {
+    at = at.then(() => takeOver(first, database)).then(() => { now = database; }).catch(() => {}).then(() => now);
+    if (await at === database) moved();
+  };
+  late.then(move).catch(() => {});
+  const asked = (name) => (...words) => at.then((shelf) => shelf[name](...words));
+  return withPuts({ get lasts() { return now.lasts; }, get: asked('get'), change: asked('change'), drop: asked('drop'), keys: asked('keys') });
+}
+
+/** The best shelf that the browser has; `home` is the window. Never fails. `moved` is called where it is a database that opened late from now on. */
+export async function openShelf(home, moved = () => {}) {
+  /** @type {any} */
+  let giveUp;
+  const late = new Promise((_, reject) => { giveUp = reject; });
+  const timer = setTimeout(giveUp, SHELF_WAIT);
+  const database = indexedShelf(home, giveUp);
+  try {
+    const shelf = await Promise.race([database, late]);
+    await (async () => takeOver(localShelf(home.localStorage), shelf))().catch(() => {}); // of a start at which it did not open
+    return shelf;
+  } catch {
+    return shelfUntil(shelfWithout(home), database, moved);
+  } finally {
+    clearTimeout(timer);
   }
 }
 

@@ -289,6 +289,67 @@ test('which shelf is opened', async () => {
     assert.equal((await openShelf({ indexedDB: refusing, localStorage: storageOf(1000) })).lasts, true);
 });
 
+// A browser's database that has some values, as far as a shelf asks for it: `requests` are those to open it. It `refuses` what is put.
+function databaseOf(kept, { requests = [], refuses = false } = {}) {
+    const transaction = () => {
+        let waiting = 0;
+        const one = { error: new Full('full'), objectStore: () => store };
+        const ends = () => setTimeout(() => { if (!waiting) (refuses ? one.onabort : one.oncomplete)?.(); }, 1);
+        const answered = (act) => {
+            const request = {};
+            waiting++;
+            setTimeout(() => {
+                request.result = act();
+                waiting--;
+                request.onsuccess?.();
+                ends();
+            }, 1);
+            return request;
+        };
+        const store = { get: (key) => answered(() => kept.get(key)), put: (value, key) => refuses || kept.set(key, value), delete: (key) => kept.delete(key), getAllKeys: () => answered(() => [...kept.keys()]) };
+        ends();
+        return one;
+    };
+    return { requests, open() { requests.push({ result: { transaction } }); return requests.at(-1); } };
+}
+const opening = (database) => ({ open() { const request = database.open(); setTimeout(() => request.onsuccess(), 1); return request; } });
+const kept = async (keeper) => (await keeper.cards()).map(({ id, name, when, verdict }) => [id, name, when, verdict]);
+const entries = (...records) => new Map(records.flatMap((one) => [[`work:${one.id}`, one], [`card:${one.id}`, cardOf(one)]]));
+
+test('what was kept while the database did not open is in it at the next start', async () => {
+    const localStorage = storageOf(1e5);
+    const first = new Keeper(await openShelf({ localStorage }), () => {});
+    for (const [id, when] of [['a', 3], ['b', 2], ['c', 5], ['d', 1]]) await first.put(record(id, when, { name: 'local' }), { verdict: 'unique' });
+    localStorage.setItem('nonobench:work:bad', '{');
+    const database = entries(record('a', 1), record('b', 4), record('c', 5));
+    const wanted = [['c', 'tree', 5, null], ['b', 'tree', 4, null], ['a', 'local', 3, 'unique'], ['b-2', 'local', 2, 'unique'], ['d', 'local', 1, 'unique']];
+    const refusing = new Keeper(await openShelf({ localStorage, indexedDB: opening(databaseOf(database, { refuses: true })) }), () => {});
+    assert.deepEqual([await kept(refusing), localStorage.length], [wanted.filter(([, name]) => name === 'tree').concat([['a', 'tree', 1, null]]), 9], 'all of it or nothing');
+    for (let start = 0; start < 2; start++) {
+        const keeper = new Keeper(await openShelf({ localStorage, indexedDB: opening(databaseOf(database)) }), () => {});
+        assert.deepEqual([await kept(keeper), (await keeper.record('b-2')).id, localStorage.length], [wanted, 'b-2', 1], 'the newer one stays, and nothing is lost');
+    }
+});
+
+test('a database that opens late takes over what was kept until then, also in memory alone', async () => {
+    for (const localStorage of [storageOf(1e5), null]) {
+        const [database, requests, said] = [entries(record('a', 1)), [], []];
+        const indexedDB = databaseOf(database, { requests });
+        let moved = () => {};
+        const isMoved = new Promise((go) => { moved = go; });
+        const shelf = openShelf({ localStorage, indexedDB }, moved);
+        requests[0].onblocked();
+        const keeper = new Keeper(await shelf, ({ kind }) => said.push(kind));
+        await keeper.put(record('b', 2));
+        assert.deepEqual([await kept(keeper), database.size], [[['b', 'tree', 2, null]], 2]);
+        requests[0].onsuccess();
+        await pause(1);
+        await Promise.all([keeper.put(record('b', 3)), keeper.put(record('c', 4)), isMoved]);
+        assert.deepEqual([await kept(keeper), database.size, localStorage?.length ?? 0], [[['c', 'tree', 4, null], ['b', 'tree', 3, null], ['a', 'tree', 1, null]], 6, 0]);
+        assert.deepEqual([said, keeper.shelf.lasts], [[localStorage ? 'kept' : 'failed', 'kept', 'kept'], true]);
+    }
+});
+
 // The browser's locks, as far as a claim asks for them.
 function locks() {
     const held = new Set();
