@@ -1,13 +1,13 @@
 // What a link opens: a puzzle in the address's fragment, to be changed, or to be solved by the player alone.
 
-import { say } from '../base/elements.js';
+import { $, say } from '../base/elements.js';
 import { on } from '../base/events.js';
 import { cleanName } from '../base/words.js';
 import { bench } from '../engine/bench.js';
 import { readFragment } from '../formats/link.js';
 import { faultText, openDoc } from '../library/open.js';
 import { showFileName } from '../library/saving.js';
-import { openPlay } from '../play/play.js';
+import { openPlay, playSays } from '../play/play.js';
 import { phrase } from '../texts/phrase.js';
 import { openDialogs } from '../view/dialogs.js';
 
@@ -20,22 +20,25 @@ function showBody(isPlayer) {
 /** Opens what the fragment holds, if it holds a puzzle. It goes to the library by its first stroke. */
 async function openFragment() {
   const isAlone = location.hash.startsWith('#play=');
+  const wasAlone = document.body.classList.contains('player'); // what is behind it is a solution
+  let isOpen = false;
   try {
     const found = await readFragment(location.hash);
     if (!found) return;
     const name = isAlone ? phrase('play.puzzle') : found.doc.about.title || 'shared';
     const leave = () => {
       document.body.classList.remove('player'); // so that a player that closes stays closed
-      document.body.style.visibility = isAlone ? 'hidden' : '';
+      document.body.style.visibility = isAlone || wasAlone ? 'hidden' : '';
       for (const dialog of openDialogs()) dialog.close();
     };
-    const isOpen = await openDoc(found.doc, { name: cleanName(name), isBlank: true, leave });
-    showBody(isOpen && isAlone);
-    if (isOpen && isAlone) await openPlay({ isAlone });
+    isOpen = await openDoc(found.doc, { name: cleanName(name), isBlank: true, leave });
   } catch (fault) {
-    showBody(false);
     say(phrase('start.linkCouldNotOpened', { fault: faultText(fault) }), 'alarm');
   }
+  const isPlayer = isOpen ? isAlone : wasAlone;
+  showBody(isPlayer);
+  if (isPlayer && (isOpen || !$('play-room')?.open)) await openPlay({ isAlone: true });
+  if (isPlayer && !isOpen) playSays($('said').textContent);
 }
 
 // The tab of the player gets the title now, which could have given the picture away, and the site that has the page in a frame hears it.

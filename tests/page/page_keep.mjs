@@ -11,6 +11,7 @@ import { docOf, emptyDoc, packedDoc, sameDoc, unpackedDoc } from '../../page/doc
 import { FileFault } from '../../page/document/limits.js';
 import { bench } from '../../page/engine/bench.js';
 import { Client } from '../../page/engine/client.js';
+import { fragmentOf } from '../../page/formats/link.js';
 import { webpbnText } from '../../page/formats/webpbn.js';
 import { crcOf, writeZip } from '../../page/formats/zip.js';
 import { readZip } from '../../page/test/zips.mjs';
@@ -22,6 +23,7 @@ import { Keeper } from '../../page/library/keeper.js';
 import { openDoc, openRecord } from '../../page/library/open.js';
 import { cardOf, readCard, readRecord, recordOf, recordOfDoc } from '../../page/library/records.js';
 import { claim, localShelf, memoryShelf, openShelf } from '../../page/library/shelf.js';
+import { startLinked } from '../../page/start/linked.js';
 
 class Full extends Error {
     name = 'QuotaExceededError';
@@ -520,6 +522,22 @@ test('what was repaired in a table, or made of an enlarged image, is in no file'
     assert.equal(await mended.mend({ mend: async (doc) => ({ doc: painted(doc, 1), cells: 1 }) }, { judge: async () => null }), true);
     await keepAll([kept, mended, made]);
     assert.deepEqual((await shelved()).map(({ name, isSaved }) => [name, isSaved]).sort(), [['kept', true], ['made', false], ['mended', false]]);
+});
+
+test('behind a link that does not open, the tab of a player shows no solution', async () => {
+    const { elements } = await pageOf([]);
+    const classes = new Set(['player']);
+    const classList = { contains: (name) => classes.has(name), toggle: (name, is) => (is ? classes.add(name) : classes.delete(name)), remove: (name) => classes.delete(name) };
+    Object.assign(globalThis.document, { body: { classList, style: {} }, querySelectorAll: () => [] });
+    elements.said = { ...element(), replaceChildren: (text) => { elements.said.textContent = text; } };
+    elements['play-room'] = { open: true };
+    bench.open = async () => { throw new Error('out of memory'); };
+    for (const [hash, text] of [['#play=AAAA', /damaged/], [await fragmentOf(emptyDoc(3, 2), 'play'), /memory/], [await fragmentOf(emptyDoc(3, 2), 'edit'), /memory/]]) {
+        Object.assign(globalThis, { location: { hash }, addEventListener() {} });
+        await startLinked();
+        assert.deepEqual([[...classes], globalThis.document.body.style.visibility], [['player'], ''], hash);
+        assert.match(elements['play-said'].textContent, text);
+    }
 });
 
 test('what another tab has open is not taken away, and what is brought back takes no place of a newer one', async () => {

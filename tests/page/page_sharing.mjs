@@ -107,9 +107,10 @@ export async function linkInTheSameTab({ browser, url, folder }) {
     await page.close();
 }
 
-/** Where a link to play follows another one in the same tab, the player of the first is gone. */
+/** Where a link to play follows another one in the same tab, the player of the first is gone; behind a damaged one it stays, alone. */
 export async function playersInTheSameTab({ browser, url, folder }) {
     const { page } = await fresh(browser, url, folder, 'players');
+    const isAlone = () => page.run(() => document.getElementById('play-field').checkVisibility({ visibilityProperty: true }) && !document.getElementById('menus').checkVisibility({ visibilityProperty: true }));
     for (const rows of [DUCK, TWO_WAYS]) {
         await page.run(async (picture) => {
             const colours = [[255, 255, 255], [0, 0, 0], [200, 40, 40], [40, 80, 200]];
@@ -117,8 +118,11 @@ export async function playersInTheSameTab({ browser, url, folder }) {
         }, rows);
         await page.until((count) => document.getElementById('play-room')?.open && play.state.rows === count, 5000 * SLACK, rows.length);
         assert.equal(await page.run(() => document.querySelectorAll('#play-room').length), 1);
-        assert.equal(await page.run(() => document.getElementById('play-field').checkVisibility({ visibilityProperty: true }) && !document.getElementById('menus').checkVisibility({ visibilityProperty: true })), true);
+        assert.equal(await isAlone(), true);
     }
+    await page.run(() => { location.hash = location.hash.slice(0, -6); });
+    await page.until(() => /damaged/.test(document.getElementById('play-said').textContent), 5000 * SLACK);
+    assert.deepEqual([await isAlone(), await page.run(() => document.getElementById('play-close').checkVisibility())], [true, false], 'no way to the solution');
     await page.close();
 }
 
