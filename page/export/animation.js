@@ -11,6 +11,7 @@ import { exportAs } from '../library/saving.js';
 import { pathOf } from '../play/path.js';
 import { phrase } from '../texts/phrase.js';
 import { asSeen } from '../view/tools.js';
+import { verdictView } from '../view/verdict.js';
 import { puzzleOf } from './printing.js';
 
 const SIDE = 640; // pixels that the longer side comes near to
@@ -121,7 +122,8 @@ function animated(puzzle, walk) {
 export const exportPath = () => asSeen(async (seen) => {
   const { state, name } = seen;
   if (state.verdict.word !== 'unique') return say(phrase('export.pathNeedsOne'), 'alarm');
-  const puzzle = puzzleOf(seen);
+  verdictView.ended = null;
   const walk = await pathOf(state);
-  return walk && exportAs(name, 'gif', new Blob([animated(puzzle, walk)]), '-path');
+  if (walk?.isWhole) return exportAs(name, 'gif', new Blob([animated(puzzleOf(seen), walk)]), '-path');
+  return verdictView.ended && say(phrase('export.pathNotWhole', { name }), 'alarm');
 });

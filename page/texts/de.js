@@ -728,6 +728,7 @@ export const DE = /** @type {const} */ ({
   'export.nonTwoColours': '.non (zwei Farben)',
   'export.pathGif': 'Lösungsweg (GIF)',
   'export.pathNeedsOne': 'Nur ein Rätsel mit einer einzigen Lösung hat einen Lösungsweg bis zum Ende.',
+  'export.pathNotWhole': '{name}-path.gif wurde nicht gespeichert, denn die Suche nach dem Lösungsweg kam nicht zum Ende.',
   'export.siteZip': 'Rätselseite (Zip)',
   'export.siteServes': 'Für eine Website, die Ihr Rätsel veröffentlicht: Damit prüft sie, dass es nur eine Lösung gibt.',
   'export.export': 'Exportieren',

@@ -728,6 +728,7 @@ export const EN = /** @type {const} */ ({
   'export.nonTwoColours': '.non (two colours)',
   'export.pathGif': 'Solving path (GIF)',
   'export.pathNeedsOne': 'Only a puzzle with one solution has a solving path to its end.',
+  'export.pathNotWhole': '{name}-path.gif was not saved, as the search for the solving path did not come to its end.',
   'export.siteZip': 'Puzzle site (zip)',
   'export.siteServes': 'For a site that publishes your puzzle: with it, the site checks that there is only one solution.',
   'export.export': 'Export',

@@ -728,6 +728,7 @@ export const FR = /** @type {const} */ ({
   'export.nonTwoColours': '.non (deux couleurs)',
   'export.pathGif': 'Chemin de résolution (GIF)',
   'export.pathNeedsOne': 'Seule une grille qui n’a qu’une solution a un chemin de résolution complet.',
+  'export.pathNotWhole': '{name}-path.gif n’a pas été enregistré, car la recherche du chemin de résolution n’est pas allée à son terme.',
   'export.siteZip': 'Site de jeux (zip)',
   'export.siteServes': 'Pour un site qui publie votre grille : il vérifie ainsi qu’elle n’a qu’une solution.',
   'export.export': 'Exporter',

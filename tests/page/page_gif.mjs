@@ -1,7 +1,13 @@
-// Tests of the GIF that the page writes: read back by a reader of its own. Run: node --test tests/page/page_gif.mjs
+// Tests of the GIF that the page writes: read back by a reader of its own; and of when it writes none. Run: node --test tests/page/page_gif.mjs
 import assert from 'node:assert/strict';
 import { test } from 'node:test';
+import { saidLine } from '../../page/test/worker.mjs';
+import { emptyDoc } from '../../page/document/document.js';
+import { bench } from '../../page/engine/bench.js';
+import { exportPath } from '../../page/export/animation.js';
 import { writeGif } from '../../page/formats/gif.js';
+import { Walk } from '../../page/play/path.js';
+import { searches, verdictView } from '../../page/view/verdict.js';
 
 // The numbers of colours that codes of GIF's LZW stand for.
 function unpacked(bytes, bits) {
@@ -84,5 +90,19 @@ test('large frames of many colours fill the table of codes more than once', () =
         const pixels = Uint8Array.from({ length: 300 * 200 }, (_, at) => (at % 3000 < 1000 ? 1 : (state = (state * 48271) % 2147483647) % below));
         const [frame] = read(writeGif({ width: 300, height: 200, palette: palette.slice(0, below), frames: [{ x: 0, y: 0, width: 300, height: 200, pixels, delay: 8 }] })).frames;
         assert.deepEqual(Uint8Array.from(frame.pixels), pixels, `${below} colours`);
+    }
+});
+
+test('a solving path that does not come to its end is not saved, and that is told', async () => {
+    const line = saidLine();
+    Object.assign(bench, { name: 'x', state: { ...emptyDoc(3, 2), verdict: { word: 'unique' } } });
+    for (const [why, walk] of [['stopped', new Walk({ ...bench.state, map: ['...', '...'] })], ['time', null]]) {
+        line.text = '';
+        searches.job = async () => {
+            verdictView.ended = why;
+            return walk;
+        };
+        await exportPath();
+        assert.match(line.text, /^x-path\.gif was not saved/, why);
     }
 });
