@@ -6,6 +6,7 @@ import { FileFault, MOST_NAME } from '../document/limits.js';
 import { phrase } from '../texts/phrase.js';
 
 const MOST_COLOURS = 1024; // in a file
+const MOST_SIGNS = 2 ** 20; // of a file, with names and comments
 const FAULTS = {
   NoPalette: () => phrase('formats.paletteNotRead'), BadColour: (line) => phrase('formats.paletteBadColour', { line }), BadCount: (line) => phrase('formats.paletteBadCount', { line }),
   NoColours: () => phrase('formats.paletteNoColours'), TooMany: () => phrase('formats.paletteTooMany', { most: MOST_COLOURS }),
@@ -24,10 +25,11 @@ const hexLine = /^#?([0-9a-f]{6})$/i;
 
 /** What a text is: 'gpl', 'pal', 'hex' or null. A .hex has no mark: each of its lines is a colour. */
 export function kindOfPalette(text) {
-  const lines = linesOf(text);
-  if (lines[0].trim() === 'GIMP Palette') return 'gpl';
-  if (lines[0].trim() === 'JASC-PAL') return 'pal';
-  const filled = lines.map((line) => line.trim()).filter((line) => line && !line.startsWith(';'));
+  const [first] = linesOf(text.slice(0, 80));
+  if (first.trim() === 'GIMP Palette') return 'gpl';
+  if (first.trim() === 'JASC-PAL') return 'pal';
+  if (text.length > MOST_SIGNS) return null;
+  const filled = linesOf(text).map((line) => line.trim()).filter((line) => line && !line.startsWith(';'));
   return filled.length > 0 && filled.every((line) => hexLine.test(line)) ? 'hex' : null;
 }
 
@@ -69,6 +71,7 @@ function readHex(lines) {
 export function readPalette(text) {
   const kind = kindOfPalette(text);
   if (!kind) throw new PaletteFault('NoPalette');
+  if (text.length > MOST_SIGNS) throw new PaletteFault('TooMany');
   const { name, colours } = { gpl: readGpl, pal: readPal, hex: readHex }[kind](linesOf(text));
   if (!colours.length) throw new PaletteFault('NoColours');
   if (colours.length > MOST_COLOURS) throw new PaletteFault('TooMany');
