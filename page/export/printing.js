@@ -77,7 +77,7 @@ const byName = (one, other) => one.name.localeCompare(other.name, LANGUAGE, { nu
 async function otherCards() {
   const { id } = keep;
   const keeper = await keep.ready();
-  return (await keeper.cards()).filter((card) => card.id !== id).sort(byName);
+  return (await keeper.cards().catch(() => [])).filter((card) => card.id !== id).sort(byName);
 }
 
 function libraryPart(cards) {

@@ -155,3 +155,16 @@ export async function toldFull({ browser, url, folder }) {
     assert.equal((await trial.state()).columns, 20);
     await page.close();
 }
+
+/** A database that is closed under the page is told, and what needs no library goes on. */
+export async function closedDatabase({ page, trial }) {
+    await clean(page);
+    await page.click('#new-go');
+    await isOpen(page);
+    await page.run(() => new Promise((go, no) => { Object.assign(indexedDB.deleteDatabase('nonobench'), { onsuccess: () => go(), onerror: () => no() }); }));
+    await trial.drag([[2, 2]]);
+    await page.until(() => /storage does not take it/.test(document.getElementById('said').textContent), 5000 * SLACK);
+    await page.run(() => runAction('print'));
+    await page.until(() => document.querySelector('dialog[open] #print-notes'), 5000 * SLACK);
+    await page.press('Escape');
+}
