@@ -11,6 +11,7 @@ import { SAVE_TYPES, download } from '../library/saving.js';
 import { phrase } from '../texts/phrase.js';
 import { confirmDialog } from '../view/dialogs.js';
 import { Progress } from '../view/progress.js';
+import { asSeen } from '../view/tools.js';
 import { grouped, puzzlesIn } from './beside.js';
 
 const MANY = 200; // files: more are asked for first
@@ -30,17 +31,24 @@ export async function saveArchive(records, { file, text, kind = '', others = [] 
   say(text, kind, null, true);
 }
 
-/** Hands all pictures of the library to the user as one archive. */
-export async function exportAll() {
+/** All pictures of the library, null where one is damaged; the one at hand is as it is seen, also where the storage does not take that. */
+export async function allRecords() {
   const keeper = await keep.ready();
-  const cards = await keeper.cards();
-  const records = [];
-  for (const { id } of cards) records.push(await keeper.record(id));
+  await asSeen();
+  await keep.now();
+  const [own, cards] = [keep.atHand(), await keeper.cards()];
+  const others = cards.filter(({ id }) => id !== own?.id).map(({ id }) => keeper.record(id));
+  return Promise.all([...(own ? [own] : []), ...others]);
+}
+
+/** Hands all pictures of the library to the user as one archive. */
+export const exportAll = () => keep.tried(async () => {
+  const records = await allRecords();
   const sound = records.filter(Boolean);
   if (!sound.length) return say(phrase('import.libraryNoPictures'));
-  const ones = cards.length - sound.length;
+  const ones = records.length - sound.length;
   return saveArchive(sound, { file: 'nonobench library.zip', text: phrase('import.picturesSavedNonobenchLibrary', { pictures: sound.length, count: ones ? phrase('import.onesLeftOut', { ones }) : '' }), kind: ones ? 'alarm' : '' });
-}
+});
 
 // The files of an archive by their folders, as grouped() takes them. Each is unpacked when it is read, so they are not in memory together.
 function foldersOf(entries) {

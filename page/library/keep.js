@@ -104,6 +104,9 @@ keep.changed = () => {
   return keep.now({ mayRest: true });
 };
 
+/** The picture at hand, where it belongs to the library, as a record has it; else null. */
+keep.atHand = () => (keep.id && bench.term === keep.term && !keep.untouched ? { id: keep.id, name: bench.name, doc: docOf(bench.state) } : null);
+
 /** Another document comes: what rests is kept before that. Where nothing was kept so far, resolves once that is known. */
 keep.leave = async () => {
   keep.keeper?.hurry();

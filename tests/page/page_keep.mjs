@@ -15,7 +15,7 @@ import { fragmentOf } from '../../page/formats/link.js';
 import { webpbnText } from '../../page/formats/webpbn.js';
 import { crcOf, writeZip } from '../../page/formats/zip.js';
 import { readZip } from '../../page/test/zips.mjs';
-import { archiveOf, readArchive } from '../../page/import/archives.js';
+import { allRecords, archiveOf, exportAll, readArchive } from '../../page/import/archives.js';
 import { Row } from '../../page/import/rows.js';
 import { keepAll } from '../../page/import/several.js';
 import { keep } from '../../page/library/keep.js';
@@ -538,6 +538,26 @@ test('behind a link that does not open, the tab of a player shows no solution', 
         assert.deepEqual([[...classes], globalThis.document.body.style.visibility], [['player'], ''], hash);
         assert.match(elements['play-said'].textContent, text);
     }
+});
+
+test('an archive has the open picture as it is seen, also where it is not kept, and a library that is closed is told', async () => {
+    const { elements } = await pageOf(['a', 'b']);
+    await openRecord('a');
+    await keep.keeper.writing;
+    const pictures = async () => (await allRecords()).map(({ name, doc }) => [name, doc.picture[0]]).sort();
+    const { shelf } = keep.keeper;
+    keep.keeper.shelf = { ...shelf, putAll: async () => { throw new Full('full'); } };
+    bench.state = { ...painted(docOf(bench.state), 1), verdict: { word: 'unique' } };
+    assert.deepEqual(await pictures(), [['a', '.a.'], ['b', '...']]);
+    bench.saved(docOf(bench.state));
+    await openDoc(emptyDoc(3, 2), { name: 'c' });
+    assert.deepEqual(await pictures(), [['a', '...'], ['b', '...'], ['c', '...']], 'and where the library has none of it');
+    await openDoc(emptyDoc(3, 2), { name: 'd', isBlank: true });
+    assert.deepEqual(await pictures(), [['a', '...'], ['b', '...']], 'of a blank one there is nothing yet');
+    keep.keeper.shelf = { ...shelf, keys: async () => { throw new Error('closed'); } };
+    elements.said = { ...element(), replaceChildren: (text) => { elements.said.text = text; } };
+    await exportAll();
+    assert.match(elements.said.text, /storage does not take it/);
 });
 
 test('what another tab has open is not taken away, and what is brought back takes no place of a newer one', async () => {
