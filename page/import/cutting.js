@@ -5,6 +5,8 @@ import { clamp } from '../base/words.js';
 import { MOST_CELLS } from '../document/limits.js';
 import { phrase } from '../texts/phrase.js';
 import { openDialog } from '../view/dialogs.js';
+import { Progress } from '../view/progress.js';
+import { MOST_AT_ONCE } from './beside.js';
 import { docByItself, docProposed } from './proposing.js';
 import { Row } from './rows.js';
 import { showRows } from './several.js';
@@ -57,6 +59,16 @@ class Cutting {
 // A sprite pixel by pixel where it can be, else as the dialog for pictures proposes it. No file has it by itself.
 const docOfSprite = (sprite) => ({ ...((sprite.width <= MOST_CELLS && sprite.height <= MOST_CELLS && docByItself(sprite)) || docProposed(sprite)), isMade: true });
 
+/** The rows of sprites, one after the other, up to where the user stops it or a table has no more. */
+export async function rowsOfSprites(sprites, name, progress) {
+  const rows = [];
+  for (const [at, sprite] of sprites.slice(0, MOST_AT_ONCE).entries()) {
+    if (!(await progress.goesOn(phrase('import.ofAll', { count: at, all: sprites.length })))) return rows;
+    rows.push(new Row(`${name} ${at + 1}`, docOfSprite(sprite)));
+  }
+  return sprites.length > rows.length ? [...rows, new Row(name, null, phrase('import.othersLeftOut', { most: MOST_AT_ONCE }))] : rows;
+}
+
 /** Lets the user cut a sheet, given as an image and as a canvas, and shows its puzzles in a table. */
 export async function cutSheet(image, canvas, name) {
   const cutting = new Cutting(image, canvas);
@@ -65,5 +77,8 @@ export async function cutSheet(image, canvas, name) {
     buttons: [{ name: phrase('import.cut'), value: true, main: true, test: () => (cutting.sprites.length ? '' : phrase('import.noSprites')) }],
   });
   if (!isCut) return false;
-  return showRows(cutting.sprites.map((sprite, at) => new Row(`${name} ${at + 1}`, docOfSprite(sprite))));
+  const progress = new Progress(phrase('import.cutSheet', { name }));
+  const rows = await rowsOfSprites(cutting.sprites, name, progress);
+  progress.end();
+  return rows.length > 0 && showRows(rows);
 }

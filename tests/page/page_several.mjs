@@ -15,6 +15,7 @@ import { writeZip, zipEntries } from '../../page/formats/zip.js';
 import { readZip } from '../../page/test/zips.mjs';
 import { readArchive } from '../../page/import/archives.js';
 import { docsOfUnit, grouped, hasCertificate, puzzlesIn } from '../../page/import/beside.js';
+import { rowsOfSprites } from '../../page/import/cutting.js';
 import { unitsIn } from '../../page/import/folders.js';
 import { docOfNon } from '../../page/import/reading.js';
 import { docByItself, proposalFor } from '../../page/import/proposing.js';
@@ -435,6 +436,20 @@ test('enlarged pixel art of many colours has as many as the dialog proposes, and
     assert.equal(docByItself(image, [255, 255, 255]), null); // 18 colours with that background
     const few = imageOf(rows.map((row) => row.replace('Q', 'A')), 30);
     assert.deepEqual([docByItself(few).all, docByItself(few).colours.length], [16, 16]);
+});
+
+test('the sprites of a sheet are cut one after the other, and no more than a table has rows', async () => {
+    globalThis.ImageData = class {};
+    const element = { append() {}, setAttribute() {}, replaceChildren() {}, getContext: () => ({ putImageData() {}, drawImage() {} }) };
+    globalThis.document = { createElement: () => ({ ...element }) };
+    const told = [];
+    const rows = async (count, most = Infinity) => rowsOfSprites(Array(count).fill(imageOf(['kw'], 1)), 'sheet', { goesOn: async (text) => told.push(text) <= most });
+    const all = await rows(2001);
+    assert.deepEqual([all.length, all[1999].name, all[1999].doc.picture, all[2000].doc], [2001, 'sheet 2000', ['a.'], null]);
+    assert.match(all[2000].fault, /2,000/);
+    assert.deepEqual([(await rows(2000)).at(-1).name, told.length, told[1]], ['sheet 2000', 4000, '1 of 2,001']);
+    told.length = 0;
+    assert.equal((await rows(9, 3)).length, 3, 'stopped');
 });
 
 test('no text of a table is a formula of a spreadsheet', () => {
