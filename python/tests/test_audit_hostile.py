@@ -1452,7 +1452,7 @@ class Processes(Case):
         self.run_audit("site", "--memory", "128", "--jobs", "1", "--jsonl", "rows", "--no-grade", status=3)
         rows = [json.loads(line) for line in (self.folder / "rows").read_text().splitlines()]
         self.assertEqual([row.get("puzzle") for row in rows], [1, 2, None])
-        self.assertEqual(rows[1]["error"], "out of memory: more than 128 MiB")
+        self.assertEqual(rows[1]["error"], "out of memory: more than 128 MiB: neither it nor those behind it are judged")
         self.run_audit("merge", "rows", "--jsonl", "joined", status=3)
         self.assertEqual((self.folder / "joined").read_bytes(), (self.folder / "rows").read_bytes())
         # A row without what it was judged by comes of a process that was ended. It hides no other run.

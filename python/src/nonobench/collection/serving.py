@@ -174,7 +174,8 @@ class Judging:
             self._answer(task)
         except MemoryError:  # in reading it
             self._spare = b""
-            row = {**self._front, "verdict": "error", "error": self._too_much()}
+            rest = ": neither it nor those behind it are judged" if "puzzle" in self._front else ""
+            row = {**self._front, "verdict": "error", "error": self._too_much() + rest}
             self._answers.put(task.number, "last", "error", text_of(row))
             self._leave(task)
 
