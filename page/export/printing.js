@@ -16,9 +16,10 @@ import { addAction } from '../view/actions.js';
 import { openDialog } from '../view/dialogs.js';
 import { nearText, pairText } from '../view/dress.js';
 import { gradeAtHand } from '../view/grading.js';
+import { Progress } from '../view/progress.js';
 import { asSeen } from '../view/tools.js';
 import { SHEET_TEXTS, entryOf } from './entries.js';
-import { GRIDS, PAPERS, isLarge, partsOf, sheetsOf } from './sheets.js';
+import { GRIDS, PAPERS, isLarge, makersOf, partsOf } from './sheets.js';
 
 const PAPER_NAMES = { a4: 'A4', a5: 'A5', letter: phrase('export.usLetter'), book: phrase('export.sixByNine') };
 const SHOWN = { colours: phrase('view.colours'), letters: phrase('export.letters'), signs: phrase('export.signs') };
@@ -39,7 +40,17 @@ export const puzzleOf = ({ state, name }) => ({ doc: docOf(state), clues: state.
 
 // How colours are told before one chooses: where they cannot be told apart, by letters.
 const shownFirst = (near) => (near && chosen.show === 'colours' ? 'letters' : chosen.show);
-const sheetsFor = (puzzles, options) => sheetsOf(puzzles.map((one) => entryOf(one, options)), { ...options, texts: SHEET_TEXTS });
+const makersFor = (puzzles, options) => makersOf(puzzles.map((one) => entryOf(one, options)), { ...options, texts: SHEET_TEXTS });
+
+/** What comes of each sheet of puzzles, one after the other; null once `goesOn`, which hears how far it is, says no. */
+export async function sheetsInTurn(puzzles, options, goesOn, take = (sheet) => sheet) {
+  const [makers, sheets] = [makersFor(puzzles, options), []];
+  for (const [at, makeSheet] of makers.entries()) {
+    if (!(await goesOn(phrase('import.ofAll', { count: at, all: makers.length })))) return null;
+    sheets.push(take(makeSheet()));
+  }
+  return sheets;
+}
 
 // ---- the browser's print
 
@@ -145,6 +156,19 @@ async function foreseen(own, cards) {
   return [own, ...records.filter(({ doc }) => doc).map((one) => ({ ...one, clues: runsOf(one.doc) }))].sort(byName);
 }
 
+// The puzzles of some cards, opened; null, told, where one is damaged, does not open, or has colours that cannot be told apart.
+async function openedOf(cards, { show }) {
+  const records = [];
+  for (const { id, name, grade } of cards) {
+    const record = await keep.keeper.record(id);
+    if (!record) return void say(phrase('import.certificateSays', { name, text: phrase('library.pictureLibraryDamagedCould') }), 'alarm');
+    records.push({ ...record, grade });
+  }
+  const alike = records.find(({ doc }) => show === 'colours' && nearText(doc));
+  if (alike) return void say(phrase('export.printLettersSigns', { name: alike.name, near: nearText(alike.doc) }), 'alarm');
+  return withClues(records);
+}
+
 const printPuzzle = () => asSeen(async (seen) => {
   const own = puzzleOf(seen);
   const near = nearText(own.doc);
@@ -158,28 +182,28 @@ const printPuzzle = () => asSeen(async (seen) => {
   const showNotes = async () => {
     const ownTurn = ++turn;
     const [options, puzzles] = [readFields(fields), await foreseen(titled(), others.chosen())];
-    if (ownTurn !== turn) return;
-    const sheets = sheetsFor(puzzles, options);
+    const goesOn = async () => {
+      await new Promise((go) => setTimeout(go));
+      return ownTurn === turn;
+    };
+    const sheets = await sheetsInTurn(puzzles, options, goesOn, ({ cell }) => ({ cell }));
+    if (!sheets) return;
     notes.replaceChildren(...notesOn(puzzles, sheets, options));
     svgName.textContent = isZip(sheets) ? phrase('export.saveSvgs') : phrase('export.saveSvg');
   };
   const content = make('div', { onchange: showNotes }, make('div', { class: 'rows' }, ...rows, others.part), notes);
   await showNotes();
   const way = await openDialog({ title: phrase('export.print'), content, wide: true, buttons: [{ name: svgName, value: 'svg' }, { name: opening(phrase('export.print')), value: 'print', main: true }] });
+  turn++;
   if (!way) return;
   const options = readFields(fields);
   Object.assign(chosen, options, (bench.term !== seen.term || options.show === shownFirst(near)) && { show: chosen.show }); // what was only proposed is not chosen
-  const records = [];
-  for (const { id, name, grade } of others.chosen()) {
-    const record = await keep.keeper.record(id);
-    if (!record) return say(phrase('import.certificateSays', { name, text: phrase('library.pictureLibraryDamagedCould') }), 'alarm');
-    records.push({ ...record, grade });
-  }
-  const alike = records.find(({ doc }) => options.show === 'colours' && nearText(doc));
-  if (alike) return say(phrase('export.printLettersSigns', { name: alike.name, near: nearText(alike.doc) }), 'alarm');
-  const opened = await withClues(records);
+  const opened = await openedOf(others.chosen(), options);
   if (!opened) return;
-  const sheets = sheetsFor([titled(), ...opened].sort(byName), options);
+  const progress = new Progress(phrase('export.print'));
+  const sheets = await sheetsInTurn([titled(), ...opened].sort(byName), options, (text) => progress.goesOn(text));
+  progress.end();
+  if (!sheets) return;
   if (way === 'svg') return saveSvg(own.name, sheets, isZip(sheets));
   fillPrint(sheets);
   globalThis.print();
@@ -191,7 +215,7 @@ export function startPrinting() {
   on('opened', () => { chosen.show = USUAL.show; });
   // What is opened by the browser's own print, without the dialog, is a sheet too.
   addEventListener('beforeprint', () => {
-    if (bench.state && !$('print').children.length) fillPrint(sheetsFor([puzzleOf(bench)], { ...chosen, show: shownFirst(nearText(bench.state)) }));
+    if (bench.state && !$('print').children.length) fillPrint(makersFor([puzzleOf(bench)], { ...chosen, show: shownFirst(nearText(bench.state)) }).map((makeSheet) => makeSheet()));
   });
   addEventListener('afterprint', () => $('print').replaceChildren());
 }

@@ -168,11 +168,11 @@ function answerSheets(entries, page, { show, texts }) {
 }
 
 /**
- * The sheets of puzzles, each `{svg, width, height, cell}` in millimetres; `cell` is its smallest cell, null for solutions. An entry is {doc, clues, title, facts, legend}. `options`: `paper`,
+ * What makes the sheets of puzzles, a call for each: `{svg, width, height, cell}` in millimetres; `cell` is its smallest cell, null for solutions. An entry is {doc, clues, title, facts, legend}. `options`: `paper`,
  * one of PAPERS; `isWide` for landscape; `margin` in millimetres; `perSheet`, one of GRIDS; `show`, 'colours', 'letters' or 'signs';
  * `answers`, whether solutions follow; `texts` makes the texts of `part` of a large puzzle, of a `solution` and of the `foot` of a sheet.
  */
-export function sheetsOf(entries, options) {
+export function makersOf(entries, options) {
   const [narrow, long] = PAPERS[options.paper];
   const [width, height] = options.isWide ? [long, narrow] : [narrow, long];
   const page = { width, height, margin: options.margin };
@@ -192,7 +192,7 @@ export function sheetsOf(entries, options) {
   }
   flush();
   if (options.answers) draws.push(...answerSheets(entries, page, options));
-  return draws.map((draw, at) => {
+  return draws.map((draw, at) => () => {
     const surface = new SvgSurface();
     surface.rect(0, 0, width, height, '#fff');
     const cell = draw(surface);

@@ -9,14 +9,15 @@ const { entryOf, legendOf, SHEET_TEXTS } = await import('../../page/export/entri
 const { inksOf } = await import('../../page/formats/webpbn.js');
 const { namesOf } = await import('../../page/document/names.js');
 const { alikeBoxes } = await import('../../page/draw/papers.js');
-const { PAPERS, linesOf, partsOf, sheetsOf } = await import('../../page/export/sheets.js');
+const { PAPERS, linesOf, makersOf, partsOf } = await import('../../page/export/sheets.js');
 const { tintOf } = await import('../../page/document/colours.js');
+const { sheetsInTurn } = await import('../../page/export/printing.js');
 
 const docOf = (picture, colours, more = {}) => ({ rows: picture.length, columns: picture[0].length, maxval: 255, colours, picture, givens: new Set(), about: {}, inks: [], locks: new Set(), extras: null, ...more });
 const BLACK = [[255, 255, 255], [0, 0, 0]];
 const CROSS = docOf(['.a.', 'aaa', '.a.'], BLACK);
 const options = (more = {}) => ({ paper: 'a4', isWide: false, margin: 12, perSheet: 1, show: 'colours', answers: false, hasGrade: true, texts: SHEET_TEXTS, ...more });
-const sheetsWith = (puzzles, more = {}) => sheetsOf(puzzles.map((one, at) => entryOf({ name: `puzzle ${at + 1}`, grade: 'easy', ...one }, options(more))), options(more));
+const sheetsWith = (puzzles, more = {}) => makersOf(puzzles.map((one, at) => entryOf({ name: `puzzle ${at + 1}`, grade: 'easy', ...one }, options(more))), options(more)).map((make) => make());
 const sheets = (docs, more = {}) => sheetsWith(docs.map((doc) => ({ doc, clues: cluesOf(doc.picture) })), more);
 
 // The texts of a drawing with their places, and its rectangles.
@@ -24,6 +25,15 @@ const textsOf = ({ svg }) => [...svg.matchAll(/<text ([^>]*)>([^<]*)<\/text>/g)]
 const rectsOf = ({ svg }) => [...svg.matchAll(/<rect ([^>]*)\/>/g)].map(([, words]) => wordsOf(words));
 const wordsOf = (words) => Object.fromEntries([...words.matchAll(/([\w-]+)="([^"]*)"/g)].map(([, name, value]) => [name, Number.isNaN(Number(value)) ? value : Number(value)]));
 const digitsOf = (sheet) => textsOf(sheet).filter(({ text }) => /^\d+[a-o■●▲▼★]?$/.test(text)).map(({ text }) => text);
+
+test('sheets are made one after the other, as long as that goes on, and only what is wanted of them is held', async () => {
+    const puzzles = Array.from({ length: 5 }, (_, at) => ({ name: `${at}`, grade: null, doc: CROSS, clues: cluesOf(CROSS.picture) }));
+    const made = [];
+    const inTurn = (text) => sheetsInTurn(puzzles, options(), async (far) => { made.push(far); return far !== text; }, ({ svg, cell }) => typeof svg === 'string' && cell);
+    assert.deepEqual([await inTurn('2 of 5'), made], [null, ['0 of 5', '1 of 5', '2 of 5']]);
+    const [first, ...others] = await inTurn('');
+    assert.deepEqual([first > 0, others.map((cell) => cell === first)], [true, [true, true, true, true]]);
+});
 
 test('two colours: black digits on white, and no boxes', () => {
     const [sheet] = sheets([CROSS]);
