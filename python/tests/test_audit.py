@@ -908,7 +908,7 @@ class Running(Case):
         said = '{"file":"one.ppm","verdict":"unique","lines":7,"note":"its certificate was not written: x","seconds":1.5}'
         task = serving.Task(0, "one.ppm", "one.ppm", (), None, None, None, "", 1, serving.FULL)
         for why, is_late, seconds in (("no answer within 9 seconds", True, 9.0), ("its process ended by signal 9", False, 1.5)):
-            hand = types.SimpleNamespace(known=(said, "last CERT"), quiet=0.0)
+            hand = types.SimpleNamespace(known=(said, "last CERT"), quiet=0.0, has_more=False)
             pool = workers.Pool(None, 0, 9.0)
             (answer,) = pool._blame(hand, task, why, is_late)
             row = json.loads(answer.text)
