@@ -194,7 +194,7 @@ def _refuse_outputs(parser: argparse.ArgumentParser, told: argparse.Namespace, *
         _refuse_way_back(parser, name)
     places = [name if name == "-" else os.path.realpath(name) for name in files]
     for name, place in zip(files, places):
-        if places.count(place) > 1:
+        if places.count(place) > 1 and place != os.devnull:
             parser.error(f"{name!r} is the place of two outputs")
         if any(os.path.splitext(way)[1].lower() in _ENDINGS for way in (name, place)):
             parser.error(f"{name!r} is no name for an output: its ending is that of a puzzle, or of what lies beside one")
