@@ -36,12 +36,9 @@ export async function keepAll(rows) {
 
 const csvOf = (rows) => new TextEncoder().encode(`\ufeff${valuesText(rows)}\r\n`);
 
-// Opens the row that was chosen, and closes the table by that.
+// Opens the row that was chosen, and closes the table by that, unless what is open is not left.
 function hearRow(row, dialogOf) {
-  const open = async () => {
-    dialogOf().close();
-    await openDoc(row.doc, { name: row.name, isSaved: row.isSaved });
-  };
+  const open = () => openDoc(row.doc, { name: row.name, isSaved: row.isSaved, leave: () => dialogOf().close() });
   row.element.addEventListener('click', open);
   row.element.addEventListener('keydown', (event) => {
     if (event.key !== 'Enter') return;

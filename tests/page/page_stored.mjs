@@ -140,7 +140,7 @@ export async function otherShelves({ browser, url, folder }) {
     await bare.close();
 }
 
-/** A storage that is full is told once, and the work goes on. */
+/** A storage that is full is told once, and the work goes on; a table of files stays where it is not left for a row. */
 export async function toldFull({ browser, url, folder }) {
     const { page, trial } = await fresh(browser, url, folder, 'full', { before: `IDBObjectStore.prototype.put = () => { throw new DOMException('full', 'QuotaExceededError'); };` });
     await page.click('#new-go');
@@ -153,6 +153,17 @@ export async function toldFull({ browser, url, folder }) {
     await page.until(() => document.querySelector('dialog[open]')?.textContent.includes('would be lost'), 5000 * SLACK);
     await page.press('Escape');
     assert.equal((await trial.state()).columns, 20);
+    await page.run((text) => {
+        const data = new DataTransfer();
+        for (const name of ['one.ppm', 'two.ppm']) data.items.add(new File([text], name));
+        window.dispatchEvent(new DragEvent('drop', { dataTransfer: data, cancelable: true }));
+    }, readFileSync(new URL('flower.ppm', examples), 'utf8'));
+    await page.until(() => document.querySelector('#several tbody tr'), 5000 * SLACK);
+    await page.run(() => document.querySelector('#several tbody tr').click());
+    await page.until(() => /would be lost/.test([...document.querySelectorAll('dialog[open]')].at(-1)?.textContent), 5000 * SLACK);
+    await page.press('Escape');
+    await page.until(() => document.querySelectorAll('dialog[open]').length < 2, 5000 * SLACK);
+    assert.equal(await page.run(() => document.getElementById('several')?.checkVisibility() ?? false), true, 'the table is there');
     await page.close();
 }
 
