@@ -112,7 +112,7 @@ export async function renamedElsewhere({ browser, page, trial, url, folder }) {
     await other.page.close();
 }
 
-/** Where there is no database, the browser's local storage keeps the work; where there is neither, that is told. */
+/** Where there is no database, the browser's local storage keeps the work, until there is one; where there is neither, that is told. */
 export async function otherShelves({ browser, url, folder }) {
     const hidden = (name) => `Object.defineProperty(window, '${name}', { get() { throw new DOMException('hidden', 'SecurityError'); } });`;
     const { page, trial } = await fresh(browser, url, folder, 'local', { before: hidden('indexedDB') });
@@ -124,8 +124,13 @@ export async function otherShelves({ browser, url, folder }) {
     await goOn(page);
     await isOpen(page);
     assert.equal((await trial.picture())[1], '.a..................');
-    await clean(page);
     await page.close();
+    const { page: next, trial: third } = await fresh(browser, url, folder, 'next');
+    await goOn(next);
+    await isOpen(next);
+    assert.deepEqual([(await third.picture())[1], await next.run(() => Object.keys(localStorage).filter((key) => key.startsWith('nonobench:')))], ['.a..................', []]);
+    await clean(next);
+    await next.close();
     const { page: bare, trial: other } = await fresh(browser, url, folder, 'bare', { before: hidden('indexedDB') + hidden('localStorage') });
     await bare.click('#new-go');
     await isOpen(bare);
