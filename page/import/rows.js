@@ -84,7 +84,7 @@ export class Row {
   async mend(mender, judge) {
     const found = await mender.mend(this.doc);
     if (!found) return false;
-    Object.assign(this, { doc: found.doc, repainted: found.cells, said: null });
+    Object.assign(this, { doc: found.doc, word: '…', repainted: found.cells, said: null });
     await this.judge(judge);
     return true;
   }

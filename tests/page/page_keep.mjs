@@ -519,7 +519,9 @@ test('what was repaired in a table, or made of an enlarged image, is in no file'
     globalThis.ImageData = class {};
     globalThis.document.createElement = () => ({ ...element(), getContext: () => ({ putImageData() {}, drawImage() {} }) });
     const [kept, mended, made] = [{}, {}, { isMade: true }].map((more, at) => new Row(['kept', 'mended', 'made'][at], { ...emptyDoc(3, 2), ...more }));
+    mended.word = 'ambiguous';
     assert.equal(await mended.mend({ mend: async (doc) => ({ doc: painted(doc, 1), cells: 1 }) }, { judge: async () => null }), true);
+    assert.equal(mended.facts.verdict, null, 'not known until it is judged');
     await keepAll([kept, mended, made]);
     assert.deepEqual((await shelved()).map(({ name, isSaved }) => [name, isSaved]).sort(), [['kept', true], ['made', false], ['mended', false]]);
 });
