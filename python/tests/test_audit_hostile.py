@@ -1058,6 +1058,7 @@ class Outputs(Case):
                 self.assertEqual(done.stderr, "nonobench-audit: pipe: No such device or address\n")
                 # Somebody begins to read, and leaves.
                 reader = os.open(self.folder / "pipe", os.O_RDONLY | os.O_NONBLOCK)
+                fcntl.fcntl(reader, fcntl.F_SETPIPE_SZ, 4096)  # whatever comes at once
                 process = self.start("site", option, "pipe", "--no-grade", "--quiet")
                 eventually(lambda: self.heard(reader))
                 os.close(reader)

@@ -549,17 +549,14 @@ export async function tintsOnPaper({ browser, url, folder }) {
     await trial.open(ppmOf(['ab', '.a'], { '.': '255 255 255', a: '120 0 0', b: '120 60 0' }), 'tints');
     await menu(page, 'print');
     await page.until(() => document.querySelector('#print-show'), 3000 * SLACK);
-    const isTold = () => page.run(() => [...document.querySelectorAll('dialog p.wrong')].some((one) => one.checkVisibility() && /look alike on paper/.test(one.textContent)));
-    const told = [];
-    for (const show of ['colours', 'letters', 'signs', 'colours']) {
+    for (const [show, isTold] of [['colours', true], ['letters', false], ['signs', false], ['colours', true]]) {
         await page.run((value) => {
             const choice = document.getElementById('print-show');
             choice.value = value;
             choice.dispatchEvent(new Event('change', { bubbles: true }));
         }, show);
-        told.push(await isTold());
+        await page.until((wanted) => wanted === [...document.querySelectorAll('dialog p.wrong')].some((one) => one.checkVisibility() && /look alike on paper/.test(one.textContent)), 3000 * SLACK, isTold);
     }
-    assert.deepEqual(told, [true, false, false, true]);
     assert.deepEqual(page.faults, []);
     await page.close();
 }
