@@ -1148,8 +1148,9 @@ class Outputs(Case):
         words = ["--quiet", "--jobs", "1", "--certify", folder + "out", "--ppm", folder + "./out/"]
         self.assertEqual(running.main([site + "/one.ppm", *words]), 0)  # which does not lock itself out
 
-    def test_rows_are_whole_where_a_run_is_stopped(self):
-        """However slowly they are read: what is told as done is there, in each output."""
+    @contextlib.contextmanager
+    def stopped_while_it_waits(self):
+        """Rows on standard output, and the run that waits for who reads them, once it was told to stop."""
         for at in range(40):
             self.put(f"{at}.ppm", (ROOT / "measure" / "pictures" / "blob-60-k8-0.ppm").read_bytes())
         ours, theirs = os.pipe()
@@ -1160,6 +1161,11 @@ class Outputs(Case):
             eventually(lambda: select.select([rows], [], [], 0)[0])
             time.sleep(0.5)  # until it waits for a reader
             process.send_signal(signal.SIGTERM)
+            yield rows, process
+
+    def test_rows_are_whole_where_a_run_is_stopped(self):
+        """However slowly they are read: what is told as done is there, in each output."""
+        with self.stopped_while_it_waits() as (rows, process):
             time.sleep(0.1)
             lines = rows.read().splitlines(keepends=True)
             self.assertEqual(process.wait(PATIENCE), 143)
@@ -1188,16 +1194,7 @@ class Outputs(Case):
 
     def test_a_run_that_nobody_reads_can_be_stopped(self):
         """One signal is enough, and what else is written is whole."""
-        for at in range(40):
-            self.put(f"{at}.ppm", (ROOT / "measure" / "pictures" / "blob-60-k8-0.ppm").read_bytes())
-        ours, theirs = os.pipe()
-        fcntl.fcntl(theirs, fcntl.F_SETPIPE_SZ, 4096)
-        words = self.words("site", "--jobs", "1", "--jsonl", "-", "--csv", "rows.csv")
-        with open(ours, "rb") as rows, subprocess.Popen(words, cwd=self.folder, env=self.env(), stdout=theirs, stderr=subprocess.PIPE, text=True) as process:
-            os.close(theirs)
-            eventually(lambda: select.select([rows], [], [], 0)[0])
-            time.sleep(0.5)  # until it waits for a reader
-            process.send_signal(signal.SIGTERM)
+        with self.stopped_while_it_waits() as (_, process):
             self.assertEqual(process.wait(PATIENCE), 143)
             self.assertIn("standard output: nobody reads it", process.stderr.read())
         self.assertGreater(len((self.folder / "rows.csv").read_text().splitlines()), 1)

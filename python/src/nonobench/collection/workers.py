@@ -194,7 +194,7 @@ class Pool:
             elif len(hand.tasks) > 1 and quiet > STUCK and not (hand.is_left or hand.is_sending):
                 hand.is_left = True
                 hand.leave()
-            elif len(hand.tasks) > 1 and quiet > STUCK + TICK:  # it began no other before it was told
+            elif len(hand.tasks) > 1 and hand.is_left and quiet > STUCK + TICK:  # it began no other before it was told
                 while len(hand.tasks) > 1:
                     self._again.appendleft(hand.tasks.pop())
 
