@@ -125,7 +125,8 @@ fn compared(clues: &ClueBook, givens: &CellSet, picture: &Picture, other: Pictur
 fn is_other(clues: &ClueBook, givens: &CellSet, picture: &Picture, other: &Picture) -> bool
     requires inside { AreInside givens.now picture.now }
     requires clues { clues.now ≡ clues_of picture.now }
-    ensures { IsTrue result → IsOther (clues_of picture.now) (HasCell givens.now) picture.now other.now }
+    ensures { IsTrue result
+        → IsOther (clues_of picture.now) (HasCell givens.now) picture.now other.now }
 {
     if !clues.has_clues(other) || other.same(picture) {
         return false;

@@ -155,7 +155,8 @@ pub(crate) fn other_kept<'a>(
     requires answers { AreAnswersOf (design_of document.now) audit.now.clues audit.now.book.facts
         keeper.now }
     ensures { MatchOption result (HasNoFilling keeper.now (length keeper.now))
-        (λ other. FirstFilling keeper.now other.now × IsOtherFor (design_of document.now) other.now) }
+        (λ other. FirstFilling keeper.now other.now
+            × IsOtherFor (design_of document.now) other.now) }
 {
     let _scene = scene_of(document, audit);
     keeper.other()

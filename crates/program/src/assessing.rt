@@ -51,8 +51,8 @@ pub fn assess_files<F: Files, W: Write>(
     files: &mut F,
     writer: &mut W,
 ) -> Result<(), ProgramFault>
-    ensures { (had : Option (List ℕ)) → AssessesNamed (F.held files.old) paths.entry.now beside.entry.0
-        beside.entry.1 options.now
+    ensures { (had : Option (List ℕ)) → AssessesNamed
+        (F.held files.old) paths.entry.now beside.entry.0 beside.entry.1 options.now
         (world (F.opened files.old) (F.faults files.old) had (W.contents writer.old))
         (world (F.opened files.new) (F.faults files.new) had (W.contents writer.new)) result }
 {
@@ -122,7 +122,8 @@ fn assess_one<F: Files, W: Write>(
     path: &str,
     number: Option<usize>,
 ) -> Result<Standing, ProgramFault>
-    ensures one { (had : Option (List ℕ)) → AssessesOne (F.held files.old path.now) asked.now path.now number
+    ensures one { (had : Option (List ℕ)) → AssessesOne
+        (F.held files.old path.now) asked.now path.now number
         (world (F.opened files.old) (F.faults files.old) had (W.contents writer.old))
         (world (F.opened files.new) (F.faults files.new) had (W.contents writer.new)) result }
     ensures keeps { (name : List ℕ) → F.held files.new name ≡ F.held files.old name }
