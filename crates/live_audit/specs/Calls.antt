@@ -1,5 +1,5 @@
 -- What calls do to a bench, and lists of calls.
-use Rattle.std.specs.Prelude.{◌≡◌, ◌≤◌, ℕ, List, [], ◌∷◌, Option, Some, None, unwrap_or}
+use Rattle.std.specs.Prelude.{◌≡◌, ◌≤◌, ℕ, List, [], ◌∷◌, Option, Some, None, Result, MatchResult, unwrap_or}
 use Rattle.cert_text.specs.Cert.{Certificate}
 use Rattle.clues.specs.Change.{Moves}
 use Rattle.kept_audit.specs.Audit.{GoesOn}
@@ -29,6 +29,11 @@ pub record CarriesOn (moves : Moves) (old new : Seen) : Type 0 where
 -- all is as before, except that the engine may have been called
 abbrev pub IsAsBefore : Seen → Seen → Type 0
 IsAsBefore old new = new ≡ record old { calls = new.calls }
+
+-- what a bench is once a verdict that it showed, if it had the memory for one, is no longer looked at
+abbrev pub IsLeftBy : {X : Type 0} → Seen → Result Verdict X → Seen → Type 0
+IsLeftBy old result last = IsAudited last
+    × (old.calls ≤ last.calls × MatchResult result (Tells old last) (λ _. IsAsBefore old last))
 
 -- What is known of the parts is what a verdict without an allowance keeps of them.
 abbrev pub IsSearchedTo : Seen → List KeptPart → Type 0

@@ -8,11 +8,11 @@ ghost use Rattle.edits.specs.Design.{design_of};
 ghost use Rattle.edits.specs.History.{IsPlanFor, advanced};
 ghost use Rattle.live_audit.specs.Assessing.{AreFewToAssess, IsAssessmentOf, IsPathOf};
 ghost use Rattle.live_audit.specs.Bench.{Begins, FitsDepth, IsAudited};
-ghost use Rattle.live_audit.specs.Calls.{Accepts, CarriesOn, IsAsBefore, IsAtOnce, IsFoundOn, Learns, Refuses};
+ghost use Rattle.live_audit.specs.Calls.{Accepts, CarriesOn, IsAsBefore, IsAtOnce, IsFoundOn, IsLeftBy, Learns, Refuses};
 ghost use Rattle.live_audit.specs.Certify.{Certifies};
 ghost use Rattle.live_audit.specs.Reason.{Explains};
 ghost use Rattle.live_audit.specs.Stroke.{Edits, Redoes, Undoes};
-ghost use Rattle.live_audit.specs.Verdict.{Tells, Decides, IsToldBy, IsVerdictOn, AnswersAs};
+ghost use Rattle.live_audit.specs.Verdict.{Decides, IsToldBy, IsVerdictOn, AnswersAs};
 ghost use Rattle.second_search.specs.JudgedParts.{HasNoFilling};
 
 use crate::assessing::{assessment_of, path_of};
@@ -66,9 +66,8 @@ impl<E: LineEngine, A: Agenda> Model for Bench<E, A> {
 }
 
 impl<E: LineEngine + Drop, A: Agenda + Drop> Bench<E, A> {
-    ghost use mathlib.Core.Option.{none};
-    ghost use Rattle.std.specs.Prelude.{⊤, MatchResult};
-    ghost use Rattle.std.specs.Borrow.{follows_so, sem};
+    ghost use Rattle.std.specs.Borrow.{sem};
+    ghost use Rattle.second_search.specs.Lent.{ends_so};
     ghost use Rattle.second_search.specs.Verdict.{Verdict as Judgement};
     ghost use Rattle.live_audit.specs.contracts.bench.Bench.{the_row};
 
@@ -184,11 +183,8 @@ impl<E: LineEngine + Drop, A: Agenda + Drop> Bench<E, A> {
     /// that it showed or, where it was Unique, leaves a part about which nothing is known. Where memory runs out nothing changes
     /// but `calls`.
     pub fn verdict(&mut self) -> Result<Verdict<'_>, AllocError>
-        ensures* keeps { sem 𝓛 (follows_so (the_row E.row A.row E.LineEngine A.Agenda)
-            (the_row E.row A.row E.LineEngine A.Agenda)
-            self.entry.ghost_name none (λ _ _. ⊤) (λ last. IsAudited last
-            × (self.old.calls ≤ last.calls
-            × MatchResult result (Tells self.old last) (λ _. IsAsBefore self.old last)))) }
+        ensures* keeps { sem 𝓛 (ends_so (the_row E.row A.row E.LineEngine A.Agenda) self.entry
+            (IsLeftBy self.old result)) }
         ensures headline { IfOk result (IsVerdictOn self.old.history.document self.old.allowance) }
     {
         let is_decided = self.decide()?;

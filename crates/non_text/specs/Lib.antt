@@ -13,4 +13,3 @@ pub mod WrittenNon
 pub mod Written
 pub mod SectionCounts
 pub mod Cut
-pub mod Examples

@@ -12,4 +12,3 @@ pub mod Numbering
 pub mod KnownLemmas
 pub mod Seen
 pub mod Again
-mod Examples

@@ -1,11 +1,8 @@
 -- A background's colour as a word: three samples with commas between them, as `255,0,0`.
-use Rattle.std.specs.Prelude.{◌≡◌, ℕ, ◌+◌, ◌==◌, Bool, List, take, drop, codes, Option, None, Some, option_map}
-use Rattle.std.specs.Prelude.{position}
-use Rattle.std.proofs.Common.{refl}
+use Rattle.std.specs.Prelude.{ℕ, ◌+◌, ◌==◌, Bool, List, take, drop, Option, None, Some, option_map, position}
 use Rattle.std.specs.Borrow.{Bor}
 use Rattle.picture.specs.declared.rgb.Rgb.{Rgb}
-use Rattle.picture.specs.Numbers.{number_spelled, value_after}
-use Rattle.command_text.specs.Numbers.{number_of, sample_of}
+use Rattle.command_text.specs.Numbers.{sample_of}
 
 -- a sample, and what follows the comma at its end
 abbrev pub sample_until : Option ℕ → List ℕ → Option (ℕ × List ℕ)
@@ -35,15 +32,3 @@ background_of text = with_green (sample_before text)
 -- a sample and what follows it, from what the function `sample_before` returns
 abbrev pub sample_seen : ℕ × Bor (List ℕ) → ℕ × List ℕ
 sample_seen x = (x.0, x.1.now)
-
-three_samples : background_of (codes "255,00,65535") ≡ Some (rgb 255 0 65535)
-unfolding number_of number_spelled value_after
-three_samples = refl
-
-two_samples : background_of (codes "1,2") ≡ None
-unfolding number_of number_spelled value_after
-two_samples = refl
-
-four_samples : background_of (codes "1,2,3,4") ≡ None
-unfolding number_of number_spelled value_after
-four_samples = refl

@@ -12,6 +12,7 @@ pub mod SearchSteps
 pub mod Through
 pub mod Verdict
 pub mod JudgedParts
+pub mod Lent
 pub mod Learning
 pub mod Answer
 pub mod CarriedParts

@@ -110,9 +110,9 @@ impl Spent {
 }
 
 impl Keeper {
-    ghost use mathlib.Core.Option.{none};
-    ghost use Rattle.std.specs.Prelude.{⊤, MatchResult};
-    ghost use Rattle.std.specs.Borrow.{follows_so, sem};
+    ghost use Rattle.std.specs.Prelude.{MatchResult};
+    ghost use Rattle.std.specs.Borrow.{sem};
+    ghost use Rattle.second_search.specs.Lent.{ends_so};
     ghost use Rattle.second_search.specs.contracts.keeper.Keeper.{the_row};
     ghost use Rattle.second_search.specs.Verdict.{Verdict};
 
@@ -265,7 +265,7 @@ impl Keeper {
             scene.now.picture.now self.old }
         requires tall { length scene.now.clues.now.rows ≤ E.longest engine.old }
         requires wide { length scene.now.clues.now.columns ≤ E.longest engine.old }
-        ensures* keeps { sem 𝓛 (follows_so the_row the_row self.entry.ghost_name none (λ _ _. ⊤)
+        ensures* keeps { sem 𝓛 (ends_so the_row self.entry
             (λ last. AreParts scene.now.facts.now (parts_of last)
             × AreTrue scene.now.clues.now scene.now.givens.now scene.now.picture.now last
             × MatchResult result
