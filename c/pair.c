@@ -212,7 +212,7 @@ static uint32_t judge(nonobench_desk **desk, uint32_t handle, int32_t allowance,
     uint32_t status = NONOBENCH_DONE;
     if (allowance >= 0) {
         snprintf(line, sizeof line, "allow %d\n", (int)allowance);
-        status = ask(desk, handle, line, NULL);
+        status = ask(desk, handle, line, text);
     }
     if (status == NONOBENCH_DONE) status = ask(desk, handle, "verdict\n", text);
     if (status != NONOBENCH_DONE) return status;
