@@ -148,20 +148,8 @@ pub record Drafts (had have : Option (List ℕ)) (old now : Lines) (draft : List
   pub behind : old.ended ≡ true → (came ≡ []) × (now.ended ≡ true)
   pub steps : steps_left now + length draft ≤ steps_left old
 
--- ---- worked inputs
+-- ---- no bytes
 
 pub nothing_has_no_lines : lines_of [] ≡ []
 unfolding lines_of ended_lines_of
 nothing_has_no_lines = refl
-
-two_lines : lines_of (97 ∷ 13 ∷ 10 ∷ 10 ∷ 98 ∷ []) ≡ (97 ∷ []) ∷ [] ∷ (98 ∷ []) ∷ []
-unfolding lines_of ended_lines_of
-two_lines = refl
-
-last_is_unfinished : ended_lines_of (97 ∷ 13 ∷ 10 ∷ 10 ∷ 98 ∷ []) ≡ (97 ∷ []) ∷ [] ∷ []
-unfolding ended_lines_of
-last_is_unfinished = refl
-
-none_behind_a_feed : lines_of (97 ∷ 13 ∷ 13 ∷ 10 ∷ []) ≡ (97 ∷ 13 ∷ []) ∷ []
-unfolding lines_of ended_lines_of
-none_behind_a_feed = refl

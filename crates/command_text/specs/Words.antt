@@ -1,7 +1,6 @@
 -- The words of a line.
 use Rattle.std.specs.Prelude.{◌≡◌, ℕ, ◌<◌, Bool, not, ◌||◌, ◌==◌, List, [], ◌∷◌, length, filter, Option, None, Some}
 use Rattle.std.specs.Prelude.{nat_eq}
-use Rattle.std.proofs.Common.{refl}
 use Rattle.std.specs.Borrow.{Bor}
 use Rattle.std.specs.Cmp.Lexicographic.{pointwise}
 use Rattle.std.specs.List.{slice_split}
@@ -32,17 +31,3 @@ is_word bytes word = pointwise nat_eq bytes word
 abbrev pub IsFirstWord : List ℕ → Option (Bor (List ℕ) × Bor (List ℕ)) → Type 0
 IsFirstWord line None = words_of line ≡ []
 IsFirstWord line (Some x) = (words_of line ≡ x.0.now ∷ words_of x.1.now) × (length x.1.now < length line)
-
--- ---- worked lines
-
-three_words : words_of (9 ∷ 97 ∷ 32 ∷ 32 ∷ 98 ∷ 99 ∷ 9 ∷ 100 ∷ []) ≡ (97 ∷ []) ∷ (98 ∷ 99 ∷ []) ∷ (100 ∷ []) ∷ []
-unfolding words_of
-three_words = refl
-
-blanks_alone : words_of (32 ∷ 9 ∷ []) ≡ []
-unfolding words_of
-blanks_alone = refl
-
-return_is_no_blank : words_of (97 ∷ 13 ∷ []) ≡ (97 ∷ 13 ∷ []) ∷ []
-unfolding words_of
-return_is_no_blank = refl

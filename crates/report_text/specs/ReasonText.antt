@@ -1,6 +1,5 @@
 -- A reason as text.
-use Rattle.std.specs.Prelude.{◌≡◌, ℕ, ◌+◌, List, [], ◌∷◌, ◌++◌, codes, decimal, filter, map, not, ◌==◌}
-use Rattle.std.proofs.Common.{refl}
+use Rattle.std.specs.Prelude.{ℕ, ◌+◌, List, [], ◌∷◌, ◌++◌, codes, decimal, filter, map, not, ◌==◌}
 use Rattle.std.specs.Int.{bit_at}
 use Rattle.std.specs.List.{flat_map, range_with_len}
 use Rattle.picture.specs.declared.line_id.LineId.{LineId}
@@ -25,9 +24,3 @@ premises_text (p ∷ premises) = codes " given" ++ flat_map premise_text (p ∷ 
 abbrev pub reason_text : LineId → List Premise → List ℕ
 reason_text line premises =
     codes "by " ++ (letter_of line.axis ∷ 32 ∷ (decimal (line.at + 1) ++ (premises_text premises ++ 10 ∷ [])))
-
--- ---- worked premises
-
-one_is_left : letters_left 65533 ≡ 97 ∷ []
-unfolding letters_left
-one_is_left = refl

@@ -1,6 +1,5 @@
 -- Pictures and maps as text: a letter for each cell, and a line for each row.
-use Rattle.std.specs.Prelude.{◌≡◌, ℕ, ◌+◌, List, [], ◌∷◌, ◌++◌, count_ones, map, ◌==◌, if◌then◌else◌}
-use Rattle.std.proofs.Common.{refl}
+use Rattle.std.specs.Prelude.{ℕ, ◌+◌, List, [], ◌∷◌, ◌++◌, count_ones, map, ◌==◌, if◌then◌else◌}
 use Rattle.std.specs.Int.{trailing_zeros, w16}
 use Rattle.std.specs.List.{flat_map}
 use Rattle.picture.specs.Rows.{Rows}
@@ -25,17 +24,3 @@ mask_letter mask = if count_ones mask == 1 then letter (trailing_zeros w16 mask)
 -- the rows of a map
 abbrev pub map_text : Masks → List ℕ
 map_text masks = flat_map (shown_row mask_letter) masks
-
--- ---- worked cells
-
-only_the_first : mask_letter 1 ≡ 46
-unfolding lib.Count.ones lib.Count.count_trailing_zeros
-only_the_first = refl
-
-only_the_last : mask_letter 32768 ≡ 111
-unfolding lib.Count.ones lib.Count.count_trailing_zeros
-only_the_last = refl
-
-two_are_left : mask_letter 3 ≡ 63
-unfolding lib.Count.ones lib.Count.count_trailing_zeros
-two_are_left = refl
