@@ -1425,7 +1425,7 @@ class Again(Case):
         for name, rows in cases.items():
             (self.folder / "part").write_text("".join(rows))
             with self.subTest(name):
-                done = self.run_audit("merge", "part", "--jsonl", "merged", status=3)
+                done = self.run_audit("merge", "part", *outputs, status=3)
                 self.assertEqual(done.stderr, "nonobench-audit: site/set.xml: rows of some of its puzzles are missing, or of another run\n")
         (self.folder / "part").write_text(lines[1].replace("site/set", "\\u001b[2Jset"))
         self.assertIn("nonobench-audit: \\x1b[2Jset.xml: rows of some", self.run_audit("merge", "part", status=3).stderr)
@@ -1486,6 +1486,9 @@ class Again(Case):
         self.assertEqual([row["verdict"] for row in first.values()], ["unique"] * 3 + ["ambiguous"])
         self.assertEqual(in_process(self.folder, *words)[0], 1)
         self.assertEqual(place.read_bytes(), whole)
+        outputs = ["--jsonl", "merged", "--csv", "merged.csv", "--html", "merged.html"]
+        self.run_audit("merge", "whole", *outputs, status=0)
+        before = [(self.folder / name).read_bytes() for name in outputs[1::2]]
         one, two, near, given = (f"site/{name}.ppm" for name in ("one", "two", "near", "given"))
         forged = {**{name: value for name, value in first[two].items() if name != "other"}, "verdict": "unique", "fit": True}
         every = "nonocert 2\n" + "".join(f"given {cell}\n" for cell in ("1 1", "1 2", "2 1", "2 2")) + "done\n"

@@ -156,20 +156,22 @@ class Run:
                     row = read_row(path, number, line)
                     rows[order_of(row["file"]), row.get("puzzle", 1)] = (at, place)
         self._open()
-        return self._guarded(lambda: self._join(files, rows))
+        return self._guarded(lambda: self._join(files, rows, True))
 
-    def _join(self, files: list[Any], rows: dict[Any, tuple[int, int]]) -> None:
+    def _join(self, files: list[Any], rows: dict[Any, tuple[int, int]], is_told: bool) -> None:
         before: Row = {}
         for key in sorted(rows):
             at, place = rows[key]
+        self._join(files, rows, False)  # where rows are missing, what is there stays
             files[at].seek(place)
             row = row_of(files[at].readline())
             if not _follows(before, row):
                 raise Failure(f"{printable((before if before.get('more') else row)['file'])}: {MIXED}")
             # One whose process was ended does not tell its content.
             before = {**row, "content": before.get("content")} if before.get("more") and "content" not in row else row
-            with whole():
-                self._deliver(text_of(row))  # written anew: other programs may have put blanks in
+            if is_told:
+                with whole():
+                    self._deliver(text_of(row))  # written anew: other programs may have put blanks in
         if before.get("more"):
             raise Failure(f"{printable(before['file'])}: {MIXED}")
 
