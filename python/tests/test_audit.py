@@ -1268,6 +1268,12 @@ class Running(Case):
         self.put("hard.ppm", p3_of_letters(chequered(60, 4)))
         self.put("one.ppm", p3(UNIQUE))
         rows = self.rows("site", "--seconds", "2", status=1)
+        # So does what leads farther out, which is in no folder that leads out less far.
+        self.put("../far.ppm", p3(UNIQUE))
+        self.assertIsNone(finding.unreached(["..", "../../far.ppm"]))
+        names = [found.name for found in finding.find(["../a", "../../far.ppm", "..", "../.././far.ppm"])]
+        self.assertEqual(names, [*(f"../{name.partition('/')[2]}" for name in wanted), "../../far.ppm"])
+        self.assertEqual(names, sorted(names, key=finding.order_of))
         hard = rows["site/hard.ppm"]
         self.assertEqual((hard["verdict"], hard["rows"], hard["limit"]), ("undecided", 60, "2 s"))
         self.assertGreaterEqual(hard["seconds"], 2)

@@ -76,9 +76,9 @@ def shown(path: str) -> str:
     return os.fsencode(path).replace(b"\\", rb"\x5c").decode("utf-8", "backslashreplace")
 
 
-def order_of(name: str) -> tuple[bool, str]:
-    """What names are sorted by: folder by folder, and what leads out of the current one behind all others."""
-    return name.split("/")[0] == "..", name.replace("/", "\0")
+def order_of(name: str) -> tuple[int, str]:
+    """What names are sorted by: folder by folder, and what leads out of the current one behind all others, the farther later."""
+    return name.split("/").count(".."), name.replace("/", "\0")
 
 
 def is_in_share(name: str, shard: tuple[int, int]) -> bool:
@@ -115,10 +115,11 @@ def _finds(outer: str, path: str) -> bool:
 
 
 def _is_within(path: str, outer: str) -> bool:
-    """Whether a path is another one, or leads into it by its name."""
+    """Whether a path is another one, or leads into it by its name. What is above the current folder leads out by more of `..`."""
     if outer == ".":
         return not os.path.isabs(path) and path.split("/")[0] != ".."
-    return path == outer or path.startswith(outer.rstrip("/") + "/")
+    front = outer.rstrip("/") + "/"
+    return path == outer or path.startswith(front) and not path.startswith(front + "../") and path != front + ".."
 
 
 def folders_of(paths: list[str]) -> Names:
