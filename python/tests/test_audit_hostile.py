@@ -1125,6 +1125,29 @@ class Outputs(Case):
         self.assertEqual(len((self.folder / "rows.csv").read_text().splitlines()), 3)
         self.assertIn("two.ppm", (self.folder / "report").read_text())
 
+    def test_a_signal_while_an_error_is_told_loses_nothing(self):
+        text = json.dumps({"file": f"{self.site}/one.ppm", "verdict": "error", "error": "x"})
+
+        def broken(_pool, tasks, *_):
+            next(tasks)
+            yield workers.Answer(0, True, "error", text)
+            raise RuntimeError("a mistake")
+
+        words = [str(self.site), "--quiet", "--jobs", "1", "--jsonl", str(self.folder / "rows")]
+        tells = unittest.mock.patch.object(running.traceback, "print_exc", lambda: os.kill(os.getpid(), signal.SIGTERM))
+        with unittest.mock.patch.object(workers.Pool, "answers", broken), tells, contextlib.redirect_stderr(io.StringIO()) as said:
+            self.assertEqual(running.main(words), 143)
+        self.assertIn("stopped after 1 puzzles", said.getvalue())
+        self.assertEqual((self.folder / "rows").read_text(), text + "\n")
+
+    def test_a_run_that_can_start_no_thread(self):
+        """It goes on without the count of its files."""
+        with unittest.mock.patch.object(running.threading, "Thread", side_effect=RuntimeError("can't start new thread")) as thread:
+            with contextlib.redirect_stdout(io.StringIO()), contextlib.redirect_stderr(io.StringIO()) as said:
+                self.assertEqual(running.main([str(self.site), "--jobs", "1", "--csv", str(self.folder / "rows")]), 1)
+        thread.assert_called_once()
+        self.assertEqual(said.getvalue(), "")
+
     def test_names_of_outputs(self):
         """Each leads where its letters do, and to no other one's place. Of a title, what no text can have is escaped."""
         (self.site / "sub").mkdir()

@@ -42,7 +42,7 @@ def _follows(before: Row, row: Row) -> bool:
 class Stopped(BaseException):
     """The run is to end: by Ctrl-C, or since the machine wants it to. What is told is the number of the signal."""
 
-    is_held, came = False, 0  # whether that is to wait, and the signal that came
+    is_held, came = False, 0  # whether that is to wait, as it does once one came, and the signal
 
 
 @contextlib.contextmanager
@@ -68,7 +68,7 @@ class Kept(NamedTuple):
 def main(words: Optional[list[str]] = None) -> int:
     """Runs nonobench-audit, and answers its status."""
     hold_streams()
-    Stopped.came, Output.until = 0, math.inf
+    Stopped.is_held, Stopped.came, Output.until = False, 0, math.inf
     for number in (signal.SIGINT, signal.SIGTERM):
         signal.signal(number, _stop)
     try:
@@ -87,7 +87,8 @@ def main(words: Optional[list[str]] = None) -> int:
 def _stop(number: int, _frame: Any) -> None:
     signal.signal(number, signal.SIG_DFL)
     Stopped.came, Output.until = number, time.monotonic() + READ
-    if not Stopped.is_held:
+    is_held, Stopped.is_held = Stopped.is_held, True
+    if not is_held:
         raise Stopped(number)
 
 
@@ -204,7 +205,8 @@ class Run:
             self._progress.expect(sum(is_in_share(found.name, options.shard) for found in find(options.paths, is_anew=False)))
 
         if not options.is_quiet:
-            threading.Thread(target=count, daemon=True).start()
+            with contextlib.suppress(RuntimeError):  # where no thread can be started, it is not told
+                threading.Thread(target=count, daemon=True).start()
 
     def _tasks(self, settings: Settings) -> Iterator[Task]:
         options = self._options
@@ -235,19 +237,20 @@ class Run:
     def _guarded(self, work: Callable[[], None]) -> int:
         """Does the work, and ends what is written whatever comes: what is done is kept."""
         failures: list[Exception] = []
-        status, is_whole = 0, False
+        is_whole = False
         try:
-            work()
-            Stopped.is_held = is_whole = True
+            try:
+                work()
+                Stopped.is_held = is_whole = True
+            except Exception as error:  # what is done is kept then too
+                failures.append(error)
+                if not isinstance(error, (Failure, Broken, OSError)):
+                    traceback.print_exc()
+                Stopped.is_held = True
         except Stopped as stopped:
-            status = 128 + stopped.args[0]
-        except Exception as error:  # what is done is kept then too
-            if not isinstance(error, (Failure, Broken, OSError)):
-                traceback.print_exc()
-            status = Stopped.came and 128 + Stopped.came
-            failures.append(error)
+            Stopped.came = stopped.args[0]
         with whole():
-            return self._end(status, is_whole, failures)
+            return self._end(128 + Stopped.came if Stopped.came and not is_whole else 0, is_whole, failures)
 
     def _end(self, status: int, is_whole: bool, failures: list[Exception]) -> int:
         options = self._options
