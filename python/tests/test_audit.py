@@ -5,6 +5,7 @@ Pictures and what is expected of them are worked by hand. Pillow, defusedxml and
 
 import contextlib
 import csv
+import errno
 import hashlib
 import io
 import json
@@ -1325,6 +1326,46 @@ class Again(Case):
     def test_resume_minds_what_lies_beside(self):
         refused = {"accepted": False, "why": "certificate NotDone at line 2"}
         self.put("one.ppm", p3(UNIQUE))
+    def test_rows_that_are_left_out_are_told(self):
+        """Those of a file that has fewer puzzles now are none."""
+        self.put("one.ppm", p3(UNIQUE))
+        self.put("two.ppm", p3(UNIQUE))
+        self.put("set.xml", "<puzzleset>" + webpbn(UNIQUE) * 3 + "</puzzleset>")
+        words = ["--allow", "9", "--jsonl", "rows.jsonl", "--resume"]
+        self.assertEqual(self.run_audit("site", *words, status=0).stderr, "")
+        self.put("set.xml", "<puzzleset>" + webpbn(UNIQUE) * 2 + "</puzzleset>")
+        self.assertEqual(self.run_audit("site", *words, status=0).stderr, "")
+        self.put("three.ppm", p3(UNIQUE))
+        said = self.run_audit("site/one.ppm", "site/three.ppm", *words, status=0).stderr
+        self.assertEqual(said, "nonobench-audit: rows left out, of files that are not among these: 3\n")
+        self.assertEqual(list(self.read("rows.jsonl")), ["site/one.ppm", "site/three.ppm"])
+
+    def test_rows_below_a_folder_that_cannot_be_listed_stay(self):
+        """So that they are not made again once it can be; also those of a share that the folder itself is not in."""
+        for name in ("in.ppm", "other.ppm", *(f"in/{at}.ppm" for at in range(9))):
+            self.put(name, p3(UNIQUE))
+        search, place = finding.searched, self.folder / "rows.jsonl"
+
+        def searched(folder, depth):
+            if folder == "site/in/":
+                raise PermissionError(errno.EACCES, "Permission denied")
+            return search(folder, depth)
+
+        for more in ([], ["--shard", "1/2"], ["--shard", "2/2"]):
+            words = ["site", "--allow", "9", "--jsonl", "rows.jsonl", *more]
+            self.run_audit(*words, status=0)
+            before = place.read_bytes()
+            within = before.count(b'"site/in/')
+            self.assertGreater(within, 0)
+            with unittest.mock.patch.object(finding, "searched", searched):
+                status, said = in_process(self.folder, *words, "--resume", "--jobs", "1")
+            why = "of its rows stay as they were, of files below a folder that cannot be listed"
+            self.assertIn(f"nonobench-audit: rows.jsonl: {within} {why}\n", said)
+            self.assertEqual(status, 3)
+            self.assertTrue(place.read_bytes().startswith(before))
+            self.run_audit(*words, "--resume", status=0)
+            self.assertEqual(place.read_bytes(), before)
+
         self.assertNotIn("certificate", self.rows("site", status=0)["site/one.ppm"])
         for name, text in (("one.proof", LEMMAS), ("one.cert", CERT)):
             self.put(name, text)

@@ -2,8 +2,10 @@
 
 from __future__ import annotations
 
+import itertools
 import os
 import re
+from pathlib import Path
 from typing import BinaryIO, Optional
 
 from .certificates import numbered_name
@@ -36,19 +38,27 @@ class Earlier:
             self._places[hash((file, int((front[2] or b"1")[:9])))] = place, number
 
     def rows(self, name: str) -> list[tuple[int, Row]]:
-        """The rows of a file, each with its place; none where some are missing."""
+        """The rows of a file, each with its place; none where some are missing. They are asked for once."""
         found: list[tuple[int, Row]] = []
-        while True:
-            place, number = self._places.get(hash((name, len(found) + 1)), (0, 0))
-            if not number:
-                return []
+        keys = itertools.takewhile(self._places.__contains__, (hash((name, number)) for number in itertools.count(1)))
+        for place, number in [self._places.pop(key) for key in keys]:
             self._lines.seek(place)
             row = read_row(self._name, number, self._lines.readline())
             if row["file"] != name or row.get("puzzle", 1) != len(found) + 1:
-                return []
+                break
             found.append((place, row))
             if not row.get("more"):
                 return found
+        return []
+
+    def left(self, folders: set[str]) -> tuple[int, int]:
+        """How many rows nobody asked for, of files below folders; or else of others."""
+        within = 0
+        for place, _ in self._places.values() if folders else ():
+            self._lines.seek(place)
+            front = _FRONT.match(self._lines.readline(MOST_FRONT))
+            within += front is not None and not folders.isdisjoint(map(str, Path(row_of(front[1])).parents))
+        return within, 0 if within else len(self._places)
 
     def row(self, place: int) -> Row:
         """The row at a place, which was read before."""

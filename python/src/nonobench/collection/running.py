@@ -28,6 +28,8 @@ MOST_WAITING = 64 << 20  # bytes of rows that wait for one before them
 READ = 5.0  # seconds that who reads has for what is written when a run is stopped
 BEHIND = 1.0  # seconds after which rows that wait for one before them are in the file of rows
 
+OLD = "it stays, though the puzzle is not unique"
+UNLISTED = "of its rows stay as they were, of files below a folder that cannot be listed"
 MIXED = "rows of some of its puzzles are missing, or of another run"
 
 
@@ -124,6 +126,9 @@ class Run:
         self._unread: list[str] = []  # those of an older name that are not read
         self._lost: list[str] = []  # those of puzzles that their files do not have
         self._is_elsewhere = False  # whether other shares have files
+        self._old: list[str] = []  # what was written of puzzles that are not unique
+        self._left = 0  # rows of an earlier run that are left out
+        self._unlisted: set[str] = set()  # folders that cannot be listed
 
     def audit(self) -> int:
         """Audits a collection."""
@@ -216,6 +221,8 @@ class Run:
         read = folders_of([*options.paths, *([] if options.givens is None else [options.givens])])
         for found in find(options.paths, places):
             if not is_in_share(found.name, options.shard):
+            if found.why:
+                self._unlisted.add(found.name)
                 self._is_elsewhere = True
                 continue
             number += 1
@@ -264,6 +271,11 @@ class Run:
             failures.append(Failure(f"no puzzles in {', '.join(options.paths)}"))
         failures += [Failure(f"{folder}: {CHANGED}") for folder in (changed() if is_whole else ())]
         failures += self._close(is_whole and not is_none)
+        if is_whole and not is_none and self._lines is not None and self._earlier is not None:
+            unlisted, self._left = self._earlier.left(self._unlisted)
+            if unlisted:
+                self._lines.has_places = False
+                failures.append(Failure(f"{options.jsonl}: {unlisted} {UNLISTED}"))
         self._progress.close()
         for words in dict.fromkeys(map(str, failures)):
             print(f"nonobench-audit: {printable(words)}", file=sys.stderr)
@@ -364,7 +376,8 @@ class Run:
 
     def _summary(self, is_whole: bool, is_stopped: bool) -> None:
         options, summary = self._options, self._tally.summary()
-        self._tally.warn(options, is_stopped, {"a .cert is there": self._unread, "there is no such puzzle": self._lost})
+        unread = {"not read, since a .cert is there": self._unread, "not read, since there is no such puzzle": self._lost}
+        self._tally.warn(options, is_stopped, {**unread, OLD: self._old}, self._left)
         if options.is_quiet or "-" in (options.jsonl, options.csv):
             return
         table = next((sink for sink in self._sinks if isinstance(sink, Table)), None)

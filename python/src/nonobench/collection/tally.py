@@ -56,16 +56,18 @@ class Tally:
             lines.append(f"besides: {counted(self.flaws, sorted(self.flaws))}")
         return "\n".join(lines)
 
-    def warn(self, options: Options, is_stopped: bool, unread: dict[str, list[str]]) -> None:
-        """Says on standard error what kept the run from judging all."""
+    def warn(self, options: Options, is_stopped: bool, told: dict[str, list[str]], left: int) -> None:
+        """Says on standard error what kept the run from judging all, what is told of files, and how many rows were left out."""
         lines = [f"{count} not read, since {name} is not installed" for name, count in sorted(self._missing.items())]
         lines += [f"{word}s not written: {count}" for word, count in sorted(self._unwritten.items())]
         if self._bare and options.certify is not None:
             lines.append(f"unique, but no certificate made in time or memory: {self._bare}")
-        for why, paths in unread.items():
+        if left:
+            lines.append(f"rows left out, of files that are not among these: {left}")
+        for why, paths in told.items():
             if paths:
                 more = f" and {len(paths) - 1} more" if paths[1:] else ""
-                lines.append(f"{printable(shown(paths[0]))}{more}: not read, since {why}")
+                lines.append(f"{printable(shown(paths[0]))}{more}: {why}")
         if is_stopped:
             again = " (--resume goes on)" if options.jsonl not in (None, "-") else ""
             lines.append(f"stopped after {self.total} puzzles{again}")
